@@ -1,0 +1,17 @@
+pub mod Days
+pub mod Padded
+pub mod JiffSeconds
+pub mod CivilMoments
+pub mod ZonedMoments
+pub mod ZonedResolved
+pub mod CivilCalm
+pub mod ZonedHolds
+pub mod TableOffsets
+pub mod PickExact
+pub mod Parts
+pub mod Ranges
+pub mod Readings
+pub mod Sets
+pub mod Stepping
+pub mod Steps
+pub mod Texts

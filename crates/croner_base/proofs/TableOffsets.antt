@@ -1,0 +1,55 @@
+-- The offsets of a table around an instant.
+use Rattle.std.proofs.Common.{ℕ, ◌+◌, ◌<◌, length, get_or, drop, drop-cons, add-one, ◌≡◌, ◌⊎◌, inl, inr, true, false, refl, arith, ℤ, pos, neg_ℤ, ◌+ℤ◌, ◌-ℤ◌, ◌<ℤ◌, ◌≤ℤ◌, List, [], ◌∷◌, int_le}
+use Rattle.std.proofs.lemmas.Int.{ints, by_lt_z}
+use Rattle.jiff_core.proofs.SignedLemmas.{signed_arith}
+use Rattle.croner_base.specs.Table.{offset_at, IsSpread, IsAfter, AreOffsets}
+
+int_le-true : (a b : ℤ) → a ≤ℤ b → int_le a b ≡ true
+int_le-true a b h = grind (arith, ints)
+
+int_le-false : (a b : ℤ) → b <ℤ a → int_le a b ≡ false
+int_le-false a b h = grind (arith, ints)
+
+-- before the next change the offset stays
+stays : (c : ℤ × ℤ) (cs : List (ℤ × ℤ)) (i : ℤ) → IsAfter c cs → i ≤ℤ (c.0 +ℤ pos 172_800) → offset_at c.1 cs i ≡ c.1
+stays c [] i h le = refl
+stays c (d ∷ ds) i h le = let t : int_le d.0 i ≡ false = int_le-false d.0 i (omega (arith, signed_arith)) in rw t
+
+-- within two days the offset changes at most once
+pub between : (o : ℤ) (cs : List (ℤ × ℤ)) (x i y : ℤ) → IsSpread cs → x ≤ℤ i → i ≤ℤ y → y ≤ℤ (x +ℤ pos 172_800) → (offset_at o cs i ≡ offset_at o cs x) ⊎ (offset_at o cs i ≡ offset_at o cs y)
+between o [] x i y s low high near = inl refl
+between o (c ∷ cs) x i y s low high near =
+    by_lt_z i c.0
+    (λ early. let a : int_le c.0 i ≡ false = int_le-false c.0 i early in let b : int_le c.0 x ≡ false = int_le-false c.0 x (omega (arith, signed_arith, early)) in inl (rw (a, b)))
+    (λ late. let a : int_le c.0 i ≡ true = int_le-true c.0 i late in let e : int_le c.0 y ≡ true = int_le-true c.0 y (omega (arith, signed_arith, late)) in
+    by_lt_z x c.0
+    (λ before.
+    let p = stays c cs i s.0 (omega (arith, signed_arith, before)) in
+    let q = stays c cs y s.0 (omega (arith, signed_arith, before)) in
+    inr (rw (a, e, p, q)))
+    (λ after.
+    let b : int_le c.0 x ≡ true = int_le-true c.0 x after in
+    rw (a, b, e) (between c.1 cs x i y s.1 low high near)))
+
+pub offset_within : (o : ℤ) (cs : List (ℤ × ℤ)) (i : ℤ) → AreOffsets o cs → (neg_ℤ (pos 86_400) ≤ℤ offset_at o cs i) × (offset_at o cs i ≤ℤ pos 86_400)
+offset_within o [] i h = h
+offset_within o (c ∷ cs) i h =
+    by_lt_z i c.0
+    (λ early. let a : int_le c.0 i ≡ false = int_le-false c.0 i early in rw a h.0)
+    (λ late. let a : int_le c.0 i ≡ true = int_le-true c.0 i late in rw a (offset_within c.1 cs i h.1))
+
+-- so an instant that shows w is w less the offset a day before w or a day after it
+pub candidates : (o : ℤ) (cs : List (ℤ × ℤ)) (w i : ℤ) → IsSpread cs → AreOffsets o cs → i +ℤ offset_at o cs i ≡ w → (i ≡ w -ℤ offset_at o cs (w -ℤ pos 86_400)) ⊎ (i ≡ w -ℤ offset_at o cs (w +ℤ pos 86_400))
+candidates o cs w i s a e =
+    let b = offset_within o cs i a in
+    elim (between o cs (w -ℤ pos 86_400) i (w +ℤ pos 86_400) s (omega (arith, signed_arith, e, b)) (omega (arith, signed_arith, e, b)) (omega (arith, signed_arith))) [
+      | inl p ↦ inl (omega (arith, signed_arith, e, p))
+      | inr p ↦ inr (omega (arith, signed_arith, e, p))
+    ]
+
+-- a change at or before the instant is passed
+pub offset_at-passed : (cs : List (ℤ × ℤ)) (k : ℕ) (o s r : ℤ) → k < length cs → (get_or cs k (pos 0, pos 0)).0 ≤ℤ s → offset_at o (drop k cs) s ≡ r → offset_at (get_or cs k (pos 0, pos 0)).1 (drop (k + 1) cs) s ≡ r
+offset_at-passed cs k o s r h le e =
+    let t : int_le (get_or cs k (pos 0, pos 0)).0 s ≡ true = int_le-true _ s le in
+    let e2 = rw (drop-cons cs k (pos 0, pos 0) h, t) at e in
+    rw add-one e2

@@ -1,0 +1,16 @@
+pub mod Calendar
+pub mod Civil
+pub mod CivilText
+pub mod Zone
+pub mod CivilZone
+pub mod ZonedZone
+pub mod ZonedValue
+pub mod Calm
+pub mod Table
+pub mod Answers
+pub mod Field
+pub mod Order
+pub mod Part
+pub mod Reading
+pub mod Refusal
+pub mod Written

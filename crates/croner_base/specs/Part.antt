@@ -1,0 +1,141 @@
+-- What the text of a field says: numbers, the parts of a list, and the list.
+use Rattle.std.specs.Prelude.{ℕ, suc, zero, ◌+◌, ◌-◌, ◌*◌, ◌/◌, ◌^◌, Bool, not, ◌&&◌, ◌||◌, ◌==◌, nat_lt, nat_le, List, [], ◌∷◌, length, Option, Some, None, option_and_then, slice_index, codes, if◌then◌else◌}
+use Rattle.std.specs.List.{range_with_len, list_any, slice_split, before_first, after_first}
+use Rattle.std.specs.Str.{all_ascii_digits, trim, bytes_eq}
+use Rattle.std.specs.Str.Parse.{digits_value, without_leading_plus}
+use Rattle.croner_base.specs.Field.{Shape, can_mark, has_all, is_in_bounds, values_between}
+use Rattle.croner_base.specs.Reading.{marks, enables, steps, stars, Reading, nothing, did, ◌then◌, wants, with}
+
+-- one or more decimal digits that write at most 65535, after at most one plus
+abbrev pub number_of : List ℕ → Option ℕ
+number_of text =
+    let digits = without_leading_plus text in
+    if (nat_lt 0 (length digits) && all_ascii_digits digits) && nat_lt (digits_value 10 digits) 65536
+    then Some (digits_value 10 digits) else None
+
+-- a mark at what is left of a number without the offset
+abbrev pub marked : Shape → ℕ → ℕ → Reading
+marked f bits v = wants (can_mark f v bits) (did (marks (v - f.offset) bits))
+
+abbrev pub all_marked : Shape → ℕ → List ℕ → Reading
+all_marked f bits [] = nothing
+all_marked f bits (v ∷ vs) = marked f bits v then all_marked f bits vs
+
+abbrev pub enabled : Shape → ℕ → Reading
+enabled f bits = wants (has_all f.supported bits) (did (enables bits))
+
+abbrev pub contains_byte : ℕ → List ℕ → Bool
+contains_byte c text = list_any (λ b. b == c) text
+
+abbrev pub pieces_at : ℕ → List ℕ → List (List ℕ)
+pieces_at c text = slice_split (λ b. b == c) text
+
+-- the two sides of a text that has the byte once
+abbrev pub two_of : List (List ℕ) → Option (List ℕ × List ℕ)
+two_of [] = None
+two_of (a ∷ []) = None
+two_of (a ∷ b ∷ []) = Some (a, b)
+two_of (a ∷ b ∷ c ∷ more) = None
+
+abbrev pub ends_in_l : List ℕ → Bool
+ends_in_l text = slice_index text (length text - 1) == 76
+
+-- the modifier of a part: last, an nth, or plain
+abbrev pub nth_bit : ℕ → Option ℕ
+nth_bit n = if nat_le 1 n && nat_le n 5 then Some (2 ^ n) else None
+
+abbrev pub tag_of : List ℕ → Option ℕ
+tag_of part =
+    if ends_in_l part then Some 64
+    else if contains_byte 35 part then option_and_then nth_bit (number_of (after_first (λ b. b == 35) part))
+    else Some 1
+
+abbrev pub head_of : List ℕ → List ℕ
+head_of part = before_first (λ b. b == 35) part
+
+-- s, s + step, .. up to e
+abbrev pub stepped : ℕ → ℕ → ℕ → List ℕ
+stepped s zero step = s ∷ []
+stepped s (suc n) step = s ∷ stepped (s + step) n step
+
+-- these are marked, and the value after them is still a number
+abbrev pub stepped_marks : Shape → ℕ → ℕ → ℕ → ℕ → Reading
+stepped_marks f bits s e step =
+    all_marked f bits (stepped s ((e - s) / step) step)
+    then wants (nat_lt (s + ((e - s) / step + 1) * step) 65536) nothing
+
+-- the bounds of the left of a `/`: the star, a range, nothing, or a number
+abbrev pub step_bounds : Shape → List ℕ → Option (ℕ × ℕ)
+step_bounds f left =
+    if bytes_eq left (codes "*") then Some (f.min + f.offset, f.max)
+    else if contains_byte 45 left then
+    option_and_then (λ sides. option_and_then (λ a. option_and_then (λ b. Some (a, b)) (number_of sides.1)) (number_of sides.0)) (two_of (pieces_at 45 left))
+    else if not f.sloppy then None
+    else if length left == 0 then Some (f.min + f.offset, f.max)
+    else option_and_then (λ a. Some (a, f.max)) (number_of left)
+
+-- the left is a star, or stands for one
+abbrev pub is_starred : Shape → List ℕ → Bool
+is_starred f left = bytes_eq left (codes "*") || (f.sloppy && length left == 0)
+
+abbrev pub stepping : Shape → List ℕ → Reading
+stepping f part =
+    with (tag_of part) (λ tag.
+    with (two_of (pieces_at 47 (head_of part))) (λ sides.
+    with (number_of sides.1) (λ step.
+    did (steps step)
+    then wants (not (step == 0)) nothing
+    then (if is_starred f sides.0 then did stars else nothing)
+    then with (step_bounds f sides.0) (λ range.
+    wants ((nat_le f.min range.0 && nat_le range.1 f.max) && nat_le range.0 range.1)
+    (stepped_marks f tag range.0 range.1 step)))))
+
+abbrev pub ranged : Shape → List ℕ → Reading
+ranged f part =
+    with (tag_of part) (λ tag.
+    with (two_of (pieces_at 45 (head_of part))) (λ sides.
+    with (number_of (trim sides.0)) (λ a.
+    with (number_of (trim sides.1)) (λ b.
+    wants ((nat_le f.min a && nat_le b f.max) && nat_le a b)
+    (all_marked f tag (values_between a b))))))
+
+-- a letter, in capitals or small
+abbrev pub is_letter_l : List ℕ → Bool
+is_letter_l text = bytes_eq text (codes "L") || bytes_eq text (codes "l")
+
+abbrev pub nearest_weekday : Shape → List ℕ → Reading
+nearest_weekday f part =
+    let day = before_first (λ b. b == 87) part in
+    if is_letter_l day then (enabled f 64 then enabled f 128)
+    else with (number_of day) (λ n. wants (is_in_bounds f n) (marked f 128 n))
+
+abbrev pub single : Shape → ℕ → List ℕ → Reading
+single f tag head = with (number_of head) (λ n. wants (is_in_bounds f n) (marked f tag n))
+
+abbrev pub one_number : Shape → List ℕ → Reading
+one_number f part =
+    wants (not (contains_byte 35 part || contains_byte 76 part) || has_all f.supported 62)
+    (if ends_in_l part && not (contains_byte 35 part)
+    then single f 64 (before_first (λ b. b == 76) part)
+    else with (tag_of part) (λ tag. single f tag (head_of part)))
+
+abbrev pub part_of : Shape → List ℕ → Reading
+part_of f part =
+    if contains_byte 47 part then stepping f part
+    else if contains_byte 45 part then ranged f part
+    else if contains_byte 87 part then nearest_weekday f part
+    else if is_letter_l part then enabled f 64
+    else one_number f part
+
+-- the parts of a list, empty ones skipped, up to the first that is refused
+abbrev pub parts_of : Shape → List (List ℕ) → Reading
+parts_of f [] = nothing
+parts_of f (part ∷ parts) =
+    (if length (trim part) == 0 then nothing else part_of f (trim part)) then parts_of f parts
+
+-- a whole field: a star, or a list
+abbrev pub field_of : Shape → List ℕ → Reading
+field_of f text =
+    if bytes_eq text (codes "*")
+    then (did stars then all_marked f 1 (range_with_len (f.min + f.offset) ((f.max + 1) - f.min)))
+    else parts_of f (pieces_at 44 text)

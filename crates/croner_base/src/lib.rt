@@ -1,0 +1,6 @@
+//! The ground that cron patterns stand on: errors, the calendar, clocks, and the marks of one field.
+#![tactic(auto)]
+
+pub mod component;
+pub mod errors;
+pub mod time;

@@ -1,0 +1,62 @@
+//! The trait that connects a date and time library.
+ghost use Rattle.std.specs.Prelude.{◌≡◌, ◌↔◌, ◌⊎◌, Bool, true, false, IsTrue, pos, ◌+ℤ◌, IfOk, IfErr};
+ghost use Rattle.std.specs.Ordering.{int_cmp};
+
+use crate::errors::CronError;
+use crate::time::{CivilDateTime, Weekday};
+use std::alloc::Global;
+use std::cmp::Ordering;
+
+/// What a wall second names in a zone.
+#[derive(Debug, Drop, PartialEq, Eq)]
+pub enum Resolution<T> {
+    Single(T),
+    Ambiguous(T, T),
+    Gap,
+}
+
+/// A value that names an instant in a zone.
+pub trait CronDateTime: Clone + Drop {
+    ghost use Rattle.croner_base.specs.Zone.{Moment, nanos_of, reading, IsResolved, IsUnheld, IsMoved};
+    ghost use Rattle.croner_base.specs.Civil.{wall_second, weekday_index, weekday_of_second};
+
+    /// The zone, the whole second and the fraction that a value names.
+    ghost moment: { Self → Moment };
+
+    /// Whether `resolve_civil`, `checked_add_seconds` and `clone` can find no memory.
+    ghost can_lack_memory: { Bool };
+
+    /// What the zone's clock shows at the instant's whole second.
+    fn to_civil(&self) -> CivilDateTime
+        ensures { wall_second result ≡ reading (moment self.now) };
+
+    /// The weekday of that date.
+    fn civil_weekday(&self) -> Weekday
+        ensures { weekday_index result ≡ weekday_of_second (reading (moment self.now)) };
+
+    /// The instants of the same zone that show the second, the earlier first.
+    fn resolve_civil(
+        &self,
+        alloc: Global,
+        civil: CivilDateTime,
+    ) -> Result<Resolution<Self>, CronError>
+        ensures value { IfOk result (IsResolved moment (moment self.now).zone civil) }
+        ensures err { IfErr result
+            (IsUnheld can_lack_memory (moment self.now).zone civil) };
+
+    /// The same zone and fraction so many elapsed seconds later, where that instant is held.
+    fn checked_add_seconds(&self, alloc: Global, seconds: i64) -> Result<Option<Self>, CronError>
+        ensures value { IfOk result (IsMoved moment (moment self.now) seconds) }
+        ensures err { IfErr result
+            (λ e. (e ≡ CronError.OutOfMemory) × IsTrue can_lack_memory) };
+
+    /// The order of the instants, fractions included.
+    fn cmp_instant(&self, other: &Self) -> Ordering
+        ensures { result ≡ int_cmp (nanos_of (moment self.now)) (nanos_of (moment other.now)) };
+
+    /// A clone names the same instant in the same zone.
+    ghost clone_keeps: { (a b : Self) → Self.is_clone a b → moment b ≡ moment a };
+
+    /// It is refused memory only where the backend says so.
+    ghost clone_memory: { (a : Self) → can_lack_memory ≡ false → Self.is_infallible a };
+}
