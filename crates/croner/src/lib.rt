@@ -1,0 +1,2 @@
+//! Cron patterns and their runs.
+#![tactic(auto)]
