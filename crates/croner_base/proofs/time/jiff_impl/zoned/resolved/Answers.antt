@@ -4,8 +4,8 @@ use Rattle.jiff.specs.ZonedView.{plain_zoned}
 use Rattle.jiff_tz.specs.Ambiguous.{earlier_offset, later_offset}
 use Rattle.jiff.specs.ZoneView.{plain_zone, ambiguous_instant, ambiguous_zone}
 use Rattle.croner_base.proofs.ZonedResolved.{false_is_not_true, sides, near_timestamp, whole_nanos, unheld_far, is_near_year-low, is_near_year-high, shows_test, cmp_less, cmp_greater, cmp_equal, both_less, both_equal, both_greater, earlier_alone, later_alone, neither}
-use Rattle.croner_base.proofs.time.zoned_impl.resolved.Goals as goal
-use Rattle.croner_base.proofs.time.zoned_impl.resolved.Goals.{then-year-ltminus9998-via-then-year-ltminus9998, then-year-ltminus9998-via-else-year-ltminus9998+then-year-gt9998}
+use Rattle.croner_base.proofs.time.jiff_impl.zoned.resolved.Goals as goal
+use Rattle.croner_base.proofs.time.jiff_impl.zoned.resolved.Goals.{then-year-ltminus9998-via-then-year-ltminus9998, then-year-ltminus9998-via-else-year-ltminus9998+then-year-gt9998}
 
 pub returns-in-Less-clause-value : goal.returns-in-Less-clause-value
 returns-in-Less-clause-value c =

@@ -1,6 +1,6 @@
 use Rattle.croner_base.proofs.CivilMoments.{civil_resolved, civil_unresolved}
 use Rattle.std.proofs.Common.{refl}
-use Rattle.croner_base.proofs.time.jiff_impl.DateTimeCronDateTime.resolve_civil.Goals as goal
+use Rattle.croner_base.proofs.time.jiff_impl.civil.DateTimeCronDateTime.resolve_civil.Goals as goal
 
 pub returns-in-Ok-clause-value : goal.returns-in-Ok-clause-value
 returns-in-Ok-clause-value c =

@@ -1,4 +1,4 @@
-//! Zoned date-times of `jiff` as time values.
+//! Zoned date-times of `jiff` as time values, in every time zone.
 ghost use Rattle.std.specs.Prelude.{◌≡◌, false, pos, IfOk, IfErr, ◌+ℤ◌};
 ghost use Rattle.std.proofs.Common.{ap};
 ghost use Rattle.std.specs.Int.{int_div_euclid};

@@ -1,20 +1,20 @@
-//! Time values of the crate `jiff`.
-ghost use Rattle.std.specs.Prelude.{◌≡◌, ◌↔◌, pos, IsOk, IfOk, IfErr};
+//! `CronDateTime` for the date and time library `jiff`: for its civil date-times, whose clock never changes, and for
+//! its zoned date-times in every time zone.
+ghost use Rattle.std.specs.Prelude.{◌≡◌, ◌↔◌, IsOk, IfOk, IfErr};
 ghost use Rattle.jiff.specs.Words.{civil_seconds};
 ghost use Rattle.jiff_core.specs.Calendar.{IsYear};
-ghost use Rattle.croner_base.specs.Civil.{wall_second, weekday_index, day_of_date};
-ghost use Rattle.croner_base.specs.CivilZone.{civil_moment, IsWhole};
 ghost use Rattle.jiff_core.specs.Weekday.{sunday_zero};
-ghost use Rattle.std.specs.Prelude.{false};
-ghost use Rattle.std.proofs.Common.{ap};
+ghost use Rattle.croner_base.specs.Civil.{wall_second, weekday_index};
+ghost use Rattle.croner_base.specs.CivilZone.{IsWhole};
+
+mod civil;
+mod zoned;
 
 use crate::errors::CronError;
-use crate::time::{CivilDate, CivilDateTime, CivilTime, CronDateTime, Resolution, Weekday};
-use jiff::SignedDuration;
+use crate::time::{CivilDate, CivilDateTime, CivilTime, Weekday};
 use jiff::civil::DateTime;
-use std::alloc::Global;
-use std::cmp::Ordering;
 
+/// The date and time of a date-time of `jiff`, without its fraction of a second.
 pub(crate) fn to_civil(datetime: DateTime) -> CivilDateTime
     ensures { wall_second result ≡ civil_seconds datetime }
 {
@@ -32,6 +32,7 @@ pub(crate) fn to_civil(datetime: DateTime) -> CivilDateTime
     )
 }
 
+/// The date-time of `jiff` at a civil second. `InvalidDate` for a year outside -9999 to 9999.
 pub(crate) fn to_jiff(civil: CivilDateTime) -> Result<DateTime, CronError>
     ensures ok { IsOk result ↔ IsYear civil.date.year }
     ensures value { IfOk result (IsWhole (wall_second civil)) }
@@ -56,52 +57,9 @@ pub(crate) fn to_jiff(civil: CivilDateTime) -> Result<DateTime, CronError>
     }
 }
 
+/// The weekday of a weekday of `jiff`.
 pub(crate) fn to_weekday(weekday: jiff::civil::Weekday) -> Weekday
     ensures { weekday_index result ≡ sunday_zero weekday }
 {
     Weekday::from_days_from_sunday(weekday.to_sunday_zero_offset() as u32)
-}
-
-impl CronDateTime for DateTime {
-    ghost moment = { civil_moment };
-
-    ghost can_lack_memory = { false };
-
-    fn to_civil(&self) -> CivilDateTime {
-        to_civil(*self)
-    }
-
-    fn civil_weekday(&self) -> Weekday {
-        to_weekday(self.weekday())
-    }
-
-    fn resolve_civil(
-        &self,
-        _alloc: Global,
-        civil: CivilDateTime,
-    ) -> Result<Resolution<DateTime>, CronError> {
-        match to_jiff(civil) {
-            Ok(datetime) => Ok(Resolution::Single(datetime)),
-            Err(refused) => Err(refused),
-        }
-    }
-
-    fn checked_add_seconds(
-        &self,
-        _alloc: Global,
-        seconds: i64,
-    ) -> Result<Option<DateTime>, CronError> {
-        match self.checked_add(SignedDuration::from_secs(seconds)) {
-            Ok(sum) => Ok(Some(sum)),
-            Err(_) => Ok(None),
-        }
-    }
-
-    fn cmp_instant(&self, other: &Self) -> Ordering {
-        self.cmp(other)
-    }
-
-    ghost clone_keeps = { λ a b e. ap civil_moment e };
-
-    ghost clone_memory = { λ a h. tt };
 }
