@@ -4,7 +4,7 @@ use Rattle.std.specs.List.{list_any}
 use Rattle.std.specs.Str.{trim_start, trim_end, chars}
 use Rattle.croner_base.specs.Field.{Shape, Field, new_shape, empty_field, default_field, with_sloppy, marked_values}
 use Rattle.croner_base.specs.Part.{field_of, stepping}
-use Rattle.croner_base.specs.Reading.{Reading, applied, marks, enables, steps, stars}
+use Rattle.croner_base.specs.Reading.{Reading, applied, marks, steps, stars}
 
 -- the fields of a pattern, and the weekdays that are counted from 1
 abbrev minutes : Shape

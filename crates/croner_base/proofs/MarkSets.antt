@@ -1,20 +1,19 @@
 -- What reading adds to the sets of marks.
-use Rattle.std.proofs.Common.{◌≡◌, ◌≢◌, ℕ, zero, suc, ◌+◌, ◌-◌, ◌*◌, ◌/◌, ◌^◌, ◌<◌, ◌≤◌, ◌↔◌, Bool, true, false, cond, not, ◌||◌, ◌&&◌, eqb, leb, ltb, List, [], ◌∷◌, ◌++◌, length, get_or, set, refl, ap, sym, ◌∙◌, arith, subst, inl, inr, max, min, bit_and, bit_or, eq-eqb, get_or-set_same, get_or-set_other, length-set, add-zero, add-suc, w8}
+use Rattle.std.proofs.Common.{◌≡◌, ℕ, zero, suc, ◌+◌, ◌-◌, ◌*◌, ◌/◌, ◌^◌, ◌<◌, ◌≤◌, ◌↔◌, Bool, true, false, cond, not, ◌||◌, ◌&&◌, eqb, leb, ltb, List, [], ◌∷◌, ◌++◌, length, get_or, refl, ap, sym, ◌∙◌, arith, subst, inl, inr, max, min, bit_and, bit_or, eq-eqb, get_or-set_same, get_or-set_other, length-set, w8}
 use Rattle.std.specs.Int.{bit_at}
 use Rattle.std.specs.List.{list_any, range_with_len, filter}
 use Rattle.std.specs.List.Sorted.{IsStrictlyIncreasing}
 use Rattle.std.specs.Str.{trim}
 use Rattle.std.proofs.lemmas.Bool.{cases_Bool, cases_eq, eqb-true, ne_eqb, false≢true}
 use Rattle.std.proofs.lemmas.Bool.Decides.{nat_tests}
-use Rattle.std.proofs.lemmas.List.{set_past, get_or_past}
 use Rattle.std.proofs.lemmas.List.Folds.{list_any-append}
 use Rattle.std.proofs.lemmas.List.FromFn.{length-range_with_len, get_or-range_with_len}
 use Rattle.std.proofs.lemmas.List.Kept.{IsStrictlyIncreasing-filter}
 use Rattle.std.proofs.lemmas.Nat.Bits.{bit_at_and, bit_at_or, bit_at-lt, bit_at_not, bit_at-zero, same_from_bits}
 use native.Mathlib.Nat.{le-div_iff_mul-le}
-use Rattle.croner_base.specs.Field.{Shape, Field, has_any, has_all, can_ask, can_mark, is_marked, with_mark, without_mark, marked_values, values_between, room}
+use Rattle.croner_base.specs.Field.{Shape, Field, has_any, has_all, can_ask, can_mark, is_marked, with_mark, without_mark, values_between, room}
 use Rattle.croner_base.specs.Marks.{is_in, has_modifier, is_among, names_here, names, IsStep, IsWhole, AddsOne, TakesOne, ListsSet}
-use Rattle.croner_base.specs.Part.{marked, all_marked, stepped, stepped_marks, part_of, parts_of}
+use Rattle.croner_base.specs.Part.{all_marked, stepped, stepped_marks, part_of, parts_of}
 use Rattle.croner_base.specs.Reading.{Effect, marks, enables, steps, stars, Reading, nothing, ◌then◌, wants, applied, applied_one}
 use Rattle.croner_base.proofs.Sets.{has_bit, is_marked-with_mark_same, is_marked-with_mark_other}
 

@@ -3,7 +3,7 @@ use Rattle.std.specs.Prelude.{◌≡◌, ℕ, ◌+◌, ◌*◌, ◌^◌, ◌<◌
 use Rattle.std.specs.List.{list_any}
 use Rattle.std.specs.List.Sorted.{IsStrictlyIncreasing}
 use Rattle.std.specs.Str.{trim}
-use Rattle.croner_base.specs.Field.{Shape, Field, has_any, has_all, is_in_bounds, can_ask, is_marked, with_mark, without_mark, marked_values, room, values_between}
+use Rattle.croner_base.specs.Field.{Shape, Field, has_any, has_all, is_in_bounds, is_marked, with_mark, without_mark, marked_values, room, values_between}
 use Rattle.croner_base.specs.Part.{all_marked, stepped_marks, part_of, parts_of}
 use Rattle.croner_base.specs.Reading.{Effect, marks, enables, steps, stars, Reading, applied}
 
