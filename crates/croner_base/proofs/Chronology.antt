@@ -1,0 +1,83 @@
+-- The order of civil date-times is that of their wall seconds, and a wall second has one date and time.
+use Rattle.std.proofs.Common.{◌≡◌, ℕ, ◌+◌, ◌*◌, ◌<◌, ◌≤◌, refl, arith, ℤ, pos, ◌+ℤ◌, ◌*ℤ◌, ◌<ℤ◌, nat_cmp, int_cmp}
+use Rattle.std.proofs.Props.{props}
+use mathlib.Core.HLevel.{is_prop→PathP}
+use Rattle.std.specs.declared.cmp.Ordering.{Ordering}
+use Rattle.std.specs.declared.cmp.Ordering.TheVariants.{Less, Equal, Greater}
+use Rattle.std.specs.Ordering.{MatchOrdering, ordering_then}
+use Rattle.std.specs.Cmp.{int_ranks, ranks, int_cmp_is}
+use Rattle.jiff_core.proofs.SignedLemmas.{signed_arith}
+use Rattle.croner_base.specs.declared.time.civil.CivilDate.{CivilDate}
+use Rattle.croner_base.specs.declared.time.civil.CivilTime.{CivilTime}
+use Rattle.croner_base.specs.declared.time.civil.CivilDateTime.{CivilDateTime}
+use Rattle.croner_base.specs.Calendar.{IsRealDate, day_number}
+use Rattle.croner_base.specs.Civil.{wall_second, day_of_date, seconds_of_time}
+use Rattle.croner_base.proofs.Days.{day_number-parts, day_number-lt_year, day_number-lt_month}
+use Rattle.croner_base.proofs.JiffSeconds.{wall_second-parts}
+
+-- what a comparison says, said of other things
+mapped : (P Q R L E G : Type 0) (o : Ordering) → MatchOrdering o P Q R → (P → L) → (Q → E) → (R → G) → MatchOrdering o L E G
+mapped P Q R L E G Less h less equal greater = less h
+mapped P Q R L E G Equal h less equal greater = equal h
+mapped P Q R L E G Greater h less equal greater = greater h
+
+-- one comparison, and at a tie another
+tied : (P Q R L E G : Type 0) (o next : Ordering) → MatchOrdering o P Q R → (P → L) → (Q → MatchOrdering next L E G) → (R → G) → MatchOrdering (ordering_then o next) L E G
+tied P Q R L E G Less next h less equal greater = less h
+tied P Q R L E G Equal next h less equal greater = equal h
+tied P Q R L E G Greater next h less equal greater = greater h
+
+-- within a month by days, within a year by months, and then by years
+day_ranks : (y : ℤ) (m d d₂ : ℕ) → MatchOrdering (nat_cmp d d₂) (day_number y m d <ℤ day_number y m d₂) (day_number y m d ≡ day_number y m d₂) (day_number y m d₂ <ℤ day_number y m d)
+day_ranks y m d d₂ =
+    mapped (d < d₂) (d ≡ d₂) (d₂ < d) _ _ _ (nat_cmp d d₂) (ranks d d₂)
+    (λ lt. omega (arith, signed_arith, day_number-parts y m d, day_number-parts y m d₂, lt))
+    (λ e. rw e)
+    (λ gt. omega (arith, signed_arith, day_number-parts y m d, day_number-parts y m d₂, gt))
+
+month_ranks : (y : ℤ) (m d m₂ d₂ : ℕ) → IsRealDate y m d → IsRealDate y m₂ d₂ → MatchOrdering (ordering_then (nat_cmp m m₂) (nat_cmp d d₂)) (day_number y m d <ℤ day_number y m₂ d₂) (day_number y m d ≡ day_number y m₂ d₂) (day_number y m₂ d₂ <ℤ day_number y m d)
+month_ranks y m d m₂ d₂ h h₂ =
+    tied (m < m₂) (m ≡ m₂) (m₂ < m) _ _ _ (nat_cmp m m₂) (nat_cmp d d₂) (ranks m m₂)
+    (λ lt. day_number-lt_month y m d m₂ d₂ h h₂.1.0 lt)
+    (λ e. rw e (day_ranks y m₂ d d₂))
+    (λ gt. day_number-lt_month y m₂ d₂ m d h₂ h.1.0 gt)
+
+date_ranks : (y : ℤ) (m d : ℕ) (y₂ : ℤ) (m₂ d₂ : ℕ) → IsRealDate y m d → IsRealDate y₂ m₂ d₂ → MatchOrdering (ordering_then (int_cmp y y₂) (ordering_then (nat_cmp m m₂) (nat_cmp d d₂))) (day_number y m d <ℤ day_number y₂ m₂ d₂) (day_number y m d ≡ day_number y₂ m₂ d₂) (day_number y₂ m₂ d₂ <ℤ day_number y m d)
+date_ranks y m d y₂ m₂ d₂ h h₂ =
+    tied (y <ℤ y₂) (y ≡ y₂) (y₂ <ℤ y) _ _ _ (int_cmp y y₂) (ordering_then (nat_cmp m m₂) (nat_cmp d d₂)) (int_ranks y y₂)
+    (λ lt. day_number-lt_year y m d y₂ m₂ d₂ h h₂ lt)
+    (λ e. rw e (month_ranks y₂ m d m₂ d₂ (rw e at h) h₂))
+    (λ gt. day_number-lt_year y₂ m₂ d₂ y m d h₂ h gt)
+
+-- times of day by hours, minutes and seconds
+time_ranks : (a b : CivilTime) → MatchOrdering (ordering_then (nat_cmp a.hour b.hour) (ordering_then (nat_cmp a.minute b.minute) (nat_cmp a.second b.second))) (seconds_of_time a < seconds_of_time b) (seconds_of_time a ≡ seconds_of_time b) (seconds_of_time b < seconds_of_time a)
+time_ranks a b =
+    tied (a.hour < b.hour) (a.hour ≡ b.hour) (b.hour < a.hour) _ _ _ (nat_cmp a.hour b.hour) (ordering_then (nat_cmp a.minute b.minute) (nat_cmp a.second b.second)) (ranks a.hour b.hour)
+    (λ lt. omega (arith, lt, a.minute_in, a.second_in))
+    (λ e. tied (a.minute < b.minute) (a.minute ≡ b.minute) (b.minute < a.minute) _ _ _ (nat_cmp a.minute b.minute) (nat_cmp a.second b.second) (ranks a.minute b.minute)
+    (λ lt. omega (arith, e, lt, a.second_in))
+    (λ f. mapped (a.second < b.second) (a.second ≡ b.second) (b.second < a.second) _ _ _ (nat_cmp a.second b.second) (ranks a.second b.second)
+    (λ lt. omega (arith, e, f, lt)) (λ same. omega (arith, e, f, same)) (λ gt. omega (arith, e, f, gt)))
+    (λ gt. omega (arith, e, gt, b.second_in)))
+    (λ gt. omega (arith, gt, b.minute_in, b.second_in))
+
+-- the order of the parts
+abbrev pub parts_cmp : CivilDateTime → CivilDateTime → Ordering
+parts_cmp a b =
+    ordering_then
+    (ordering_then (int_cmp a.date.year b.date.year) (ordering_then (nat_cmp a.date.month b.date.month) (nat_cmp a.date.day b.date.day)))
+    (ordering_then (nat_cmp a.time.hour b.time.hour) (ordering_then (nat_cmp a.time.minute b.time.minute) (nat_cmp a.time.second b.time.second)))
+
+second_ranks : (a b : CivilDateTime) → MatchOrdering (parts_cmp a b) (wall_second a <ℤ wall_second b) (wall_second a ≡ wall_second b) (wall_second b <ℤ wall_second a)
+second_ranks a b =
+    tied _ _ _ _ _ _ (ordering_then (int_cmp a.date.year b.date.year) (ordering_then (nat_cmp a.date.month b.date.month) (nat_cmp a.date.day b.date.day))) _
+    (date_ranks a.date.year a.date.month a.date.day b.date.year b.date.month b.date.day a.date.real b.date.real)
+    (λ lt. omega (arith, signed_arith, wall_second-parts a, wall_second-parts b, lt, a.time.hour_in, a.time.minute_in, a.time.second_in))
+    (λ e. mapped _ _ _ _ _ _ (ordering_then (nat_cmp a.time.hour b.time.hour) (ordering_then (nat_cmp a.time.minute b.time.minute) (nat_cmp a.time.second b.time.second))) (time_ranks a.time b.time)
+    (λ lt. omega (arith, signed_arith, wall_second-parts a, wall_second-parts b, e, lt))
+    (λ same. omega (arith, signed_arith, wall_second-parts a, wall_second-parts b, e, same))
+    (λ gt. omega (arith, signed_arith, wall_second-parts a, wall_second-parts b, e, gt)))
+    (λ gt. omega (arith, signed_arith, wall_second-parts a, wall_second-parts b, gt, b.time.hour_in, b.time.minute_in, b.time.second_in))
+
+pub parts_cmp-chronological : (a b : CivilDateTime) → parts_cmp a b ≡ int_cmp (wall_second a) (wall_second b)
+parts_cmp-chronological a b = int_cmp_is (wall_second a) (wall_second b) (parts_cmp a b) (second_ranks a b)
