@@ -1,17 +1,21 @@
 -- The order of civil date-times is that of their wall seconds, and a wall second has one date and time.
-use Rattle.std.proofs.Common.{◌≡◌, ℕ, ◌+◌, ◌*◌, ◌<◌, ◌≤◌, refl, arith, ℤ, pos, ◌+ℤ◌, ◌*ℤ◌, ◌<ℤ◌, nat_cmp, int_cmp}
+use Rattle.std.proofs.Common.{◌≡◌, ◌↔◌, ◌==◌, if◌then◌else◌, ap, ℕ, ◌+◌, ◌*◌, ◌%◌, ◌<◌, ◌≤◌, refl, sym, subst, ◌∙◌, arith, ℤ, pos, ◌+ℤ◌, ◌*ℤ◌, ◌<ℤ◌, ◌≤ℤ◌, nat_cmp, int_cmp}
+use Rattle.std.proofs.lemmas.Int.{by_lt_z}
 use Rattle.std.proofs.Props.{props}
 use mathlib.Core.HLevel.{is_prop→PathP}
 use Rattle.std.specs.declared.cmp.Ordering.{Ordering}
 use Rattle.std.specs.declared.cmp.Ordering.TheVariants.{Less, Equal, Greater}
 use Rattle.std.specs.Ordering.{MatchOrdering, ordering_then}
 use Rattle.std.specs.Cmp.{int_ranks, ranks, int_cmp_is}
+use Rattle.jiff_core.proofs.CalendarLemmas.{days_of_months-zero}
 use Rattle.jiff_core.proofs.SignedLemmas.{signed_arith}
 use Rattle.croner_base.specs.declared.time.civil.CivilDate.{CivilDate}
 use Rattle.croner_base.specs.declared.time.civil.CivilTime.{CivilTime}
 use Rattle.croner_base.specs.declared.time.civil.CivilDateTime.{CivilDateTime}
-use Rattle.croner_base.specs.Calendar.{IsRealDate, day_number}
-use Rattle.croner_base.specs.Civil.{wall_second, day_of_date, seconds_of_time}
+use Rattle.croner_base.specs.declared.time.civil.Weekday.{Weekday}
+use Rattle.croner_base.specs.declared.time.civil.Weekday.TheVariants.{Sunday, Monday, Tuesday, Wednesday, Thursday, Friday, Saturday}
+use Rattle.croner_base.specs.Calendar.{IsRealDate, day_number, weekday_of_day}
+use Rattle.croner_base.specs.Civil.{wall_second, day_of_date, seconds_of_time, weekday_index}
 use Rattle.croner_base.proofs.Days.{day_number-parts, day_number-lt_year, day_number-lt_month}
 use Rattle.croner_base.proofs.JiffSeconds.{wall_second-parts}
 
@@ -26,6 +30,11 @@ tied : (P Q R L E G : Type 0) (o next : Ordering) → MatchOrdering o P Q R → 
 tied P Q R L E G Less next h less equal greater = less h
 tied P Q R L E G Equal next h less equal greater = equal h
 tied P Q R L E G Greater next h less equal greater = greater h
+
+-- no day of a year comes before its first
+day_number-first : (y : ℤ) (m d : ℕ) → IsRealDate y m d → day_number y 1 1 ≤ℤ day_number y m d
+day_number-first y m d h =
+    omega (arith, signed_arith, day_number-parts y 1 1, day_number-parts y m d, days_of_months-zero y, h.1.0)
 
 -- within a month by days, within a year by months, and then by years
 day_ranks : (y : ℤ) (m d d₂ : ℕ) → MatchOrdering (nat_cmp d d₂) (day_number y m d <ℤ day_number y m d₂) (day_number y m d ≡ day_number y m d₂) (day_number y m d₂ <ℤ day_number y m d)
@@ -81,3 +90,97 @@ second_ranks a b =
 
 pub parts_cmp-chronological : (a b : CivilDateTime) → parts_cmp a b ≡ int_cmp (wall_second a) (wall_second b)
 parts_cmp-chronological a b = int_cmp_is (wall_second a) (wall_second b) (parts_cmp a b) (second_ranks a b)
+
+-- two comparisons that tie in turn
+both_equal : (a b : Ordering) → ordering_then a b ≡ Equal → (a ≡ Equal) × (b ≡ Equal)
+both_equal Less b h = absurd (cc)
+both_equal Equal b h = (refl, h)
+both_equal Greater b h = absurd (cc)
+
+same_nat : (m n : ℕ) → nat_cmp m n ≡ Equal → m ≡ n
+same_nat m n h = subst (λ o. MatchOrdering o (m < n) (m ≡ n) (n < m)) h (ranks m n)
+
+same_int : (m n : ℤ) → int_cmp m n ≡ Equal → m ≡ n
+same_int m n h = subst (λ o. MatchOrdering o (m <ℤ n) (m ≡ n) (n <ℤ m)) h (int_ranks m n)
+
+tie : (m n : ℤ) → m ≡ n → int_cmp m n ≡ Equal
+tie m n e = sym (int_cmp_is m n Equal e)
+
+-- dates with the same parts are the same, and so are times
+same_date : (a b : CivilDate) → a.year ≡ b.year → a.month ≡ b.month → a.day ≡ b.day → a ≡ b
+same_date a b y m d = λ i. record {
+  year = y i;
+  month = m i;
+  day = d i;
+  real = is_prop→PathP (λ j. IsRealDate (y j) (m j) (d j)) (λ j. hlevel props) a.real b.real i;
+}
+
+same_time : (a b : CivilTime) → a.hour ≡ b.hour → a.minute ≡ b.minute → a.second ≡ b.second → a ≡ b
+same_time a b h m s = λ i. record {
+  hour = h i;
+  minute = m i;
+  second = s i;
+  hour_in = is_prop→PathP (λ j. h j < 24) (λ j. hlevel props) a.hour_in b.hour_in i;
+  minute_in = is_prop→PathP (λ j. m j < 60) (λ j. hlevel props) a.minute_in b.minute_in i;
+  second_in = is_prop→PathP (λ j. s j < 60) (λ j. hlevel props) a.second_in b.second_in i;
+}
+
+-- a wall second has one date and time
+pub wall_second-injective : (a b : CivilDateTime) → wall_second a ≡ wall_second b → a ≡ b
+wall_second-injective a b e =
+    let all = both_equal _ _ (parts_cmp-chronological a b ∙ tie (wall_second a) (wall_second b) e) in
+    let date = both_equal (int_cmp a.date.year b.date.year) _ all.0 in
+    let days = both_equal (nat_cmp a.date.month b.date.month) (nat_cmp a.date.day b.date.day) date.1 in
+    let time = both_equal (nat_cmp a.time.hour b.time.hour) _ all.1 in
+    let seconds = both_equal (nat_cmp a.time.minute b.time.minute) (nat_cmp a.time.second b.time.second) time.1 in
+    let d : a.date ≡ b.date = same_date a.date b.date (same_int _ _ date.0) (same_nat _ _ days.0) (same_nat _ _ days.1) in
+    let t : a.time ≡ b.time = same_time a.time b.time (same_nat _ _ time.0) (same_nat _ _ seconds.0) (same_nat _ _ seconds.1) in
+    λ i. record { date = d i; time = t i }
+
+first_of_year : (y : ℤ) (d : CivilDate) → y ≡ d.year → day_number y 1 1 ≤ℤ day_of_date d
+first_of_year y d e = rw e (day_number-first d.year d.month d.day d.real)
+
+-- a year is reached with the first second of its first day
+pub year_reached : (c : CivilDateTime) (y : ℤ) → (y ≤ℤ c.date.year) ↔ ((day_number y 1 1 *ℤ pos 86_400) ≤ℤ wall_second c)
+year_reached c y =
+    let first : IsRealDate y 1 1 = ((omega arith, omega arith), (omega arith, omega arith)) in (
+      λ le. by_lt_z y c.date.year
+      (λ lt. omega (arith, signed_arith, wall_second-parts c, day_number-lt_year y 1 1 c.date.year c.date.month c.date.day first c.date.real lt))
+      (λ ge. omega (arith, signed_arith, wall_second-parts c, first_of_year y c.date (omega (arith, signed_arith, le, ge)))),
+      λ le. by_lt_z c.date.year y
+      (λ lt. absurd (omega (arith, signed_arith, le, wall_second-parts c, c.time.hour_in, c.time.minute_in, c.time.second_in, day_number-lt_year c.date.year c.date.month c.date.day y 1 1 c.date.real first lt)))
+      (λ ge. ge),
+    )
+
+-- the weekday goes on with the day
+pub weekday_of_day-next : (n : ℤ) → weekday_of_day (n +ℤ pos 1) ≡ (weekday_of_day n + 1) % 7
+unfolding weekday_of_day
+weekday_of_day-next n = omega (arith, signed_arith)
+
+pub weekday_of_day-epoch : weekday_of_day (pos 0) ≡ 4
+unfolding weekday_of_day
+weekday_of_day-epoch = refl
+
+-- a weekday is its number
+of_number : ℕ → Weekday
+of_number n =
+    if n == 0 then Sunday
+    else (if n == 1 then Monday
+    else (if n == 2 then Tuesday
+    else (if n == 3 then Wednesday
+    else (if n == 4 then Thursday
+    else (if n == 5 then Friday
+    else Saturday)))))
+
+of_number-index : (w : Weekday) → of_number (weekday_index w) ≡ w
+unfolding of_number
+of_number-index Sunday = refl
+of_number-index Monday = refl
+of_number-index Tuesday = refl
+of_number-index Wednesday = refl
+of_number-index Thursday = refl
+of_number-index Friday = refl
+of_number-index Saturday = refl
+
+pub weekday_index-injective : (a b : Weekday) → weekday_index a ≡ weekday_index b → a ≡ b
+weekday_index-injective a b e = sym (of_number-index a) ∙ ap of_number e ∙ of_number-index b
