@@ -58,6 +58,10 @@ date_ranks y m d y₂ m₂ d₂ h h₂ =
     (λ e. rw e (month_ranks y₂ m d m₂ d₂ (rw e at h) h₂))
     (λ gt. day_number-lt_year y₂ m₂ d₂ y m d h₂ h gt)
 
+pub date_cmp-chronological : (a b : CivilDate) → ordering_then (int_cmp a.year b.year) (ordering_then (nat_cmp a.month b.month) (nat_cmp a.day b.day)) ≡ int_cmp (day_of_date a) (day_of_date b)
+date_cmp-chronological a b =
+    int_cmp_is (day_of_date a) (day_of_date b) _ (date_ranks a.year a.month a.day b.year b.month b.day a.real b.real)
+
 -- times of day by hours, minutes and seconds
 time_ranks : (a b : CivilTime) → MatchOrdering (ordering_then (nat_cmp a.hour b.hour) (ordering_then (nat_cmp a.minute b.minute) (nat_cmp a.second b.second))) (seconds_of_time a < seconds_of_time b) (seconds_of_time a ≡ seconds_of_time b) (seconds_of_time b < seconds_of_time a)
 time_ranks a b =
