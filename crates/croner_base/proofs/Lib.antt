@@ -1,4 +1,5 @@
 pub mod Days
+pub mod Chronology
 pub mod Padded
 pub mod JiffSeconds
 pub mod CivilMoments
