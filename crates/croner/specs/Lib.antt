@@ -1,0 +1,5 @@
+pub mod Cut
+pub mod Gives
+pub mod Grammar
+pub mod Settings
+pub mod Words
