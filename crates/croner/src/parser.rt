@@ -2,6 +2,8 @@
 
 ghost use Rattle.std.specs.Prelude.{◌≡◌};
 
+mod text;
+
 use std::marker::Model;
 
 /// Whether a pattern has a field for seconds.
