@@ -5,6 +5,7 @@ pub mod Zone
 pub mod CivilZone
 pub mod ZonedZone
 pub mod ZonedValue
+pub mod Limits
 pub mod Calm
 pub mod Table
 pub mod Answers

@@ -8,7 +8,6 @@ mod civil;
 pub mod jiff_impl;
 pub mod table;
 mod value;
-mod zoned_impl;
 
 pub use civil::{CivilDate, CivilDateTime, CivilTime, Weekday};
 pub use value::{CronDateTime, Resolution};
