@@ -2,3 +2,4 @@ pub mod Meaning
 pub mod Shapes
 pub mod Days
 pub mod Schedule
+pub mod Questions
