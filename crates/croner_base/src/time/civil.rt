@@ -43,15 +43,17 @@ impl Weekday {
     pub fn from_days_from_sunday(days: u32) -> Weekday
         ensures { weekday_index result ≡ days % 7 }
     {
-        match days % 7 {
-            0 => Weekday::Sunday,
-            1 => Weekday::Monday,
-            2 => Weekday::Tuesday,
-            3 => Weekday::Wednesday,
-            4 => Weekday::Thursday,
-            5 => Weekday::Friday,
-            _ => Weekday::Saturday,
-        }
+        const WEEK: [Weekday; 7] = [
+            Weekday::Sunday,
+            Weekday::Monday,
+            Weekday::Tuesday,
+            Weekday::Wednesday,
+            Weekday::Thursday,
+            Weekday::Friday,
+            Weekday::Saturday,
+        ];
+
+        WEEK[days as usize % WEEK.len()]
     }
 
     /// The weekday `days` days later, or earlier where it is negative. The caller sees to it that `days` and the
