@@ -38,10 +38,10 @@ pub fn weekday_of_its_number(weekday: Weekday) -> Weekday
 }
 
 /// Dates compare as their day numbers do.
-pub fn date_order_is_chronological(left: CivilDate, right: CivilDate) -> Ordering
-    ensures { result ≡ int_cmp (day_of_date left) (day_of_date right) }
+pub fn date_order_is_chronological(date: CivilDate, other: CivilDate) -> Ordering
+    ensures { result ≡ int_cmp (day_of_date date) (day_of_date other) }
 {
-    left.cmp(&right)
+    date.cmp(&other)
 }
 
 /// Civil date-times compare as their wall seconds do.
