@@ -19,10 +19,9 @@ use croner_base::component::{
 };
 use croner_base::errors::CronError;
 use croner_base::time::{Direction, TimeComponent, YEAR_LOWER_LIMIT, YEAR_UPPER_LIMIT};
+pub use members::{has_plain, nearest_member};
 use std::alloc::{AllocError, Global};
 use std::fmt;
-
-pub use members::{has_plain, nearest_member};
 
 /// The greatest second and the greatest minute.
 const LAST_SECOND: u16 = 59;
