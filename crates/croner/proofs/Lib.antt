@@ -1,3 +1,4 @@
 pub mod Cuts
 pub mod WordLists
 pub mod Names
+pub mod Starred

@@ -2,6 +2,7 @@
 
 ghost use Rattle.std.specs.Prelude.{◌≡◌};
 
+mod fields;
 mod text;
 
 use std::marker::Model;
