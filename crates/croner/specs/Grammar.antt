@@ -2,11 +2,11 @@
 use Rattle.std.specs.Prelude.{◌≡◌, ℕ, Bool, true, false, not, ◌&&◌, ◌||◌, ◌==◌, nat_le, List, [], ◌∷◌, ◌++◌, length, map, Option, Some, None, Result, Ok, Err, slice_index, codes, if◌then◌else◌}
 use Rattle.std.specs.List.{list_all}
 use Rattle.std.specs.Str.{trim, bytes_eq, str_to_ascii_uppercase}
-use Rattle.croner_base.specs.Field.{Shape, Field, empty_field, with_sloppy, with_mark, without_mark, is_marked}
+use Rattle.croner_base.specs.Field.{Shape, Field, empty_field, with_sloppy, with_mark, without_mark, is_marked, can_ask, can_mark}
 use Rattle.croner_base.specs.Part.{contains_byte, field_of}
 use Rattle.croner_base.specs.Reading.{Reading, applied}
 use Rattle.croner_pattern.specs.Meaning.{Meaning}
-use Rattle.croner_pattern.specs.Shapes.{sixty_shape, hour_shape, day_shape, month_shape, weekday_shape, year_shape}
+use Rattle.croner_pattern.specs.Shapes.{sixty_shape, hour_shape, day_shape, month_shape, weekday_shape, year_shape, new_meaning}
 use Rattle.croner.specs.Settings.{Settings, seconds_required, year_required, accepts_count}
 use Rattle.croner.specs.Cut.{replaced}
 use Rattle.croner.specs.Words.{words}
@@ -107,6 +107,13 @@ reading_of s shape text = field_of (start_of s shape).shape text
 abbrev pub weekdays_of : Settings → Shape
 weekdays_of s = weekday_shape (if s.quartz then 1 else 0)
 
+-- a mark of weekday 7 can be moved to weekday 0
+pub record TakesSunday (shape : Shape) (bit : ℕ) : Type 0 where
+  pub offset_is : shape.offset ≡ 0
+  pub asked : can_ask shape 7 bit ≡ true
+  pub left : can_mark shape 7 bit ≡ true
+  pub reached : can_mark shape 0 bit ≡ true
+
 -- each field is accepted
 abbrev pub are_read : Settings → Texts → Bool
 are_read s t =
@@ -136,6 +143,22 @@ with_sunday (bit ∷ bits) f = with_sunday bits (sunday_moved f bit)
 abbrev pub settled_weekdays : Settings → Field → Field
 settled_weekdays s f = if s.quartz then f else with_sunday weekday_modifiers f
 
+-- a pattern before its fields are read
+abbrev pub start_meaning : Settings → List ℕ → Meaning
+start_meaning s text = record (new_meaning text) { days_of_week = empty_field (weekdays_of s) }
+
+-- the same after each field was read
+abbrev pub read_meaning : Settings → List ℕ → Texts → Meaning
+read_meaning s text t = record (new_meaning text) {
+  seconds = value_of s sixty_shape t.seconds;
+  minutes = value_of s sixty_shape t.minutes;
+  hours = value_of s hour_shape t.hours;
+  days = value_of s day_shape t.days;
+  months = value_of s month_shape t.months;
+  days_of_week = value_of s (weekdays_of s) t.days_of_week;
+  years = value_of s year_shape t.years;
+}
+
 -- the fields, the flags and the text of a pattern
 abbrev pub meaning : Settings → List ℕ → Texts → Bool → Meaning
 meaning s text t and = record {
@@ -154,12 +177,13 @@ meaning s text t and = record {
 
 -- ---- the whole
 
--- the fields as they are tested and read
+-- the fields as they are read
+abbrev pub of_legal : Settings → List ℕ → Texts → Bool → Result Meaning Refusal
+of_legal s text t and = if are_read s t then Ok (meaning s text t and) else Err Component
+
+-- the fields as they are tested for their characters
 abbrev pub of_settled : Settings → List ℕ → Texts → Bool → Result Meaning Refusal
-of_settled s text t and =
-    if not (are_legal t) then Err Illegal
-    else if not (are_read s t) then Err Component
-    else Ok (meaning s text t and)
+of_settled s text t and = if are_legal t then of_legal s text t and else Err Illegal
 
 -- a text of seven fields
 abbrev pub of_fields : Settings → List ℕ → Option Texts → Result Meaning Refusal

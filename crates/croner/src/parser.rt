@@ -3,6 +3,8 @@
 ghost use Rattle.std.specs.Prelude.{◌≡◌};
 
 mod fields;
+mod read;
+mod refusals;
 mod text;
 
 use std::marker::Model;
