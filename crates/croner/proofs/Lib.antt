@@ -2,3 +2,4 @@ pub mod Cuts
 pub mod WordLists
 pub mod Names
 pub mod Starred
+pub mod Reads

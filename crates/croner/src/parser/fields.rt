@@ -1,6 +1,6 @@
 //! The texts of the seven fields, before each is read.
 
-ghost use Rattle.std.specs.Prelude.{◌≡◌, ◌==◌, if◌then◌else◌, map, not, string_bytes, option_map, is_none, IfOk, MatchOption};
+ghost use Rattle.std.specs.Prelude.{◌≡◌, ℕ, List, ◌==◌, if◌then◌else◌, map, not, string_bytes, option_map, is_none, IfOk, MatchOption};
 ghost use Rattle.std.specs.List.{list_all};
 ghost use Rattle.croner_base.specs.Part.{contains_byte};
 ghost use Rattle.croner.specs.Grammar.{seven, starred, without_plus, has_plus, is_plain, is_for_days, is_for_weekdays, are_legal};
@@ -75,6 +75,17 @@ pub fn starred(alloc: Global, text: &str) -> Result<Option<String>, AllocError>
         written.push(star_for(c))?;
     }
     Ok(Some(written))
+}
+
+/// The copy of a text where there is one, and else the text.
+pub fn text_or<'t>(copy: &'t Option<String>, text: &'t str) -> &'t str
+    ensures { (expected : List ℕ) → MatchOption copy.now (expected ≡ text.now) (λ t. string_bytes t ≡ expected)
+        → result.now ≡ expected }
+{
+    match copy {
+        Some(copy) => copy.as_str(),
+        None => text,
+    }
 }
 
 /// `*` for `?`, and any other character for itself.
