@@ -1,4 +1,5 @@
 pub mod Days
+pub mod Chronology
 pub mod Padded
 pub mod JiffSeconds
 pub mod CivilMoments
@@ -8,6 +9,7 @@ pub mod CivilCalm
 pub mod ZonedHolds
 pub mod TableOffsets
 pub mod PickExact
+pub mod Filling
 pub mod Parts
 pub mod Ranges
 pub mod Readings

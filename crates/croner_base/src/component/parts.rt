@@ -1,6 +1,6 @@
 //! Reading the text of a field: a star or a list, and the forms that a part of a list can have.
 
-ghost use Rattle.std.specs.Prelude.{◌≡◌, ◌≤◌, ◌<◌, ◌&&◌, nat_le};
+ghost use Rattle.std.specs.Prelude.{◌≡◌, ◌≤◌, ◌<◌, ◌+◌, ◌&&◌, nat_le, map, bit_or};
 ghost use Rattle.croner_base.specs.Answers.{Finds};
 ghost use Rattle.croner_base.specs.Field.{values_between};
 ghost use Rattle.croner_base.specs.Part.{all_marked, field_of, part_of, nearest_weekday, single, one_number, tag_of, two_of, pieces_at, number_of, ranged, stepping, step_bounds, stepped_marks, is_starred};
@@ -211,11 +211,13 @@ impl CronComponent {
     }
 
     fn mark_all(&mut self, first: u16, last: u16, bit: u8) -> Result<(), CronError>
+        requires order { first ≤ last }
+        requires within { last ≤ self.old.shape.max + self.old.shape.offset }
         ensures { Reads (all_marked self.old.shape bit (values_between first last)) self.old self.new result }
     {
-        for pos in first..=last {
-            self.set_bit(pos, bit)?;
-        }
+        let first = usize::from(self.value_at(first, bit)?);
+        let last = usize::from(last - self.input_offset);
+        add_bit(&mut self.marks[first..=last], bit);
         Ok(())
     }
 
@@ -240,5 +242,13 @@ impl CronComponent {
             };
         }
         Ok(())
+    }
+}
+
+fn add_bit(marks: &mut [u8], bit: u8)
+    ensures { marks.new ≡ map (λ sum. bit_or sum bit) marks.old }
+{
+    for mark in marks {
+        *mark |= bit;
     }
 }

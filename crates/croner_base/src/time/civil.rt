@@ -162,7 +162,7 @@ pub struct CivilTime {
 }
 
 impl CivilTime {
-    ghost use Rattle.croner_base.specs.Civil.{HasHms, seconds_of_time};
+    ghost use Rattle.croner_base.specs.Civil.{HasHms, IsTimeOfDay, seconds_of_time};
 
     pub const MIDNIGHT: CivilTime = CivilTime {
         hour: 0,
@@ -177,7 +177,7 @@ impl CivilTime {
     };
 
     pub fn from_hms_opt(hour: u32, minute: u32, second: u32) -> Option<CivilTime>
-        ensures some { IsSome result ↔ ((hour < 24) × (minute < 60) × (second < 60)) }
+        ensures some { IsSome result ↔ IsTimeOfDay hour minute second }
         ensures value { IfSome result (HasHms hour minute second) }
     {
         if hour > 23 || minute > 59 || second > 59 {
@@ -256,11 +256,50 @@ pub struct CivilDateTime {
 }
 
 impl CivilDateTime {
+    ghost use Rattle.croner_base.specs.Civil.{HasYmd, HasHms, IsTimeOfDay};
+
     pub fn new(date: CivilDate, time: CivilTime) -> CivilDateTime
         ensures date { result.date ≡ date }
         ensures time { result.time ≡ time }
     {
         CivilDateTime { date, time }
+    }
+
+    pub fn from_ymd_hms_opt(
+        year: i32,
+        month: u32,
+        day: u32,
+        hour: u32,
+        minute: u32,
+        second: u32,
+    ) -> Option<CivilDateTime>
+        ensures some { IsSome result
+            ↔ (IsRealDate year month day × IsTimeOfDay hour minute second) }
+        ensures date { IfSome result (λ c. HasYmd year month day c.date) }
+        ensures time { IfSome result (λ c. HasHms hour minute second c.time) }
+    {
+        let date = CivilDate::from_ymd_opt(year, month, day)?;
+        let time = CivilTime::from_hms_opt(hour, minute, second)?;
+        Some(CivilDateTime::new(date, time))
+    }
+
+    pub fn from_ymd_hms(
+        year: i32,
+        month: u32,
+        day: u32,
+        hour: u32,
+        minute: u32,
+        second: u32,
+    ) -> Result<CivilDateTime, CronError>
+        ensures ok { IsOk result ↔ (IsRealDate year month day × IsTimeOfDay hour minute second) }
+        ensures date { IfOk result (λ c. HasYmd year month day c.date) }
+        ensures time { IfOk result (λ c. HasHms hour minute second c.time) }
+        ensures no_date { IfErr result (λ e. ¬ IsRealDate year month day → e ≡ CronError.InvalidDate) }
+        ensures no_time { IfErr result (λ e. IsRealDate year month day → e ≡ CronError.InvalidTime) }
+    {
+        let date = CivilDate::from_ymd(year, month, day)?;
+        let time = CivilTime::from_hms_opt(hour, minute, second).ok_or(CronError::InvalidTime)?;
+        Ok(CivilDateTime::new(date, time))
     }
 
     pub fn date(self) -> CivilDate
