@@ -1,3 +1,9 @@
-pub mod Runs
+pub mod Cut
+pub mod Gives
+pub mod Grammar
 pub mod Limit
+pub mod Runs
 pub mod Schedule
+pub mod Settings
+pub mod Words
+pub mod Views

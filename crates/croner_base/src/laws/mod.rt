@@ -2,4 +2,5 @@
 //! without reading how a definition is written.
 
 pub mod calendar;
+pub mod clocks;
 pub mod marks;
