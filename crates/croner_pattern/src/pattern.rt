@@ -128,6 +128,13 @@ impl CronPattern {
         self.text.as_str()
     }
 
+    /// The allocator that the pattern's maker took.
+    pub fn allocator(&self) -> Global
+        ensures { result ≡ self.now.alloc }
+    {
+        self.alloc
+    }
+
     /// Whether seconds, minutes and hours each name exactly one value, with step 1 and without a `*`: such a pattern runs
     /// at one time of the day.
     pub fn is_fixed_time(&self) -> bool
