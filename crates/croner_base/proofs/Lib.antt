@@ -10,6 +10,7 @@ pub mod CivilCalm
 pub mod ZonedHolds
 pub mod TableOffsets
 pub mod PickExact
+pub mod Filling
 pub mod Parts
 pub mod Ranges
 pub mod Readings
