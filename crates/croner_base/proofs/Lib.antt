@@ -10,7 +10,9 @@ pub mod CivilCalm
 pub mod ZonedHolds
 pub mod TableOffsets
 pub mod PickExact
+pub mod ExamplesParts
 pub mod Filling
+pub mod MarkSets
 pub mod Parts
 pub mod Ranges
 pub mod Readings

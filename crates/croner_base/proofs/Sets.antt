@@ -11,7 +11,7 @@ use Rattle.std.proofs.Math.Nat.{zero-mul, one-mul}
 use Rattle.croner_base.specs.Field.{Field, has_any, is_marked, with_mark}
 
 -- a bit stands just where it is not 0
-has_bit : (n k : ℕ) → has_any n (2 ^ k) ≡ not (eqb (bit_at n k) 0)
+pub has_bit : (n k : ℕ) → has_any n (2 ^ k) ≡ not (eqb (bit_at n k) 0)
 has_bit n k = ap not (elim (cases_eq (bit_at n k) 0) [
   | inl e ↦ eq-eqb _ 0 (and_pow n k ∙ ap (λ b. b * 2 ^ k) e ∙ zero-mul (2 ^ k)) ∙ sym (eq-eqb (bit_at n k) 0 e)
   | inr ne ↦

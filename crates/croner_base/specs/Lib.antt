@@ -10,6 +10,7 @@ pub mod Calm
 pub mod Table
 pub mod Answers
 pub mod Field
+pub mod Marks
 pub mod Order
 pub mod Part
 pub mod Reading
