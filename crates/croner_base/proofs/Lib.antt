@@ -6,8 +6,15 @@ pub mod ZonedMoments
 pub mod ZonedResolved
 pub mod CivilCalm
 pub mod ZonedHolds
+pub mod TableTests
+pub mod TableSums
+pub mod TableCheck
 pub mod TableOffsets
+pub mod TableReadings
+pub mod TableCivil
 pub mod PickExact
+pub mod TableMoments
+pub mod TableCalm
 pub mod Parts
 pub mod Ranges
 pub mod Readings
@@ -15,3 +22,4 @@ pub mod Sets
 pub mod Stepping
 pub mod Steps
 pub mod Texts
+pub mod ExamplesTable
