@@ -1,0 +1,8 @@
+pub mod Cut
+pub mod Gives
+pub mod Grammar
+pub mod Limit
+pub mod Runs
+pub mod Schedule
+pub mod Settings
+pub mod Words

@@ -1,2 +1,5 @@
 //! Cron patterns and their runs.
 #![tactic(auto)]
+
+pub mod parser;
+mod search;

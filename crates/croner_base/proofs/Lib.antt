@@ -1,4 +1,6 @@
 pub mod Days
+pub mod Chronology
+pub mod ExamplesCalendar
 pub mod Padded
 pub mod JiffSeconds
 pub mod CivilMoments
@@ -15,6 +17,7 @@ pub mod TableCivil
 pub mod PickExact
 pub mod TableMoments
 pub mod TableCalm
+pub mod Filling
 pub mod Parts
 pub mod Ranges
 pub mod Readings

@@ -53,9 +53,9 @@ moved_by o (c ∷ cs) d s h m =
     elim (place o c cs d m) [
       | inl e ↦ let a = at_change o c cs d s e in rw (a.0, a.1) (step_parts o c.1 p.0)
       | inr q ↦
-        let x = passed o c cs d (omega (arith, signed_arith, q.0)) in
-        let y = passed o c cs (d -ℤ pos 1) (omega (arith, signed_arith, q.0)) in
-        rw (x, y) (moved_by c.1 cs d s.1 p.1 q.1)
+          let x = passed o c cs d (omega (arith, signed_arith, q.0)) in
+          let y = passed o c cs (d -ℤ pos 1) (omega (arith, signed_arith, q.0)) in
+          rw (x, y) (moved_by c.1 cs d s.1 p.1 q.1)
     ]
 
 after_first : (c : ℤ × ℤ) (cs : List (ℤ × ℤ)) (e : ℤ) → IsSpread (c ∷ cs) → Moves c.1 cs e → (c.0 +ℤ pos 172_800) <ℤ e
@@ -129,17 +129,17 @@ few_in z f o (c ∷ cs) (d ∷ ds) agree above s r met =
     let q : z.reads (d -ℤ pos 1) ≡ (d -ℤ pos 1) +ℤ offset_at o (c ∷ cs) (d -ℤ pos 1) = agree (d -ℤ pos 1) (omega (arith, signed_arith, a)) in
     elim (place o c cs d (λ e. m.0 (plain_change _ _ d _ _ p q e))) [
       | inl h ↦
-        let w = at_change o c cs d s h in
-        let rest = few_in z d c.1 cs ds (λ i le. agree i (omega (arith, signed_arith, a, le)) ∙ ap (λ (x : ℤ). i +ℤ x) (passed o c cs i (omega (arith, signed_arith, h, le)))) r.0 s.1 r.1 (tail (IsMet z) d ds met) in
-        let x : z.reads d ≡ c.0 +ℤ c.1 = p ∙ rw w.0 (omega (arith, signed_arith, h)) in
-        let y : z.reads (d -ℤ pos 1) ≡ c.0 -ℤ pos 1 +ℤ o = q ∙ rw w.1 (omega (arith, signed_arith, h)) in
-        let seen1 = seen o c (z.reads d) (z.reads (d -ℤ pos 1)) x y m.1 in
-        let one : met_at o c ≡ 1 = rw seen1 refl in
-        let skip = skipped o c (jump z d) seen1 (omega (arith, signed_arith, x, y)) in
-        (omega (arith, one, rest.0), omega (arith, skip, rest.1))
+          let w = at_change o c cs d s h in
+          let rest = few_in z d c.1 cs ds (λ i le. agree i (omega (arith, signed_arith, a, le)) ∙ ap (λ (x : ℤ). i +ℤ x) (passed o c cs i (omega (arith, signed_arith, h, le)))) r.0 s.1 r.1 (tail (IsMet z) d ds met) in
+          let x : z.reads d ≡ c.0 +ℤ c.1 = p ∙ rw w.0 (omega (arith, signed_arith, h)) in
+          let y : z.reads (d -ℤ pos 1) ≡ c.0 -ℤ pos 1 +ℤ o = q ∙ rw w.1 (omega (arith, signed_arith, h)) in
+          let seen1 = seen o c (z.reads d) (z.reads (d -ℤ pos 1)) x y m.1 in
+          let one : met_at o c ≡ 1 = rw seen1 refl in
+          let skip = skipped o c (jump z d) seen1 (omega (arith, signed_arith, x, y)) in
+          (omega (arith, one, rest.0), omega (arith, skip, rest.1))
       | inr h ↦
-        let rest = few_in z (d -ℤ pos 1) c.1 cs (d ∷ ds) (λ i le. agree i (omega (arith, signed_arith, a, le)) ∙ ap (λ (x : ℤ). i +ℤ x) (passed o c cs i (omega (arith, signed_arith, h.0, le)))) (above_first d ds r.0) s.1 r met in
-        (omega (arith, rest.0), omega (arith, rest.1))
+          let rest = few_in z (d -ℤ pos 1) c.1 cs (d ∷ ds) (λ i le. agree i (omega (arith, signed_arith, a, le)) ∙ ap (λ (x : ℤ). i +ℤ x) (passed o c cs i (omega (arith, signed_arith, h.0, le)))) (above_first d ds r.0) s.1 r met in
+          (omega (arith, rest.0), omega (arith, rest.1))
     ]
 
 few_all : (z : Zone) (o : ℤ) (cs : List (ℤ × ℤ)) (ds : List ℤ) → ((i : ℤ) → z.reads i ≡ clock_reads o cs i) → IsSpread cs → Rises ds → All (IsMet z) ds → (length ds ≤ met_count o cs) × (gap_seconds z ds ≤ met_gaps o cs)
@@ -183,7 +183,7 @@ clock_calm o cs h =
       );
       apart = λ d e m n lt. far_apart o cs d e spread (change_moves o cs d m) (change_moves o cs e n) lt;
       few = λ ds r m. let f = few_all (clock o cs) o cs ds (clock_reads_is o cs) spread r m in
-      (omega (arith, f.0, rules.few), omega (arith, f.1, rules.few_seconds));
+          (omega (arith, f.0, rules.few), omega (arith, f.1, rules.few_seconds));
     }
 
 -- what a search needs held

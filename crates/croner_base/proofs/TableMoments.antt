@@ -58,7 +58,7 @@ near_year_bounds y h =
     let p = both_parts _ _ h in
     (le_of _ _ p.0, le_of _ _ p.1)
 
-near_year-false : (y : ℤ) → (neg_ℤ (pos 9998) ≤ℤ y → y ≤ℤ pos 9998 → ⊥) → is_near_year y ≡ false
+pub near_year-false : (y : ℤ) → (neg_ℤ (pos 9998) ≤ℤ y → y ≤ℤ pos 9998 → ⊥) → is_near_year y ≡ false
 near_year-false y h =
     let both : (b : Bool) → is_near_year y ≡ b → b ≡ false = elim [ true ↦ λ e. absurd (h (near_year_bounds y e).0 (near_year_bounds y e).1) | false ↦ λ e. refl ] in
     both _ refl

@@ -119,10 +119,10 @@ sides o cs w n m e s a h u =
     let after = past_within o cs n h a in
     record {
       cover = λ i r.
-        let b = near o cs w i a r in
-        by_lt_z i (get_or cs m (pos 0, pos 0)).0
-        (λ lt. let p = on_early o cs w i n m e s h u b.0 lt in inl (omega (arith, signed_arith, r, p), omega (arith, signed_arith, r, p, lt)))
-        (λ ge. let p = on_late o cs w i n m e s h u ge b.1 in inr (omega (arith, signed_arith, r, p), omega (arith, signed_arith, r, p, ge)));
+          let b = near o cs w i a r in
+          by_lt_z i (get_or cs m (pos 0, pos 0)).0
+          (λ lt. let p = on_early o cs w i n m e s h u b.0 lt in inl (omega (arith, signed_arith, r, p), omega (arith, signed_arith, r, p, lt)))
+          (λ ge. let p = on_late o cs w i n m e s h u ge b.1 in inr (omega (arith, signed_arith, r, p), omega (arith, signed_arith, r, p, ge)));
       at_early = λ lt. let p = on_early o cs w (w -ℤ offset_past o cs m) n m e s h u (omega (arith, signed_arith, before)) lt in omega (arith, signed_arith, p);
       at_late = λ ge. let p = on_late o cs w (w -ℤ offset_past o cs n) n m e s h u ge (omega (arith, signed_arith, after)) in omega (arith, signed_arith, p);
     }
@@ -157,10 +157,13 @@ names_late o cs w d x y s no_early ge = λ i. (
 
 pub names_both : (o : ℤ) (cs : List (ℤ × ℤ)) (w d x y : ℤ) → Sides o cs w d x y → x <ℤ d → d ≤ℤ y → NamesAll (clock o cs) w (Ambiguous x y)
 unfolding clock
-names_both o cs w d x y s lt ge = (omega (arith, signed_arith, lt, ge), λ i. (
+names_both o cs w d x y s lt ge = (
+  omega (arith, signed_arith, lt, ge),
+  λ i. (
     (λ r. elim (s.cover i r) [ inl p ↦ inl p.0 | inr p ↦ inr p.0 ]),
     (λ h. elim h [ inl e ↦ rw e (s.at_early lt) | inr e ↦ rw e (s.at_late ge) ]),
-  ))
+  ),
+)
 
 pub names_gap : (o : ℤ) (cs : List (ℤ × ℤ)) (w d x y : ℤ) → Sides o cs w d x y → d ≤ℤ x → y <ℤ d → NamesAll (clock o cs) w Gap
 unfolding clock

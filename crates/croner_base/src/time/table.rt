@@ -65,11 +65,11 @@ impl ClockTable {
         ensures bound { result ≤ vec_len self.now.changes }
         ensures count { IsCountUntil self.now.changes.items second result }
     {
-        self.changes.as_slice().partition_point(|change: &(i64, i32)| -> bool
-            ensures { result ≡ int_le change.now.0 second }
-        {
-            change.0 <= second
-        })
+        self.changes.as_slice().partition_point(
+            |change: &(i64, i32)| -> bool
+                ensures { result ≡ int_le change.now.0 second }
+            { change.0 <= second },
+        )
     }
 
     // The instant of a change.
@@ -188,6 +188,8 @@ impl<'t> TableTime<'t> {
 
 impl<'t> CronDateTime for TableTime<'t> {
     ghost use Rattle.croner_base.specs.TableZone.{table_moment};
+    ghost use Rattle.croner_base.specs.Zone.{IsResolved, IsUnheld};
+    ghost use Rattle.croner_base.specs.ZonedZone.{is_near_year};
 
     ghost moment = { table_moment };
 
@@ -206,14 +208,21 @@ impl<'t> CronDateTime for TableTime<'t> {
         &self,
         _alloc: Global,
         civil: CivilDateTime,
-    ) -> Result<Resolution<TableTime<'t>>, CronError> {
+    ) -> Result<Resolution<TableTime<'t>>, CronError>
+        ensures held { IsOk result ↔ IsTrue (is_near_year civil.date.year) }
+        ensures value { IfOk result (IsResolved table_moment (table_moment self.now).zone civil) }
+        ensures err { IfErr result (IsUnheld false (table_moment self.now).zone civil) }
+        ensures date { IfErr result (λ e. e ≡ CronError.InvalidDate) }
+    {
         if civil.year() < FIRST_YEAR || civil.year() > LAST_YEAR {
             return Err(CronError::InvalidDate);
         }
         Ok(match self.table.instants_of(second_of_civil(civil)) {
             Resolution::Single(second) => Resolution::Single(self.at(second)),
-            Resolution::Ambiguous(earlier, later) =>
-                Resolution::Ambiguous(self.at(earlier), self.at(later)),
+            Resolution::Ambiguous(earlier, later) => Resolution::Ambiguous(
+                self.at(earlier),
+                self.at(later),
+            ),
             Resolution::Gap => Resolution::Gap,
         })
     }
@@ -242,3 +251,6 @@ impl<'t> CronDateTime for TableTime<'t> {
 
     ghost clone_memory = { λ a h. tt };
 }
+
+#[cfg(test)]
+mod tests;

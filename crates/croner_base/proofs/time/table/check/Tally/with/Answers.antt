@@ -24,15 +24,17 @@ returns-clause-some c =
     let within = simp to_z-of_z at c.is_offset.ensures in
     let moved = simp to_z-of_z at c.is_step.ensures in
     let met = simp to_z-of_z at c.met_at.ensures.value in
-    let gap = simp to_z-of_z at c.gap_at.ensures.value in
-    (λ _. record {
+    let gap = simp to_z-of_z at c.gap_at.ensures.value in (
+      λ _. record {
         late_enough = omega (arith, ints);
         early_enough = omega (arith, ints);
         offset_in = sym within ∙ c.if-not-is_offset.false;
         step = sym moved ∙ c.if-not-is_step.false;
         few = rw (← met) c.if-met-gt-MOST_CHANGES.false;
         few_seconds = rw (← gap) c.if-gap_seconds-gt-MOST_GAP_SECONDS.false;
-      }, λ _. refl)
+      },
+      λ _. refl,
+    )
 
 pub returns-clause-value : goal.returns-clause-value
 returns-clause-value c =

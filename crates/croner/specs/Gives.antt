@@ -1,0 +1,21 @@
+-- What a call answers, where the meaning of its text is known.
+use Rattle.std.specs.Prelude.{◌≡◌, Result, Ok, Err}
+use Rattle.croner_base.specs.declared.errors.CronError.{CronError}
+use Rattle.croner_base.specs.declared.errors.CronError.TheVariants as errors
+use Rattle.croner.specs.Grammar.{Refusal, Empty, Invalid, Illegal, Component}
+
+-- the kind of refusal; want of memory says nothing of the text
+abbrev pub Fails : {Y : Type 0} → CronError → Result Y Refusal → Type 0
+Fails errors.EmptyPattern meaning = meaning ≡ Err Empty
+Fails (errors.InvalidPattern m) meaning = meaning ≡ Err Invalid
+Fails (errors.IllegalCharacters m) meaning = meaning ≡ Err Illegal
+Fails (errors.ComponentError m) meaning = meaning ≡ Err Component
+Fails errors.InvalidDate meaning = ⊥
+Fails errors.InvalidTime meaning = ⊥
+Fails errors.TimeSearchLimitExceeded meaning = ⊥
+Fails errors.OutOfMemory meaning = Unit {0}
+
+-- the answer, seen by view, is the meaning, unless memory ran out
+abbrev pub Gives : {X Y : Type 0} → (X → Y) → Result X CronError → Result Y Refusal → Type 0
+Gives view (Ok x) meaning = meaning ≡ Ok (view x)
+Gives view (Err e) meaning = Fails e meaning

@@ -1,0 +1,3 @@
+pub mod DayTable
+pub mod Examples
+pub mod Shaped

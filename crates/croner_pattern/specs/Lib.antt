@@ -1,0 +1,5 @@
+pub mod Meaning
+pub mod Shapes
+pub mod Days
+pub mod Schedule
+pub mod Questions
