@@ -8,6 +8,8 @@ pub mod ZonedValue
 pub mod Limits
 pub mod Calm
 pub mod Table
+pub mod TableSteps
+pub mod TableZone
 pub mod Answers
 pub mod Field
 pub mod Marks

@@ -4,3 +4,4 @@
 pub mod calendar;
 pub mod clocks;
 pub mod marks;
+pub mod tables;
