@@ -1,3 +1,5 @@
 pub mod Runs
 pub mod Limit
 pub mod Schedule
+pub mod Search
+pub mod Listing
