@@ -1,1 +1,2 @@
 pub mod Iterating
+pub mod Listings

@@ -1,6 +1,6 @@
 -- The listing of runs from a start: lists of instants that begin it, and what an iterator has yet to give.
-use Rattle.std.specs.Prelude.{◌≡◌, ◌&&◌, ℤ, ◌⊎◌, Bool, true, false, IsTrue, List, [], ◌∷◌, Option, Some, None, IfSome, OnSome, MatchOption}
-use Rattle.std.specs.List.{All, Contains}
+use Rattle.std.specs.Prelude.{◌≡◌, ◌&&◌, ℤ, ◌⊎◌, Bool, false, IsTrue, List, Option, None, IfSome, MatchOption}
+use Rattle.std.specs.List.{All, AllPairs, Contains}
 use Rattle.croner_base.specs.Zone.{Zone, Moment}
 use Rattle.croner_base.specs.declared.errors.CronError.{CronError}
 use Rattle.croner_base.specs.declared.errors.CronError.TheVariants.{InvalidDate, InvalidTime, TimeSearchLimitExceeded, OutOfMemory}
@@ -11,15 +11,10 @@ use Rattle.croner.specs.Limit.{InSpan, NoneInSpan}
 use Rattle.croner.specs.Search.{job_of, IsPromised}
 use Rattle.croner.specs.declared.iterator.CronIterator.{CronIterator}
 
--- from each item to all later ones the list goes strictly in the direction
-abbrev pub Goes : Direction → List ℤ → Type 0
-Goes direction [] = Unit {0}
-Goes direction (i ∷ is) = All (Precedes direction i) is × Goes direction is
-
 -- the items begin the listing from s: they go strictly in the direction, each counts from s, and each run that counts and
 -- comes no later than one of them is among them
 pub record Begins (direction : Direction) (inclusive : Bool) (job : Job) (s : ℤ) (items : List ℤ) : Type 0 where
-  pub ordered : Goes direction items
+  pub ordered : AllPairs (Precedes direction) items
   pub counts : All (Counts direction inclusive job s) items
   pub complete : (i last : ℤ) → Counts direction inclusive job s i → Contains items last → Reaches direction i last → Contains items i
 
