@@ -7,7 +7,7 @@ use Rattle.croner_base.specs.declared.errors.CronError.{CronError}
 use Rattle.croner_base.specs.declared.errors.CronError.TheVariants.{OutOfMemory}
 use Rattle.croner.specs.Runs.{Nearest}
 use Rattle.croner.specs.Limit.{NoneInSpan}
-use Rattle.croner.specs.Search.{IsPromised}
+use Rattle.croner.specs.Premises.{IsSearchable}
 use Rattle.croner.specs.Listing.{Standing, standing_of, counts_position, job_at, moved, IsFault, GivesItem, GivesNone, Steps}
 use Rattle.croner.specs.declared.iterator.CronIterator.{CronIterator}
 
@@ -24,7 +24,7 @@ out_of_memory_steps lack old new e memory =
 
 -- the run that was found, given
 pub found_steps : (old new : Standing) (found item : Moment) → item ≡ found → new ≡ moved old item → found.zone ≡ old.position.zone → found.fraction ≡ 0
-    → (IsPromised old.position → Nearest old.direction (counts_position old) (job_at old) old.position.instant found.instant) → GivesItem old item new
+    → (IsSearchable old.position → Nearest old.direction (counts_position old) (job_at old) old.position.instant found.instant) → GivesItem old item new
 found_steps old new found item e stands same_zone whole nearest = record {
   stands = stands;
   same_zone = ap (λ m. m.zone) e ∙ same_zone;
@@ -42,7 +42,7 @@ pub steps : {T : Type 0} (moment : T → Moment) (lack : Bool) (old new : CronIt
     → IfNone result (standing_of moment new ≡ record (standing_of moment old) { fault = Some OutOfMemory })
     → IfNone result (IsTrue lack)
     → (moment found).zone ≡ (moment old.position).zone → (moment found).fraction ≡ 0
-    → (IsPromised (moment old.position) → Nearest old.direction inclusive (job_at (standing_of moment old)) (moment old.position).instant (moment found).instant)
+    → (IsSearchable (moment old.position) → Nearest old.direction inclusive (job_at (standing_of moment old)) (moment old.position).instant (moment found).instant)
     → Steps moment lack old result new
 steps moment lack old new found None inclusive is item moved_to kept memory same_zone whole nearest =
     out_of_memory_steps lack (standing_of moment old) (standing_of moment new) kept memory
@@ -53,7 +53,7 @@ steps moment lack old new found (Some x) inclusive is item moved_to kept memory 
 
 -- the limit: no fault, and nothing is left
 pub limit_steps : (lack : Bool) (old : Standing) (inclusive : Bool) → inclusive ≡ counts_position old
-    → (IsPromised old.position → NoneInSpan old.direction inclusive (job_at old) old.position.instant)
+    → (IsSearchable old.position → NoneInSpan old.direction inclusive (job_at old) old.position.instant)
     → GivesNone lack old (record old { fault = None })
 limit_steps lack old inclusive is none = record {
   stands = refl;

@@ -1,2 +1,5 @@
 pub mod Iterating
 pub mod Listings
+pub mod ZoneOrder
+pub mod CalmZone
+pub mod HeldRuns

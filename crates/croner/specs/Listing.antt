@@ -8,7 +8,8 @@ use Rattle.croner_base.specs.declared.time.Direction.{Direction}
 use Rattle.croner_pattern.specs.Meaning.{Meaning, meaning_of}
 use Rattle.croner.specs.Runs.{Job, Precedes, Reaches, Counts, Nearest}
 use Rattle.croner.specs.Limit.{InSpan, NoneInSpan}
-use Rattle.croner.specs.Search.{job_of, IsPromised}
+use Rattle.croner.specs.PatternJob.{job_of}
+use Rattle.croner.specs.Premises.{IsSearchable}
 use Rattle.croner.specs.declared.iterator.CronIterator.{CronIterator}
 
 -- the items begin the listing from s: they go strictly in the direction, each counts from s, and each run that counts and
@@ -68,15 +69,15 @@ pub record GivesItem (old : Standing) (item : Moment) (new : Standing) : Type 0 
   pub stands : new ≡ moved old item
   pub same_zone : item.zone ≡ old.position.zone
   pub whole : item.fraction ≡ 0
-  pub nearest : IsPromised old.position → Nearest old.direction (counts_position old) (job_at old) old.position.instant item.instant
+  pub nearest : IsSearchable old.position → Nearest old.direction (counts_position old) (job_at old) old.position.instant item.instant
 
 -- a call that gave no item: position and first mark stand, and so does all else but the fault. With no fault nothing in the
 -- span is left; a fault is want of memory alone, from a start that searches are promised for.
 pub record GivesNone (lack : Bool) (old new : Standing) : Type 0 where
   pub stands : new ≡ record old { fault = new.fault }
   pub faults : IfSome new.fault (IsFault lack)
-  pub ends : IsPromised old.position → new.fault ≡ None → NoneInSpan old.direction (counts_position old) (job_at old) old.position.instant
-  pub lacks : IsPromised old.position → IfSome new.fault (λ e. (e ≡ OutOfMemory) × IsTrue lack)
+  pub ends : IsSearchable old.position → new.fault ≡ None → NoneInSpan old.direction (counts_position old) (job_at old) old.position.instant
+  pub lacks : IsSearchable old.position → IfSome new.fault (λ e. (e ≡ OutOfMemory) × IsTrue lack)
 
 -- what a call of `next` does
 abbrev pub Steps : {T : Type 0} → (T → Moment) → Bool → CronIterator T → Option T → CronIterator T → Type 0

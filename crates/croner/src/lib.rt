@@ -6,7 +6,9 @@ ghost use Rattle.croner_pattern.specs.Meaning.{meaning_of};
 ghost use Rattle.croner_pattern.specs.Shapes.{has_field_shapes};
 ghost use Rattle.croner.specs.Runs.{Nearest};
 ghost use Rattle.croner.specs.Limit.{NoneInSpan};
-ghost use Rattle.croner.specs.Search.{job_of, IsPromised, IsSearchError};
+ghost use Rattle.croner.specs.PatternJob.{job_of};
+ghost use Rattle.croner.specs.Premises.{IsSearchable};
+ghost use Rattle.croner.specs.Refusal.{IsRefusal, IsLimitOrMemory};
 
 pub mod iterator;
 mod search;
@@ -29,13 +31,13 @@ impl Cron {
         direction: Direction,
     ) -> Result<T, CronError>
         requires { has_field_shapes (meaning_of self.now.pattern) ≡ true }
-        ensures nearest { IsPromised (T.moment start.now) → IfOk result (λ t. Nearest direction inclusive
+        ensures nearest { IsSearchable (T.moment start.now) → IfOk result (λ t. Nearest direction inclusive
             (job_of (meaning_of self.now.pattern) (T.moment start.now).zone) (T.moment start.now).instant (T.moment t).instant) }
-        ensures limit { IsPromised (T.moment start.now) → IfErr result (λ e. e ≡ CronError.TimeSearchLimitExceeded → NoneInSpan direction inclusive
+        ensures limit { IsSearchable (T.moment start.now) → IfErr result (λ e. e ≡ CronError.TimeSearchLimitExceeded → NoneInSpan direction inclusive
             (job_of (meaning_of self.now.pattern) (T.moment start.now).zone) (T.moment start.now).instant) }
-        ensures refuses { IsPromised (T.moment start.now) → IfErr result
-            (λ e. (e ≡ CronError.TimeSearchLimitExceeded) ⊎ ((e ≡ CronError.OutOfMemory) × IsTrue T.can_lack_memory)) }
-        ensures kinds { IfErr result (IsSearchError T.can_lack_memory) }
+        ensures refuses { IsSearchable (T.moment start.now) → IfErr result
+            (IsLimitOrMemory T.can_lack_memory) }
+        ensures kinds { IfErr result (IsRefusal T.can_lack_memory) }
         ensures same_zone { IfOk result (λ t. (T.moment t).zone ≡ (T.moment start.now).zone) }
         ensures whole { IfOk result (λ t. (T.moment t).fraction ≡ 0) }
     {
