@@ -3,3 +3,4 @@ pub mod Listings
 pub mod ZoneOrder
 pub mod CalmZone
 pub mod HeldRuns
+pub mod SearchedYears
