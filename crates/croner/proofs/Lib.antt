@@ -4,3 +4,4 @@ pub mod ZoneOrder
 pub mod CalmZone
 pub mod HeldRuns
 pub mod SearchedYears
+pub mod ItemsGiven

@@ -1,5 +1,5 @@
 -- The listing of runs from a start: lists of instants that begin it, and what an iterator has yet to give.
-use Rattle.std.specs.Prelude.{◌≡◌, ◌&&◌, ℤ, ◌⊎◌, Bool, false, IsTrue, List, Option, None, IfSome, MatchOption}
+use Rattle.std.specs.Prelude.{◌≡◌, ◌&&◌, ℤ, ◌⊎◌, ◌++◌, Bool, true, false, IsTrue, List, [], ◌∷◌, Option, None, IfSome, MatchOption, map}
 use Rattle.std.specs.List.{All, AllPairs, Contains}
 use Rattle.croner_base.specs.Zone.{Zone, Moment}
 use Rattle.croner_base.specs.declared.errors.CronError.{CronError}
@@ -84,3 +84,27 @@ abbrev pub Steps : {T : Type 0} → (T → Moment) → Bool → CronIterator T �
 Steps moment lack old result new =
     MatchOption result (GivesNone lack (standing_of moment old) (standing_of moment new))
     (λ item. GivesItem (standing_of moment old) (moment item) (standing_of moment new))
+
+-- between two standings of an iterator it gave the items: they go strictly in its direction, each was left before, and what
+-- was left is among them or is left still, behind all of them
+pub record Gave (old new : Standing) (items : List ℤ) : Type 0 where
+  pub ordered : AllPairs (Precedes old.direction) items
+  pub counts : All (IsLeft old) items
+  pub either : (i : ℤ) → IsLeft old i → Contains items i ⊎ IsLeft new i
+  pub behind : (i : ℤ) → IsLeft new i → All (λ x. Precedes old.direction x i) items
+  pub within : (i : ℤ) → IsLeft new i → IsLeft old i
+
+-- the items are all that was left in the span
+abbrev pub GaveAll : Standing → List ℤ → Type 0
+GaveAll old items = (i : ℤ) → IsLeft old i → InSpan old.direction old.position.zone.reads i → Contains items i
+
+-- the instants that values name
+abbrev pub instants : {T : Type 0} → (T → Moment) → List T → List ℤ
+instants moment items = map (λ t. (moment t).instant) items
+
+-- a call put its item behind the others; or it gave none, and answers whether nothing is left
+abbrev pub Takes : {T : Type 0} → (T → Moment) → Bool → CronIterator T → CronIterator T → List T → List T → Bool → Type 0
+Takes moment lack old new before after true = GivesNone lack (standing_of moment old) (standing_of moment new) × ((standing_of moment new).fault ≡ None) × (after ≡ before)
+Takes {T} moment lack old new before after false =
+    (GivesNone lack (standing_of moment old) (standing_of moment new) × (after ≡ before))
+    ⊎ ((t : T) × GivesItem (standing_of moment old) (moment t) (standing_of moment new) × (after ≡ before ++ t ∷ []))

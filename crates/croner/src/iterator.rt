@@ -24,7 +24,7 @@ pub struct CronIterator<T> {
 }
 
 impl<T: CronDateTime> CronIterator<T> {
-    ghost use Rattle.std.specs.Prelude.{IfSome, IfNone, IsTrue, Some};
+    ghost use Rattle.std.specs.Prelude.{IfSome, IfNone, IsTrue, Some, option_map};
     ghost use Rattle.croner.specs.Listing.{standing_of, counts_position, moved};
 
     /// An iterator from a start: it counts the start where it is inclusive and the start is a run.
@@ -47,6 +47,13 @@ impl<T: CronDateTime> CronIterator<T> {
             direction,
             fault: None,
         }
+    }
+
+    /// The error, other than the limit, that ended the last call of `next`; none where that call gave an item or found none left.
+    pub fn fault(&self) -> Option<&CronError>
+        ensures { option_map (λ e. e.now) result ≡ (standing_of T.moment self.now).fault }
+    {
+        self.fault.as_ref()
     }
 
     // Whether the next search counts the position.

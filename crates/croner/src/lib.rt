@@ -11,6 +11,7 @@ ghost use Rattle.croner.specs.Premises.{IsSearchable};
 ghost use Rattle.croner.specs.Refusal.{IsRefusal, IsLimitOrMemory};
 
 pub mod iterator;
+pub mod laws;
 mod search;
 
 use croner_base::errors::CronError;

@@ -1,0 +1,3 @@
+//! Laws that users rely on, each as the contract of a public function.
+
+pub mod listing;
