@@ -6,7 +6,7 @@ use Rattle.croner_base.specs.declared.time.Direction.{Direction}
 use Rattle.croner_pattern.specs.Meaning.{Meaning}
 use Rattle.croner.specs.Runs.{Job, Counts, Precedes, Reaches, Nearest}
 use Rattle.croner.specs.Premises.{IsSearchable}
-use Rattle.croner.specs.PatternJob.{job_of}
+use Rattle.croner.specs.PatternJob.{pattern_job}
 use Rattle.croner.specs.Limit.{InSpan, NoneInSpan}
 use Rattle.croner.specs.Listing.{Standing, standing_of, instants, Takes, IsLeft, BeginsRest, Gave, GaveAll, moved, counts_position, job_at, GivesItem, GivesNone}
 use Rattle.croner.specs.declared.iterator.CronIterator.{CronIterator}
@@ -56,7 +56,7 @@ searchable_item cur item p same_zone whole counts =
 
 next_of : (cur new : Standing) (item : Moment) → IsSearchable cur.position → GivesItem cur item new → IsNext cur.direction (IsLeft cur) (IsLeft (moved cur item)) item.instant
 next_of cur new item p g =
-    let P : Zone → Type 0 = λ z. IsNext cur.direction (IsLeft cur) (Counts cur.direction false (job_of cur.pattern z) item.instant) item.instant in
+    let P : Zone → Type 0 = λ z. IsNext cur.direction (IsLeft cur) (Counts cur.direction false (pattern_job cur.pattern z) item.instant) item.instant in
     subst P (sym g.same_zone) (is_next cur.direction (counts_position cur) (job_at cur) cur.position.instant item.instant (g.nearest p))
 
 -- a call with an item

@@ -15,7 +15,7 @@ use Rattle.croner_base.proofs.JiffSeconds.{wall_second-parts}
 use Rattle.croner_pattern.specs.Meaning.{Meaning}
 use Rattle.croner_pattern.specs.Schedule.{IsScheduled, DateMatches, is_plain, is_year_matching, is_day_matching, is_date_matching, first_weekday}
 use Rattle.croner.specs.Runs.{Run, Counts}
-use Rattle.croner.specs.PatternJob.{job_of}
+use Rattle.croner.specs.PatternJob.{pattern_job}
 use Rattle.croner.proofs.Listings.{is_run}
 
 day_before : day_number (pos 0) 12 31 ≡ neg_ℤ (pos 719_163)
@@ -66,7 +66,7 @@ searched_second m w h =
     subst IsSearched h.shows (year_in m h.shown date.1)
 
 -- a run shows one of these seconds
-pub searched_run : (m : Meaning) (z : Zone) (i : ℤ) → Run (job_of m z) i → IsSearched (z.reads i)
+pub searched_run : (m : Meaning) (z : Zone) (i : ℤ) → Run (pattern_job m z) i → IsSearched (z.reads i)
 searched_run m z i run =
     elim run [
       | inl own ↦ searched_second m (z.reads i) own.0

@@ -8,7 +8,7 @@ use Rattle.croner_base.specs.declared.time.Direction.{Direction}
 use Rattle.croner_pattern.specs.Meaning.{Meaning, meaning_of}
 use Rattle.croner.specs.Runs.{Job, Precedes, Reaches, Counts, Nearest}
 use Rattle.croner.specs.Limit.{InSpan, NoneInSpan}
-use Rattle.croner.specs.PatternJob.{job_of}
+use Rattle.croner.specs.PatternJob.{pattern_job}
 use Rattle.croner.specs.Premises.{IsSearchable}
 use Rattle.croner.specs.declared.iterator.CronIterator.{CronIterator}
 
@@ -39,9 +39,20 @@ standing_of moment it = record {
   fault = it.fault;
 }
 
+-- a new iterator from a start
+abbrev pub new_standing : Meaning → Moment → Bool → Direction → Standing
+new_standing m start inclusive direction = record {
+  pattern = m;
+  position = start;
+  is_first = true;
+  inclusive = inclusive;
+  direction = direction;
+  fault = None;
+}
+
 -- the job that it lists the runs of
 abbrev pub job_at : Standing → Job
-job_at s = job_of s.pattern s.position.zone
+job_at s = pattern_job s.pattern s.position.zone
 
 -- whether its next search counts its position
 abbrev pub counts_position : Standing → Bool

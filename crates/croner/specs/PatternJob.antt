@@ -5,5 +5,5 @@ use Rattle.croner_pattern.specs.Schedule.{IsScheduled, DateMatches, is_fixed_tim
 use Rattle.croner.specs.Runs.{Job, job_in}
 
 -- the job of a pattern in a zone
-abbrev pub job_of : Meaning → Zone → Job
-job_of m z = job_in z (IsScheduled m) (DateMatches m) (is_fixed_time m)
+abbrev pub pattern_job : Meaning → Zone → Job
+pattern_job m z = job_in z (IsScheduled m) (DateMatches m) (is_fixed_time m)

@@ -25,19 +25,12 @@ pub struct CronIterator<T> {
 
 impl<T: CronDateTime> CronIterator<T> {
     ghost use Rattle.std.specs.Prelude.{IfSome, IfNone, IsTrue, Some, option_map};
-    ghost use Rattle.croner.specs.Listing.{standing_of, counts_position, moved};
+    ghost use Rattle.croner.specs.Listing.{standing_of, new_standing, counts_position, moved};
 
     /// An iterator from a start: it counts the start where it is inclusive and the start is a run.
     pub fn new(cron: Cron, start: T, inclusive: bool, direction: Direction) -> Self
         requires { has_field_shapes (meaning_of cron.pattern) ≡ true }
-        ensures { standing_of T.moment result ≡ record {
-            pattern = meaning_of cron.pattern;
-            position = T.moment start;
-            is_first = true;
-            inclusive = inclusive;
-            direction = direction;
-            fault = None;
-        } }
+        ensures { standing_of T.moment result ≡ new_standing (meaning_of cron.pattern) (T.moment start) inclusive direction }
     {
         CronIterator {
             cron,

@@ -6,7 +6,7 @@ ghost use Rattle.croner_pattern.specs.Meaning.{meaning_of};
 ghost use Rattle.croner_pattern.specs.Shapes.{has_field_shapes};
 ghost use Rattle.croner.specs.Runs.{Nearest};
 ghost use Rattle.croner.specs.Limit.{NoneInSpan};
-ghost use Rattle.croner.specs.PatternJob.{job_of};
+ghost use Rattle.croner.specs.PatternJob.{pattern_job};
 ghost use Rattle.croner.specs.Premises.{IsSearchable};
 ghost use Rattle.croner.specs.Refusal.{IsRefusal, IsLimitOrMemory};
 
@@ -33,9 +33,9 @@ impl Cron {
     ) -> Result<T, CronError>
         requires { has_field_shapes (meaning_of self.now.pattern) ≡ true }
         ensures nearest { IsSearchable (T.moment start.now) → IfOk result (λ t. Nearest direction inclusive
-            (job_of (meaning_of self.now.pattern) (T.moment start.now).zone) (T.moment start.now).instant (T.moment t).instant) }
+            (pattern_job (meaning_of self.now.pattern) (T.moment start.now).zone) (T.moment start.now).instant (T.moment t).instant) }
         ensures limit { IsSearchable (T.moment start.now) → IfErr result (λ e. e ≡ CronError.TimeSearchLimitExceeded → NoneInSpan direction inclusive
-            (job_of (meaning_of self.now.pattern) (T.moment start.now).zone) (T.moment start.now).instant) }
+            (pattern_job (meaning_of self.now.pattern) (T.moment start.now).zone) (T.moment start.now).instant) }
         ensures refuses { IsSearchable (T.moment start.now) → IfErr result
             (IsLimitOrMemory T.can_lack_memory) }
         ensures kinds { IfErr result (IsRefusal T.can_lack_memory) }
