@@ -1,7 +1,5 @@
-pub mod Iterating
-pub mod Listings
-pub mod ZoneOrder
-pub mod CalmZone
-pub mod HeldRuns
-pub mod SearchedYears
-pub mod ItemsGiven
+pub mod Cuts
+pub mod WordLists
+pub mod Names
+pub mod Starred
+pub mod Reads

@@ -1,8 +1,9 @@
-pub mod Runs
+pub mod Cut
+pub mod Gives
+pub mod Grammar
 pub mod Limit
+pub mod Runs
 pub mod Schedule
-pub mod Premises
-pub mod Refusal
-pub mod Halves
-pub mod PatternJob
-pub mod Listing
+pub mod Settings
+pub mod Words
+pub mod Views

@@ -2,3 +2,6 @@
 //! without reading how a definition is written.
 
 pub mod calendar;
+pub mod clocks;
+pub mod marks;
+pub mod tables;
