@@ -1,0 +1,10 @@
+pub mod ZoneOrder
+pub mod CalmZone
+pub mod FirstInstants
+pub mod RunsOfSeconds
+pub mod WalkSteps
+pub mod WalkArms
+pub mod TwoHalves
+pub mod WallSeconds
+pub mod GapSides
+pub mod WalkLoop

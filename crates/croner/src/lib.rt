@@ -1,4 +1,7 @@
 //! Cron patterns and their runs.
 #![tactic(auto)]
 
+mod fold;
+mod instant;
 mod search;
+mod wall;

@@ -1,0 +1,1 @@
+//! The two halves of a repeated range of the wall clock.
