@@ -8,3 +8,4 @@ pub mod TwoHalves
 pub mod WallSeconds
 pub mod GapSides
 pub mod WalkLoop
+pub mod WalkPace

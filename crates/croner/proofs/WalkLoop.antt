@@ -10,17 +10,17 @@ use Rattle.croner_base.specs.Civil.{wall_second}
 use Rattle.croner_base.specs.Zone.{Zone, Moment, Names}
 use Rattle.croner_base.specs.Calm.{IsCalm, IsSearched, IsInReach}
 use Rattle.croner.specs.Runs.{Job, Precedes, Reaches}
-use Rattle.croner.specs.Schedule.{NextScheduled}
+use Rattle.croner.specs.Schedule.{NextScheduled, NoneScheduled}
 use Rattle.croner.specs.Premises.{IsCalmStart, HoldsYears, HasOneInstantEach, Shows}
 use Rattle.croner.specs.Refusal.{IsBackendError}
 use Rattle.croner.specs.Wall.{IsLastYear}
-use Rattle.croner.specs.Walk.{First, NoneOf, Walked, WalkedFrom, Walking, walk_start, one_on, NearerOf, ChosenOf, IsOneOf, GapEnd, Unread, Ahead, Onward, Paces, CannotMove, IsWalked, HasGapEnd, HasGapFront}
+use Rattle.croner.specs.Walk.{First, NoneOf, Walked, WalkedFrom, Walking, walk_start, one_on, NearerOf, ChosenOf, IsOneOf, GapEnd, Unread, Ahead, Onward, Paces, CannotMove, IsWalked, OutFrom, HasGapEnd, HasGapFront}
 use Rattle.croner.proofs.CalmZone.{Exactly, calm_of, exact_of}
 use Rattle.croner.proofs.ZoneOrder.{Calm, cases_lt_z}
 use Rattle.croner.proofs.RunsOfSeconds.{true_or_false}
 use Rattle.croner.proofs.WalkSteps.{none_at_start, reaches_itself, none_to_next, on_reaches, one_on_reaches}
 use Rattle.croner.proofs.WalkArms.{single_answer, two_each_answer, two_each_past, gap_each_past, two_fixed_answer, two_fixed_past, gap_answer, gap_fixed_past_forward, gap_fixed_past_backward}
-use Rattle.croner.proofs.WallSeconds.{last_year_far}
+use Rattle.croner.proofs.WallSeconds.{IsFar, last_year_far}
 
 le_of_lt : (a b : ℤ) → a <ℤ b → a ≤ℤ b
 le_of_lt a b h = omega (arith, ints)
@@ -253,3 +253,24 @@ backend_error lack P Q e f error = elim error [ inl memory ↦ inl memory | inr 
 pub searched_not_last : (direction : Direction) (c : CivilDateTime) → IsSearched (wall_second c) → IsLastYear direction c.date.year → ⊥
 searched_not_last Forward c searched last = let far = last_year_far Forward c last in omega (arith, ints, searched.1)
 searched_not_last Backward c searched last = let far = last_year_far Backward c last in omega (arith, ints, searched.0)
+
+start_reaches : (direction : Direction) (inclusive : Bool) (r w : ℤ) → Reaches direction (walk_start direction inclusive r) w → Reaches direction r w
+start_reaches Forward true r w h = h
+start_reaches Forward false r w h = omega (arith, ints)
+start_reaches Backward true r w h = h
+start_reaches Backward false r w h = omega (arith, ints)
+
+pub walk_reaches : (direction : Direction) (inclusive : Bool) (job : Job) (s : ℤ) (f : ℕ) (wall : ℤ) → Walking direction inclusive job s f wall → Reaches direction (job.zone.reads s) wall
+walk_reaches direction inclusive job s f wall walking = start_reaches direction inclusive (job.zone.reads s) wall walking.reaches
+
+far_none : (direction : Direction) (fixed_time : Bool) (scheduled : ℤ → Type 0) (w from : ℤ) → IsFar direction w → Reaches direction w from → NoneScheduled direction fixed_time scheduled from
+far_none Forward fixed_time scheduled w from far on = λ v after covered own. let never : ⊥ = omega (arith, ints) in never
+far_none Backward true scheduled w from far on = λ v after covered own. let never : ⊥ = omega (arith, ints) in never
+far_none Backward false scheduled w from far on = λ v after covered own. let never : ⊥ = omega (arith, ints) in never
+
+-- from the last second of the calendar nothing is left to search
+pub out_far : (direction : Direction) (inclusive : Bool) (job : Job) (s : ℤ) (c : CivilDateTime) → IsLastYear direction c.date.year → wall_second c ≡ job.zone.reads s → OutFrom direction inclusive job s
+out_far direction inclusive job s c last shown =
+    let from = walk_start direction inclusive (job.zone.reads s) in
+    let far = subst (IsFar direction) shown (last_year_far direction c last) in
+    (from, none_at_start direction inclusive job s from, far_none direction job.fixed_time job.scheduled (job.zone.reads s) from far (start_reaches direction inclusive (job.zone.reads s) from (reaches_itself direction from)))
