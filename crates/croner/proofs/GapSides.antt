@@ -97,7 +97,6 @@ unread_down reads v high unread here =
 unread_none : (reads : ℤ → ℤ) (v w : ℤ) → w ≤ℤ v → Unread reads v w
 unread_none reads v w h = λ u a b x e. let never : ⊥ = omega (arith, ints) in never
 
-
 module _ (zone : Zone) (held : CivilDateTime) where
   pub up_start : zone.resolves held ≡ Some Gap → InGapUpTo zone (wall_second held) (wall_second held)
   up_start e =

@@ -9,3 +9,5 @@ pub mod WallSeconds
 pub mod GapSides
 pub mod WalkLoop
 pub mod WalkPace
+pub mod HalfEdges
+pub mod SearchLimit

@@ -193,7 +193,7 @@ module _ {T : Type 0} (moment : T → Moment) (direction : Direction) (inclusive
   pub past_two : (c : CivilDateTime) (e l : T) (b : Bool) (moved : ℤ) → b ≡ job.fixed_time → Names moment job.zone (wall_second c) e → Names moment job.zone (wall_second c) l → job.zone.resolves c ≡ Some (Ambiguous (moment e).instant (moment l).instant) → Walking direction inclusive job origin.instant origin.fraction (wall_second c) → (origin.fraction ≡ 0 → (moment e).fraction ≡ 0 → (moment l).fraction ≡ 0 → ChosenOf moment b direction origin.instant e l None) → moved ≡ one_on direction (wall_second c) → Walking direction inclusive job origin.instant origin.fraction moved × (IsCalmStart job.zone origin.fraction → Paces direction job.zone.reads origin.instant (wall_second c) moved)
   past_two c e l b moved same named_e named_l is there chosen moves = (
     walking_past_two direction inclusive job origin.instant origin.fraction moment c moved e l there is
-    (λ whole. subst (λ (x : Bool). ChosenOf moment x direction origin.instant e l None) same (chosen whole named_e.whole named_l.whole)) moves,
+        (λ whole. subst (λ (x : Bool). ChosenOf moment x direction origin.instant e l None) same (chosen whole named_e.whole named_l.whole)) moves,
     λ start. inr (moves, ((moment e).instant, named_e.reads_it, one_behind moment b direction origin.instant e l (chosen start.whole named_e.whole named_l.whole))),
   )
 

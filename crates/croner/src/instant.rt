@@ -55,7 +55,7 @@ pub(crate) fn is_behind<T: CronDateTime>(
 ) -> Result<bool, CronError>
     ensures value { (T.moment origin.now).fraction ≡ 0 → (T.moment instant.now).fraction ≡ 0
         → IfOk result (λ b. IsTrue b
-            ↔ Precedes direction (T.moment instant.now).instant (T.moment origin.now).instant) }
+        ↔ Precedes direction (T.moment instant.now).instant (T.moment origin.now).instant) }
     ensures err { IfErr result (IsBackendError T.can_lack_memory
         (CannotMove direction (T.moment instant.now))) }
 {
@@ -72,7 +72,7 @@ pub(crate) fn lies_ahead<T: CronDateTime>(
 ) -> bool
     ensures { (T.moment origin.now).fraction ≡ 0 → (T.moment instant.now).fraction ≡ 0
         → IsTrue result
-            ↔ Ahead direction inclusive (T.moment origin.now).instant (T.moment instant.now).instant }
+        ↔ Ahead direction inclusive (T.moment origin.now).instant (T.moment instant.now).instant }
 {
     match origin.cmp_instant(instant) {
         Ordering::Less => direction == Direction::Forward,

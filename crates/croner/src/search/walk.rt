@@ -177,14 +177,20 @@ fn pass<T: CronDateTime, S: Schedule>(
     match origin.resolve_civil(alloc, found)? {
         Resolution::Single(only) => Ok(Passed::Answer(only)),
         Resolution::Ambiguous(earlier, later) => {
-            pass_two(alloc, schedule, origin, found, earlier, later, inclusive, direction)
+            pass_two(
+                alloc, schedule, origin, found, earlier, later, inclusive, direction,
+            )
         }
         Resolution::Gap => pass_gap(alloc, schedule, origin, found, inclusive, direction),
     }
 }
 
 // Where a walk begins, from what the origin shows.
-fn first_second(shown: CivilDateTime, inclusive: bool, direction: Direction) -> Option<CivilDateTime>
+fn first_second(
+    shown: CivilDateTime,
+    inclusive: bool,
+    direction: Direction,
+) -> Option<CivilDateTime>
     ensures { MatchOption result (IsLastYear direction shown.date.year)
         (λ wall. wall_second wall ≡ walk_start direction inclusive (wall_second shown)) }
 {
