@@ -1,9 +1,10 @@
 -- The two halves of a repeated range of the wall clock.
-use Rattle.std.specs.Prelude.{◌≡◌, ⊤, ℕ, ◌<◌, ◌≤◌, ℤ, pos, ◌+ℤ◌, ◌-ℤ◌, ◌*ℤ◌, ◌<ℤ◌, ◌≤ℤ◌, Bool, false, Option, Some, None}
+use Rattle.std.specs.Prelude.{◌≡◌, ⊤, ℕ, ◌<◌, ◌≤◌, ℤ, pos, ◌+ℤ◌, ◌-ℤ◌, ◌<ℤ◌, ◌≤ℤ◌, Bool, false, Option, Some, None}
 use Rattle.croner_base.specs.declared.time.Direction.{Direction}
 use Rattle.croner_base.specs.declared.time.Direction.TheVariants.{Forward, Backward}
 use Rattle.croner_base.specs.Zone.{Zone, Moment}
 use Rattle.croner.specs.Runs.{Job, Precedes, Nearest}
+use Rattle.croner.specs.Walk.{one_on}
 use Rattle.croner.specs.Premises.{IsSearchable, IsCalmStart, Shows}
 
 -- the clock is put forward or back right after the instant p
@@ -66,3 +67,16 @@ pub record IsFound {T : Type 0} (moment : T → Moment) (direction : Direction) 
   pub whole : (moment t).fraction ≡ 0
   pub shows : Shows job (moment t).instant
   pub nearest : IsSearchable start → Nearest direction inclusive job start.instant (moment t).instant
+
+-- the other direction
+abbrev pub opposite_way : Direction → Direction
+opposite_way Forward = Backward
+opposite_way Backward = Forward
+
+-- the edge of the other half and the last instant of the half that m is on; none where m is on no first half
+abbrev pub HasOtherHalf : {T : Type 0} → (T → Moment) → Direction → Moment → Option (T × T) → Type 0
+HasOtherHalf moment direction m (Some halves) =
+    ((moment halves.0).zone ≡ m.zone) × ((moment halves.0).fraction ≡ m.fraction) × ((moment halves.1).zone ≡ m.zone)
+    × ((moment halves.1).instant ≡ one_on (opposite_way direction) (moment halves.0).instant)
+    × (IsSearchable m → EdgeOf direction m.zone.reads m.instant (moment halves.0).instant)
+HasOtherHalf moment direction m None = IsSearchable m → ¬ (HasTwin direction m.zone.reads m.instant)

@@ -4,6 +4,8 @@ pub mod Grammar
 pub mod Limit
 pub mod Runs
 pub mod Schedule
-pub mod Settings
-pub mod Words
-pub mod Views
+pub mod Refusal
+pub mod Premises
+pub mod Walk
+pub mod Halves
+pub mod Wall

@@ -1,8 +1,7 @@
 //! Cron patterns and their runs.
 #![tactic(auto)]
 
-mod job;
-pub mod parser;
+mod fold;
+mod instant;
 mod search;
-
-pub use job::Cron;
+mod wall;
