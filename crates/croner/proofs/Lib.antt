@@ -1,0 +1,2 @@
+pub mod CivilOrder
+pub mod Weekdays
