@@ -1,0 +1,4 @@
+pub mod Meaning
+pub mod Shapes
+pub mod Days
+pub mod Schedule
