@@ -1,2 +1,4 @@
 //! Cron patterns and their runs.
 #![tactic(auto)]
+
+mod search;

@@ -1,0 +1,64 @@
+-- When a job runs in a zone, and which of its runs is the nearest one from a start. The source is this crate's documentation.
+use Rattle.std.specs.Prelude.{◌≡◌, ℤ, pos, ◌-ℤ◌, ◌<ℤ◌, ◌≤ℤ◌, ◌⊎◌, Bool, true}
+use Rattle.croner_base.specs.Zone.{Zone}
+use Rattle.croner_base.specs.declared.time.Direction.{Direction}
+use Rattle.croner_base.specs.declared.time.Direction.TheVariants.{Forward, Backward}
+
+-- what a search looks for: the zone that runs are in, which wall seconds are scheduled, at which of them the date
+-- matches, and whether it is a fixed-time job
+pub record Job : Type 1 where
+  pub zone : Zone
+  pub scheduled : ℤ → Type 0
+  pub date_matches : ℤ → Type 0
+  pub fixed_time : Bool
+
+-- the job of a schedule in a zone
+abbrev pub job_in : Zone → (ℤ → Type 0) → (ℤ → Type 0) → Bool → Job
+job_in z scheduled date_matches fixed_time = record {
+  zone = z;
+  scheduled = scheduled;
+  date_matches = date_matches;
+  fixed_time = fixed_time;
+}
+
+-- a run by what the clock shows at i: for a fixed-time job no earlier instant shows the same
+abbrev pub OwnRun : Job → ℤ → Type 0
+OwnRun job i =
+    job.scheduled (job.zone.reads i)
+    × (job.fixed_time ≡ true → (j : ℤ) → j <ℤ i → ¬ (job.zone.reads j ≡ job.zone.reads i))
+
+-- a fixed-time job's scheduled second lies in the gap that i ends, and the date that the clock shows at i matches
+abbrev pub CarriedRun : Job → ℤ → Type 0
+CarriedRun job i =
+    (job.fixed_time ≡ true)
+    × ((w : ℤ) × (job.zone.reads (i -ℤ pos 1) <ℤ w) × (w <ℤ job.zone.reads i) × job.scheduled w)
+    × job.date_matches (job.zone.reads i)
+
+-- the job runs at i
+abbrev pub Run : Job → ℤ → Type 0
+Run job i = OwnRun job i ⊎ CarriedRun job i
+
+-- a comes before b in the direction
+abbrev pub Precedes : Direction → ℤ → ℤ → Type 0
+Precedes Forward a b = a <ℤ b
+Precedes Backward a b = b <ℤ a
+
+-- a comes no later than b in the direction
+abbrev pub Reaches : Direction → ℤ → ℤ → Type 0
+Reaches Forward a b = a ≤ℤ b
+Reaches Backward a b = b ≤ℤ a
+
+-- the start of an inclusive search counts itself: forward not where it is a carried run only
+abbrev pub StartCounts : Direction → Job → ℤ → Type 0
+StartCounts Forward job s = OwnRun job s
+StartCounts Backward job s = Run job s
+
+-- the run i counts from the start s
+abbrev pub Counts : Direction → Bool → Job → ℤ → ℤ → Type 0
+Counts direction inclusive job s i =
+    (Precedes direction s i × Run job i) ⊎ ((inclusive ≡ true) × (i ≡ s) × StartCounts direction job s)
+
+-- t counts from s, and nothing that counts comes before it
+pub record Nearest (direction : Direction) (inclusive : Bool) (job : Job) (s t : ℤ) : Type 0 where
+  pub counts : Counts direction inclusive job s t
+  pub nearest : (j : ℤ) → Counts direction inclusive job s j → Reaches direction t j

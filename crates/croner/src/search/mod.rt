@@ -1,0 +1,4 @@
+//! The nearest run of a schedule in a zone.
+mod schedule;
+
+pub(crate) use schedule::Schedule;
