@@ -1,2 +1,4 @@
 pub mod CivilOrder
 pub mod Weekdays
+pub mod Ahead
+pub mod Values

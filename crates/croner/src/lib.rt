@@ -1,4 +1,5 @@
 //! Cron patterns and their runs.
 #![tactic(auto)]
 
+mod cursor;
 mod search;
