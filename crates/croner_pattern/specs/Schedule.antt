@@ -6,13 +6,17 @@ use Rattle.croner_base.specs.declared.time.civil.CivilDate.{CivilDate}
 use Rattle.croner_base.specs.declared.time.civil.CivilDateTime.{CivilDateTime}
 use Rattle.croner_base.specs.Calendar.{day_number, weekday_of_day}
 use Rattle.croner_base.specs.Civil.{wall_second}
-use Rattle.croner_base.specs.Field.{Field, has_all, is_marked, marked_values}
+use Rattle.croner_base.specs.Field.{Field, has_all, can_ask, is_marked, marked_values}
 use Rattle.croner_pattern.specs.Days.{days_of, weekday_of, occurrence, is_last_weekday, is_last_day, is_last_working, is_nearest}
 use Rattle.croner_pattern.specs.Meaning.{Meaning}
 
--- the field names the value by itself, or by a range or a step that it lies in: ALL_BIT
+-- the field holds the value, and the value is marked with one of the bits
+abbrev pub is_named : ℕ → Field → ℕ → Bool
+is_named bits f value = can_ask f.shape value bits && is_marked bits f value
+
+-- a plain value: named by itself, or by a range or a step that it lies in (ALL_BIT)
 abbrev pub is_plain : Field → ℕ → Bool
-is_plain = is_marked 1
+is_plain = is_named 1
 
 -- `L`: LAST_BIT is enabled, and CLOSEST_WEEKDAY_BIT isn't
 abbrev pub names_last_day : Field → Bool
@@ -25,7 +29,7 @@ names_last_working_day days = has_all days.enabled 64 && has_all days.enabled 12
 -- `nW`: a target of the month, marked CLOSEST_WEEKDAY_BIT, has this day as its nearest working day
 abbrev pub is_near_target : Field → ℕ → ℕ → ℕ → Bool
 is_near_target days len first day =
-    list_any (λ target. is_marked 128 days target && is_nearest len first target day) (days_of len)
+    list_any (λ target. is_named 128 days target && is_nearest len first target day) (days_of len)
 
 -- the day of month fits
 abbrev pub is_day_side : Field → ℕ → ℕ → ℕ → Bool
@@ -40,8 +44,8 @@ nth_bit n = 2 ^ n
 -- the weekday fits: plain, as the nth of the month, or as its last
 abbrev pub is_weekday_side : Field → ℕ → ℕ → ℕ → Bool
 is_weekday_side weekdays len first day =
-    is_plain weekdays (weekday_of first day) || (is_marked (nth_bit (occurrence first day)) weekdays (weekday_of first day)
-    || (is_marked 64 weekdays (weekday_of first day) && is_last_weekday len first day))
+    is_plain weekdays (weekday_of first day) || (is_named (nth_bit (occurrence first day)) weekdays (weekday_of first day)
+    || (is_named 64 weekdays (weekday_of first day) && is_last_weekday len first day))
 
 -- with one star field the other side decides. With none it takes both sides where the AND flag is set, and else either.
 -- With two stars either side will do.
