@@ -1,12 +1,15 @@
 -- The weekday of a date in closed form, for every year.
 use Rattle.std.proofs.Common.{◌≡◌, ℕ, zero, suc, ◌+◌, ◌-◌, ◌*◌, ◌/◌, ◌%◌, ◌<◌, ◌≤◌, cond, refl, sym, ap, ◌∙◌, arith, add-one, ℤ, pos, negsuc, neg_ℤ, ◌+ℤ◌, ◌-ℤ◌, ◌*ℤ◌, ◌<ℤ◌, ◌≤ℤ◌}
 use Rattle.std.proofs.lemmas.Bool.Decides.{nat_tests}
-use Rattle.std.specs.Int.{int_div_euclid, int_rem_euclid}
+use Rattle.std.specs.Int.{IsInRange, int_div_euclid, int_rem_euclid}
 use Rattle.jiff_core.specs.Calendar.{is_leap_year, days_in_year, day_of_year}
 use Rattle.jiff_core.proofs.SignedLemmas.{signed_arith}
 use Rattle.jiff_core.proofs.MarchLemmas.{leap_day, days_in_year-leap_day}
-use Rattle.croner_base.specs.Calendar.{days_since_zero, days_until_zero, year_start, day_number, weekday_of_day}
-use Rattle.croner_base.proofs.Days.{year_start-next, day_number-parts}
+use Rattle.jiff_core.proofs.CalendarLemmas.{days_in_month_bounds, days_in_year_bounds}
+use Rattle.croner_pattern.specs.Schedule.{first_weekday}
+use Rattle.croner_base.specs.Calendar.{IsRealDate, days_since_zero, days_until_zero, year_start, day_number, weekday_of_day}
+use Rattle.croner_base.proofs.Days.{year_start-next, day_number-parts, day_of_year_bound}
+use borrow.Author.Differences.{up, down}
 
 -- how many leap years lie from year 0 to before the year, for a year that is not negative
 abbrev pub leaps : ℕ → ℕ
@@ -54,7 +57,18 @@ cycles y (suc k) =
     rw e (omega (arith, signed_arith, year_start-cycle (y +ℤ pos (400 * k)), cycles y k))
 
 -- the weekday from the place of the year in its cycle
-year_place : (y : ℤ) (m d n : ℕ) → 1 ≤ day_of_year y m d → year_start y ≡ year_start (pos n) → weekday_of_day (day_number y m d) ≡ (n + leaps n + day_of_year y m d + 5) % 7
+year_place : (y : ℤ) (m d n a b : ℕ) → 1 ≤ day_of_year y m d → year_start y +ℤ pos (146_097 * a) ≡ year_start (pos n) +ℤ pos (146_097 * b) → weekday_of_day (day_number y m d) ≡ (n + leaps n + day_of_year y m d + 5) % 7
 unfolding weekday_of_day
-year_place y m d n h e =
+year_place y m d n a b h e =
     omega (arith, signed_arith, day_number-parts y m d, e, year_start-leaps n, year_start-leaps 1970)
+
+pub weekday-place : (y : ℤ) (m n : ℕ) → IsInRange 1 12 m → pos n ≡ int_rem_euclid y (pos 400) → first_weekday y m ≡ (n + leaps n + day_of_year y m 1 + 5) % 7
+weekday-place y m n h e =
+    let q = int_div_euclid y (pos 400) in
+    let same : y +ℤ pos (400 * down q) ≡ pos n +ℤ pos (400 * up q) = omega (arith, signed_arith) in
+    year_place y m 1 n (down q) (up q) (omega arith) (sym (cycles y (down q)) ∙ ap year_start same ∙ cycles (pos n) (up q))
+
+pub day_of_year-first : (y : ℤ) (m : ℕ) → IsInRange 1 12 m → day_of_year y m 1 ≤ 366
+day_of_year-first y m h =
+    let real : IsRealDate y m 1 = (h, (omega arith, omega (arith, days_in_month_bounds y m))) in
+    omega (arith, day_of_year_bound y m 1 real, days_in_year_bounds y)

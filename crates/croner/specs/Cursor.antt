@@ -1,11 +1,12 @@
 -- How a search goes over the wall clock, before any zone: what it looks for, and how far it goes. The source is this
 -- crate's documentation.
-use Rattle.std.specs.Prelude.{◌≡◌, ℕ, ◌<◌, ◌≤◌, Bool, true, false, ℤ, pos, ◌+ℤ◌, ◌-ℤ◌, int_lt, Option, MatchOption, if◌then◌else◌}
+use Rattle.std.specs.Prelude.{◌≡◌, ℕ, ◌+◌, ◌<◌, ◌≤◌, Bool, true, false, ℤ, pos, ◌+ℤ◌, ◌-ℤ◌, int_lt, Option, MatchOption, if◌then◌else◌}
 use Rattle.croner_base.specs.declared.time.Direction.{Direction}
 use Rattle.croner_base.specs.declared.time.Direction.TheVariants.{Forward, Backward}
 use Rattle.croner_base.specs.declared.time.civil.CivilDate.{CivilDate}
 use Rattle.croner_base.specs.declared.time.civil.CivilTime.{CivilTime}
 use Rattle.croner_base.specs.declared.time.civil.CivilDateTime.{CivilDateTime}
+use Rattle.jiff_core.specs.Calendar.{days_in_month}
 use Rattle.croner_base.specs.Calendar.{day_number}
 use Rattle.croner_base.specs.Civil.{HasYmd, day_of_date, seconds_of_time, wall_second}
 use Rattle.croner_base.specs.Field.{Field}
@@ -71,10 +72,22 @@ abbrev pub IsYearEdge : Direction → ℤ → CivilDate → Type 0
 IsYearEdge Forward year d = HasYmd year 1 1 d
 IsYearEdge Backward year d = HasYmd year 12 31 d
 
+-- the first year in the direction after a year, of those that a pattern can name
+pub record IsYearBeyond (direction : Direction) (year : ℤ) (beyond : ℕ) : Type 0 where
+  pub low : 1 ≤ beyond
+  pub high : beyond ≤ 5000
+  pub on : Reaches direction (one_on direction year) (pos beyond)
+  pub first : (y : ℕ) → 1 ≤ y → y ≤ 5000 → Reaches direction (one_on direction year) (pos y) → Reaches direction (pos beyond) (pos y)
+
 -- the date lies in the month of another
 pub record IsSameMonth (month d : CivilDate) : Type 0 where
   pub same_year : d.year ≡ month.year
   pub same_month : d.month ≡ month.month
+
+-- the last day of its month in the direction
+abbrev pub IsLastOfMonth : Direction → CivilDate → Type 0
+IsLastOfMonth Forward d = d.day ≡ days_in_month d.year d.month
+IsLastOfMonth Backward d = d.day ≡ 1
 
 -- the first day of the next month in the direction: up to it all dates lie in this one, and it is no later than the first
 -- day of the last year
@@ -82,6 +95,7 @@ pub record IsNextMonth (direction : Direction) (month edge : CivilDate) : Type 0
   pub ahead : Precedes direction (day_of_date month) (day_of_date edge)
   pub within : Reaches direction (day_of_date edge) (edge_day direction)
   pub none : (c : CivilDate) → Reaches direction (day_of_date month) (day_of_date c) → Precedes direction (day_of_date c) (day_of_date edge) → IsSameMonth month c
+  pub next : IsLastOfMonth direction month → day_of_date edge ≡ one_on direction (day_of_date month)
 
 -- a date that matches, in the month of another
 pub record IsInMonth (m : Meaning) (month : CivilDate) (d : CivilDate) : Type 0 where

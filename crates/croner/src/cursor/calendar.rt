@@ -3,7 +3,7 @@ ghost use Rattle.std.specs.Prelude.{◌≡◌, ◌<◌, true, ◌+ℤ◌, pos};
 ghost use Rattle.std.specs.Int.{IsInRange};
 ghost use Rattle.croner_base.specs.Civil.{day_of_date, HasYmd};
 ghost use Rattle.croner_pattern.specs.Schedule.{first_weekday};
-ghost use Rattle.croner.specs.Cursor.{one_on, has_room, IsYearEdge, IsNextMonth};
+ghost use Rattle.croner.specs.Cursor.{one_on, has_room, IsYearEdge, IsYearBeyond, IsNextMonth};
 
 use croner_base::time::{
     CivilDate, Direction, YEAR_LOWER_LIMIT, YEAR_UPPER_LIMIT, day_of_year, days_in_month,
@@ -71,7 +71,21 @@ pub(crate) fn next_day(date: CivilDate, direction: Direction) -> CivilDate
         Direction::Forward if day < date.days_in_month() => {
             CivilDate::from_parts_unchecked(year, month, day + 1)
         }
+        Direction::Forward => next_month(date, direction),
         Direction::Backward if day > 1 => CivilDate::from_parts_unchecked(year, month, day - 1),
-        _ => next_month(date, direction),
+        Direction::Backward => next_month(date, direction),
+    }
+}
+
+// The first year after a year that lies in the years that a pattern can name.
+pub(crate) fn year_beyond(year: i32, direction: Direction) -> u32
+    requires { has_room direction year ≡ true }
+    ensures { IsYearBeyond direction year result }
+{
+    match direction {
+        Direction::Forward if year < YEAR_LOWER_LIMIT => YEAR_LOWER_LIMIT as u32,
+        Direction::Forward => (year + 1) as u32,
+        Direction::Backward if year > YEAR_UPPER_LIMIT => YEAR_UPPER_LIMIT as u32,
+        Direction::Backward => (year - 1) as u32,
     }
 }

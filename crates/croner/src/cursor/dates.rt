@@ -8,7 +8,7 @@ ghost use Rattle.croner_pattern.specs.Shapes.{has_field_shapes};
 ghost use Rattle.croner_pattern.specs.Schedule.{is_plain, is_day_matching, is_year_matching, is_date_matching, first_weekday};
 ghost use Rattle.croner.specs.Cursor.{one_on, has_room, last_day, Finds, IsMatchingDay, IsInMonth, IsLastStretch, IsNextStretch, IsReached};
 
-use crate::cursor::calendar::{first_weekday, has_room, next_month, year_edge};
+use crate::cursor::calendar::{first_weekday, has_room, next_month, year_beyond, year_edge};
 use crate::cursor::values::{is_plain, nearest_value, neighbour};
 use croner_base::time::{CivilDate, Direction, YEAR_LOWER_LIMIT, YEAR_UPPER_LIMIT};
 use croner_pattern::pattern::CronPattern;
@@ -28,7 +28,10 @@ fn has_year(pattern: &CronPattern, year: i32) -> bool
     requires { has_field_shapes (meaning_of pattern.now) ≡ true }
     ensures { result ≡ is_year_matching (meaning_of pattern.now) year }
 {
-    year >= YEAR_LOWER_LIMIT && year <= YEAR_UPPER_LIMIT && is_plain(&pattern.years, year as u32)
+    if year < YEAR_LOWER_LIMIT || year > YEAR_UPPER_LIMIT {
+        return false;
+    }
+    is_plain(&pattern.years, year as u32)
 }
 
 fn has_month(pattern: &CronPattern, month: u32) -> bool
@@ -89,14 +92,9 @@ fn next_year(pattern: &CronPattern, year: i32, direction: Direction) -> Option<i
     ensures { Finds (λ (y : ℤ). y) (λ y. is_year_matching (meaning_of pattern.now) y ≡ true) direction
         (one_on direction year) result }
 {
-    let from = match direction {
-        Direction::Forward if year < YEAR_LOWER_LIMIT => YEAR_LOWER_LIMIT,
-        Direction::Forward => year + 1,
-        Direction::Backward if year > YEAR_UPPER_LIMIT => YEAR_UPPER_LIMIT,
-        Direction::Backward => year - 1,
-    };
+    let from = year_beyond(year, direction);
     let (low, high) = (YEAR_LOWER_LIMIT as u32, YEAR_UPPER_LIMIT as u32);
-    let found = nearest_value(&pattern.years, low, high, from as u32, direction)?;
+    let found = nearest_value(&pattern.years, low, high, from, direction)?;
     Some(found as i32)
 }
 
