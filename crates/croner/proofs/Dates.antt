@@ -1,9 +1,9 @@
 -- The search for the nearest date that matches.
-use Rattle.std.proofs.Common.{◌≡◌, ℕ, ◌+◌, ◌<◌, ◌≤◌, ◌⊎◌, inl, inr, Bool, true, false, ◌&&◌, refl, sym, ap, subst, ◌∙◌, arith, ℤ, pos, ◌+ℤ◌, ◌-ℤ◌, ◌<ℤ◌, ◌≤ℤ◌, int_le, unsigned_abs}
+use Rattle.std.proofs.Common.{◌≡◌, ℕ, ◌+◌, ◌<◌, ◌≤◌, ◌⊎◌, inl, inr, Bool, true, false, ◌&&◌, refl, sym, ap, subst, ◌∙◌, arith, ℤ, pos, negsuc, ◌+ℤ◌, ◌-ℤ◌, ◌<ℤ◌, ◌≤ℤ◌, int_le, unsigned_abs}
 use Rattle.std.proofs.lemmas.Int.{ints}
 use Rattle.std.proofs.lemmas.Bool.{false≢true}
 use Rattle.jiff_core.specs.Calendar.{days_in_month}
-use Rattle.jiff_core.proofs.SignedLemmas.{signed_arith}
+use Rattle.jiff_core.proofs.SignedLemmas.{signed_arith, one_part}
 use Rattle.croner_base.specs.declared.time.Direction.{Direction}
 use Rattle.croner_base.specs.declared.time.Direction.TheVariants.{Forward, Backward}
 use Rattle.croner_base.specs.declared.time.civil.CivilDate.{CivilDate}
@@ -20,11 +20,11 @@ pub bool_cases : (b : Bool) → (b ≡ true) ⊎ (b ≡ false)
 bool_cases true = inl refl
 bool_cases false = inr refl
 
-and-split : (a b : Bool) → (a && b) ≡ true → (a ≡ true) × (b ≡ true)
+pub and-split : (a b : Bool) → (a && b) ≡ true → (a ≡ true) × (b ≡ true)
 and-split true b h = (refl, h)
 and-split false b h = absurd (false≢true h)
 
-and-join : (a b : Bool) → a ≡ true → b ≡ true → (a && b) ≡ true
+pub and-join : (a b : Bool) → a ≡ true → b ≡ true → (a && b) ≡ true
 and-join true b h k = k
 and-join false b h k = absurd (false≢true h)
 
@@ -42,9 +42,6 @@ match_parts m d h =
 
 pub parts_match : (m : Meaning) (d : CivilDate) → MatchParts m d.year d.month d.day → is_date_matching m d ≡ true
 parts_match m d p = and-join _ _ p.year (and-join _ _ p.month p.day)
-
-pub parts_match-no_year : (m : Meaning) (d : CivilDate) → is_year_matching m d.year ≡ false → is_date_matching m d ≡ false
-parts_match-no_year m d h = rw h refl
 
 pub same_match : (m : Meaning) (a b : CivilDate) → SameDate a b → is_date_matching m b ≡ true → is_date_matching m a ≡ true
 same_match m a b s h =
@@ -77,13 +74,19 @@ pub record YearParts (m : Meaning) (y : ℤ) : Type 0 where
   pub number : y ≡ pos (unsigned_abs y)
   pub plain : is_plain m.years (unsigned_abs y) ≡ true
 
+not_negative : (y : ℤ) → pos 1 ≤ℤ y → y ≡ pos (unsigned_abs y)
+not_negative (pos n) h = refl
+not_negative (negsuc n) h = absurd (omega (arith, signed_arith))
+
 pub year_parts : (m : Meaning) (y : ℤ) → is_year_matching m y ≡ true → YearParts m y
 year_parts m y h =
     let one = and-split _ _ h in
     let two = and-split _ _ one.0 in
-    let low : pos 1 ≤ℤ y = let t = two.0 in omega (arith, signed_arith) in
-    let high : y ≤ℤ pos 5000 = let t = two.1 in omega (arith, signed_arith) in
-    record { low = low; high = high; number = omega (arith, signed_arith); plain = one.1 }
+    let t : int_le (pos 1) y ≡ true = two.0 in
+    let u : int_le y (pos 5000) ≡ true = two.1 in
+    let low : pos 1 ≤ℤ y = omega (arith, signed_arith) in
+    let high : y ≤ℤ pos 5000 = omega (arith, signed_arith) in
+    record { low = low; high = high; number = not_negative y low; plain = one.1 }
 
 -- the nearest plain number is the nearest plain year
 plain_year : (m : Meaning) (v : ℕ) → IsPlainWithin m.years 1 5000 v → is_year_matching m (pos v) ≡ true
@@ -142,15 +145,30 @@ month-none_day m dir date none y r is =
     let high : y.day ≤ days_in_month date.year date.month = let real = y.real.1.1 in rw (e, f) at real in
     none y.day (reach-day dir date y e f r) (record { low = y.real.1.0; high = high; matches = q.day })
 
-pub month-no_year : (m : Meaning) (dir : Direction) (date : CivilDate) → is_year_matching m date.year ≡ false → NoneOn day_of_date (IsInMonth m date) dir (day_of_date date)
-month-no_year m dir date no y r is =
+pub month-closed : (m : Meaning) (dir : Direction) (date : CivilDate) → (is_year_matching m date.year && is_plain m.months date.month) ≡ false → NoneOn day_of_date (IsInMonth m date) dir (day_of_date date)
+month-closed m dir date closed y r is =
     let p = match_parts m y is.matches in
-    false≢true (sym no ∙ sym (ap (is_year_matching m) is.same.same_year) ∙ p.year)
+    let year : is_year_matching m date.year ≡ true = sym (ap (is_year_matching m) is.same.same_year) ∙ p.year in
+    let month : is_plain m.months date.month ≡ true = sym (ap (is_plain m.months) is.same.same_month) ∙ p.month in
+    false≢true (sym closed ∙ and-join _ _ year month)
 
-pub month-no_month : (m : Meaning) (dir : Direction) (date : CivilDate) → is_plain m.months date.month ≡ false → NoneOn day_of_date (IsInMonth m date) dir (day_of_date date)
-month-no_month m dir date no y r is =
-    let p = match_parts m y is.matches in
-    false≢true (sym no ∙ sym (ap (is_plain m.months) is.same.same_month) ∙ p.month)
+pub month-named : (m : Meaning) (date : CivilDate) → (is_year_matching m date.year && is_plain m.months date.month) ≡ true → (is_year_matching m date.year ≡ true) × (is_plain m.months date.month ≡ true)
+month-named m date h = and-split _ _ h
+
+and-assoc : (a b c : Bool) → ((a && b) && c) ≡ (a && (b && c))
+and-assoc true b c = refl
+and-assoc false b c = refl
+
+pub match-joined : (m : Meaning) (d : CivilDate) → ((is_year_matching m d.year && is_plain m.months d.month) && is_day_matching m (days_in_month d.year d.month) (first_weekday d.year d.month) d.day) ≡ is_date_matching m d
+match-joined m d = and-assoc (is_year_matching m d.year) (is_plain m.months d.month) (is_day_matching m (days_in_month d.year d.month) (first_weekday d.year d.month) d.day)
+
+pub match-closed : (m : Meaning) (d : CivilDate) → (is_year_matching m d.year && is_plain m.months d.month) ≡ false → is_date_matching m d ≡ false
+match-closed m d h =
+    sym (match-joined m d) ∙ ap (λ b. b && is_day_matching m (days_in_month d.year d.month) (first_weekday d.year d.month) d.day) h
+
+pub match-open : (m : Meaning) (d : CivilDate) → (is_year_matching m d.year && is_plain m.months d.month) ≡ true → is_date_matching m d ≡ is_day_matching m (days_in_month d.year d.month) (first_weekday d.year d.month) d.day
+match-open m d h =
+    sym (match-joined m d) ∙ ap (λ b. b && is_day_matching m (days_in_month d.year d.month) (first_weekday d.year d.month) d.day) h
 
 -- ---- from a month to the next that can match
 
@@ -181,27 +199,27 @@ edge_within m Backward y edge h p =
 
 -- a date that matches, from a date of another year on, lies in the nearest plain year or after it
 later_year : (m : Meaning) (dir : Direction) (date c : CivilDate) → is_year_matching m date.year ≡ false → Reaches dir (day_of_date date) (day_of_date c) → is_date_matching m c ≡ true → Reaches dir (one_on dir date.year) c.year
-later_year m dir date c no r is =
+later_year m dir date c lacks r is =
     let p = match_parts m c is in
     elim (same_or_ahead dir date.year c.year (reach-year dir date c r)) [
-      | inl same ↦ absurd (false≢true (sym no ∙ ap (is_year_matching m) same ∙ p.year))
+      | inl same ↦ absurd (false≢true (sym lacks ∙ ap (is_year_matching m) same ∙ p.year))
       | inr ahead ↦ one_on-next dir date.year c.year ahead
     ]
 
 pub stretch-year : (m : Meaning) (dir : Direction) (date edge : CivilDate) (y : ℤ) → is_year_matching m date.year ≡ false → IsNearest {X = ℤ} (λ y. y) (λ y. is_year_matching m y ≡ true) dir (one_on dir date.year) y → IsYearEdge dir y edge → IsNextStretch m dir date edge
-stretch-year m dir date edge y no n h = record {
+stretch-year m dir date edge y lacks n h = record {
   ahead = year-ahead dir date edge
       (subst (λ z. Precedes dir date.year z) (sym (edge_year dir y edge h)) (precedes-trans dir date.year (one_on dir date.year) y (one_on-ahead dir date.year) n.on));
   within = edge_within m dir y edge h n.is;
   none = λ c r p is.
       let parts = match_parts m c is in
-      absurd (not_both dir (day_of_date c) (day_of_date edge) p (edge_first dir y edge c h (n.first c.year (later_year m dir date c no r is) parts.year)));
+      absurd (not_both dir (day_of_date c) (day_of_date edge) p (edge_first dir y edge c h (n.first c.year (later_year m dir date c lacks r is) parts.year)));
 }
 
 pub stretch-last : (m : Meaning) (dir : Direction) (date : CivilDate) → is_year_matching m date.year ≡ false → NoneOn {X = ℤ} (λ y. y) (λ y. is_year_matching m y ≡ true) dir (one_on dir date.year) → IsLastStretch m dir date
-stretch-last m dir date no none c r is =
+stretch-last m dir date lacks none c r is =
     let parts = match_parts m c is in
-    absurd (none c.year (later_year m dir date c no r is) parts.year)
+    absurd (none c.year (later_year m dir date c lacks r is) parts.year)
 
 -- ---- over the months
 
@@ -273,18 +291,24 @@ past_last m dir from date w h = elim (bool_cases (has_room dir from.year)) [
 ]
 
 pub walking-end : (m : Meaning) (dir : Direction) (from date : CivilDate) → Walking m dir from date → has_room dir date.year ≡ false → is_date_matching m date ≡ false → NoneOn day_of_date (IsReached m dir (last_day dir from)) dir (day_of_date from)
-walking-end m dir from date w h no =
+walking-end m dir from date w h lacks =
     none_on day_of_date (IsReached m dir (last_day dir from)) dir (day_of_date from) (day_of_date date) w.none
     (λ y r is.
     let back = reaches-trans dir (day_of_date y) (last_day dir from) (day_of_date date) is.within (past_last m dir from date w h) in
     let same = same_date date y (both_ways dir (day_of_date date) (day_of_date y) r back) in
-    false≢true (sym no ∙ same_match m date y same is.matches))
+    false≢true (sym lacks ∙ same_match m date y same is.matches))
 
 -- the loop's measure: the days that are left
 abbrev pub days_left : Direction → CivilDate → ℕ
 days_left Forward date = up (edge_day Forward -ℤ day_of_date date)
 days_left Backward date = up (day_of_date date -ℤ edge_day Backward)
 
+up-less : (a b c : ℤ) → a <ℤ b → b ≤ℤ c → up (c -ℤ b) < up (c -ℤ a)
+up-less a b c h k = omega (arith, signed_arith, one_part (c -ℤ b), one_part (c -ℤ a))
+
+up-less_back : (a b c : ℤ) → b <ℤ a → c ≤ℤ b → up (b -ℤ c) < up (a -ℤ c)
+up-less_back a b c h k = omega (arith, signed_arith, one_part (b -ℤ c), one_part (a -ℤ c))
+
 pub days_left-next : (m : Meaning) (dir : Direction) (date edge : CivilDate) → IsNextStretch m dir date edge → days_left dir edge < days_left dir date
-days_left-next m Forward date edge s = omega (arith, signed_arith, s.ahead, s.within)
-days_left-next m Backward date edge s = omega (arith, signed_arith, s.ahead, s.within)
+days_left-next m Forward date edge s = up-less (day_of_date date) (day_of_date edge) (edge_day Forward) s.ahead s.within
+days_left-next m Backward date edge s = up-less_back (day_of_date date) (day_of_date edge) (edge_day Backward) s.ahead s.within

@@ -5,3 +5,4 @@ pub mod Values
 pub mod Months
 pub mod Dates
 pub mod Times
+pub mod Scheduled

@@ -26,6 +26,22 @@ hour_of m t p = plain_in m.hours 23 t.hour (omega (arith, t.hour_in)) p
 pub second_of : (m : Meaning) (t : CivilTime) → is_plain m.seconds t.second ≡ true → IsPlainWithin m.seconds 0 59 t.second
 second_of m t p = plain_in m.seconds 59 t.second (omega (arith, t.second_in)) p
 
+-- the same facts at an equal number
+pub none_at : (P : ℕ → Type 0) (dir : Direction) (a b : ℕ) → a ≡ b → NoneOn pos P dir (pos a) → NoneOn pos P dir (pos b)
+none_at P dir a b e h = subst (λ (n : ℕ). NoneOn pos P dir (pos n)) e h
+
+pub none_after : (P : ℕ → Type 0) (dir : Direction) (a b : ℕ) → a ≡ b → NoneOn pos P dir (one_on dir (pos a)) → NoneOn pos P dir (one_on dir (pos b))
+none_after P dir a b e h = subst (λ (n : ℕ). NoneOn pos P dir (one_on dir (pos n))) e h
+
+pub nearest_at : (P : ℕ → Type 0) (dir : Direction) (a b v : ℕ) → a ≡ b → IsNearest pos P dir (pos a) v → IsNearest pos P dir (pos b) v
+nearest_at P dir a b v e h = subst (λ (n : ℕ). IsNearest pos P dir (pos n) v) e h
+
+pub nearest_after : (P : ℕ → Type 0) (dir : Direction) (a b v : ℕ) → a ≡ b → IsNearest pos P dir (one_on dir (pos a)) v → IsNearest pos P dir (one_on dir (pos b)) v
+nearest_after P dir a b v e h = subst (λ (n : ℕ). IsNearest pos P dir (one_on dir (pos n)) v) e h
+
+pub same_hms : (t : CivilTime) (h h₂ m m₂ s s₂ : ℕ) → h ≡ h₂ → m ≡ m₂ → s ≡ s₂ → HasHms h m s t → HasHms h₂ m₂ s₂ t
+same_hms t h h₂ m m₂ s s₂ e f g is = record { hour_is = is.hour_is ∙ e; minute_is = is.minute_is ∙ f; second_is = is.second_is ∙ g }
+
 -- the value before the nearest one isn't plain
 pub not_plain : (field : Field) (max : ℕ) (dir : Direction) (from v : ℕ) → from ≤ max → IsNearest pos (IsPlainWithin field 0 max) dir (pos from) v → (v ≡ from → ⊥) → is_plain field from ≡ true → ⊥
 not_plain field max dir from v h n differ plain =
@@ -115,7 +131,7 @@ module _ (m : Meaning) (dir : Direction) (room : Bool) (from : CivilTime) where
   pub hour-step : (minute : ℕ) (first t : CivilTime) → room ≡ true → IsFirstValue m.seconds dir 59 first.second → NoneOn pos (IsPlainWithin m.seconds 0 59) dir (pos from.second) → IsNearest pos (IsPlainWithin m.minutes 0 59) dir (one_on dir (pos from.minute)) minute → HasHms from.hour minute first.second t → IsNearest place_in_day (IsOpenInHour m room from) dir (place_in_day from) t
   hour-step minute first t has s none n h =
       hour-enters minute first t s h (precedes-trans dir (pos from.minute) (one_on dir (pos from.minute)) (pos minute) (one_on-ahead dir (pos from.minute)) n.on) n.is.plain
-      (λ no _. false≢true (sym no ∙ has))
+      (λ lacks _. false≢true (sym lacks ∙ has))
       (λ y r is. n.first y.minute (later_minute none y r is) (minute_of m y is.minute))
 
   pub hour-no_step : NoneOn pos (IsPlainWithin m.seconds 0 59) dir (pos from.second) → NoneOn pos (IsPlainWithin m.minutes 0 59) dir (one_on dir (pos from.minute)) → NoneOn place_in_day (IsOpenInHour m room from) dir (place_in_day from)
@@ -123,8 +139,8 @@ module _ (m : Meaning) (dir : Direction) (room : Bool) (from : CivilTime) where
 
   -- without room a plain minute stays
   pub hour-stays : room ≡ false → is_plain m.minutes from.minute ≡ true → NoneOn pos (IsPlainWithin m.seconds 0 59) dir (pos from.second) → NoneOn place_in_day (IsOpenInHour m room from) dir (place_in_day from)
-  hour-stays no plain none y r is =
-      let here = is.stays no plain in
+  hour-stays lacks plain none y r is =
+      let here = is.stays lacks plain in
       none y.second (reach-second dir from y is.same_hour here r) (second_of m y is.second)
 
   -- ---- in a day
@@ -143,8 +159,8 @@ module _ (m : Meaning) (dir : Direction) (room : Bool) (from : CivilTime) where
         on = hour-reach dir from t later;
         is = record {
           matches = record { hour = same_hour; minute = same_minute; second = same_second };
-          move = λ no. record {
-            hour = λ p. absurd (stays no p);
+          move = λ lacks. record {
+            hour = λ p. absurd (stays lacks p);
             minute = λ e _. absurd (not_both dir (pos from.hour) (pos t.hour) later (reaches-equal dir (pos t.hour) (pos from.hour) (ap pos e)));
           };
         };
@@ -177,7 +193,7 @@ module _ (m : Meaning) (dir : Direction) (room : Bool) (from : CivilTime) where
     same_hour = same;
     minute = is.matches.minute;
     second = is.matches.second;
-    stays = λ no p. (is.move no).minute same p;
+    stays = λ lacks p. (is.move lacks).minute same p;
   }
 
   -- a time of the same hour
@@ -188,7 +204,7 @@ module _ (m : Meaning) (dir : Direction) (room : Bool) (from : CivilTime) where
         on = n.on;
         is = record {
           matches = record { hour = same_hour; minute = n.is.minute; second = n.is.second };
-          move = λ no. record { hour = λ _. n.is.same_hour; minute = λ _ p. n.is.stays no p };
+          move = λ lacks. record { hour = λ _. n.is.same_hour; minute = λ _ p. n.is.stays lacks p };
         };
         first = λ y r is.
             elim (same_or_ahead dir (pos from.hour) (pos y.hour) (reach-hour dir from y r)) [
@@ -207,11 +223,50 @@ module _ (m : Meaning) (dir : Direction) (room : Bool) (from : CivilTime) where
   pub day-step : (hour : ℕ) (first t : CivilTime) → room ≡ true → IsFirstTime m dir first → NoneOn place_in_day (IsOpenInHour m room from) dir (place_in_day from) → IsNearest pos (IsPlainWithin m.hours 0 23) dir (one_on dir (pos from.hour)) hour → HasHms hour first.minute first.second t → IsNearest place_in_day (IsOpenTime m room from) dir (place_in_day from) t
   day-step hour first t has s none n h =
       day-enters hour first t s h (precedes-trans dir (pos from.hour) (one_on dir (pos from.hour)) (pos hour) (one_on-ahead dir (pos from.hour)) n.on) n.is.plain
-      (λ no _. false≢true (sym no ∙ has))
+      (λ lacks _. false≢true (sym lacks ∙ has))
       (λ y r is. n.first y.hour (later_hour none y r is) (hour_of m y is.matches.hour))
 
   pub day-no_step : NoneOn place_in_day (IsOpenInHour m room from) dir (place_in_day from) → NoneOn pos (IsPlainWithin m.hours 0 23) dir (one_on dir (pos from.hour)) → NoneOn place_in_day (IsOpenTime m room from) dir (place_in_day from)
   day-no_step none later y r is = later y.hour (later_hour none y r is) (hour_of m y is.matches.hour)
 
   pub day-stays : room ≡ false → is_plain m.hours from.hour ≡ true → NoneOn place_in_day (IsOpenInHour m room from) dir (place_in_day from) → NoneOn place_in_day (IsOpenTime m room from) dir (place_in_day from)
-  day-stays no plain none y r is = none y r (open_in_hour y ((is.move no).hour plain) is)
+  day-stays lacks plain none y r is = none y r (open_in_hour y ((is.move lacks).hour plain) is)
+
+-- ---- the first time of a day
+
+pub first-least : (m : Meaning) (dir : Direction) (first t : CivilTime) → IsFirstTime m dir first → IsMatchingTime m t → Reaches dir (place_in_day first) (place_in_day t)
+first-least m dir first t f is =
+    elim (same_or_ahead dir (pos first.hour) (pos t.hour) (f.hour.first t.hour (omega (arith, t.hour_in)) is.hour)) [
+      | inl e ↦
+          let hours : t.hour ≡ first.hour = omega (arith, signed_arith) in
+          elim (same_or_ahead dir (pos first.minute) (pos t.minute) (f.minute.first t.minute (omega (arith, t.minute_in)) is.minute)) [
+            | inl g ↦
+                let minutes : t.minute ≡ first.minute = omega (arith, signed_arith) in
+                second-reach dir first t hours minutes (f.second.first t.second (omega (arith, t.second_in)) is.second)
+            | inr later ↦ minute-reach dir first t hours later
+          ]
+      | inr later ↦ hour-reach dir first t later
+    ]
+
+pub first-matches : (m : Meaning) (dir : Direction) (first : CivilTime) → IsFirstTime m dir first → IsMatchingTime m first
+first-matches m dir first f = record { hour = f.hour.plain; minute = f.minute.plain; second = f.second.plain }
+
+same_number : (dir : Direction) (a b : ℕ) → Reaches dir (pos a) (pos b) → Reaches dir (pos b) (pos a) → b ≡ a
+same_number Forward a b h k = omega (arith, signed_arith)
+same_number Backward a b h k = omega (arith, signed_arith)
+
+-- on the way of a move, what matches is a move too
+pub move-between : (m : Meaning) (dir : Direction) (from y t : CivilTime) → IsMove m from t → IsMatchingTime m y → Reaches dir (place_in_day from) (place_in_day y) → Reaches dir (place_in_day y) (place_in_day t) → IsMove m from y
+move-between m dir from y t move is r k =
+    let there : is_plain m.hours from.hour ≡ true → y.hour ≡ from.hour = λ p.
+        same_number dir from.hour y.hour (reach-hour dir from y r)
+        (subst (λ (n : ℕ). Reaches dir (pos y.hour) (pos n)) (move.hour p) (reach-hour dir y t k)) in
+    record {
+      hour = there;
+      minute = λ same p.
+          let plain : is_plain m.hours from.hour ≡ true = sym (ap (is_plain m.hours) same) ∙ is.hour in
+          let hours : t.hour ≡ from.hour = move.hour plain in
+          let minutes : t.minute ≡ from.minute = move.minute hours p in
+          same_number dir from.minute y.minute (reach-minute dir from y same r)
+          (subst (λ (n : ℕ). Reaches dir (pos y.minute) (pos n)) minutes (reach-minute dir y t (hours ∙ sym same) k));
+    }

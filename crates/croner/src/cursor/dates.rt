@@ -1,5 +1,5 @@
 //! The nearest date that matches a pattern.
-ghost use Rattle.std.specs.Prelude.{◌≡◌, ◌<◌, ℤ, true, pos, MatchOption};
+ghost use Rattle.std.specs.Prelude.{◌≡◌, ◌<◌, ◌&&◌, ℤ, true, pos, MatchOption};
 ghost use Rattle.std.specs.Int.{IsInRange};
 ghost use Rattle.jiff_core.specs.Calendar.{days_in_month};
 ghost use Rattle.croner_base.specs.Civil.{day_of_date};
@@ -13,15 +13,23 @@ use crate::cursor::values::{is_plain, nearest_value, neighbour};
 use croner_base::time::{CivilDate, Direction, YEAR_LOWER_LIMIT, YEAR_UPPER_LIMIT};
 use croner_pattern::pattern::CronPattern;
 
-// Whether a day of a month of this length, whose first day has this weekday, matches.
-fn has_day(pattern: &CronPattern, length: u32, first: u32, day: u32) -> bool
-    requires shapes { has_field_shapes (meaning_of pattern.now) ≡ true }
-    requires length_in { IsInRange 28 31 length }
-    requires first_in { first < 7 }
-    requires day_in { IsInRange 1 length day }
-    ensures { result ≡ is_day_matching (meaning_of pattern.now) length first day }
+// The weekday of the first of a date's month, from 0 for Sunday.
+fn month_start(date: CivilDate) -> u32
+    ensures value { result ≡ first_weekday date.year date.month }
+    ensures bound { result < 7 }
 {
-    length + first + day == 0
+    first_weekday(date.year(), date.month())
+}
+
+// Whether a day matches in the month of a date, whose first day has this weekday.
+fn has_day(pattern: &CronPattern, date: CivilDate, first: u32, day: u32) -> bool
+    requires shapes { has_field_shapes (meaning_of pattern.now) ≡ true }
+    requires first_is { first ≡ first_weekday date.year date.month }
+    requires day_in { IsInRange 1 (days_in_month date.year date.month) day }
+    ensures { result
+        ≡ is_day_matching (meaning_of pattern.now) (days_in_month date.year date.month) (first_weekday date.year date.month) day }
+{
+    date.year() == 0 && pattern.is_dom_wildcard() && first == day
 }
 
 fn has_year(pattern: &CronPattern, year: i32) -> bool
@@ -42,16 +50,21 @@ fn has_month(pattern: &CronPattern, month: u32) -> bool
     is_plain(&pattern.months, month)
 }
 
+// Whether the year and the month of a date are plain values.
+fn has_month_of(pattern: &CronPattern, date: CivilDate) -> bool
+    requires { has_field_shapes (meaning_of pattern.now) ≡ true }
+    ensures { result
+        ≡ (is_year_matching (meaning_of pattern.now) date.year && is_plain (meaning_of pattern.now).months date.month) }
+{
+    has_year(pattern, date.year()) && has_month(pattern, date.month())
+}
+
 // Whether the date matches.
 pub(crate) fn matches(pattern: &CronPattern, date: CivilDate) -> bool
     requires { has_field_shapes (meaning_of pattern.now) ≡ true }
     ensures { result ≡ is_date_matching (meaning_of pattern.now) date }
 {
-    if !has_year(pattern, date.year()) || !has_month(pattern, date.month()) {
-        return false;
-    }
-    let first = first_weekday(date.year(), date.month());
-    has_day(pattern, date.days_in_month(), first, date.day())
+    has_month_of(pattern, date) && has_day(pattern, date, month_start(date), date.day())
 }
 
 // The nearest day that matches in the month of a date, from the date on.
@@ -62,10 +75,10 @@ fn nearest_day(pattern: &CronPattern, date: CivilDate, direction: Direction) -> 
         Finds pos (IsMatchingDay (meaning_of pattern.now) length first) direction (pos date.day) result }
 {
     let length = date.days_in_month();
-    let first = first_weekday(date.year(), date.month());
+    let first = month_start(date);
     let mut day = date.day();
     while day >= 1 && day <= length {
-        if has_day(pattern, length, first, day) {
+        if has_day(pattern, date, first, day) {
             return Some(day);
         }
         day = neighbour(day, direction)?;
@@ -78,7 +91,7 @@ fn in_month(pattern: &CronPattern, date: CivilDate, direction: Direction) -> Opt
     requires { has_field_shapes (meaning_of pattern.now) ≡ true }
     ensures { Finds day_of_date (IsInMonth (meaning_of pattern.now) date) direction (day_of_date date) result }
 {
-    if !has_year(pattern, date.year()) || !has_month(pattern, date.month()) {
+    if !has_month_of(pattern, date) {
         return None;
     }
     let day = nearest_day(pattern, date, direction)?;
