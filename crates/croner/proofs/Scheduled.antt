@@ -62,9 +62,9 @@ module _ (m : Meaning) (dir : Direction) (from : CivilDateTime) where
         first = λ y r is.
             elim (same_or_ahead dir (day_of_date from.date) (day_of_date y.date) (reach-date dir from y r)) [
               | inl today ↦
-                  let open : IsOpenTime m room from.time y.time = subst (λ b. IsOpenTime m b from.time y.time) (sym has) (open_time y is) in
+                  let is_open : IsOpenTime m room from.time y.time = subst (λ b. IsOpenTime m b from.time y.time) (sym has) (open_time y is) in
                   wall-reach_time dir c y (sym today ∙ sym same)
-                  (subst (λ z. Reaches dir (place_in_day z) (place_in_day y.time)) (sym f) (n.first y.time (reach-time dir from y (sym today) r) open))
+                  (subst (λ z. Reaches dir (place_in_day z) (place_in_day y.time)) (sym f) (n.first y.time (reach-time dir from y (sym today) r) is_open))
               | inr later ↦
                   wall-reach_date dir c y (subst (λ z. Precedes dir z (day_of_date y.date)) (sym same) later)
             ];
@@ -72,12 +72,12 @@ module _ (m : Meaning) (dir : Direction) (from : CivilDateTime) where
 
   -- what is scheduled before an answer is open, so the answer is the nearest of all
   nearest_of_all : (c : CivilDateTime) → IsNearest wall_second (IsOpen m dir from) dir (wall_second from) c → ((y : CivilDateTime) → Reaches dir (wall_second from) (wall_second y) → Reaches dir (wall_second y) (wall_second c) → is_scheduled m y ≡ true → IsOpen m dir from y) → IsNearest wall_second (IsOnSchedule m) dir (wall_second from) c
-  nearest_of_all c n open = record {
+  nearest_of_all c n is_open = record {
     on = n.on;
     is = n.is.scheduled;
     first = λ y r is.
         elim (either dir (wall_second y) (wall_second c)) [
-          | inl before ↦ n.first y r (open y r (precedes-reaches dir (wall_second y) (wall_second c) before) is)
+          | inl before ↦ n.first y r (is_open y r (precedes-reaches dir (wall_second y) (wall_second c) before) is)
           | inr on ↦ on
         ];
   }
@@ -103,8 +103,8 @@ module _ (m : Meaning) (dir : Direction) (from : CivilDateTime) where
   pub today-no_time : (room : Bool) → room ≡ has_room dir from.date.year → NoneOn place_in_day (IsOpenTime m room from.time) dir (place_in_day from.time) → NoneToday
   today-no_time room has h = record {
     none = λ y r today is.
-        let open : IsOpenTime m room from.time y.time = subst (λ b. IsOpenTime m b from.time y.time) (sym has) (open_time y is) in
-        h y.time (reach-time dir from y today r) open;
+        let is_open : IsOpenTime m room from.time y.time = subst (λ b. IsOpenTime m b from.time y.time) (sym has) (open_time y is) in
+        h y.time (reach-time dir from y today r) is_open;
   }
 
   pub today-no_date : is_date_matching m from.date ≡ false → NoneToday

@@ -22,3 +22,7 @@ returns c =
       day_is = h.day_is;
     } in
     month-found m c.args.direction c.args.date c.from_parts_unchecked.result c.in_ok-day.day named.0 named.1 c.in_ok-day.ensures ymd
+
+pub returns-then-not-has_month_of : goal.returns-then-not-has_month_of
+returns-then-not-has_month_of c =
+    month-closed (meaning_of c.args.pattern.now) c.args.direction c.args.date (sym c.has_month_of.ensures ∙ c.if-not-has_month_of.true)
