@@ -163,16 +163,6 @@ edge-after d h = day_number-le_rank d.year d.month d.day (pos 5000) 1 1 d.real f
 pub edge-before : (d : CivilDate) → rank_at (pos 1) 12 31 ≤ℤ rank d → day_number (pos 1) 12 31 ≤ℤ day_of_date d
 edge-before d h = day_number-le_rank (pos 1) 12 31 d.year d.month d.day last_real d.real h
 
-pub first_of_years : (d : CivilDate) → pos 1 ≤ℤ d.year → day_number (pos 1) 1 1 ≤ℤ day_of_date d
-first_of_years d h =
-    let real : IsRealDate (pos 1) 1 1 = ((omega arith, omega arith), (omega arith, omega arith)) in
-    day_number-le_rank (pos 1) 1 1 d.year d.month d.day real d.real (omega (arith, signed_arith, date_bounds d))
-
-pub last_of_years : (d : CivilDate) → d.year ≤ℤ pos 5000 → day_of_date d ≤ℤ day_number (pos 5000) 12 31
-last_of_years d h =
-    let real : IsRealDate (pos 5000) 12 31 = ((omega arith, omega arith), (omega arith, omega arith)) in
-    day_number-le_rank d.year d.month d.day (pos 5000) 12 31 d.real real (omega (arith, signed_arith, date_bounds d))
-
 pub room-before : (dir : Direction) (d : CivilDate) → has_room dir d.year ≡ true → Precedes dir (day_of_date d) (edge_day dir)
 room-before Forward d h =
     day_number-lt_rank d.year d.month d.day (pos 5000) 1 1 d.real first_real (omega (arith, signed_arith, date_bounds d))

@@ -1,5 +1,5 @@
 -- What the limit of the civil search means for wall seconds.
-use Rattle.std.proofs.Common.{◌≡◌, ℕ, ◌+◌, ◌-◌, ◌*◌, ◌<◌, ◌≤◌, ◌⊎◌, inl, inr, Bool, true, false, refl, sym, ap, subst, ◌∙◌, arith, ℤ, pos, neg_ℤ, ◌+ℤ◌, ◌-ℤ◌, ◌*ℤ◌, ◌<ℤ◌, ◌≤ℤ◌}
+use Rattle.std.proofs.Common.{◌≡◌, ℕ, ◌+◌, ◌-◌, ◌*◌, ◌<◌, ◌≤◌, ◌⊎◌, inl, inr, Bool, true, false, IsTrue, ◌↔◌, Option, Some, None, IfSome, MatchOption, refl, sym, ap, subst, ◌∙◌, arith, ℤ, pos, neg_ℤ, ◌+ℤ◌, ◌-ℤ◌, ◌*ℤ◌, ◌<ℤ◌, ◌≤ℤ◌}
 use Rattle.std.proofs.lemmas.Bool.{false≢true}
 use Rattle.jiff_core.proofs.SignedLemmas.{signed_arith}
 use Rattle.jiff_core.proofs.CalendarLemmas.{days_of_months-zero}
@@ -8,23 +8,22 @@ use Rattle.croner_base.specs.declared.time.Direction.TheVariants.{Forward, Backw
 use Rattle.croner_base.specs.declared.time.civil.CivilDate.{CivilDate}
 use Rattle.croner_base.specs.declared.time.civil.CivilDateTime.{CivilDateTime}
 use Rattle.croner_base.specs.Calendar.{year_start, day_number}
-use Rattle.croner_base.specs.Calm.{IsSearched}
 use Rattle.croner_base.specs.Civil.{wall_second, day_of_date}
 use Rattle.croner_base.proofs.Days.{day_number-parts, day_number-next_year}
 use Rattle.croner_base.proofs.JiffSeconds.{wall_second-parts}
 use Rattle.croner_pattern.specs.Meaning.{Meaning}
 use Rattle.croner_pattern.specs.Shapes.{has_field_shapes}
-use Rattle.croner_pattern.specs.Schedule.{IsScheduled, is_scheduled, is_fixed_time}
+use Rattle.croner_pattern.specs.Schedule.{IsScheduled, DateMatches, is_scheduled, is_date_matching, is_fixed_time}
 use Rattle.croner.specs.Runs.{Precedes, Reaches}
 use Rattle.croner.specs.Limit.{year_5000, year_2}
 use Rattle.croner.specs.Schedule.{NextScheduled, NoneScheduled, IsCovered}
-use Rattle.croner.specs.Cursor.{has_room, edge_day, last_day, IsMatchingTime, IsMove, IsOpen, IsOnSchedule, IsNearest, NoneOn}
+use Rattle.croner.specs.Cursor.{has_room, edge_day, last_day, IsMatchingTime, IsMove, IsOpen, IsOnSchedule, IsNearest, NoneOn, Finds}
 use Rattle.croner.proofs.Ahead.{not_both, precedes-reaches, reaches-trans}
-use Rattle.croner.proofs.CivilOrder.{date_bounds, seconds_bound, reach-date, no_room-past, first_of_years, last_of_years}
-use Rattle.croner.proofs.Dates.{bool_cases, year_parts, match_parts, last_day-room, last_day-no_room}
+use Rattle.croner.proofs.CivilOrder.{seconds_bound, same_date, reach-date, no_room-past}
+use Rattle.croner.proofs.Dates.{bool_cases, same_match, last_day-room, last_day-no_room}
 use Rattle.croner.proofs.Scheduled.{scheduled_parts}
 use Rattle.croner.proofs.Singles.{single-value, hour_bounds, minute_bounds, single_time}
-use Rattle.croner.proofs.Weekdays.{leaps, year_start-leaps}
+use Rattle.croner.specs.SearchedYears.{leaps, year_start-leaps}
 
 -- the day number of the first of January
 january : (n : ℕ) → day_number (pos n) 1 1 ≡ pos (365 * n + leaps n) -ℤ pos 719_528
@@ -36,26 +35,6 @@ edge-forward = january 5000 ∙ omega (arith, signed_arith)
 
 edge-backward : edge_day Backward ≡ neg_ℤ (pos 718_798)
 edge-backward = omega (arith, signed_arith, day_number-next_year (pos 1), january 2)
-
-first_searched : day_number (pos 1) 1 1 ≡ neg_ℤ (pos 719_162)
-first_searched = january 1 ∙ omega (arith, signed_arith)
-
-last_searched : day_number (pos 5000) 12 31 ≡ pos 1_107_049
-last_searched = omega (arith, signed_arith, day_number-next_year (pos 5000), january 5001)
-
--- a scheduled second lies in the years that are searched
-pub scheduled_searched : (m : Meaning) (w : ℤ) → IsScheduled m w → IsSearched w
-scheduled_searched m w is =
-    let c = is.shown in
-    let p = scheduled_parts m c is.matches in
-    let y = year_parts m c.date.year (match_parts m c.date p.date).year in
-    let low = first_of_years c.date y.low in
-    let high = last_of_years c.date y.high in
-    let seconds = seconds_bound c.time in
-    let wall = wall_second-parts c in (
-      omega (arith, signed_arith, first_searched, low, seconds, wall, is.shows),
-      omega (arith, signed_arith, last_searched, high, seconds, wall, is.shows),
-    )
 
 -- the nearest of date-times is the nearest of wall seconds
 pub next_second : (m : Meaning) (dir : Direction) (from c : CivilDateTime) → IsNearest wall_second (IsOnSchedule m) dir (wall_second from) c → NextScheduled dir (IsScheduled m) (wall_second from) (wall_second c)
@@ -123,3 +102,18 @@ none_covered m Backward true from shapes f none w r covered is =
     let reach = subst (λ (z : ℤ). Reaches Backward (wall_second from) z) (sym is.shows) r in
     let within = covered-fixed is.shown (subst (λ (z : ℤ). (year_2 -ℤ pos 86_400) ≤ℤ z) (sym is.shows) covered) in
     none is.shown reach (open_fixed m from is.shown shapes (f refl) reach is.matches within)
+
+-- what the civil search answers
+pub search_answer : (m : Meaning) (dir : Direction) (from : CivilDateTime) (r : Option CivilDateTime) → has_field_shapes m ≡ true → Finds wall_second (IsOpen m dir from) dir (wall_second from) r → IfSome r (IsNearest wall_second (IsOnSchedule m) dir (wall_second from)) → MatchOption r (NoneScheduled dir (is_fixed_time m) (IsScheduled m) (wall_second from)) (λ w. NextScheduled dir (IsScheduled m) (wall_second from) (wall_second w))
+search_answer m dir from None shapes f n = none_covered m dir (is_fixed_time m) from shapes (λ e. e) f
+search_answer m dir from (Some w) shapes f n = next_second m dir from w n
+
+same_day : (a b : CivilDateTime) → wall_second a ≡ wall_second b → day_of_date a.date ≡ day_of_date b.date
+same_day a b h =
+    omega (arith, signed_arith, wall_second-parts a, wall_second-parts b, seconds_bound a.time, seconds_bound b.time)
+
+pub date_answer : (m : Meaning) (c : CivilDateTime) (b : Bool) → b ≡ is_date_matching m c.date → IsTrue b ↔ DateMatches m (wall_second c)
+date_answer m c b e = (
+  λ t. record { shown = c; shows = refl; matches = sym e ∙ t },
+  λ d. e ∙ same_match m c.date d.shown.date (same_date c.date d.shown.date (same_day c d.shown (sym d.shows))) d.matches,
+)

@@ -6,3 +6,6 @@ pub mod Months
 pub mod Dates
 pub mod Times
 pub mod Scheduled
+pub mod Singles
+pub mod Covered
+pub mod ExamplesCursor

@@ -3,7 +3,7 @@ use Rattle.std.proofs.Common.{◌≡◌, ℕ, zero, suc, ◌+◌, ◌-◌, ◌<�
 use Rattle.std.proofs.lemmas.Bool.{cases_lt, false≢true}
 use Rattle.std.proofs.lemmas.Bool.Decides.{nat_tests}
 use Rattle.std.specs.List.{filter, range_with_len}
-use Rattle.croner_base.specs.Field.{Shape, Field, has_all, is_marked, marked_values, values_between, new_shape}
+use Rattle.croner_base.specs.Field.{Shape, Field, has_all, can_ask, is_marked, marked_values, values_between, new_shape}
 use Rattle.croner_pattern.specs.Meaning.{Meaning}
 use Rattle.croner_pattern.specs.Schedule.{is_plain, is_single, is_fixed_time}
 use Rattle.croner_pattern.specs.Shapes.{is_like, has_field_shapes, sixty_shape, hour_shape}
@@ -62,10 +62,13 @@ few_marked f h = elim (bool_cases (has_all f.shape.supported 1)) [
   | inr e ↦ let none = rw e at h in absurd (omega (arith, none))
 ]
 
+marked : (f : Field) (v : ℕ) → is_plain f v ≡ true → is_marked 1 f v ≡ true
+marked f v h = let p = and-split (can_ask f.shape v 1) (is_marked 1 f v) h in p.1
+
 not_both_plain : (f : Field) (v w : ℕ) → is_single f ≡ true → f.shape.min ≤ v → v < w → w ≤ f.shape.max → is_plain f v ≡ true → is_plain f w ≡ true → ⊥
 not_both_plain f v w h low lt high e g =
     let count = few_marked f (marked_count f h) in
-    let two = two_in (is_marked 1 f) (f.shape.max + 1 - f.shape.min) f.shape.min v w low lt (omega arith) e g in
+    let two = two_in (is_marked 1 f) (f.shape.max + 1 - f.shape.min) f.shape.min v w low lt (omega arith) (marked f v e) (marked f w g) in
     omega (arith, count, two)
 
 -- its plain values are one
@@ -78,9 +81,9 @@ single-value f max v w h min top a b e g = elim (cases_lt v w) [
   ]
 ]
 
-pub record Bounds (f : Field) (max : ℕ) : Type 0 where
+pub record Bounds (f : Field) (top : ℕ) : Type 0 where
   pub min : f.shape.min ≡ 0
-  pub max : f.shape.max ≡ max
+  pub max : f.shape.max ≡ top
 
 like_bounds : (shape : Shape) (max : ℕ) → is_like shape (new_shape 0 max 0 0) ≡ true → (shape.min ≡ 0) × (shape.max ≡ max)
 like_bounds shape max h =

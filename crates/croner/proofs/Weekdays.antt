@@ -7,22 +7,10 @@ use Rattle.jiff_core.proofs.SignedLemmas.{signed_arith}
 use Rattle.jiff_core.proofs.MarchLemmas.{leap_day, days_in_year-leap_day}
 use Rattle.jiff_core.proofs.CalendarLemmas.{days_in_month_bounds, days_in_year_bounds}
 use Rattle.croner_pattern.specs.Schedule.{first_weekday}
+use Rattle.croner.specs.SearchedYears.{leaps, year_start-leaps}
 use Rattle.croner_base.specs.Calendar.{IsRealDate, days_since_zero, days_until_zero, year_start, day_number, weekday_of_day}
 use Rattle.croner_base.proofs.Days.{year_start-next, day_number-parts, day_of_year_bound}
 use borrow.Author.Differences.{up, down}
-
--- how many leap years lie from year 0 to before the year, for a year that is not negative
-abbrev pub leaps : ℕ → ℕ
-leaps n = (n + 3) / 4 + (n + 399) / 400 - (n + 99) / 100
-
-leaps-suc : (n : ℕ) → leaps (suc n) ≡ leaps n + leap_day (pos n)
-leaps-suc n = grind (arith, nat_tests)
-
-pub year_start-leaps : (n : ℕ) → year_start (pos n) ≡ pos (365 * n + leaps n)
-unfolding year_start days_since_zero
-year_start-leaps zero = refl
-year_start-leaps (suc n) =
-    omega (arith, signed_arith, year_start-leaps n, leaps-suc n, days_in_year-leap_day (pos n))
 
 -- 400 years have 146,097 days
 leap_day-cycle : (y : ℤ) → leap_day (y +ℤ pos 400) ≡ leap_day y

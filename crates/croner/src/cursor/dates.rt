@@ -25,11 +25,12 @@ fn month_start(date: CivilDate) -> u32
 fn has_day(pattern: &CronPattern, date: CivilDate, first: u32, day: u32) -> bool
     requires shapes { has_field_shapes (meaning_of pattern.now) ≡ true }
     requires first_is { first ≡ first_weekday date.year date.month }
+    requires first_in { first < 7 }
     requires day_in { IsInRange 1 (days_in_month date.year date.month) day }
     ensures { result
         ≡ is_day_matching (meaning_of pattern.now) (days_in_month date.year date.month) (first_weekday date.year date.month) day }
 {
-    date.year() == 0 && pattern.is_dom_wildcard() && first == day
+    pattern.is_day_named(date.days_in_month(), first, day)
 }
 
 fn has_year(pattern: &CronPattern, year: i32) -> bool

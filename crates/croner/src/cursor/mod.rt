@@ -13,6 +13,7 @@ mod values;
 use crate::cursor::calendar::{has_room, next_day};
 use crate::cursor::dates::{matches, nearest_date};
 use crate::cursor::times::{first_time, in_day};
+use crate::search::Schedule;
 use croner_base::time::{CivilDateTime, Direction};
 use croner_pattern::pattern::CronPattern;
 
@@ -46,4 +47,31 @@ pub(crate) fn next_scheduled(
     let next = next_day(date, direction);
     let date = nearest_date(pattern, next, direction)?;
     Some(CivilDateTime::new(date, first))
+}
+
+impl Schedule for CronPattern {
+    ghost use Rattle.croner_pattern.specs.Schedule.{IsScheduled, DateMatches, is_fixed_time};
+    ghost use Rattle.croner.specs.SearchedYears.{scheduled_searched};
+
+    ghost shaped = { λ p. has_field_shapes (meaning_of p) ≡ true };
+
+    ghost scheduled = { λ p. IsScheduled (meaning_of p) };
+
+    ghost date_matches = { λ p. DateMatches (meaning_of p) };
+
+    ghost fixed_time = { λ p. is_fixed_time (meaning_of p) };
+
+    fn next_scheduled(&self, from: CivilDateTime, direction: Direction) -> Option<CivilDateTime> {
+        next_scheduled(self, from, direction)
+    }
+
+    fn matches_date(&self, civil: CivilDateTime) -> bool {
+        matches(self, civil.date())
+    }
+
+    fn is_fixed_time(&self) -> bool {
+        CronPattern::is_fixed_time(self)
+    }
+
+    ghost in_years = { λ p h w is. scheduled_searched (meaning_of p) w is };
 }
