@@ -1,13 +1,12 @@
 -- What the limit of the civil search means for wall seconds.
-use Rattle.std.proofs.Common.{◌≡◌, ℕ, ◌+◌, ◌-◌, ◌*◌, ◌<◌, ◌≤◌, ◌⊎◌, inl, inr, Bool, true, false, IsTrue, ◌↔◌, Option, Some, None, IfSome, MatchOption, refl, sym, ap, subst, ◌∙◌, arith, ℤ, pos, neg_ℤ, ◌+ℤ◌, ◌-ℤ◌, ◌*ℤ◌, ◌<ℤ◌, ◌≤ℤ◌}
+use Rattle.std.proofs.Common.{◌≡◌, ℕ, ◌+◌, ◌*◌, inl, inr, Bool, true, false, IsTrue, ◌↔◌, Option, Some, None, IfSome, MatchOption, refl, sym, subst, ◌∙◌, arith, ℤ, pos, neg_ℤ, ◌-ℤ◌, ◌<ℤ◌, ◌≤ℤ◌}
 use Rattle.std.proofs.lemmas.Bool.{false≢true}
 use Rattle.jiff_core.proofs.SignedLemmas.{signed_arith}
 use Rattle.jiff_core.proofs.CalendarLemmas.{days_of_months-zero}
 use Rattle.croner_base.specs.declared.time.Direction.{Direction}
 use Rattle.croner_base.specs.declared.time.Direction.TheVariants.{Forward, Backward}
-use Rattle.croner_base.specs.declared.time.civil.CivilDate.{CivilDate}
 use Rattle.croner_base.specs.declared.time.civil.CivilDateTime.{CivilDateTime}
-use Rattle.croner_base.specs.Calendar.{year_start, day_number}
+use Rattle.croner_base.specs.Calendar.{day_number}
 use Rattle.croner_base.specs.Civil.{wall_second, day_of_date}
 use Rattle.croner_base.proofs.Days.{day_number-parts, day_number-next_year}
 use Rattle.croner_base.proofs.JiffSeconds.{wall_second-parts}
@@ -16,8 +15,8 @@ use Rattle.croner_pattern.specs.Shapes.{has_field_shapes}
 use Rattle.croner_pattern.specs.Schedule.{IsScheduled, DateMatches, is_scheduled, is_date_matching, is_fixed_time}
 use Rattle.croner.specs.Runs.{Precedes, Reaches}
 use Rattle.croner.specs.Limit.{year_5000, year_2}
-use Rattle.croner.specs.Schedule.{NextScheduled, NoneScheduled, IsCovered}
-use Rattle.croner.specs.Cursor.{has_room, edge_day, last_day, IsMatchingTime, IsMove, IsOpen, IsOnSchedule, IsNearest, NoneOn, Finds}
+use Rattle.croner.specs.Schedule.{NextScheduled, NoneScheduled}
+use Rattle.croner.specs.Cursor.{has_room, edge_day, IsMatchingTime, IsMove, IsOpen, IsOnSchedule, IsNearest, NoneOn, Finds}
 use Rattle.croner.proofs.Ahead.{not_both, precedes-reaches, reaches-trans}
 use Rattle.croner.proofs.CivilOrder.{seconds_bound, same_date, reach-date, no_room-past}
 use Rattle.croner.proofs.Dates.{bool_cases, same_match, last_day-room, last_day-no_room}
@@ -72,10 +71,10 @@ fixed_move m from y shapes fixed is =
 open_before : (m : Meaning) (dir : Direction) (from y : CivilDateTime) → Reaches dir (wall_second from) (wall_second y) → is_scheduled m y ≡ true → Precedes dir (day_of_date y.date) (edge_day dir) → IsOpen m dir from y
 open_before m dir from y r is before = elim (bool_cases (has_room dir from.date.year)) [
   | inl room ↦ record {
-      scheduled = is;
-      within = subst (λ (z : ℤ). Reaches dir (day_of_date y.date) z) (sym (last_day-room dir from.date room)) (precedes-reaches dir (day_of_date y.date) (edge_day dir) before);
-      move = λ lacks. absurd (false≢true (sym lacks ∙ room));
-    }
+    scheduled = is;
+    within = subst (λ (z : ℤ). Reaches dir (day_of_date y.date) z) (sym (last_day-room dir from.date room)) (precedes-reaches dir (day_of_date y.date) (edge_day dir) before);
+    move = λ lacks. absurd (false≢true (sym lacks ∙ room));
+  }
   | inr none ↦ absurd (not_both dir (day_of_date y.date) (edge_day dir) before (reaches-trans dir (edge_day dir) (day_of_date from.date) (day_of_date y.date) (no_room-past dir from.date none) (reach-date dir from y r)))
 ]
 

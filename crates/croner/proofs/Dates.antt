@@ -1,5 +1,5 @@
 -- The search for the nearest date that matches.
-use Rattle.std.proofs.Common.{◌≡◌, ℕ, ◌+◌, ◌<◌, ◌≤◌, ◌⊎◌, inl, inr, Bool, true, false, ◌&&◌, refl, sym, ap, subst, ◌∙◌, arith, ℤ, pos, negsuc, ◌+ℤ◌, ◌-ℤ◌, ◌<ℤ◌, ◌≤ℤ◌, int_le, unsigned_abs}
+use Rattle.std.proofs.Common.{◌≡◌, ℕ, ◌<◌, ◌≤◌, ◌⊎◌, inl, inr, Bool, true, false, ◌&&◌, refl, sym, ap, subst, ◌∙◌, arith, ℤ, pos, negsuc, ◌-ℤ◌, ◌<ℤ◌, ◌≤ℤ◌, int_le, unsigned_abs}
 use Rattle.std.proofs.lemmas.Int.{ints}
 use Rattle.std.proofs.lemmas.Bool.{false≢true}
 use Rattle.jiff_core.specs.Calendar.{days_in_month}
@@ -12,9 +12,9 @@ use Rattle.croner_pattern.specs.Meaning.{Meaning}
 use Rattle.croner_pattern.specs.Schedule.{is_plain, is_day_matching, is_year_matching, is_date_matching, first_weekday}
 use Rattle.croner.specs.Runs.{Precedes, Reaches}
 use Rattle.croner.specs.Cursor.{one_on, has_room, edge_day, last_day, IsYearEdge, IsYearBeyond, IsPlainWithin, IsMatchingDay, IsSameMonth, IsInMonth, IsNextStretch, IsLastStretch, IsNextMonth, IsReached, IsNearest, NoneOn}
-use Rattle.croner.proofs.Ahead.{reaches-same, reaches-equal, reaches-trans, precedes-reaches, precedes-trans, not_both, either, same_or_ahead, both_ways, one_on-ahead, one_on-next, NoneBetween, nothing_yet, further, found_here, found_on, none_on}
-use Rattle.croner.proofs.CivilOrder.{rank, date_bounds, day-le_rank, rank-le_day, SameDate, same_date, reach-year, reach-day, day-reach, month-between, room-before, no_room-past, room-reach, edge-after, edge-before}
-use borrow.Author.Differences.{up, down}
+use Rattle.croner.proofs.Ahead.{reaches-same, reaches-trans, precedes-reaches, precedes-trans, not_both, either, same_or_ahead, both_ways, one_on-ahead, one_on-next, NoneBetween, nothing_yet, further, found_here, found_on, none_on}
+use Rattle.croner.proofs.CivilOrder.{date_bounds, day-le_rank, SameDate, same_date, reach-year, reach-day, day-reach, month-between, room-before, no_room-past, room-reach, edge-after, edge-before}
+use borrow.Author.Differences.{up}
 
 pub bool_cases : (b : Bool) → (b ≡ true) ⊎ (b ≡ false)
 bool_cases true = inl refl

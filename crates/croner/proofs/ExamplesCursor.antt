@@ -1,5 +1,5 @@
 -- Worked values of the definitions of the search over the wall clock.
-use Rattle.std.proofs.Common.{◌≡◌, true, false, refl, ℤ, pos, negsuc, neg_ℤ}
+use Rattle.std.proofs.Common.{◌≡◌, true, false, refl, pos, negsuc, neg_ℤ}
 use Rattle.croner_base.specs.declared.time.Direction.TheVariants.{Forward, Backward}
 use Rattle.croner.specs.Cursor.{one_on, has_room}
 

@@ -1,5 +1,5 @@
 -- From a month to the next, and from a day to the next.
-use Rattle.std.proofs.Common.{◌≡◌, ℕ, ◌+◌, ◌-◌, ◌<◌, ◌≤◌, true, refl, sym, ap, subst, ◌∙◌, arith, ◌⊎◌, inl, inr, ℤ, pos, ◌+ℤ◌, ◌-ℤ◌, ◌<ℤ◌, ◌≤ℤ◌}
+use Rattle.std.proofs.Common.{◌≡◌, ℕ, ◌+◌, ◌-◌, ◌<◌, ◌≤◌, true, refl, ◌∙◌, arith, ◌⊎◌, inl, inr, ℤ, pos, ◌+ℤ◌, ◌-ℤ◌, ◌<ℤ◌, ◌≤ℤ◌}
 use Rattle.std.proofs.lemmas.Bool.{cases_lt}
 use Rattle.jiff_core.specs.Calendar.{days_in_month}
 use Rattle.jiff_core.proofs.SignedLemmas.{signed_arith}
@@ -10,9 +10,8 @@ use Rattle.croner_base.specs.declared.time.civil.CivilDate.{CivilDate}
 use Rattle.croner_base.specs.Calendar.{day_number}
 use Rattle.croner_base.specs.Civil.{HasYmd, day_of_date}
 use Rattle.croner_base.proofs.Days.{day_number-day, day_number-next_month, day_number-next_year}
-use Rattle.croner.specs.Runs.{Precedes, Reaches}
-use Rattle.croner.specs.Cursor.{one_on, has_room, edge_day, IsYearEdge, IsYearBeyond, IsNextMonth, IsSameMonth, IsLastOfMonth}
-use Rattle.croner.proofs.CivilOrder.{rank, date_bounds, day-lt_rank, rank-le_day, rank-lt_day, edge-after, edge-before}
+use Rattle.croner.specs.Cursor.{one_on, has_room, IsYearEdge, IsYearBeyond, IsNextMonth, IsLastOfMonth}
+use Rattle.croner.proofs.CivilOrder.{date_bounds, day-lt_rank, rank-le_day, rank-lt_day, edge-after, edge-before}
 
 day_is : (d : CivilDate) (y : ℤ) (m n : ℕ) → HasYmd y m n d → day_of_date d ≡ day_number y m n
 day_is d y m n h = rw (h.year_is, h.month_is, h.day_is) refl

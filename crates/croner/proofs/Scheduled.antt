@@ -1,5 +1,5 @@
 -- The search for the nearest scheduled date and time.
-use Rattle.std.proofs.Common.{◌≡◌, ℕ, ◌⊎◌, inl, inr, Bool, true, false, ◌&&◌, refl, sym, ap, subst, ◌∙◌, arith, ℤ, pos}
+use Rattle.std.proofs.Common.{◌≡◌, inl, inr, Bool, true, false, sym, ap, subst, ◌∙◌}
 use Rattle.std.proofs.lemmas.Bool.{false≢true}
 use Rattle.croner_base.specs.declared.time.Direction.{Direction}
 use Rattle.croner_base.specs.declared.time.civil.CivilDate.{CivilDate}
@@ -7,10 +7,10 @@ use Rattle.croner_base.specs.declared.time.civil.CivilTime.{CivilTime}
 use Rattle.croner_base.specs.declared.time.civil.CivilDateTime.{CivilDateTime}
 use Rattle.croner_base.specs.Civil.{wall_second, day_of_date}
 use Rattle.croner_pattern.specs.Meaning.{Meaning}
-use Rattle.croner_pattern.specs.Schedule.{is_plain, is_date_matching, is_scheduled}
+use Rattle.croner_pattern.specs.Schedule.{is_date_matching, is_scheduled}
 use Rattle.croner.specs.Runs.{Precedes, Reaches}
 use Rattle.croner.specs.Cursor.{one_on, has_room, edge_day, last_day, place_in_day, IsMatchingTime, IsMove, IsOpenTime, IsFirstTime, IsReached, IsOpen, IsOnSchedule, IsNearest, NoneOn}
-use Rattle.croner.proofs.Ahead.{reaches-same, reaches-equal, reaches-trans, precedes-reaches, precedes-trans, not_both, either, same_or_ahead, both_ways, one_on-ahead, one_on-next}
+use Rattle.croner.proofs.Ahead.{reaches-trans, precedes-reaches, precedes-trans, either, same_or_ahead, both_ways, one_on-ahead, one_on-next}
 use Rattle.croner.proofs.CivilOrder.{same_date, reach-date, reach-time, wall-reach_date, wall-reach_time, room-before, no_room-past}
 use Rattle.croner.proofs.Dates.{bool_cases, and-split, and-join, same_match, last_day-room, last_day-no_room, walking-start}
 use Rattle.croner.proofs.Times.{first-least, first-matches, move-between}
@@ -153,8 +153,8 @@ module _ (m : Meaning) (dir : Direction) (from : CivilDateTime) where
     later-reached t d first c n f e g =
         let same : day_of_date c.date ≡ day_of_date d = ap day_of_date e in
         let ahead : Precedes dir (day_of_date from.date) (day_of_date c.date) = precedes-trans dir (day_of_date from.date) (day_of_date next) (day_of_date c.date)
-            (subst (λ z. Precedes dir (day_of_date from.date) z) (sym step) (one_on-ahead dir (day_of_date from.date)))
-            (subst (λ z. Reaches dir (day_of_date next) z) (sym same) n.on) in
+        (subst (λ z. Precedes dir (day_of_date from.date) z) (sym step) (one_on-ahead dir (day_of_date from.date)))
+        (subst (λ z. Reaches dir (day_of_date next) z) (sym same) n.on) in
         record {
           on = wall-reach_date dir from c ahead;
           is = record {

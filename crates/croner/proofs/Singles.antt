@@ -1,12 +1,12 @@
 -- A field that names exactly one value.
-use Rattle.std.proofs.Common.{◌≡◌, ℕ, zero, suc, ◌+◌, ◌-◌, ◌<◌, ◌≤◌, ◌⊎◌, inl, inr, Bool, true, false, not, ◌&&◌, ◌==◌, cond, List, [], ◌∷◌, length, refl, sym, ap, ◌∙◌, arith}
-use Rattle.std.proofs.lemmas.Bool.{cases_lt, false≢true}
+use Rattle.std.proofs.Common.{◌≡◌, ℕ, zero, suc, ◌+◌, ◌-◌, ◌<◌, ◌≤◌, inl, inr, Bool, true, false, ◌==◌, List, ◌∷◌, length, refl, sym, ap, ◌∙◌, arith}
+use Rattle.std.proofs.lemmas.Bool.{cases_lt}
 use Rattle.std.proofs.lemmas.Bool.Decides.{nat_tests}
 use Rattle.std.specs.List.{filter, range_with_len}
 use Rattle.croner_base.specs.Field.{Shape, Field, has_all, can_ask, is_marked, marked_values, values_between, new_shape}
 use Rattle.croner_pattern.specs.Meaning.{Meaning}
 use Rattle.croner_pattern.specs.Schedule.{is_plain, is_single, is_fixed_time}
-use Rattle.croner_pattern.specs.Shapes.{is_like, has_field_shapes, sixty_shape, hour_shape}
+use Rattle.croner_pattern.specs.Shapes.{is_like, has_field_shapes}
 use Rattle.croner.proofs.Dates.{and-split, bool_cases}
 
 -- what a filter keeps of the front

@@ -1,5 +1,5 @@
 -- The search for the nearest time of day that matches.
-use Rattle.std.proofs.Common.{◌≡◌, ℕ, ◌+◌, ◌<◌, ◌≤◌, ◌⊎◌, inl, inr, Bool, true, false, refl, sym, ap, subst, ◌∙◌, arith, ℤ, pos, ◌+ℤ◌, ◌-ℤ◌, ◌<ℤ◌, ◌≤ℤ◌}
+use Rattle.std.proofs.Common.{◌≡◌, ℕ, ◌≤◌, inl, inr, Bool, true, false, sym, ap, subst, ◌∙◌, arith, pos}
 use Rattle.std.proofs.lemmas.Bool.{false≢true}
 use Rattle.jiff_core.proofs.SignedLemmas.{signed_arith}
 use Rattle.croner_base.specs.declared.time.Direction.{Direction}
@@ -11,7 +11,7 @@ use Rattle.croner_pattern.specs.Meaning.{Meaning}
 use Rattle.croner_pattern.specs.Schedule.{is_plain}
 use Rattle.croner.specs.Runs.{Precedes, Reaches}
 use Rattle.croner.specs.Cursor.{one_on, place_in_day, IsPlainWithin, IsMatchingTime, IsMove, IsOpenTime, IsOpenInHour, IsFirstValue, IsFirstTime, IsNearest, NoneOn}
-use Rattle.croner.proofs.Ahead.{reaches-same, reaches-equal, reaches-trans, precedes-reaches, precedes-trans, not_both, either, same_or_ahead, one_on-ahead, one_on-next}
+use Rattle.croner.proofs.Ahead.{reaches-same, reaches-equal, precedes-trans, not_both, same_or_ahead, one_on-ahead, one_on-next}
 use Rattle.croner.proofs.CivilOrder.{reach-hour, reach-minute, reach-second, hour-reach, minute-reach, second-reach}
 
 plain_in : (field : Field) (max v : ℕ) → v ≤ max → is_plain field v ≡ true → IsPlainWithin field 0 max v
@@ -259,8 +259,8 @@ same_number Backward a b h k = omega (arith, signed_arith)
 pub move-between : (m : Meaning) (dir : Direction) (from y t : CivilTime) → IsMove m from t → IsMatchingTime m y → Reaches dir (place_in_day from) (place_in_day y) → Reaches dir (place_in_day y) (place_in_day t) → IsMove m from y
 move-between m dir from y t move is r k =
     let there : is_plain m.hours from.hour ≡ true → y.hour ≡ from.hour = λ p.
-        same_number dir from.hour y.hour (reach-hour dir from y r)
-        (subst (λ (n : ℕ). Reaches dir (pos y.hour) (pos n)) (move.hour p) (reach-hour dir y t k)) in
+    same_number dir from.hour y.hour (reach-hour dir from y r)
+    (subst (λ (n : ℕ). Reaches dir (pos y.hour) (pos n)) (move.hour p) (reach-hour dir y t k)) in
     record {
       hour = there;
       minute = λ same p.

@@ -1,16 +1,14 @@
 -- The search for the nearest value of a field.
-use Rattle.std.proofs.Common.{◌≡◌, ℕ, ◌+◌, ◌-◌, ◌<◌, ◌≤◌, true, false, refl, sym, ap, subst, ◌∙◌, arith, ℤ, pos, negsuc}
-use Rattle.std.proofs.lemmas.Bool.{false≢true}
+use Rattle.std.proofs.Common.{◌≡◌, ℕ, ◌+◌, ◌-◌, ◌<◌, ◌≤◌, true, refl, sym, subst, arith, ℤ, pos, negsuc}
 use Rattle.std.proofs.lemmas.Bool.Decides.{nat_tests}
 use Rattle.jiff_core.proofs.SignedLemmas.{signed_arith}
 use Rattle.croner_base.specs.declared.time.Direction.{Direction}
 use Rattle.croner_base.specs.declared.time.Direction.TheVariants.{Forward, Backward}
-use Rattle.croner_base.specs.Field.{Shape, Field, can_ask, new_shape}
-use Rattle.croner_pattern.specs.Schedule.{is_plain}
+use Rattle.croner_base.specs.Field.{Shape, can_ask, new_shape}
 use Rattle.croner_pattern.specs.Shapes.{is_like}
-use Rattle.croner.specs.Runs.{Precedes, Reaches}
-use Rattle.croner.specs.Cursor.{one_on, IsNearest, NoneOn, IsPlainWithin, IsOnTheWay}
-use Rattle.croner.proofs.Ahead.{NoneBetween, nothing_yet, one_more, found_here, none_on, reaches-same, reaches-trans}
+use Rattle.croner.specs.Runs.{Reaches}
+use Rattle.croner.specs.Cursor.{one_on, NoneOn, IsOnTheWay}
+use Rattle.croner.proofs.Ahead.{NoneBetween, nothing_yet, one_more, none_on}
 
 -- how many numbers are left from a value on
 abbrev pub steps_left : Direction → ℕ → ℕ → ℕ

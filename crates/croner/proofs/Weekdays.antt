@@ -1,14 +1,14 @@
 -- The weekday of a date in closed form, for every year.
-use Rattle.std.proofs.Common.{◌≡◌, ℕ, zero, suc, ◌+◌, ◌-◌, ◌*◌, ◌/◌, ◌%◌, ◌<◌, ◌≤◌, cond, refl, sym, ap, ◌∙◌, arith, add-one, ℤ, pos, negsuc, neg_ℤ, ◌+ℤ◌, ◌-ℤ◌, ◌*ℤ◌, ◌<ℤ◌, ◌≤ℤ◌}
+use Rattle.std.proofs.Common.{◌≡◌, ℕ, zero, suc, ◌+◌, ◌*◌, ◌%◌, ◌≤◌, sym, ap, ◌∙◌, arith, ℤ, pos, negsuc, ◌+ℤ◌}
 use Rattle.std.proofs.lemmas.Bool.Decides.{nat_tests}
 use Rattle.std.specs.Int.{IsInRange, int_div_euclid, int_rem_euclid}
-use Rattle.jiff_core.specs.Calendar.{is_leap_year, days_in_year, day_of_year}
+use Rattle.jiff_core.specs.Calendar.{day_of_year}
 use Rattle.jiff_core.proofs.SignedLemmas.{signed_arith}
 use Rattle.jiff_core.proofs.MarchLemmas.{leap_day, days_in_year-leap_day}
 use Rattle.jiff_core.proofs.CalendarLemmas.{days_in_month_bounds, days_in_year_bounds}
 use Rattle.croner_pattern.specs.Schedule.{first_weekday}
 use Rattle.croner.specs.SearchedYears.{leaps, year_start-leaps}
-use Rattle.croner_base.specs.Calendar.{IsRealDate, days_since_zero, days_until_zero, year_start, day_number, weekday_of_day}
+use Rattle.croner_base.specs.Calendar.{IsRealDate, year_start, day_number, weekday_of_day}
 use Rattle.croner_base.proofs.Days.{year_start-next, day_number-parts, day_of_year_bound}
 use borrow.Author.Differences.{up, down}
 

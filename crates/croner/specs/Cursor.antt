@@ -1,6 +1,6 @@
 -- How a search goes over the wall clock, before any zone: what it looks for, and how far it goes. The source is this
 -- crate's documentation.
-use Rattle.std.specs.Prelude.{◌≡◌, ℕ, ◌+◌, ◌<◌, ◌≤◌, Bool, true, false, ℤ, pos, ◌+ℤ◌, ◌-ℤ◌, int_lt, Option, MatchOption, if◌then◌else◌}
+use Rattle.std.specs.Prelude.{◌≡◌, ℕ, ◌+◌, ◌≤◌, Bool, true, false, ℤ, pos, ◌+ℤ◌, ◌-ℤ◌, int_lt, Option, MatchOption, if◌then◌else◌}
 use Rattle.croner_base.specs.declared.time.Direction.{Direction}
 use Rattle.croner_base.specs.declared.time.Direction.TheVariants.{Forward, Backward}
 use Rattle.croner_base.specs.declared.time.civil.CivilDate.{CivilDate}
@@ -8,10 +8,10 @@ use Rattle.croner_base.specs.declared.time.civil.CivilTime.{CivilTime}
 use Rattle.croner_base.specs.declared.time.civil.CivilDateTime.{CivilDateTime}
 use Rattle.jiff_core.specs.Calendar.{days_in_month}
 use Rattle.croner_base.specs.Calendar.{day_number}
-use Rattle.croner_base.specs.Civil.{HasYmd, day_of_date, seconds_of_time, wall_second}
+use Rattle.croner_base.specs.Civil.{HasYmd, day_of_date, seconds_of_time}
 use Rattle.croner_base.specs.Field.{Field}
 use Rattle.croner_pattern.specs.Meaning.{Meaning}
-use Rattle.croner_pattern.specs.Schedule.{is_plain, is_day_matching, is_year_matching, is_date_matching, is_scheduled}
+use Rattle.croner_pattern.specs.Schedule.{is_plain, is_day_matching, is_date_matching, is_scheduled}
 use Rattle.croner.specs.Runs.{Precedes, Reaches}
 
 -- the next whole number in the direction

@@ -145,5 +145,9 @@ pub(crate) fn nearest_date(
         }
         date = next_stretch(pattern, date, direction)?;
     }
-    if matches(pattern, date) { Some(date) } else { None }
+    if matches(pattern, date) {
+        Some(date)
+    } else {
+        None
+    }
 }

@@ -46,7 +46,13 @@ fn in_hour(
     if minute != from.minute() {
         return Some(CivilTime::from_parts_unchecked(hour, minute, first.second()));
     }
-    if let Some(second) = nearest_value(&pattern.seconds, 0, LAST_SECOND, from.second(), direction) {
+    if let Some(second) = nearest_value(
+        &pattern.seconds,
+        0,
+        LAST_SECOND,
+        from.second(),
+        direction,
+    ) {
         return Some(CivilTime::from_parts_unchecked(hour, minute, second));
     }
     if !room {

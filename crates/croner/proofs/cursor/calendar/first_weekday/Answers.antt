@@ -1,6 +1,6 @@
-use Rattle.std.proofs.Common.{◌≡◌, ℤ, pos, unsigned_abs, sym, arith, rules, FitsSigned, w32}
+use Rattle.std.proofs.Common.{◌≡◌, pos, unsigned_abs, sym, arith, rules, FitsSigned, w32}
 use Rattle.std.specs.Int.{int_rem_euclid}
-use Rattle.std.proofs.lemmas.Int.{to_z-of_z, ints}
+use Rattle.std.proofs.lemmas.Int.{to_z-of_z}
 use Rattle.jiff_core.proofs.SignedLemmas.{signed_casts}
 use Rattle.croner.proofs.Weekdays.{weekday-place, day_of_year-first}
 use Rattle.croner.proofs.cursor.calendar.first_weekday.Goals as goal

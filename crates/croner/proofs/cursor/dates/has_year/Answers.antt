@@ -1,8 +1,6 @@
-use Rattle.std.proofs.Common.{◌≡◌, ◌≤ℤ◌, pos, unsigned_abs, sym, ap, ◌∙◌, arith, FitsSigned, of_z, w32}
+use Rattle.std.proofs.Common.{◌≤ℤ◌, pos, sym, ◌∙◌, arith, FitsSigned, w32}
 use Rattle.std.proofs.lemmas.Int.{to_z-of_z, ints}
-use Rattle.jiff_core.proofs.SignedLemmas.{signed_casts}
 use Rattle.croner_pattern.specs.Meaning.{meaning_of}
-use Rattle.croner_pattern.specs.Schedule.{is_plain}
 use Rattle.croner.proofs.Dates.{year-low, year-high, year-in}
 use Rattle.croner.proofs.cursor.dates.has_year.Goals as goal
 use Rattle.croner.proofs.cursor.dates.has_year.Goals.{then-year-lt-YEAR_LOWER_LIMIT-via-then-year-lt-YEAR_LOWER_LIMIT, then-year-lt-YEAR_LOWER_LIMIT-via-else-year-lt-YEAR_LOWER_LIMIT+then-year-gt-YEAR_UPPER_LIMIT}

@@ -1,4 +1,4 @@
-use Rattle.std.proofs.Common.{◌≡◌, true, sym, ap, ◌∙◌, refl, rules, FitsSigned, w32}
+use Rattle.std.proofs.Common.{sym, ◌∙◌, rules, FitsSigned, w32}
 use Rattle.std.proofs.lemmas.Int.{to_z-of_z}
 use Rattle.croner_base.specs.Civil.{HasYmd}
 use Rattle.croner_pattern.specs.Meaning.{meaning_of}

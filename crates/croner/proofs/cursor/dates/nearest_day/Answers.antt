@@ -1,10 +1,10 @@
-use Rattle.std.proofs.Common.{◌≡◌, ◌≤◌, ◌<◌, ℕ, pos, true, false, sym, ap, ◌∙◌, subst, refl, arith}
+use Rattle.std.proofs.Common.{◌≡◌, ℕ, pos, false, sym, ◌∙◌, arith}
 use Rattle.std.proofs.lemmas.Bool.{false≢true}
 use Rattle.jiff_core.specs.Calendar.{days_in_month}
 use Rattle.jiff_core.proofs.CalendarLemmas.{days_in_month_bounds}
 use Rattle.croner_pattern.specs.Meaning.{Meaning, meaning_of}
 use Rattle.croner_pattern.specs.Schedule.{is_day_matching, first_weekday}
-use Rattle.croner.specs.Cursor.{IsMatchingDay, IsNearest}
+use Rattle.croner.specs.Cursor.{IsMatchingDay}
 use Rattle.croner.proofs.Ahead.{found_here}
 use Rattle.croner.proofs.Values.{looking-next, looking-zero, looking-high, looking-low}
 use Rattle.croner.proofs.cursor.dates.nearest_day.Goals as goal
