@@ -4,8 +4,5 @@ pub mod Grammar
 pub mod Limit
 pub mod Runs
 pub mod Schedule
-pub mod Refusal
-pub mod Premises
-pub mod Walk
-pub mod Halves
-pub mod Wall
+pub mod Cursor
+pub mod SearchedYears

@@ -1,7 +1,6 @@
 //! Cron patterns and their runs.
 #![tactic(auto)]
 
-mod fold;
-mod instant;
+mod cursor;
 mod search;
 mod wall;
