@@ -2,5 +2,24 @@
 #![tactic(auto)]
 
 mod cursor;
+mod fold;
+mod instant;
+pub mod iterator;
+mod job;
+pub mod laws;
+mod occurrence;
+pub mod parser;
 mod search;
 mod wall;
+
+pub use croner_base::component;
+pub use croner_base::component::CronComponent;
+pub use croner_base::errors;
+pub use croner_base::time;
+pub use croner_base::time::{
+    CivilDate, CivilDateTime, CivilTime, CronDateTime, Direction, Resolution, TimeComponent,
+    Weekday, YEAR_LOWER_LIMIT, YEAR_UPPER_LIMIT,
+};
+pub use croner_pattern::pattern::CronPattern;
+pub use iterator::CronIterator;
+pub use job::{Cron, JobType};
