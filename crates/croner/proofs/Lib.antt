@@ -11,3 +11,4 @@ pub mod WalkLoop
 pub mod WalkPace
 pub mod HalfEdges
 pub mod SearchLimit
+pub mod ListingOrder

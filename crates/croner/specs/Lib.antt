@@ -6,3 +6,4 @@ pub mod Premises
 pub mod Walk
 pub mod Halves
 pub mod Wall
+pub mod Listing
