@@ -12,3 +12,8 @@ pub mod WalkPace
 pub mod HalfEdges
 pub mod SearchLimit
 pub mod ListingOrder
+pub mod Cuts
+pub mod WordLists
+pub mod Names
+pub mod Starred
+pub mod Reads

@@ -1,5 +1,8 @@
-pub mod Runs
+pub mod Cut
+pub mod Gives
+pub mod Grammar
 pub mod Limit
+pub mod Runs
 pub mod Schedule
 pub mod Refusal
 pub mod Premises
@@ -7,3 +10,6 @@ pub mod Walk
 pub mod Halves
 pub mod Wall
 pub mod Listing
+pub mod Settings
+pub mod Words
+pub mod Views

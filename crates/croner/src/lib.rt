@@ -5,3 +5,6 @@ mod fold;
 mod instant;
 mod search;
 mod wall;
+mod job;
+pub mod parser;
+pub use job::Cron;

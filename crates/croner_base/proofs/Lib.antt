@@ -1,4 +1,6 @@
 pub mod Days
+pub mod Chronology
+pub mod ExamplesCalendar
 pub mod Padded
 pub mod JiffSeconds
 pub mod CivilMoments
@@ -6,8 +8,18 @@ pub mod ZonedMoments
 pub mod ZonedResolved
 pub mod CivilCalm
 pub mod ZonedHolds
+pub mod TableTests
+pub mod TableSums
+pub mod TableCheck
 pub mod TableOffsets
+pub mod TableReadings
+pub mod TableCivil
 pub mod PickExact
+pub mod ExamplesParts
+pub mod TableMoments
+pub mod TableCalm
+pub mod Filling
+pub mod MarkSets
 pub mod Parts
 pub mod Ranges
 pub mod Readings
@@ -15,3 +27,4 @@ pub mod Sets
 pub mod Stepping
 pub mod Steps
 pub mod Texts
+pub mod ExamplesTable

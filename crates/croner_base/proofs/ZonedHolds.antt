@@ -11,8 +11,9 @@ use Rattle.jiff_zoned.specs.declared.zoned.Zoned.{Zoned}
 use Rattle.croner_base.specs.declared.time.civil.CivilDateTime.{CivilDateTime}
 use Rattle.croner_base.specs.Civil.{wall_second}
 use Rattle.croner_base.specs.Zone.{reading}
+use Rattle.croner_base.specs.Limits.{first_start, last_start}
 use Rattle.croner_base.specs.Calm.{HoldsAround}
-use Rattle.croner_base.specs.ZonedZone.{zoned_moment, zoned_zone, is_near_year, resolve_by}
+use Rattle.croner_base.specs.ZonedZone.{zoned_moment, zoned_zone, is_near_year, resolve_by, nearest_timestamp}
 use Rattle.croner_base.proofs.JiffSeconds.{wall_second-parts, year_of_near}
 use Rattle.croner_base.proofs.ZonedMoments.{is_timestamp_second-true}
 use Rattle.croner_base.proofs.ZonedResolved.{is_near_year-true}
@@ -43,11 +44,11 @@ held tz i low high = is_timestamp_second-true i low high
 reads_within : (tz : TimeZone) (i : ℤ) → ((i -ℤ pos 93_599) ≤ℤ (zoned_zone tz).reads i) × ((zoned_zone tz).reads i ≤ℤ (i +ℤ pos 93_599))
 unfolding zoned_zone
 reads_within tz i =
-    let o = offset_within tz (nanos_of_seconds i) in
+    let o = offset_within tz (nanos_of_seconds (nearest_timestamp i)) in
     (omega (arith, signed_arith, o), omega (arith, signed_arith, o))
 
 -- where the start reads a year from -9997 to 9997
-pub zoned_holds : (z : Zoned) → neg_ℤ (pos 377_642_044_800) ≤ℤ reading (zoned_moment z) → reading (zoned_moment z) ≤ℤ pos 253_339_228_799 → HoldsAround (zoned_moment z)
+pub zoned_holds : (z : Zoned) → first_start ≤ℤ reading (zoned_moment z) → reading (zoned_moment z) ≤ℤ last_start → HoldsAround (zoned_moment z)
 zoned_holds z low high =
     let r = reads_within z.time_zone (zoned_moment z).instant in
     record {

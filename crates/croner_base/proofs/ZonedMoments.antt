@@ -1,5 +1,5 @@
 -- What jiff's zoned date-times do as moments.
-use Rattle.std.proofs.Common.{◌≡◌, Bool, true, false, refl, sym, ◌∙◌, arith, ℤ, pos, neg_ℤ, ◌+ℤ◌, ◌-ℤ◌, ◌*ℤ◌, ◌≤ℤ◌, int_eq, unsigned_abs}
+use Rattle.std.proofs.Common.{◌≡◌, Bool, true, false, refl, sym, ap, ◌∙◌, arith, ℤ, pos, neg_ℤ, ◌+ℤ◌, ◌-ℤ◌, ◌*ℤ◌, ◌≤ℤ◌, int_eq, int_lt, unsigned_abs}
 use Rattle.std.proofs.lemmas.Int.{ints}
 use Rattle.std.specs.Int.{int_div_euclid, int_rem_euclid}
 use Rattle.jiff_core.specs.DateTime.{civil_seconds, civil_nanos}
@@ -13,18 +13,30 @@ use Rattle.jiff_tz.specs.Zone.{offset_at}
 use Rattle.jiff_tz.specs.declared.timezone.TimeZone.{TimeZone}
 use Rattle.jiff_zoned.specs.declared.zoned.Zoned.{Zoned}
 use Rattle.croner_base.specs.Zone.{later, nanos_of, reading}
-use Rattle.croner_base.specs.ZonedZone.{zoned_moment, zoned_zone, zone_reads, is_timestamp_second}
+use Rattle.croner_base.specs.ZonedZone.{zoned_moment, zoned_zone, zone_reads, is_timestamp_second, nearest_timestamp, first_timestamp, last_timestamp}
 
 -- the reading of a moment
 pub reading-zoned : (z : Zoned) → reading (zoned_moment z) ≡ zone_reads z.time_zone (int_div_euclid z.timestamp.nanosecond (pos 1_000_000_000))
 unfolding zoned_zone
 reading-zoned z = refl
 
+-- an instant that jiff has is its own nearest
+pub nearest_own : (i : ℤ) → first_timestamp ≤ℤ i → i ≤ℤ last_timestamp → nearest_timestamp i ≡ i
+nearest_own i low high =
+    let a : int_lt i first_timestamp ≡ false = grind (arith, ints) in
+    let b : int_lt last_timestamp i ≡ false = grind (arith, ints) in
+    rw (a, b)
+
+-- there the clock reads by its own offset
+pub zone_reads-held : (tz : TimeZone) (i : ℤ) → first_timestamp ≤ℤ i → i ≤ℤ last_timestamp → zone_reads tz i ≡ i +ℤ offset_at tz (nanos_of_seconds i)
+zone_reads-held tz i low high = ap (λ (j : ℤ). i +ℤ offset_at tz (nanos_of_seconds j)) (nearest_own i low high)
+
 -- a date-time that a zone shows at a whole second
-pub shown_is : (tz : TimeZone) (dt : DateTime) (i n : ℤ) → n ≡ i *ℤ pos 1_000_000_000 → civil_nanos dt ≡ n +ℤ nanos_of_seconds (offset_at tz n) → civil_seconds dt ≡ zone_reads tz i
-shown_is tz dt i n e h =
+pub shown_is : (tz : TimeZone) (dt : DateTime) (i n : ℤ) → n ≡ i *ℤ pos 1_000_000_000 → IsTimestampNanos n → civil_nanos dt ≡ n +ℤ nanos_of_seconds (offset_at tz n) → civil_seconds dt ≡ zone_reads tz i
+shown_is tz dt i n e r h =
     let h2 : civil_nanos dt ≡ nanos_of_seconds i +ℤ nanos_of_seconds (offset_at tz (nanos_of_seconds i)) = rw e at h in
-    omega (arith, signed_arith, civil_nanos-civil_seconds dt, dt.time.subsec_in, h2)
+    let held = zone_reads-held tz i (omega (arith, signed_arith, e, r)) (omega (arith, signed_arith, e, r)) in
+    omega (arith, signed_arith, civil_nanos-civil_seconds dt, dt.time.subsec_in, h2, held)
 
 pub nanos_of-zoned : (z : Zoned) → nanos_of (zoned_moment z) ≡ z.timestamp.nanosecond
 nanos_of-zoned z = omega (arith, signed_arith)
@@ -77,7 +89,8 @@ pub side : (tz : TimeZone) (w : ℤ) (o : Offset) (z : Zoned) (dt : DateTime) (b
 side tz w o z dt b e h zone test =
     let at : z.timestamp.nanosecond ≡ nanos_of_seconds (w -ℤ o.seconds) = omega (arith, signed_arith, e, h) in
     let offset : z.offset.seconds ≡ offset_at tz (nanos_of_seconds (w -ℤ o.seconds)) = z.offset_is ∙ rw (at, zone) in
-    let shows : civil_nanos z.datetime ≡ zone_reads tz (w -ℤ o.seconds) *ℤ pos 1_000_000_000 = omega (arith, signed_arith, z.shows, at, offset) in
+    let held = zone_reads-held tz (w -ℤ o.seconds) (omega (arith, signed_arith, at, z.timestamp.in_range)) (omega (arith, signed_arith, at, z.timestamp.in_range)) in
+    let shows : civil_nanos z.datetime ≡ zone_reads tz (w -ℤ o.seconds) *ℤ pos 1_000_000_000 = omega (arith, signed_arith, z.shows, at, offset, held) in
     record {
       second = omega (arith, signed_arith, at);
       whole = omega (arith, signed_arith, at);

@@ -1,5 +1,5 @@
 -- What contracts see of civil dates and times.
-use Rattle.std.specs.Prelude.{◌≡◌, ℕ, ◌+◌, ◌*◌, ℤ, pos, ◌+ℤ◌, ◌*ℤ◌}
+use Rattle.std.specs.Prelude.{◌≡◌, ℕ, ◌+◌, ◌*◌, ◌<◌, ℤ, pos, ◌+ℤ◌, ◌*ℤ◌}
 use Rattle.std.specs.Int.{int_div_euclid}
 use Rattle.croner_base.specs.declared.time.civil.Weekday.{Weekday}
 use Rattle.croner_base.specs.declared.time.civil.Weekday.TheVariants.{Sunday, Monday, Tuesday, Wednesday, Thursday, Friday, Saturday}
@@ -23,6 +23,10 @@ pub record HasYmd (year : ℤ) (month day : ℕ) (d : CivilDate) : Type 0 where
   pub year_is : d.year ≡ year
   pub month_is : d.month ≡ month
   pub day_is : d.day ≡ day
+
+-- the day has this hour, minute and second
+abbrev pub IsTimeOfDay : ℕ → ℕ → ℕ → Type 0
+IsTimeOfDay h m s = (h < 24) × (m < 60) × (s < 60)
 
 -- the time has this hour, minute and second
 pub record HasHms (hour minute second : ℕ) (t : CivilTime) : Type 0 where

@@ -5,10 +5,14 @@ pub mod Zone
 pub mod CivilZone
 pub mod ZonedZone
 pub mod ZonedValue
+pub mod Limits
 pub mod Calm
 pub mod Table
+pub mod TableSteps
+pub mod TableZone
 pub mod Answers
 pub mod Field
+pub mod Marks
 pub mod Order
 pub mod Part
 pub mod Reading

@@ -1,4 +1,4 @@
--- A zone of jiff as a zone of this crate.
+-- A zone of jiff as a zone of this crate. What jiff answers of a zone is taken as it is; the definitions say what is made of it.
 use Rattle.std.specs.Prelude.{◌≡◌, ◌<◌, Bool, true, false, ◌&&◌, int_le, int_lt, if◌then◌else◌, ℤ, pos, neg_ℤ, ◌+ℤ◌, ◌-ℤ◌, unsigned_abs, Option, Some, None, refl}
 use Rattle.std.specs.Ordering.{int_eq}
 use Rattle.std.specs.Int.{int_div_euclid, int_rem_euclid}
@@ -18,9 +18,26 @@ use Rattle.croner_base.specs.declared.time.value.Resolution.TheVariants.{Single,
 use Rattle.croner_base.specs.Civil.{wall_second}
 use Rattle.croner_base.specs.Zone.{Zone, Moment}
 
--- the wall second that a zone of jiff shows at a whole-second instant
+-- the first and the last whole second of jiff's instants
+abbrev pub first_timestamp : ℤ
+first_timestamp = neg_ℤ (pos 377_705_023_201)
+
+abbrev pub last_timestamp : ℤ
+last_timestamp = pos 253_402_207_200
+
+-- a second whose instants jiff has
+abbrev pub is_timestamp_second : ℤ → Bool
+is_timestamp_second i = int_le first_timestamp i && int_le i last_timestamp
+
+-- of these the one nearest to an instant
+abbrev pub nearest_timestamp : ℤ → ℤ
+nearest_timestamp i =
+    if int_lt i first_timestamp then first_timestamp else (if int_lt last_timestamp i then last_timestamp else i)
+
+-- the wall second that a zone of jiff shows at a whole-second instant; beyond jiff's instants the clock goes on
+-- with the offset that it has at the nearest of them
 abbrev pub zone_reads : TimeZone → ℤ → ℤ
-zone_reads tz i = i +ℤ offset_at tz (nanos_of_seconds i)
+zone_reads tz i = i +ℤ offset_at tz (nanos_of_seconds (nearest_timestamp i))
 
 -- a year at whose seconds each offset gives an instant
 abbrev pub is_near_year : ℤ → Bool
@@ -75,10 +92,7 @@ abbrev pub resolve_by : TimeZone → (c : CivilDateTime) → (b : Bool) → is_n
 resolve_by tz c true h = Some (pick_offsets tz (wall_second c) (ambiguous_at tz (jiff_datetime c h)))
 resolve_by tz c false h = None
 
--- a second whose instants jiff has
-abbrev pub is_timestamp_second : ℤ → Bool
-is_timestamp_second i = int_le (neg_ℤ (pos 377_705_023_201)) i && int_le i (pos 253_402_207_200)
-
+-- the zone: its clock, its resolution and the instants that jiff has
 unfoldable pub zoned_zone : TimeZone → Zone
 zoned_zone tz = record {
   reads = zone_reads tz;

@@ -1,40 +1,61 @@
-//! One field of a pattern.
+//! One field of a pattern: which values it may hold, and which of them a text has marked, with which modifier.
+//!
+//! A value can be marked plain, as one of the first five such weekdays of a month, as the last one, or as the day
+//! whose nearest weekday is meant. Each modifier is one bit, so that the bits of several are asked for at once.
 
-ghost use Rattle.std.specs.Prelude.{◌≡◌, ◌+◌, ◌-◌, ◌≤◌, ◌<◌, ◌==◌, ◌&&◌, nat_le, OnOk, OnErr, IfOk, IfErr};
-ghost use Rattle.croner_base.specs.Field.{Field, with_mark, without_mark, is_marked, can_mark, can_ask, empty_field, new_shape, has_all, marked_values};
-ghost use Rattle.croner_base.specs.Field.{values_between};
-ghost use Rattle.croner_base.specs.Part.{all_marked, field_of, part_of, enabled, nearest_weekday, single, one_number, tag_of, head_of, two_of, pieces_at, number_of, ranged, stepping, step_bounds, stepped_marks, contains_byte, ends_in_l, is_starred};
-ghost use Rattle.std.specs.List.{before_first, after_first};
+ghost use Rattle.std.specs.Prelude.{◌≡◌, ◌+◌, ◌-◌, ◌≤◌, length, OnOk, OnErr, IfOk, IfErr};
+ghost use Rattle.croner_base.specs.Answers.{SucceedsIff};
+ghost use Rattle.croner_base.specs.Field.{with_mark, without_mark, with_sloppy, is_marked, can_mark, can_ask, default_field, empty_field, new_shape, has_all, has_modifiers, marked_values};
+ghost use Rattle.croner_base.specs.Marks.{IsWhole};
+ghost use Rattle.croner_base.specs.Part.{enabled};
 ghost use Rattle.croner_base.specs.Reading.{Reads};
-ghost use Rattle.croner_base.specs.Answers.{SucceedsIff, IsFieldError, Finds};
 
 use crate::errors::CronError;
-use std::alloc::Global;
-use std::cmp::Ordering;
-use std::hash::{Hash, Hasher};
+use std::alloc::{AllocError, Global};
 use std::marker::Model;
 
+mod compare;
+mod messages;
+mod parts;
+mod text;
+
+/// No modifier.
 pub const NONE_BIT: u8 = 0;
 
+/// A plain value, without a modifier.
 pub const ALL_BIT: u8 = 1;
 
+/// The first such weekday of the month: `#1`.
 pub const NTH_1ST_BIT: u8 = 2;
 
+/// The second such weekday of the month: `#2`.
 pub const NTH_2ND_BIT: u8 = 4;
 
+/// The third such weekday of the month: `#3`.
 pub const NTH_3RD_BIT: u8 = 8;
 
+/// The fourth such weekday of the month: `#4`.
 pub const NTH_4TH_BIT: u8 = 16;
 
+/// The fifth such weekday of the month: `#5`.
 pub const NTH_5TH_BIT: u8 = 32;
 
+/// The five bits of the nth weekdays together.
 pub const NTH_ALL: u8 = 62;
 
+/// The last such weekday of the month, or as a feature of the whole field its last day: `L`.
 pub const LAST_BIT: u8 = 64;
 
+/// The weekday that is nearest to a day of the month, or as a feature beside `LAST_BIT` the last weekday: `W`.
 pub const CLOSEST_WEEKDAY_BIT: u8 = 128;
 
-#[derive(Drop)]
+/// One field of a pattern: its bounds, the modifiers that it supports, and for each modifier the set of marked values.
+///
+/// Marks are added by [`parse`](Self::parse), [`handle_stepping`](Self::handle_stepping) and
+/// [`set_bit`](Self::set_bit). The component keeps the allocator that its maker took: room for every mark is taken
+/// by [`new`](Self::new), and later calls take memory for the message of a refusal and for the lists that they
+/// answer alone.
+#[derive(Debug, Drop)]
 pub struct CronComponent {
     marks: Vec<u8>,
     min: u16,
@@ -60,6 +81,11 @@ impl Model for CronComponent {
 }
 
 impl CronComponent {
+    /// A component for the values from `min` to `max` that has no marks yet, with step 1.
+    ///
+    /// It supports the modifiers in `features`, and plain values and `LAST_BIT` besides. `input_offset` is taken off
+    /// each number that a text names. A component whose `max` is 0 holds no value at all. The only error is
+    /// `OutOfMemory`.
     pub fn new(
         alloc: Global,
         min: u16,
@@ -81,101 +107,176 @@ impl CronComponent {
             step: 1,
             from_wildcard: false,
             features: features | ALL_BIT | LAST_BIT,
-            enabled_features: 0,
+            enabled_features: NONE_BIT,
             input_offset,
             sloppy_ranges: false,
             alloc,
         })
     }
 
+    /// A component of which each part is zero: it holds no value and supports nothing. Takes no memory.
+    pub fn default(alloc: Global) -> Self
+        ensures { result ≡ default_field }
+    {
+        CronComponent {
+            marks: Vec::new(alloc),
+            min: 0,
+            max: 0,
+            step: 0,
+            from_wildcard: false,
+            features: NONE_BIT,
+            enabled_features: NONE_BIT,
+            input_offset: 0,
+            sloppy_ranges: false,
+            alloc,
+        }
+    }
+
+    /// The least value that the component may hold.
     pub fn min(&self) -> u16
         ensures { result ≡ self.now.shape.min }
     {
         self.min
     }
 
+    /// The greatest value that the component may hold. Where it is 0 there is none.
+    pub fn max(&self) -> u16
+        ensures value { result ≡ self.now.shape.max }
+        ensures whole { IsWhole self.now }
+    {
+        self.max
+    }
+
+    /// The step of the last part with a `/` that was read, also of a refused one; 1 before any.
+    pub fn step(&self) -> u16
+        ensures { result ≡ self.now.step }
+    {
+        self.step
+    }
+
+    /// Whether a `*` was read: as the whole field, or before a `/`.
+    pub fn from_wildcard(&self) -> bool
+        ensures { result ≡ self.now.wildcard }
+    {
+        self.from_wildcard
+    }
+
+    /// The bits of the modifiers that are supported.
+    pub fn features(&self) -> u8
+        ensures { result ≡ self.now.shape.supported }
+    {
+        self.features
+    }
+
+    /// What is taken off each number that a text names.
+    pub fn input_offset(&self) -> u16
+        ensures { result ≡ self.now.shape.offset }
+    {
+        self.input_offset
+    }
+
+    /// Sets whether the start of a stepped range may stand alone or be left out, as in `5/10` and `/10`.
+    pub fn set_sloppy_ranges(&mut self, sloppy: bool)
+        ensures { self.new ≡ with_sloppy self.old sloppy }
+    {
+        self.sloppy_ranges = sloppy;
+    }
+
+    /// Marks the value `pos` minus the input offset with each modifier of `bit`, and changes nothing else.
+    ///
+    /// `ComponentError` where `pos` is below the offset, the value is out of bounds, a bit isn't supported or the
+    /// maximum is 0; `OutOfMemory` where its message finds no memory. An error leaves the component as it was.
     pub fn set_bit(&mut self, pos: u16, bit: u8) -> Result<(), CronError>
         ensures answer { SucceedsIff (can_mark self.old.shape pos bit) result }
         ensures ok { OnOk result (self.new ≡ with_mark self.old (pos - self.old.shape.offset) bit) }
         ensures err { OnErr result (self.new ≡ self.old) }
     {
-        if pos < self.input_offset {
-            let offset = self.input_offset;
-            return Err(CronError::ComponentError(format!(in self.alloc;
-                "Position {pos} is less than the input offset {offset}."
-            )?));
-        }
-        let value = pos - self.input_offset;
-        self.check(value, bit)?;
+        let value = self.value_at(pos, bit)?;
         let mark = &mut self.marks[usize::from(value)];
         *mark |= bit;
         Ok(())
     }
 
-    fn check(&self, value: u16, bit: u8) -> Result<(), CronError>
-        ensures { SucceedsIff (can_ask self.now.shape value bit) result }
-    {
-        let min = self.min;
-        let max = self.max;
-        if value < min || value > max {
-            return Err(CronError::ComponentError(format!(in self.alloc;
-                "Position {value} is out of bounds for the current range ({min}-{max})."
-            )?));
-        }
-        let features = self.features;
-        if features & bit != bit {
-            return Err(CronError::ComponentError(format!(in self.alloc;
-                "Bit 0b{bit:08b} is not supported by the current features 0b{features:08b}."
-            )?));
-        }
-        if max == 0 {
-            return Err(CronError::ComponentError(format!(in self.alloc;
-                "Position {value} is out of the bitfields vector's bounds."
-            )?));
-        }
-        Ok(())
-    }
-
+    /// Takes the modifiers of `bit` off the value `pos` minus the input offset, and changes nothing else.
+    ///
+    /// The errors are those of [`set_bit`](Self::set_bit), and leave the component as it was.
     pub fn unset_bit(&mut self, pos: u16, bit: u8) -> Result<(), CronError>
         ensures answer { SucceedsIff (can_mark self.old.shape pos bit) result }
         ensures ok { OnOk result (self.new ≡ without_mark self.old (pos - self.old.shape.offset) bit) }
         ensures err { OnErr result (self.new ≡ self.old) }
     {
-        if pos < self.input_offset {
-            let offset = self.input_offset;
-            return Err(CronError::ComponentError(format!(in self.alloc;
-                "Position {pos} is less than the input offset {offset}."
-            )?));
-        }
-        let value = pos - self.input_offset;
-        self.check(value, bit)?;
+        let value = self.value_at(pos, bit)?;
         let mark = &mut self.marks[usize::from(value)];
         *mark &= !bit;
         Ok(())
     }
 
+    /// Whether the value has any of the modifiers of `bit`. No offset is taken off.
+    ///
+    /// `ComponentError` where the value is out of bounds, a bit isn't supported or the maximum is 0; `OutOfMemory`
+    /// where its message finds no memory.
     pub fn is_bit_set(&self, value: u16, bit: u8) -> Result<bool, CronError>
         ensures answer { SucceedsIff (can_ask self.now.shape value bit) result }
         ensures ok { IfOk result (λ yes. yes ≡ is_marked bit self.now value) }
     {
-        self.check(value, bit)?;
-        Ok(self.marks[usize::from(value)] & bit != 0)
+        self.check_value(value, bit)?;
+        Ok(self.marks[usize::from(value)] & bit != NONE_BIT)
     }
 
-    /// The plain values.
+    /// Enables the features of `feature` for the whole field: `LAST_BIT` is the month's last day, and
+    /// `CLOSEST_WEEKDAY_BIT` beside it the month's last weekday.
+    ///
+    /// `ComponentError` where one of them isn't supported, `OutOfMemory` where its message finds no memory. An error
+    /// leaves the component as it was.
+    pub fn enable_feature(&mut self, feature: u8) -> Result<(), CronError>
+        ensures { Reads (enabled self.old.shape feature) self.old self.new result }
+    {
+        if !self.is_feature_allowed(feature) {
+            return Err(self.unsupported_feature(feature));
+        }
+        self.enabled_features |= feature;
+        Ok(())
+    }
+
+    /// Whether each of the features is supported.
+    pub fn is_feature_allowed(&self, feature: u8) -> bool
+        ensures { result ≡ has_all self.now.shape.supported feature }
+    {
+        self.features & feature == feature
+    }
+
+    /// Whether each of the features is enabled.
+    pub fn is_feature_enabled(&self, feature: u8) -> bool
+        ensures { result ≡ has_all self.now.enabled feature }
+    {
+        self.enabled_features & feature == feature
+    }
+
+    /// Whether a feature is enabled, or a value marked with a modifier other than plain: what such a field names
+    /// depends on the month.
+    pub fn has_modifiers(&self) -> bool
+        ensures { result ≡ has_modifiers self.now }
+    {
+        self.enabled_features != NONE_BIT
+            || self.marks.iter().any(|mark| mark & !ALL_BIT != NONE_BIT)
+    }
+
+    /// The plain values, in ascending order. The only error is `OutOfMemory`.
     pub fn values(&self) -> Result<Vec<u16>, CronError>
-        ensures ok { IfOk result (λ vs. vs.items ≡ marked_values 1 self.now) }
+        ensures ok { IfOk result (λ vs. vs.items ≡ marked_values ALL_BIT self.now) }
         ensures err { IfErr result (λ e. e ≡ CronError.OutOfMemory) }
     {
         self.get_set_values(ALL_BIT)
     }
 
+    /// The values that have any of the modifiers of `bit`, in ascending order; none where one of these isn't
+    /// supported. The only error is `OutOfMemory`.
     pub fn get_set_values(&self, bit: u8) -> Result<Vec<u16>, CronError>
         ensures ok { IfOk result (λ vs. vs.items ≡ marked_values bit self.now) }
         ensures err { IfErr result (λ e. e ≡ CronError.OutOfMemory) }
     {
         let mut values = Vec::new(self.alloc);
-        if self.features & bit != bit {
+        if !self.is_feature_allowed(bit) {
             return Ok(values);
         }
         for value in self.min..=self.max {
@@ -186,359 +287,72 @@ impl CronComponent {
         Ok(values)
     }
 
+    /// How many values [`get_set_values`](Self::get_set_values) lists.
+    pub fn count_set_values(&self, bit: u8) -> usize
+        ensures { result ≡ length (marked_values bit self.now) }
+    {
+        let mut count = 0;
+        if !self.is_feature_allowed(bit) {
+            return count;
+        }
+        for value in self.min..=self.max {
+            if self.has_mark(value, bit) {
+                count += 1;
+            }
+        }
+        count
+    }
+
     fn has_mark(&self, value: u16, bit: u8) -> bool
         ensures { result ≡ is_marked bit self.now value }
     {
         match self.marks.get(usize::from(value)) {
-            Some(mark) => *mark & bit != 0,
+            Some(mark) => *mark & bit != NONE_BIT,
             None => false,
         }
     }
 
-    fn mark_all(&mut self, first: u16, last: u16, bit: u8) -> Result<(), CronError>
-        ensures { Reads (all_marked self.old.shape bit (values_between first last)) self.old self.new result }
+    fn value_at(&self, pos: u16, bit: u8) -> Result<u16, CronError>
+        ensures answer { SucceedsIff (can_mark self.now.shape pos bit) result }
+        ensures ok { IfOk result (λ value. value ≡ pos - self.now.shape.offset) }
     {
-        for pos in first..=last {
-            self.set_bit(pos, bit)?;
+        if pos < self.input_offset {
+            return Err(self.below_offset(pos));
         }
-        Ok(())
+        let value = pos - self.input_offset;
+        self.check_value(value, bit)?;
+        Ok(value)
     }
 
-    pub fn parse(&mut self, field: &str) -> Result<(), CronError>
-        ensures { Reads (field_of self.old.shape field.now) self.old self.new result }
+    fn check_value(&self, value: u16, bit: u8) -> Result<(), CronError>
+        ensures { SucceedsIff (can_ask self.now.shape value bit) result }
     {
-        if field == "*" {
-            self.from_wildcard = true;
-            let first = self.min + self.input_offset;
-            let last = self.max + self.input_offset;
-            return self.mark_all(first, last, ALL_BIT);
+        if value < self.min || value > self.max || self.max == 0 {
+            return Err(self.out_of_bounds(value));
         }
-        for part in field.split(',') {
-            let part = part.trim();
-            if !part.is_empty() {
-                self.parse_part(part)?;
-            }
-        }
-        Ok(())
-    }
-
-    fn parse_part(&mut self, part: &str) -> Result<(), CronError>
-        ensures { Reads (part_of self.old.shape part.now) self.old self.new result }
-    {
-        if has(part, '/') {
-            self.handle_stepping(part)
-        } else if has(part, '-') {
-            self.handle_range(part)
-        } else if has(part, 'W') {
-            self.handle_closest_weekday(part)
-        } else if part == "L" || part == "l" {
-            self.enable_feature(LAST_BIT)
-        } else {
-            self.handle_number(part)
-        }
-    }
-
-    pub fn enable_feature(&mut self, feature: u8) -> Result<(), CronError>
-        ensures { Reads (enabled self.old.shape feature) self.old self.new result }
-    {
-        if self.features & feature != feature {
-            return Err(self.refusal("The feature is not supported."));
-        }
-        self.enabled_features |= feature;
-        Ok(())
-    }
-
-    fn refusal(&self, message: &str) -> CronError
-        ensures { IsFieldError result }
-    {
-        match String::from_str(self.alloc, message) {
-            Ok(message) => CronError::ComponentError(message),
-            Err(_) => CronError::OutOfMemory,
-        }
-    }
-
-    fn handle_closest_weekday(&mut self, part: &str) -> Result<(), CronError>
-        ensures { Reads (nearest_weekday self.old.shape part.now) self.old self.new result }
-    {
-        let day = before(part, 'W');
-        if day == "L" || day == "l" {
-            self.enable_feature(LAST_BIT)?;
-            return self.enable_feature(CLOSEST_WEEKDAY_BIT);
-        }
-        self.mark_number(day, CLOSEST_WEEKDAY_BIT)
-    }
-
-    fn mark_number(&mut self, text: &str, bit: u8) -> Result<(), CronError>
-        ensures { Reads (single self.old.shape bit text.now) self.old self.new result }
-    {
-        let Some(number) = number(text) else {
-            return Err(self.refusal("Invalid number."));
-        };
-        if number < self.min || number > self.max {
-            return Err(self.refusal("Number out of bounds."));
-        }
-        self.set_bit(number, bit)
-    }
-
-    fn handle_number(&mut self, part: &str) -> Result<(), CronError>
-        ensures { Reads (one_number self.old.shape part.now) self.old self.new result }
-    {
-        if (has(part, '#') || has(part, 'L')) && self.features & NTH_ALL != NTH_ALL {
-            return Err(self.refusal("The specifiers # and L are not allowed in this field."));
-        }
-        if ends_in_l(part) && !has(part, '#') {
-            return self.mark_number(before(part, 'L'), LAST_BIT);
-        }
-        let bit = self.tag(part)?;
-        self.mark_number(before(part, '#'), bit)
-    }
-
-    fn tag(&self, part: &str) -> Result<u8, CronError>
-        ensures { Finds (λ t. t) (tag_of part.now) result }
-    {
-        if ends_in_l(part) {
-            return Ok(LAST_BIT);
-        }
-        if !has(part, '#') {
-            return Ok(ALL_BIT);
-        }
-        match number(after(part, '#')) {
-            Some(1) => Ok(NTH_1ST_BIT),
-            Some(2) => Ok(NTH_2ND_BIT),
-            Some(3) => Ok(NTH_3RD_BIT),
-            Some(4) => Ok(NTH_4TH_BIT),
-            Some(5) => Ok(NTH_5TH_BIT),
-            _ => Err(self.refusal("Nth specifier out of bounds.")),
-        }
-    }
-
-    #[tactic(auto, using(crate::proofs::Texts::two_sides))]
-    fn sides<'t>(&self, text: &'t str, at: char) -> Result<(&'t str, &'t str), CronError>
-        requires { at < 128 }
-        ensures { Finds (λ s. (s.0.now, s.1.now)) (two_of (pieces_at at text.now)) result }
-    {
-        if has(text, at) {
-            let right = after(text, at);
-            if !has(right, at) {
-                return Ok((before(text, at), right));
-            }
-        }
-        Err(self.refusal("Invalid range syntax."))
-    }
-
-    fn number_in(&self, text: &str) -> Result<u16, CronError>
-        ensures { Finds (λ n. n) (number_of text.now) result }
-    {
-        match number(text) {
-            Some(number) => Ok(number),
-            None => Err(self.refusal("Invalid number.")),
-        }
-    }
-
-    fn has_range(&self, start: u16, end: u16) -> bool
-        ensures { result ≡ ((nat_le self.now.shape.min start && nat_le end self.now.shape.max) && nat_le start end) }
-    {
-        self.min <= start && end <= self.max && start <= end
-    }
-
-    fn handle_range(&mut self, part: &str) -> Result<(), CronError>
-        ensures { Reads (ranged self.old.shape part.now) self.old self.new result }
-    {
-        let bit = self.tag(part)?;
-        let (start, end) = self.sides(before(part, '#'), '-')?;
-        let start = self.number_in(start.trim())?;
-        let end = self.number_in(end.trim())?;
-        if !self.has_range(start, end) {
-            return Err(self.refusal("Range out of bounds."));
-        }
-        self.mark_all(start, end, bit)
-    }
-
-    pub fn handle_stepping(&mut self, part: &str) -> Result<(), CronError>
-        ensures { Reads (stepping self.old.shape part.now) self.old self.new result }
-    {
-        let bit = self.tag(part)?;
-        let (left, right) = self.sides(before(part, '#'), '/')?;
-        let step = self.number_in(right)?;
-        self.step = step;
-        if step == 0 {
-            return Err(self.refusal("Step cannot be zero."));
-        }
-        if self.is_starred(left) {
-            self.from_wildcard = true;
-        }
-        let (start, end) = self.step_bounds(left)?;
-        if !self.has_range(start, end) {
-            return Err(self.refusal("Range is out of bounds in stepping."));
-        }
-        self.mark_stepped(start, end, step, bit)
-    }
-
-    fn is_starred(&self, left: &str) -> bool
-        ensures { result ≡ is_starred self.now.shape left.now }
-    {
-        left == "*" || (self.sloppy_ranges && left.is_empty())
-    }
-
-    fn step_bounds(&self, left: &str) -> Result<(u16, u16), CronError>
-        ensures { Finds (λ b. (b.0, b.1)) (step_bounds self.now.shape left.now) result }
-    {
-        if left == "*" {
-            Ok((self.min + self.input_offset, self.max))
-        } else if has(left, '-') {
-            let (start, end) = self.sides(left, '-')?;
-            let start = self.number_in(start)?;
-            let end = self.number_in(end)?;
-            Ok((start, end))
-        } else if !self.sloppy_ranges {
-            Err(self.refusal("Invalid step syntax."))
-        } else if left.is_empty() {
-            Ok((self.min + self.input_offset, self.max))
-        } else {
-            let start = self.number_in(left)?;
-            Ok((start, self.max))
-        }
-    }
-
-    fn mark_stepped(&mut self, start: u16, end: u16, step: u16, bit: u8) -> Result<(), CronError>
-        requires step { 0 < step }
-        requires order { start ≤ end }
-        ensures { Reads (stepped_marks self.old.shape bit start end step) self.old self.new result }
-    {
-        let mut pos = start;
-        while pos <= end {
-            self.set_bit(pos, bit)?;
-            pos = match pos.checked_add(step) {
-                Some(next) => next,
-                None => return Err(self.refusal("Value exceeded max after stepping.")),
-            };
+        if !self.is_feature_allowed(bit) {
+            return Err(self.unsupported_modifier(value, bit));
         }
         Ok(())
     }
 }
 
-fn number(text: &str) -> Option<u16>
-    ensures { result ≡ number_of text.now }
-{
-    text.parse::<u16>().ok()
-}
+impl Clone for CronComponent {
+    ghost is_clone = { λ original copy. copy ≡ original };
 
-fn has(text: &str, byte: char) -> bool
-    requires { byte < 128 }
-    ensures { result ≡ contains_byte byte text.now }
-{
-    text.contains(byte)
-}
-
-fn ends_in_l(text: &str) -> bool
-    ensures { result ≡ ends_in_l text.now }
-{
-    text.ends_with('L')
-}
-
-fn before(text: &str, byte: char) -> &str
-    requires { byte < 128 }
-    ensures { result.now ≡ before_first (λ b. b == byte) text.now }
-{
-    match text.split_once(byte) {
-        Some((front, _)) => front,
-        None => text,
-    }
-}
-
-fn after(text: &str, byte: char) -> &str
-    requires { byte < 128 }
-    ensures { result.now ≡ after_first (λ b. b == byte) text.now }
-{
-    match text.split_once(byte) {
-        Some((_, rest)) => rest,
-        None => "",
-    }
-}
-
-impl PartialEq for CronComponent {
-    ghost use Rattle.std.specs.Ordering.{eq_by_cmp};
-    ghost use Rattle.std.specs.Cmp as Cmp;
-    ghost use Rattle.std.specs.Cmp.{eq_by_cmp_equiv};
-    ghost use Rattle.croner_base.specs.Order.{field_cmp, field_cmp_total};
-
-    ghost eq = { eq_by_cmp field_cmp };
-
-    ghost laws = { Cmp.partial_equiv_from_equiv (eq_by_cmp_equiv field_cmp_total) };
-
-    fn eq(&self, other: &CronComponent) -> bool {
-        self.cmp(other).is_eq()
-    }
-}
-
-impl Eq for CronComponent {
-    ghost use Rattle.std.specs.Cmp.{eq_by_cmp_equiv};
-    ghost use Rattle.croner_base.specs.Order.{field_cmp_total};
-
-    ghost laws = { eq_by_cmp_equiv field_cmp_total };
-}
-
-impl PartialOrd for CronComponent {
-    ghost use Rattle.std.proofs.Common.{rules};
-    ghost use Rattle.std.specs.Cmp.{partial_order_from_total};
-    ghost use Rattle.std.specs.Cmp.Rules.{comparing};
-    ghost use Rattle.std.specs.Ordering.{as_partial_cmp};
-    ghost use Rattle.croner_base.specs.Order.{field_cmp, field_cmp_total};
-
-    ghost partial_cmp = { as_partial_cmp field_cmp };
-
-    ghost laws = { partial_order_from_total field_cmp_total };
-
-    fn partial_cmp(&self, other: &CronComponent) -> Option<Ordering> {
-        Some(self.cmp(other))
-    }
-}
-
-impl Ord for CronComponent {
-    ghost use Rattle.std.proofs.Common.{rules};
-    ghost use Rattle.std.specs.Cmp.Rules.{comparing};
-    ghost use Rattle.croner_base.specs.Order.{field_cmp, field_cmp_total};
-
-    ghost cmp = { field_cmp };
-
-    ghost total = { field_cmp_total };
-
-    ghost matches_partial_cmp = { Prim.search (comparing, rules) };
-
-    ghost matches_eq = { Prim.search (comparing, rules) };
-
-    fn cmp(&self, other: &CronComponent) -> Ordering {
-        self.marks
-            .as_slice()
-            .cmp(other.marks.as_slice())
-            .then(self.min.cmp(&other.min))
-            .then(self.max.cmp(&other.max))
-            .then(self.step.cmp(&other.step))
-            .then(self.from_wildcard.cmp(&other.from_wildcard))
-            .then(self.features.cmp(&other.features))
-            .then(self.enabled_features.cmp(&other.enabled_features))
-            .then(self.input_offset.cmp(&other.input_offset))
-            .then(self.sloppy_ranges.cmp(&other.sloppy_ranges))
-    }
-}
-
-impl Hash for CronComponent {
-    ghost use Rattle.croner_base.specs.Written.{field_writes, writes_alike};
-
-    ghost hash_input = { field_writes };
-
-    ghost respects_eq = { writes_alike };
-
-    fn hash<H: Hasher>(&self, state: &mut H) {
-        self.marks.as_slice().hash(state);
-        self.min.hash(state);
-        self.max.hash(state);
-        self.step.hash(state);
-        self.from_wildcard.hash(state);
-        self.features.hash(state);
-        self.enabled_features.hash(state);
-        self.input_offset.hash(state);
-        self.sloppy_ranges.hash(state);
+    fn clone(&self) -> Result<CronComponent, AllocError> {
+        Ok(CronComponent {
+            marks: Vec::from_slice(self.alloc, self.marks.as_slice())?,
+            min: self.min,
+            max: self.max,
+            step: self.step,
+            from_wildcard: self.from_wildcard,
+            features: self.features,
+            enabled_features: self.enabled_features,
+            input_offset: self.input_offset,
+            sloppy_ranges: self.sloppy_ranges,
+            alloc: self.alloc,
+        })
     }
 }
 

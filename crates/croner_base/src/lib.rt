@@ -3,4 +3,5 @@
 
 pub mod component;
 pub mod errors;
+pub mod laws;
 pub mod time;

@@ -7,16 +7,23 @@ use crate::time::{CivilDateTime, Weekday};
 use std::alloc::Global;
 use std::cmp::Ordering;
 
-/// What a wall second names in a zone.
-#[derive(Debug, Drop, PartialEq, Eq)]
+/// What a wall second names in a zone: the instants at which the zone's clock shows it.
+#[derive(Debug, Clone, Drop, PartialEq, Eq)]
 pub enum Resolution<T> {
+    /// One instant.
     Single(T),
+    /// Two instants, the earlier first: the clock was moved back over the second.
     Ambiguous(T, T),
+    /// None: the clock was moved forward over the second.
     Gap,
 }
 
-/// A value that names an instant in a zone.
-pub trait CronDateTime: Clone + Drop {
+/// A value that names an instant in a time zone: what a search needs of a date and time library.
+///
+/// A value has a zone, a whole second and a fraction of a second. The zone's clock shows one wall second at each whole
+/// second. An implementation states once which zone, second and fraction its values name; the five functions and
+/// `Clone` are then held to it, whatever the zone does.
+pub trait CronDateTime: Sized + Clone + Drop {
     ghost use Rattle.croner_base.specs.Zone.{Moment, nanos_of, reading, IsResolved, IsUnheld, IsMoved};
     ghost use Rattle.croner_base.specs.Civil.{wall_second, weekday_index, weekday_of_second};
 
@@ -26,15 +33,18 @@ pub trait CronDateTime: Clone + Drop {
     /// Whether `resolve_civil`, `checked_add_seconds` and `clone` can find no memory.
     ghost can_lack_memory: { Bool };
 
-    /// What the zone's clock shows at the instant's whole second.
+    /// What the zone's clock shows at the instant's whole second: the fraction is dropped.
     fn to_civil(&self) -> CivilDateTime
         ensures { wall_second result ≡ reading (moment self.now) };
 
-    /// The weekday of that date.
+    /// The weekday of the date that `to_civil` gives.
     fn civil_weekday(&self) -> Weekday
         ensures { weekday_index result ≡ weekday_of_second (reading (moment self.now)) };
 
-    /// The instants of the same zone that show the second, the earlier first.
+    /// Names whole-second instants of the same zone at which its clock shows `civil`, the earlier first.
+    ///
+    /// `InvalidDate` or `InvalidTime` where the implementation doesn't hold that second. `OutOfMemory` only where it
+    /// says that it can lack memory.
     fn resolve_civil(
         &self,
         alloc: Global,
@@ -44,13 +54,16 @@ pub trait CronDateTime: Clone + Drop {
         ensures err { IfErr result
             (IsUnheld can_lack_memory (moment self.now).zone civil) };
 
-    /// The same zone and fraction so many elapsed seconds later, where that instant is held.
+    /// The same zone and fraction, `seconds` elapsed seconds later, or earlier where it is negative.
+    ///
+    /// `None` where the implementation doesn't hold that instant. `OutOfMemory` only where it says that it can lack
+    /// memory.
     fn checked_add_seconds(&self, alloc: Global, seconds: i64) -> Result<Option<Self>, CronError>
         ensures value { IfOk result (IsMoved moment (moment self.now) seconds) }
         ensures err { IfErr result
             (λ e. (e ≡ CronError.OutOfMemory) × IsTrue can_lack_memory) };
 
-    /// The order of the instants, fractions included.
+    /// The order of the two instants, fractions included, whatever their zones.
     fn cmp_instant(&self, other: &Self) -> Ordering
         ensures { result ≡ int_cmp (nanos_of (moment self.now)) (nanos_of (moment other.now)) };
 

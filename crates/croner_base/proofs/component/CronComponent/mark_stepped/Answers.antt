@@ -16,7 +16,7 @@ returns-in-None c =
     let small : c.args.end < 65536 = omega arith in
     let n = stepped-next c.args.self.now.shape c.args.bit c.loop-pos.pos c.args.end c.args.step c.requires.step c.loop-pos-test.true small c.loop-pos.invariant.shape c.in_ok-set_bit.ensures.answer c.in_ok-set_bit.ensures.ok c.loop-pos.invariant.completes in
     let over : 65536 ≤ c.loop-pos.pos + c.args.step = omega (arith, c.in-None.ensures) in
-    stepped-over c.args.self.now.shape c.args.bit c.loop-pos.pos c.args.end c.args.step over c.refusal.ensures n.1
+    stepped-over c.args.self.now.shape c.args.bit c.loop-pos.pos c.args.end c.args.step over c.step_too_long.ensures n.1
 
 pub loop-pos-preserved : goal.loop-pos-preserved
 loop-pos-preserved c =

@@ -1,0 +1,81 @@
+-- The words of a text are those that its split at white space gives, and no other list is.
+use Rattle.std.proofs.Common.{◌≡◌, ◌⊎◌, ℕ, ◌+◌, ◌<◌, Bool, true, false, cond, ltb, ◌&&◌, List, [], ◌∷◌, ◌++◌, length, map, refl, ap, sym, ◌∙◌, subst, arith, inl, inr}
+use Rattle.std.proofs.lemmas.Bool.{false≢true, not-false, lt-ltb, cases_Bool, and_parts}
+use Rattle.std.proofs.lemmas.List.{append_assoc, append-nil, length-append}
+use Rattle.std.proofs.lemmas.List.Splits.{slice_split-cons_yes, slice_split-cons_no}
+use Rattle.std.proofs.lemmas.Str.{encodes-append, cons_from_encodes, encodes_same, encode_same, length-encode, len_utf8_bounds, encodes-chars, scalars-chars, NoCharPasses-append, NoCharPasses-nil}
+use Rattle.std.specs.Char.{is_whitespace, is_not_whitespace}
+use Rattle.std.specs.List.{slice_split, onto_first, filter}
+use Rattle.std.specs.Str.{NoCharPasses, NonePass, EmptyOrStartsWithPassing, IsUtf8, chars, encode_utf8_all, all_scalars}
+use Rattle.std.specs.Char.{encode_utf8}
+use Rattle.croner.specs.Words.{StartsWith, AreWords, words_of_chars, words}
+
+abbrev is_some_word : List ℕ → Bool
+is_some_word w = ltb 0 (length w)
+
+-- ---- no other list
+
+split_encodes : (ds cs rest : List ℕ) → encode_utf8_all cs ≡ encode_utf8_all ds ++ rest → (es : List ℕ) × (cs ≡ ds ++ es) × (encode_utf8_all es ≡ rest)
+split_encodes [] cs rest e = (cs, refl, e)
+split_encodes (d ∷ ds) cs rest e =
+    let k = cons_from_encodes cs (encode_utf8_all ds ++ rest) d (e ∙ append_assoc (encode_utf8 d) (encode_utf8_all ds) rest) in
+    let r = split_encodes ds k.0 rest k.2 in
+    (r.0, k.1 ∙ ap (λ xs. d ∷ xs) r.1, r.2)
+
+-- white space in front changes nothing
+gap_words : (gs es : List ℕ) → NonePass is_not_whitespace gs → words_of_chars (gs ++ es) ≡ words_of_chars es
+gap_words [] es h = refl
+gap_words (g ∷ gs) es h =
+    ap (filter is_some_word) (slice_split-cons_yes is_whitespace g (gs ++ es) (not-false (is_whitespace g) h.0)) ∙ gap_words gs es h.1
+
+-- a word in front joins the first part
+split_word : (us es : List ℕ) (parts : List (List ℕ)) (first : List ℕ) → NonePass is_whitespace us → slice_split is_whitespace es ≡ first ∷ parts → slice_split is_whitespace (us ++ es) ≡ (us ++ first) ∷ parts
+split_word [] es parts first h e = e
+split_word (u ∷ us) es parts first h e =
+    slice_split-cons_no is_whitespace u (us ++ es) h.0 ∙ ap (onto_first u) (split_word us es parts first h.1 e)
+
+word_first : (u : ℕ) (us es : List ℕ) (parts : List (List ℕ)) → NonePass is_whitespace (u ∷ us) → slice_split is_whitespace es ≡ [] ∷ parts → words_of_chars ((u ∷ us) ++ es) ≡ (u ∷ us) ∷ words_of_chars es
+word_first u us es parts h e =
+    let whole : slice_split is_whitespace ((u ∷ us) ++ es) ≡ (u ∷ us) ∷ parts = split_word (u ∷ us) es parts [] h e ∙ ap (λ w. w ∷ parts) (append-nil (u ∷ us)) in
+    let some : is_some_word (u ∷ us) ≡ true = lt-ltb 0 (length (u ∷ us)) (omega arith) in
+    ap (filter is_some_word) whole ∙ ap (λ b. cond b ((u ∷ us) ∷ filter is_some_word parts) (filter is_some_word parts)) some
+    ∙ ap (λ ws. (u ∷ us) ∷ ws) (sym (ap (filter is_some_word) e))
+
+some_bytes : (c : ℕ) (rest : List ℕ) → 0 < length (encode_utf8 c ++ rest)
+some_bytes c rest = omega (arith, length-append (encode_utf8 c) rest, length-encode c, (len_utf8_bounds c).0)
+
+-- what follows a word: nothing, or white space
+next_part : (es : List ℕ) → ((more : List ℕ) × EmptyOrStartsWithPassing is_whitespace (encode_utf8_all es) more) → (parts : List (List ℕ)) × (slice_split is_whitespace es ≡ [] ∷ parts)
+next_part [] h = ([], refl)
+next_part (c ∷ es) h =
+    let k = h.1 (some_bytes c (encode_utf8_all es)) in
+    let same = encode_same c k.0 (encode_utf8_all es) h.0 k.2 in
+    (slice_split is_whitespace es, slice_split-cons_yes is_whitespace c es (ap is_whitespace same.0 ∙ k.1))
+
+one_word : (us es : List ℕ) → NonePass is_whitespace us → 0 < length (encode_utf8_all us) → ((more : List ℕ) × EmptyOrStartsWithPassing is_whitespace (encode_utf8_all es) more) → words_of_chars (us ++ es) ≡ us ∷ words_of_chars es
+one_word [] es h some ends = absurd (omega (arith, some))
+one_word (u ∷ us) es h some ends = let p = next_part es ends in word_first u us es p.0 h p.1
+
+words_unique : (ws : List (List ℕ)) (cs : List ℕ) → AreWords (encode_utf8_all cs) ws → ws ≡ map encode_utf8_all (words_of_chars cs)
+words_unique [] cs h =
+    let same : cs ≡ h.0 = sym (encodes_same h.0 cs h.1) in
+    let none = gap_words h.0 [] h.2 in
+    sym (ap (λ xs. map encode_utf8_all (words_of_chars xs)) (same ∙ sym (append-nil h.0)) ∙ ap (map encode_utf8_all) none)
+words_unique (w ∷ ws) cs h =
+    let s = h.1 in
+    let gs = s.is_gap.0 in
+    let us = s.is_word.0 in
+    let spelled : encode_utf8_all cs ≡ encode_utf8_all gs ++ (encode_utf8_all us ++ h.0) = rw (s.is_gap.1, s.is_word.1) s.spells in
+    let one = split_encodes gs cs (encode_utf8_all us ++ h.0) spelled in
+    let two = split_encodes us one.0 h.0 one.2 in
+    let ends = subst (λ r. (more : List ℕ) × EmptyOrStartsWithPassing is_whitespace r more) (sym two.2) s.ends in
+    let some : 0 < length (encode_utf8_all us) = subst (λ t. 0 < length t) (sym s.is_word.1) s.some in
+    let rest = words_unique ws two.0 (subst (λ r. AreWords r ws) (sym two.2) h.2) in
+    let all : words_of_chars cs ≡ us ∷ words_of_chars two.0 =
+    ap words_of_chars (one.1 ∙ ap (λ r. gs ++ r) two.1) ∙ gap_words gs (us ++ two.0) s.is_gap.2 ∙ one_word us two.0 s.is_word.2 some ends in
+    ap (λ v. v ∷ ws) (sym s.is_word.1) ∙ ap (λ vs. encode_utf8_all us ∷ vs) rest ∙ sym (ap (map encode_utf8_all) all)
+
+-- a list of words of the text is the one
+pub words_are : (text : List ℕ) (ws : List (List ℕ)) → IsUtf8 text → AreWords text ws → ws ≡ words text
+words_are text ws utf8 h =
+    words_unique ws (chars text) (subst (λ t. AreWords t ws) (sym (encodes-chars text utf8)) h)

@@ -1,0 +1,5 @@
+use Rattle.croner_base.proofs.Texts.{contains_is}
+use Rattle.croner_base.proofs.component.text.has.Goals as goal
+
+pub returns : goal.returns
+returns c = contains_is c.args.byte c.args.text.now _ c.contains.ensures.cases c.requires

@@ -1,0 +1,6 @@
+use Rattle.std.proofs.Common.{◌∙◌, ap, ◌+◌, ◌%◌}
+use Rattle.croner_base.proofs.JiffSeconds.{weekday-civil_seconds}
+use Rattle.croner_base.proofs.time.jiff_impl.civil.DateTimeCronDateTime.civil_weekday.Goals as goal
+
+pub returns : goal.returns
+returns c = c.to_weekday.ensures ∙ ap (λ n. (n + 1) % 7) c.weekday.ensures ∙ weekday-civil_seconds c.args.self.now

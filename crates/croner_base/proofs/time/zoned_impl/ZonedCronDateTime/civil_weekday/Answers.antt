@@ -1,9 +1,0 @@
-use Rattle.std.proofs.Common.{◌∙◌, ap, ◌+◌, ◌%◌}
-use Rattle.croner_base.specs.Civil.{weekday_of_second}
-use Rattle.croner_base.proofs.JiffSeconds.{weekday-civil_seconds}
-use Rattle.croner_base.proofs.time.zoned_impl.ZonedCronDateTime.civil_weekday.Goals as goal
-
-pub returns : goal.returns
-returns c =
-    c.to_weekday.ensures ∙ ap (λ n. (n + 1) % 7) c.weekday.ensures ∙ weekday-civil_seconds c.shown.result
-    ∙ ap weekday_of_second c.shown.ensures

@@ -1,0 +1,91 @@
+//! Equality, order and hash of components: by the marks from value 0 on, and then by the other parts.
+
+use super::CronComponent;
+use std::cmp::Ordering;
+use std::hash::{Hash, Hasher};
+
+impl PartialEq for CronComponent {
+    ghost use Rattle.std.specs.Ordering.{eq_by_cmp};
+    ghost use Rattle.std.specs.Cmp as Cmp;
+    ghost use Rattle.std.specs.Cmp.{eq_by_cmp_equiv};
+    ghost use Rattle.croner_base.specs.Order.{field_cmp, field_cmp_total};
+
+    ghost eq = { eq_by_cmp field_cmp };
+
+    ghost laws = { Cmp.partial_equiv_from_equiv (eq_by_cmp_equiv field_cmp_total) };
+
+    fn eq(&self, other: &CronComponent) -> bool {
+        self.cmp(other).is_eq()
+    }
+}
+
+impl Eq for CronComponent {
+    ghost use Rattle.std.specs.Cmp.{eq_by_cmp_equiv};
+    ghost use Rattle.croner_base.specs.Order.{field_cmp_total};
+
+    ghost laws = { eq_by_cmp_equiv field_cmp_total };
+}
+
+impl PartialOrd for CronComponent {
+    ghost use Rattle.std.proofs.Common.{rules};
+    ghost use Rattle.std.specs.Cmp.{partial_order_from_total};
+    ghost use Rattle.std.specs.Cmp.Rules.{comparing};
+    ghost use Rattle.std.specs.Ordering.{as_partial_cmp};
+    ghost use Rattle.croner_base.specs.Order.{field_cmp, field_cmp_total};
+
+    ghost partial_cmp = { as_partial_cmp field_cmp };
+
+    ghost laws = { partial_order_from_total field_cmp_total };
+
+    fn partial_cmp(&self, other: &CronComponent) -> Option<Ordering> {
+        Some(self.cmp(other))
+    }
+}
+
+impl Ord for CronComponent {
+    ghost use Rattle.std.proofs.Common.{rules};
+    ghost use Rattle.std.specs.Cmp.Rules.{comparing};
+    ghost use Rattle.croner_base.specs.Order.{field_cmp, field_cmp_total};
+
+    ghost cmp = { field_cmp };
+
+    ghost total = { field_cmp_total };
+
+    ghost matches_partial_cmp = { Prim.search (comparing, rules) };
+
+    ghost matches_eq = { Prim.search (comparing, rules) };
+
+    fn cmp(&self, other: &CronComponent) -> Ordering {
+        self.marks
+            .as_slice()
+            .cmp(other.marks.as_slice())
+            .then(self.min.cmp(&other.min))
+            .then(self.max.cmp(&other.max))
+            .then(self.step.cmp(&other.step))
+            .then(self.from_wildcard.cmp(&other.from_wildcard))
+            .then(self.features.cmp(&other.features))
+            .then(self.enabled_features.cmp(&other.enabled_features))
+            .then(self.input_offset.cmp(&other.input_offset))
+            .then(self.sloppy_ranges.cmp(&other.sloppy_ranges))
+    }
+}
+
+impl Hash for CronComponent {
+    ghost use Rattle.croner_base.specs.Written.{field_writes, writes_alike};
+
+    ghost hash_input = { field_writes };
+
+    ghost respects_eq = { writes_alike };
+
+    fn hash<H: Hasher>(&self, state: &mut H) {
+        self.marks.as_slice().hash(state);
+        self.min.hash(state);
+        self.max.hash(state);
+        self.step.hash(state);
+        self.from_wildcard.hash(state);
+        self.features.hash(state);
+        self.enabled_features.hash(state);
+        self.input_offset.hash(state);
+        self.sloppy_ranges.hash(state);
+    }
+}

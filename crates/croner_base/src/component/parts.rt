@@ -1,0 +1,254 @@
+//! Reading the text of a field: a star or a list, and the forms that a part of a list can have.
+
+ghost use Rattle.std.specs.Prelude.{◌≡◌, ◌≤◌, ◌<◌, ◌+◌, ◌&&◌, nat_le, map, bit_or};
+ghost use Rattle.croner_base.specs.Answers.{Finds};
+ghost use Rattle.croner_base.specs.Field.{values_between};
+ghost use Rattle.croner_base.specs.Part.{all_marked, field_of, part_of, nearest_weekday, single, one_number, tag_of, two_of, pieces_at, number_of, ranged, stepping, step_bounds, stepped_marks, is_starred};
+ghost use Rattle.croner_base.specs.Reading.{Reads};
+
+use super::text::{after, before, ends_in_l, has, number};
+use super::{
+    ALL_BIT, CLOSEST_WEEKDAY_BIT, CronComponent, LAST_BIT, NTH_1ST_BIT, NTH_2ND_BIT, NTH_3RD_BIT,
+    NTH_4TH_BIT, NTH_5TH_BIT, NTH_ALL,
+};
+use crate::errors::CronError;
+
+impl CronComponent {
+    /// Adds the marks that a field's text names to those that stand already.
+    ///
+    /// A lone `*` marks every value plain and sets the wildcard mark. Any other text is a list split at commas, each
+    /// part trimmed, empty parts skipped: numbers, ranges `a-b`, steps `*/n` and `a-b/n`, nearest weekdays `nW`,
+    /// `L` and `LW`, and with `#` or `L` behind a number the nth or the last such weekday.
+    ///
+    /// `ComponentError` at the first part that has none of these forms, is out of bounds or asks for a modifier that
+    /// isn't supported; `OutOfMemory` where its message finds no memory. Either leaves the marks, features, step and
+    /// wildcard mark that were made up to the fault. An accepted call takes no memory.
+    pub fn parse(&mut self, field: &str) -> Result<(), CronError>
+        ensures { Reads (field_of self.old.shape field.now) self.old self.new result }
+    {
+        if field == "*" {
+            self.from_wildcard = true;
+            let first = self.min + self.input_offset;
+            let last = self.max + self.input_offset;
+            return self.mark_all(first, last, ALL_BIT);
+        }
+        for part in field.split(',') {
+            let part = part.trim();
+            if !part.is_empty() {
+                self.parse_part(part)?;
+            }
+        }
+        Ok(())
+    }
+
+    /// Adds the marks of one part with a `/`, which isn't trimmed: `*/n`, `a-b/n`, and where ranges are sloppy also
+    /// `a/n` and `/n`. The number behind the `/` becomes the step, also where what follows is refused.
+    ///
+    /// `ComponentError` where the part hasn't that form, the step is 0, the range is out of bounds, a mark is refused,
+    /// or the value after the last mark passes 65535; `OutOfMemory` where its message finds no memory. Either leaves
+    /// the step, the wildcard mark and the marks that were made up to the fault. An accepted call takes no memory.
+    pub fn handle_stepping(&mut self, part: &str) -> Result<(), CronError>
+        ensures { Reads (stepping self.old.shape part.now) self.old self.new result }
+    {
+        let bit = self.tag(part)?;
+        let (left, right) = self.sides(before(part, '#'), '/', part)?;
+        let step = self.number_in(right, part)?;
+        self.step = step;
+        if step == 0 {
+            return Err(self.step_of_zero(part));
+        }
+        if self.is_starred(left) {
+            self.from_wildcard = true;
+        }
+        let (start, end) = self.step_bounds(left, part)?;
+        if !self.has_range(start, end) {
+            return Err(self.range_out_of_bounds(start, end, part));
+        }
+        self.mark_stepped(start, end, step, bit, part)
+    }
+
+    fn parse_part(&mut self, part: &str) -> Result<(), CronError>
+        ensures { Reads (part_of self.old.shape part.now) self.old self.new result }
+    {
+        if has(part, '/') {
+            self.handle_stepping(part)
+        } else if has(part, '-') {
+            self.handle_range(part)
+        } else if has(part, 'W') {
+            self.handle_closest_weekday(part)
+        } else if part == "L" || part == "l" {
+            self.enable_feature(LAST_BIT)
+        } else {
+            self.handle_number(part)
+        }
+    }
+
+    fn handle_range(&mut self, part: &str) -> Result<(), CronError>
+        ensures { Reads (ranged self.old.shape part.now) self.old self.new result }
+    {
+        let bit = self.tag(part)?;
+        let (start, end) = self.sides(before(part, '#'), '-', part)?;
+        let start = self.number_in(start.trim(), part)?;
+        let end = self.number_in(end.trim(), part)?;
+        if !self.has_range(start, end) {
+            return Err(self.range_out_of_bounds(start, end, part));
+        }
+        self.mark_all(start, end, bit)
+    }
+
+    fn handle_closest_weekday(&mut self, part: &str) -> Result<(), CronError>
+        ensures { Reads (nearest_weekday self.old.shape part.now) self.old self.new result }
+    {
+        let day = before(part, 'W');
+        if day == "L" || day == "l" {
+            self.enable_feature(LAST_BIT)?;
+            return self.enable_feature(CLOSEST_WEEKDAY_BIT);
+        }
+        self.mark_number(day, CLOSEST_WEEKDAY_BIT, part)
+    }
+
+    fn handle_number(&mut self, part: &str) -> Result<(), CronError>
+        ensures { Reads (one_number self.old.shape part.now) self.old self.new result }
+    {
+        if (has(part, '#') || has(part, 'L')) && !self.is_feature_allowed(NTH_ALL) {
+            return Err(self.no_nth_here(part));
+        }
+        if ends_in_l(part) && !has(part, '#') {
+            return self.mark_number(before(part, 'L'), LAST_BIT, part);
+        }
+        let bit = self.tag(part)?;
+        self.mark_number(before(part, '#'), bit, part)
+    }
+
+    fn tag(&self, part: &str) -> Result<u8, CronError>
+        ensures { Finds (λ t. t) (tag_of part.now) result }
+    {
+        if ends_in_l(part) {
+            return Ok(LAST_BIT);
+        }
+        if !has(part, '#') {
+            return Ok(ALL_BIT);
+        }
+        let nth = after(part, '#');
+        match number(nth) {
+            Some(1) => Ok(NTH_1ST_BIT),
+            Some(2) => Ok(NTH_2ND_BIT),
+            Some(3) => Ok(NTH_3RD_BIT),
+            Some(4) => Ok(NTH_4TH_BIT),
+            Some(5) => Ok(NTH_5TH_BIT),
+            _ => Err(self.wrong_nth(nth, part)),
+        }
+    }
+
+    #[tactic(auto, using(crate::proofs::Texts::two_sides))]
+    fn sides<'t>(
+        &self,
+        text: &'t str,
+        sign: char,
+        part: &str,
+    ) -> Result<(&'t str, &'t str), CronError>
+        requires { sign < 128 }
+        ensures { Finds (λ s. (s.0.now, s.1.now)) (two_of (pieces_at sign text.now)) result }
+    {
+        if has(text, sign) {
+            let right = after(text, sign);
+            if !has(right, sign) {
+                return Ok((before(text, sign), right));
+            }
+        }
+        Err(self.not_once(sign, part))
+    }
+
+    fn is_starred(&self, left: &str) -> bool
+        ensures { result ≡ is_starred self.now.shape left.now }
+    {
+        left == "*" || (self.sloppy_ranges && left.is_empty())
+    }
+
+    fn step_bounds(&self, left: &str, part: &str) -> Result<(u16, u16), CronError>
+        ensures { Finds (λ b. (b.0, b.1)) (step_bounds self.now.shape left.now) result }
+    {
+        if left == "*" {
+            Ok((self.min + self.input_offset, self.max))
+        } else if has(left, '-') {
+            let (start, end) = self.sides(left, '-', part)?;
+            let start = self.number_in(start, part)?;
+            let end = self.number_in(end, part)?;
+            Ok((start, end))
+        } else if !self.sloppy_ranges {
+            Err(self.no_range_to_step(left, part))
+        } else if left.is_empty() {
+            Ok((self.min + self.input_offset, self.max))
+        } else {
+            let start = self.number_in(left, part)?;
+            Ok((start, self.max))
+        }
+    }
+
+    fn has_range(&self, start: u16, end: u16) -> bool
+        ensures { result ≡ ((nat_le self.now.shape.min start && nat_le end self.now.shape.max) && nat_le start end) }
+    {
+        self.min <= start && end <= self.max && start <= end
+    }
+
+    fn number_in(&self, text: &str, part: &str) -> Result<u16, CronError>
+        ensures { Finds (λ n. n) (number_of text.now) result }
+    {
+        match number(text) {
+            Some(number) => Ok(number),
+            None => Err(self.no_number(text, part)),
+        }
+    }
+
+    fn mark_number(&mut self, text: &str, bit: u8, part: &str) -> Result<(), CronError>
+        ensures { Reads (single self.old.shape bit text.now) self.old self.new result }
+    {
+        let number = self.number_in(text, part)?;
+        if number < self.min || number > self.max {
+            return Err(self.number_out_of_bounds(number, part));
+        }
+        self.set_bit(number, bit)
+    }
+
+    fn mark_all(&mut self, first: u16, last: u16, bit: u8) -> Result<(), CronError>
+        requires order { first ≤ last }
+        requires within { last ≤ self.old.shape.max + self.old.shape.offset }
+        ensures { Reads (all_marked self.old.shape bit (values_between first last)) self.old self.new result }
+    {
+        let first = usize::from(self.value_at(first, bit)?);
+        let last = usize::from(last - self.input_offset);
+        add_bit(&mut self.marks[first..=last], bit);
+        Ok(())
+    }
+
+    fn mark_stepped(
+        &mut self,
+        start: u16,
+        end: u16,
+        step: u16,
+        bit: u8,
+        part: &str,
+    ) -> Result<(), CronError>
+        requires step { 0 < step }
+        requires order { start ≤ end }
+        ensures { Reads (stepped_marks self.old.shape bit start end step) self.old self.new result }
+    {
+        let mut pos = start;
+        while pos <= end {
+            self.set_bit(pos, bit)?;
+            pos = match pos.checked_add(step) {
+                Some(next) => next,
+                None => return Err(self.step_too_long(step, part)),
+            };
+        }
+        Ok(())
+    }
+}
+
+fn add_bit(marks: &mut [u8], bit: u8)
+    ensures { marks.new ≡ map (λ sum. bit_or sum bit) marks.old }
+{
+    for mark in marks {
+        *mark |= bit;
+    }
+}

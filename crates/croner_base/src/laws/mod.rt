@@ -1,0 +1,7 @@
+//! Laws that follow from the definitions, each as the contract of a small public function: what a caller may rest on
+//! without reading how a definition is written.
+
+pub mod calendar;
+pub mod clocks;
+pub mod marks;
+pub mod tables;

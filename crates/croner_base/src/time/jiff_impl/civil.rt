@@ -1,0 +1,56 @@
+//! Civil date-times of `jiff` as time values: on their clock each second from year -9999 to 9999 stands once.
+ghost use Rattle.std.specs.Prelude.{false};
+ghost use Rattle.std.proofs.Common.{ap};
+ghost use Rattle.croner_base.specs.CivilZone.{civil_moment};
+
+use crate::errors::CronError;
+use crate::time::jiff_impl::{to_civil, to_jiff, to_weekday};
+use crate::time::{CivilDateTime, CronDateTime, Resolution, Weekday};
+use jiff::SignedDuration;
+use jiff::civil::DateTime;
+use std::alloc::Global;
+use std::cmp::Ordering;
+
+impl CronDateTime for DateTime {
+    ghost moment = { civil_moment };
+
+    ghost can_lack_memory = { false };
+
+    fn to_civil(&self) -> CivilDateTime {
+        to_civil(*self)
+    }
+
+    fn civil_weekday(&self) -> Weekday {
+        to_weekday(self.weekday())
+    }
+
+    fn resolve_civil(
+        &self,
+        _alloc: Global,
+        civil: CivilDateTime,
+    ) -> Result<Resolution<DateTime>, CronError> {
+        match to_jiff(civil) {
+            Ok(datetime) => Ok(Resolution::Single(datetime)),
+            Err(refused) => Err(refused),
+        }
+    }
+
+    fn checked_add_seconds(
+        &self,
+        _alloc: Global,
+        seconds: i64,
+    ) -> Result<Option<DateTime>, CronError> {
+        match self.checked_add(SignedDuration::from_secs(seconds)) {
+            Ok(sum) => Ok(Some(sum)),
+            Err(_) => Ok(None),
+        }
+    }
+
+    fn cmp_instant(&self, other: &Self) -> Ordering {
+        self.cmp(other)
+    }
+
+    ghost clone_keeps = { λ a b e. ap civil_moment e };
+
+    ghost clone_memory = { λ a h. tt };
+}

@@ -1,0 +1,102 @@
+-- Fields with the shape of their place answer each question about a value of the place.
+use Rattle.std.proofs.Common.{◌≡◌, ℕ, ◌+◌, ◌<◌, ◌≤◌, Bool, true, false, not, ◌&&◌, ◌||◌, nat_eq, nat_le, Option, Some, None, Result, Ok, Err, refl, ap, sym, ◌∙◌, arith, subst, inl, inr}
+use Rattle.std.proofs.lemmas.Bool.{and_parts, eqb-true}
+use Rattle.std.proofs.lemmas.Bool.Decides.{nat_tests}
+use Rattle.croner_base.specs.declared.errors.CronError.{CronError}
+use Rattle.croner_base.specs.Answers.{Finds, IsFieldError}
+use Rattle.croner_base.specs.Field.{Shape, Field, can_ask, is_marked, is_in_bounds, has_all}
+use Rattle.croner_pattern.specs.Meaning.{Meaning}
+use Rattle.croner_pattern.specs.Schedule.{is_named}
+use Rattle.croner_pattern.specs.Questions.{asked}
+use Rattle.croner_pattern.specs.Shapes.{is_like, has_field_shapes, sixty_shape, hour_shape, day_shape, month_shape, weekday_shape, year_shape}
+
+-- like shapes answer alike
+pub record Alike (a b : Shape) : Type 0 where
+  pub min : a.min ≡ b.min
+  pub max : a.max ≡ b.max
+  pub supported : a.supported ≡ b.supported
+
+pub alike : (a b : Shape) → is_like a b ≡ true → Alike a b
+alike a b h =
+    let p = and_parts (nat_eq a.min b.min) _ h in
+    let q = and_parts (nat_eq a.max b.max) _ p.1 in
+    let r = and_parts (nat_eq a.supported b.supported) _ q.1 in
+    record { min = eqb-true _ _ p.0; max = eqb-true _ _ q.0; supported = eqb-true _ _ r.0 }
+
+pub can_ask-alike : (a b : Shape) (value bits : ℕ) → Alike a b → can_ask a value bits ≡ can_ask b value bits
+can_ask-alike a b value bits h =
+    let low = h.min in
+    let high = h.max in
+    let bits_are = h.supported in
+    rw (low, high, bits_are) refl
+
+-- the shapes of a pattern's fields
+pub record Shaped (m : Meaning) : Type 0 where
+  pub seconds : Alike m.seconds.shape sixty_shape
+  pub minutes : Alike m.minutes.shape sixty_shape
+  pub hours : Alike m.hours.shape hour_shape
+  pub days : Alike m.days.shape day_shape
+  pub months : Alike m.months.shape month_shape
+  pub weekdays : Alike m.days_of_week.shape (weekday_shape 0)
+  pub years : Alike m.years.shape year_shape
+
+either_weekday : (s : Shape) → (is_like s (weekday_shape 0) || is_like s (weekday_shape 1)) ≡ true → Alike s (weekday_shape 0)
+either_weekday s h =
+    elim (is_like s (weekday_shape 0)) as (λ b. is_like s (weekday_shape 0) ≡ b → (b || is_like s (weekday_shape 1)) ≡ true → Alike s (weekday_shape 0)) [
+      | true ↦ λ e _. alike s (weekday_shape 0) e
+      | false ↦ λ _ g. let a = alike s (weekday_shape 1) g in record { min = a.min; max = a.max; supported = a.supported }
+    ] refl h
+
+pub shaped : (m : Meaning) → has_field_shapes m ≡ true → Shaped m
+shaped m h =
+    let p1 = and_parts (is_like m.seconds.shape sixty_shape) _ h in
+    let p2 = and_parts (is_like m.minutes.shape sixty_shape) _ p1.1 in
+    let p3 = and_parts (is_like m.hours.shape hour_shape) _ p2.1 in
+    let p4 = and_parts (is_like m.days.shape day_shape) _ p3.1 in
+    let p5 = and_parts (is_like m.months.shape month_shape) _ p4.1 in
+    let p6 = and_parts (is_like m.days_of_week.shape (weekday_shape 0) || is_like m.days_of_week.shape (weekday_shape 1)) _ p5.1 in
+    record {
+      seconds = alike _ _ p1.0;
+      minutes = alike _ _ p2.0;
+      hours = alike _ _ p3.0;
+      days = alike _ _ p4.0;
+      months = alike _ _ p5.0;
+      weekdays = either_weekday _ p6.0;
+      years = alike _ _ p6.1;
+    }
+
+-- within the bounds each question is answered
+pub in_bounds : (low high v : ℕ) → low ≤ v → v ≤ high → (nat_le low v && nat_le v high) ≡ true
+in_bounds low high v a b = grind (arith, nat_tests)
+
+pub asks_sixty : (s : Shape) (v : ℕ) → Alike s sixty_shape → v ≤ 59 → can_ask s v 1 ≡ true
+asks_sixty s v h b = can_ask-alike s sixty_shape v 1 h ∙ rw (in_bounds 0 59 v (omega arith) b) refl
+
+pub asks_hour : (s : Shape) (v : ℕ) → Alike s hour_shape → v ≤ 23 → can_ask s v 1 ≡ true
+asks_hour s v h b = can_ask-alike s hour_shape v 1 h ∙ rw (in_bounds 0 23 v (omega arith) b) refl
+
+pub asks_month : (s : Shape) (v : ℕ) → Alike s month_shape → 1 ≤ v → v ≤ 12 → can_ask s v 1 ≡ true
+asks_month s v h a b = can_ask-alike s month_shape v 1 h ∙ rw (in_bounds 1 12 v a b) refl
+
+pub asks_year : (s : Shape) (v : ℕ) → Alike s year_shape → 1 ≤ v → v ≤ 5000 → can_ask s v 1 ≡ true
+asks_year s v h a b = can_ask-alike s year_shape v 1 h ∙ rw (in_bounds 1 5000 v a b) refl
+
+pub asks_day : (s : Shape) (v bits : ℕ) → Alike s day_shape → has_all 193 bits ≡ true → 1 ≤ v → v ≤ 31 → can_ask s v bits ≡ true
+asks_day s v bits h has a b = can_ask-alike s day_shape v bits h ∙ rw (in_bounds 1 31 v a b, has) refl
+
+pub asks_weekday : (s : Shape) (v bits : ℕ) → Alike s (weekday_shape 0) → has_all 127 bits ≡ true → v ≤ 7 → can_ask s v bits ≡ true
+asks_weekday s v bits h has b = can_ask-alike s (weekday_shape 0) v bits h ∙ rw (in_bounds 0 7 v (omega arith) b, has) refl
+
+-- the answer is membership
+pub asked-is : (bits : ℕ) (f : Field) (v : ℕ) → can_ask f.shape v bits ≡ true → asked bits f v ≡ Some (is_named bits f v)
+asked-is bits f v h = rw h refl
+
+pub some-same : {X : Type 0} (x y : X) → Some x ≡ Some y → x ≡ y
+some-same x y e = cc
+
+pub none-some : {X : Type 0} (x : X) → None ≡ Some x → ⊥
+none-some x e = cc
+
+pub Finds-some : {X : Type 0} (x : X) (found : Option X) (result : Result X CronError) → found ≡ Some x → Finds (λ y. y) found result → result ≡ Ok x
+Finds-some x found (Ok y) e h = ap Ok (some-same y x (sym h ∙ e))
+Finds-some x found (Err y) e h = absurd (none-some x (sym h.0 ∙ e))

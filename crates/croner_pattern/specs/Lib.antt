@@ -1,0 +1,7 @@
+pub mod Meaning
+pub mod Shapes
+pub mod Days
+pub mod Schedule
+pub mod Questions
+pub mod Order
+pub mod Written

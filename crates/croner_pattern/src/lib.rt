@@ -1,0 +1,4 @@
+//! Patterns of seven fields, and the dates and times that they name.
+#![tactic(auto)]
+
+pub mod pattern;

@@ -1,0 +1,247 @@
+//! A pattern: its seven fields, and the dates and times that they name.
+
+ghost use Rattle.std.specs.Prelude.{◌≡◌, true, IfOk, IfErr};
+ghost use Rattle.croner_base.specs.Answers.{Finds, IsFieldError, SucceedsIff};
+ghost use Rattle.croner_base.specs.Field.{new_shape};
+ghost use Rattle.croner_pattern.specs.Meaning.{Meaning, meaning_of};
+ghost use Rattle.croner_pattern.specs.Questions.{asked, clock_field, can_find, FindsMember};
+ghost use Rattle.croner_pattern.specs.Schedule.{is_single, is_fixed_time};
+ghost use Rattle.croner_pattern.specs.Shapes.{has_field_shapes, is_like, new_meaning};
+
+mod compare;
+mod days;
+mod flags;
+mod matching;
+mod members;
+
+use croner_base::component::{
+    ALL_BIT, CLOSEST_WEEKDAY_BIT, CronComponent, LAST_BIT, NONE_BIT, NTH_ALL,
+};
+use croner_base::errors::CronError;
+use croner_base::time::{Direction, TimeComponent, YEAR_LOWER_LIMIT, YEAR_UPPER_LIMIT};
+pub use members::{has_plain, nearest_member};
+use std::alloc::{AllocError, Global};
+use std::fmt;
+
+/// The greatest second and the greatest minute.
+const LAST_SECOND: u16 = 59;
+
+/// The greatest hour.
+const LAST_HOUR: u16 = 23;
+
+/// The longest month, in days.
+const LAST_DAY: u16 = 31;
+
+/// The months of a year.
+const LAST_MONTH: u16 = 12;
+
+/// Sunday once more: 0 is Sunday too.
+const LAST_WEEKDAY: u16 = 7;
+
+/// A cron pattern: seven fields, and how its two day fields are joined.
+///
+/// A date and time is scheduled where its second, minute, hour, month and year are plain values of their fields and its day
+/// fits the two day fields. The pattern keeps the allocator that its maker took.
+#[derive(Debug, Drop)]
+pub struct CronPattern {
+    /// Seconds, 0 to 59.
+    pub seconds: CronComponent,
+    /// Minutes, 0 to 59.
+    pub minutes: CronComponent,
+    /// Hours, 0 to 23.
+    pub hours: CronComponent,
+    /// Days of the month, 1 to 31.
+    pub days: CronComponent,
+    /// Months, 1 to 12.
+    pub months: CronComponent,
+    /// Weekdays, 0 for Sunday to 6 for Saturday. The field has a place 7, which names no weekday.
+    pub days_of_week: CronComponent,
+    /// Years, 1 to 5000.
+    pub years: CronComponent,
+    text: String,
+    star_day: bool,
+    star_weekday: bool,
+    day_and_weekday: bool,
+    alloc: Global,
+}
+
+impl CronPattern {
+    /// A pattern that keeps the text and names nothing yet: each field is empty and has the shape of its place, and the
+    /// flags are false. The text isn't read.
+    ///
+    /// The only error is `OutOfMemory`.
+    pub fn new(alloc: Global, text: &str) -> Result<Self, CronError>
+        ensures ok { IfOk result (λ p. meaning_of p ≡ new_meaning text.now) }
+        ensures shapes { IfOk result (λ p. has_field_shapes (meaning_of p) ≡ true) }
+        ensures err { IfErr result (λ e. e ≡ CronError.OutOfMemory) }
+    {
+        let day_features = LAST_BIT | CLOSEST_WEEKDAY_BIT;
+        let weekday_features = LAST_BIT | NTH_ALL;
+        let (first_year, last_year) = (YEAR_LOWER_LIMIT as u16, YEAR_UPPER_LIMIT as u16);
+        Ok(CronPattern {
+            seconds: CronComponent::new(alloc, 0, LAST_SECOND, NONE_BIT, 0)?,
+            minutes: CronComponent::new(alloc, 0, LAST_SECOND, NONE_BIT, 0)?,
+            hours: CronComponent::new(alloc, 0, LAST_HOUR, NONE_BIT, 0)?,
+            days: CronComponent::new(alloc, 1, LAST_DAY, day_features, 0)?,
+            months: CronComponent::new(alloc, 1, LAST_MONTH, NONE_BIT, 0)?,
+            days_of_week: CronComponent::new(alloc, 0, LAST_WEEKDAY, weekday_features, 0)?,
+            years: CronComponent::new(alloc, first_year, last_year, NONE_BIT, 0)?,
+            text: String::from_str(alloc, text)?,
+            star_day: false,
+            star_weekday: false,
+            day_and_weekday: false,
+            alloc,
+        })
+    }
+
+    /// Whether each field has the bounds, the supported modifiers and the input offset of its place; the offset of the
+    /// weekdays may be 0 or 1. Every pattern from [`new`](Self::new) and from a parser has them.
+    pub fn has_field_shapes(&self) -> bool
+        ensures { result ≡ has_field_shapes (meaning_of self.now) }
+    {
+        let (first_year, last_year) = (YEAR_LOWER_LIMIT as u16, YEAR_UPPER_LIMIT as u16);
+        is_like(&self.seconds, 0, LAST_SECOND, NONE_BIT, 0)
+            && is_like(&self.minutes, 0, LAST_SECOND, NONE_BIT, 0)
+            && is_like(&self.hours, 0, LAST_HOUR, NONE_BIT, 0)
+            && is_like(&self.days, 1, LAST_DAY, CLOSEST_WEEKDAY_BIT, 0)
+            && is_like(&self.months, 1, LAST_MONTH, NONE_BIT, 0)
+            && (is_like(&self.days_of_week, 0, LAST_WEEKDAY, NTH_ALL, 0)
+                || is_like(&self.days_of_week, 0, LAST_WEEKDAY, NTH_ALL, 1))
+            && is_like(&self.years, first_year, last_year, NONE_BIT, 0)
+    }
+
+    /// Sets the three flags, and nothing else: whether the day of month and the weekday are written as `*`, and whether a
+    /// day has to match both of them.
+    pub fn set_flags(&mut self, star_day: bool, star_weekday: bool, and: bool)
+        ensures { meaning_of self.new
+            ≡ record (meaning_of self.old) { star_day = star_day; star_weekday = star_weekday; and = and } }
+    {
+        self.star_day = star_day;
+        self.star_weekday = star_weekday;
+        self.day_and_weekday = and;
+    }
+
+    /// The text of the pattern: the one handed to [`new`](Self::new).
+    pub fn as_str(&self) -> &str
+        ensures { result.now ≡ (meaning_of self.now).text }
+    {
+        self.text.as_str()
+    }
+
+    /// The allocator that the pattern's maker took.
+    pub fn allocator(&self) -> Global
+        ensures { result ≡ self.now.alloc }
+    {
+        self.alloc
+    }
+
+    /// Whether seconds, minutes and hours each name exactly one value, with step 1 and without a `*`: such a pattern runs
+    /// at one time of the day.
+    pub fn is_fixed_time(&self) -> bool
+        ensures { result ≡ is_fixed_time (meaning_of self.now) }
+    {
+        is_single(&self.seconds) && is_single(&self.minutes) && is_single(&self.hours)
+    }
+
+    /// The least plain value from `value` on (forward), or the greatest up to it (backward), of the seconds, minutes or
+    /// hours; `None` where there is none.
+    ///
+    /// `ComponentError` for another component, for a value above the field's maximum, and, on a field of another shape,
+    /// for a forward search from below its minimum and for any search where its maximum is 0; `OutOfMemory` where the
+    /// message finds no memory.
+    pub fn find_match_in_component(
+        &self,
+        value: u32,
+        component_type: TimeComponent,
+        direction: Direction,
+    ) -> Result<Option<u32>, CronError>
+        ensures answer { SucceedsIff (can_find direction (clock_field (meaning_of self.now) component_type) value) result }
+        ensures value { IfOk result (FindsMember direction (clock_field (meaning_of self.now) component_type) value) }
+    {
+        let field = match component_type {
+            TimeComponent::Second => &self.seconds,
+            TimeComponent::Minute => &self.minutes,
+            TimeComponent::Hour => &self.hours,
+            _ => return Err(self.refusal("Only seconds, minutes and hours can be searched.")),
+        };
+        if value > u32::from(field.max()) {
+            return Err(self.refusal("The value to search from is above the field's maximum."));
+        }
+        let value = value as u16;
+        let asked = match direction {
+            Direction::Forward => value,
+            Direction::Backward => field.max(),
+        };
+        field.is_bit_set(asked, ALL_BIT)?;
+        Ok(nearest_member(field, value, direction).map(u32::from))
+    }
+
+    fn refusal(&self, message: &str) -> CronError
+        ensures { IsFieldError result }
+    {
+        match String::from_str(self.alloc, message) {
+            Ok(message) => CronError::ComponentError(message),
+            Err(_) => CronError::OutOfMemory,
+        }
+    }
+}
+
+/// Whether a field has these bounds, modifiers and offset. Plain values and `LAST_BIT` are supported everywhere.
+fn is_like(field: &CronComponent, min: u16, max: u16, features: u8, offset: u16) -> bool
+    ensures { result ≡ is_like field.now.shape (new_shape min max features offset) }
+{
+    field.min() == min
+        && field.max() == max
+        && field.features() == features | ALL_BIT | LAST_BIT
+        && field.input_offset() == offset
+}
+
+/// Whether a value has one of the modifiers, where the field can be asked.
+fn ask(field: &CronComponent, value: u16, bit: u8) -> Result<bool, CronError>
+    ensures { Finds (λ held. held) (asked bit field.now value) result }
+{
+    field.is_bit_set(value, bit)
+}
+
+/// Whether a field names exactly one value, with step 1 and without a `*`.
+fn is_single(field: &CronComponent) -> bool
+    ensures { result ≡ is_single field.now }
+{
+    field.step() == 1 && !field.from_wildcard() && field.count_set_values(ALL_BIT) == 1
+}
+
+impl Clone for CronPattern {
+    ghost use Rattle.std.specs.Prelude.{◌≡◌};
+    ghost use Rattle.croner_pattern.specs.Meaning.{meaning_of};
+
+    ghost is_clone = { λ original copy. meaning_of copy ≡ meaning_of original };
+
+    fn clone(&self) -> Result<CronPattern, AllocError> {
+        Ok(CronPattern {
+            seconds: self.seconds.clone()?,
+            minutes: self.minutes.clone()?,
+            hours: self.hours.clone()?,
+            days: self.days.clone()?,
+            months: self.months.clone()?,
+            days_of_week: self.days_of_week.clone()?,
+            years: self.years.clone()?,
+            text: self.text.clone()?,
+            star_day: self.star_day,
+            star_weekday: self.star_weekday,
+            day_and_weekday: self.day_and_weekday,
+            alloc: self.alloc,
+        })
+    }
+}
+
+impl fmt::Display for CronPattern {
+    ghost use Rattle.std.specs.Prelude.{Some};
+    ghost use Rattle.croner_pattern.specs.Meaning.{meaning_of};
+
+    ghost output = { λ p. Some ((meaning_of p).text) };
+
+    fn fmt<W: fmt::Write>(&self, f: &mut fmt::Formatter<W>) -> fmt::Result {
+        let text = &self.text;
+        write!(f, "{text}")
+    }
+}

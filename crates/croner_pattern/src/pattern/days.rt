@@ -1,0 +1,331 @@
+//! Whether a day fits the two day fields of a pattern.
+
+ghost use Rattle.std.specs.Prelude.{◌≡◌, ◌≤◌, ◌<◌, ℕ, true, Ok, Err, IfOk};
+ghost use Rattle.std.specs.Int.{IsInRange};
+ghost use Rattle.croner_base.specs.Answers.{Finds};
+ghost use Rattle.croner_base.specs.Calendar.{IsRealDate};
+ghost use Rattle.croner_base.specs.Civil.{weekday_index};
+ghost use Rattle.jiff_core.specs.Calendar.{days_in_month as month_days};
+ghost use Rattle.croner_pattern.specs.Days.{weekday_of, occurrence, is_last_weekday, is_last_working, is_nearest, resolved_day};
+ghost use Rattle.croner_pattern.specs.Meaning.{meaning_of};
+ghost use Rattle.croner_pattern.specs.Questions.{first_from, first_target, last_target, near_answer, near_answers, is_named_last, last_answer, day_answer, weekday_answer, date_answer};
+ghost use Rattle.croner_pattern.specs.Schedule.{nth_bit, are_joined, is_near_target, is_day_matching};
+ghost use Rattle.croner_pattern.specs.Shapes.{has_field_shapes};
+
+use super::{CronPattern, ask};
+use croner_base::component::{
+    ALL_BIT, CLOSEST_WEEKDAY_BIT, CronComponent, LAST_BIT, NTH_1ST_BIT, NTH_2ND_BIT, NTH_3RD_BIT,
+    NTH_4TH_BIT, NTH_5TH_BIT,
+};
+use croner_base::errors::CronError;
+use croner_base::time::{CivilDate, Weekday, days_in_month};
+
+/// The days of a week.
+const WEEK: u32 = 7;
+
+const SUNDAY: u32 = 0;
+
+const SATURDAY: u32 = 6;
+
+/// A nearest working day lies at most two days from its target.
+const NEAREST_REACH: u32 = 2;
+
+impl CronPattern {
+    /// Whether a date's day fits: the day of month, the weekday, or both, as the stars and the AND flag say.
+    ///
+    /// `weekday` is the weekday of the date; the weekdays of the month's other days are counted from it. The year and the
+    /// month aren't looked at but for the length of the month.
+    ///
+    /// `InvalidDate` where the date doesn't exist. A field of another shape refuses what it can't be asked:
+    /// `ComponentError`, or `OutOfMemory` where the message finds no memory.
+    pub fn day_match(
+        &self,
+        year: i32,
+        month: u32,
+        day: u32,
+        weekday: Weekday,
+    ) -> Result<bool, CronError>
+        ensures no_date { (IsRealDate year month day → ⊥) → result ≡ Err CronError.InvalidDate }
+        ensures asked { IsRealDate year month day → Finds (λ held. held)
+            (date_answer (meaning_of self.now) (month_days year month) (first_from (weekday_index weekday) day) day) result }
+        ensures value { IfOk result (λ held. held
+            ≡ is_day_matching (meaning_of self.now) (month_days year month) (first_from (weekday_index weekday) day) day) }
+        ensures shaped { has_field_shapes (meaning_of self.now) ≡ true → IsRealDate year month day → result
+            ≡ Ok (is_day_matching (meaning_of self.now) (month_days year month) (first_from (weekday_index weekday) day) day) }
+    {
+        if CivilDate::from_ymd_opt(year, month, day).is_none() {
+            return Err(CronError::InvalidDate);
+        }
+        let length = days_in_month(year, month);
+        self.fits(length, first_weekday(day, weekday), day)
+    }
+
+    /// Whether a day of the month that the day field marks with `W` has this day as its nearest Monday-to-Friday day.
+    ///
+    /// `month_length` is the length of the month in days and `weekday` the weekday of the day. A field of another shape
+    /// refuses what it can't be asked: `ComponentError`, or `OutOfMemory` where the message finds no memory.
+    pub fn closest_weekday(
+        &self,
+        month_length: u32,
+        day: u32,
+        weekday: Weekday,
+    ) -> Result<bool, CronError>
+        requires length { IsInRange 28 31 month_length }
+        requires day { IsInRange 1 month_length day }
+        ensures asked { Finds (λ held. held)
+            (near_answers (meaning_of self.now).days month_length (first_from (weekday_index weekday) day) day) result }
+        ensures value { IfOk result (λ held. held
+            ≡ is_near_target (meaning_of self.now).days month_length (first_from (weekday_index weekday) day) day) }
+        ensures shaped { has_field_shapes (meaning_of self.now) ≡ true → result
+            ≡ Ok (is_near_target (meaning_of self.now).days month_length (first_from (weekday_index weekday) day) day) }
+    {
+        is_near_target(&self.days, month_length, first_weekday(day, weekday), day)
+    }
+
+    /// Whether a day fits in a month of `length` days whose first has the weekday `first`, from 0 for Sunday. With the
+    /// shapes of a pattern's fields nothing is refused.
+    pub fn is_day_named(&self, length: u32, first: u32, day: u32) -> bool
+        requires shapes { has_field_shapes (meaning_of self.now) ≡ true }
+        requires length { IsInRange 28 31 length }
+        requires first { first < 7 }
+        requires day { IsInRange 1 length day }
+        ensures { result ≡ is_day_matching (meaning_of self.now) length first day }
+    {
+        self.fits(length, first, day).unwrap_or(false)
+    }
+
+    fn fits(&self, length: u32, first: u32, day: u32) -> Result<bool, CronError>
+        requires length { IsInRange 28 31 length }
+        requires first { first < 7 }
+        requires day { IsInRange 1 length day }
+        ensures { Finds (λ held. held) (date_answer (meaning_of self.now) length first day) result }
+    {
+        let day_fits = fits_days(&self.days, length, first, day)?;
+        let weekday_fits = fits_weekdays(&self.days_of_week, length, first, day)?;
+        Ok(self.joined(day_fits, weekday_fits))
+    }
+
+    fn joined(&self, day: bool, weekday: bool) -> bool
+        ensures { result ≡ are_joined (meaning_of self.now).star_day (meaning_of self.now).star_weekday (meaning_of self.now).and day weekday }
+    {
+        if self.star_day != self.star_weekday {
+            return if self.star_day { weekday } else { day };
+        }
+        if self.day_and_weekday && !self.star_day {
+            day && weekday
+        } else {
+            day || weekday
+        }
+    }
+}
+
+/// The weekday of the first of a month, from Sunday, counted back from a day's.
+fn first_weekday(day: u32, weekday: Weekday) -> u32
+    requires { IsInRange 1 31 day }
+    ensures value { result ≡ first_from (weekday_index weekday) day }
+    ensures bound { result < 7 }
+{
+    (weekday.num_days_from_sunday() + (WEEK - 1) * (day - 1)) % WEEK
+}
+
+fn weekday_of(first: u32, day: u32) -> u32
+    requires first { first < 7 }
+    requires day { IsInRange 1 31 day }
+    ensures value { result ≡ weekday_of first day }
+    ensures bound { result < 7 }
+{
+    (first + (day - 1)) % WEEK
+}
+
+fn fits_days(days: &CronComponent, length: u32, first: u32, day: u32) -> Result<bool, CronError>
+    requires length { IsInRange 28 31 length }
+    requires first { first < 7 }
+    requires day { IsInRange 1 length day }
+    ensures { Finds (λ held. held) (day_answer days.now length first day) result }
+{
+    if ask(days, day as u16, ALL_BIT)? {
+        return Ok(true);
+    }
+    if is_named_last(days, length, first, day) {
+        return Ok(true);
+    }
+    is_near_target(days, length, first, day)
+}
+
+/// `L` names the month's last day; `LW`, also beside an `L`, its last Monday-to-Friday day.
+fn is_named_last(days: &CronComponent, length: u32, first: u32, day: u32) -> bool
+    requires length { IsInRange 28 31 length }
+    requires first { first < 7 }
+    requires day { IsInRange 1 length day }
+    ensures { result ≡ is_named_last days.now length first day }
+{
+    if !days.is_feature_enabled(LAST_BIT) {
+        return false;
+    }
+    if days.is_feature_enabled(CLOSEST_WEEKDAY_BIT) {
+        is_last_working(length, first, day)
+    } else {
+        day == length
+    }
+}
+
+fn is_last_working(length: u32, first: u32, day: u32) -> bool
+    requires length { IsInRange 28 31 length }
+    requires first { first < 7 }
+    requires day { IsInRange 1 length day }
+    ensures { result ≡ is_last_working length first day }
+{
+    match weekday_of(first, length) {
+        SATURDAY => day + 1 == length,
+        SUNDAY => day + 2 == length,
+        _ => day == length,
+    }
+}
+
+fn is_near_target(
+    days: &CronComponent,
+    length: u32,
+    first: u32,
+    day: u32,
+) -> Result<bool, CronError>
+    requires length { IsInRange 28 31 length }
+    requires first { first < 7 }
+    requires day { IsInRange 1 length day }
+    ensures { Finds (λ held. held) (near_answers days.now length first day) result }
+{
+    for target in first_target(day)..=last_target(length, day) {
+        if is_target(days, length, first, day, target)? {
+            return Ok(true);
+        }
+    }
+    Ok(false)
+}
+
+fn first_target(day: u32) -> u32
+    requires { 1 ≤ day }
+    ensures value { result ≡ first_target day }
+    ensures bound { 1 ≤ result }
+{
+    if day > NEAREST_REACH {
+        day - NEAREST_REACH
+    } else {
+        1
+    }
+}
+
+fn last_target(length: u32, day: u32) -> u32
+    requires length { length ≤ 31 }
+    requires day { day ≤ length }
+    ensures value { result ≡ last_target length day }
+    ensures bound { result ≤ length }
+{
+    if day + NEAREST_REACH < length {
+        day + NEAREST_REACH
+    } else {
+        length
+    }
+}
+
+/// Whether a target is marked, and goes to the day.
+fn is_target(
+    days: &CronComponent,
+    length: u32,
+    first: u32,
+    day: u32,
+    target: u32,
+) -> Result<bool, CronError>
+    requires length { IsInRange 28 31 length }
+    requires first { first < 7 }
+    requires day { IsInRange 1 length day }
+    requires target { IsInRange 1 length target }
+    ensures { Finds (λ held. held) (near_answer days.now length first day target) result }
+{
+    let marked = ask(days, target as u16, CLOSEST_WEEKDAY_BIT)?;
+    Ok(marked && goes_to(length, first, target, day))
+}
+
+/// Whether the nearest Monday-to-Friday day of a target is this day.
+fn goes_to(length: u32, first: u32, target: u32, day: u32) -> bool
+    requires length { IsInRange 28 31 length }
+    requires first { first < 7 }
+    requires target { IsInRange 1 length target }
+    requires day { IsInRange 1 length day }
+    ensures { result ≡ is_nearest length first target day }
+{
+    day == resolved(length, target, weekday_of(first, target))
+}
+
+/// The nearest Monday-to-Friday day of a target with this weekday. It stays in the month.
+fn resolved(length: u32, target: u32, weekday: u32) -> u32
+    requires length { IsInRange 28 31 length }
+    requires target { IsInRange 1 length target }
+    ensures value { result ≡ resolved_day length weekday target }
+    ensures bound { IsInRange 1 length result }
+{
+    match weekday {
+        SATURDAY if target > 1 => target - 1,
+        SATURDAY => target + 2,
+        SUNDAY if target < length => target + 1,
+        SUNDAY => target - 2,
+        _ => target,
+    }
+}
+
+fn fits_weekdays(
+    weekdays: &CronComponent,
+    length: u32,
+    first: u32,
+    day: u32,
+) -> Result<bool, CronError>
+    requires length { IsInRange 28 31 length }
+    requires first { first < 7 }
+    requires day { IsInRange 1 length day }
+    ensures { Finds (λ held. held) (weekday_answer weekdays.now length first day) result }
+{
+    let weekday = weekday_of(first, day) as u16;
+    if ask(weekdays, weekday, occurrence_bit(day))? {
+        return Ok(true);
+    }
+    if is_last_named(weekdays, length, first, day)? {
+        return Ok(true);
+    }
+    ask(weekdays, weekday, ALL_BIT)
+}
+
+/// Whether the day's weekday is marked with `L`, and this is its last of the month.
+fn is_last_named(
+    weekdays: &CronComponent,
+    length: u32,
+    first: u32,
+    day: u32,
+) -> Result<bool, CronError>
+    requires length { IsInRange 28 31 length }
+    requires first { first < 7 }
+    requires day { IsInRange 1 length day }
+    ensures { Finds (λ held. held) (last_answer weekdays.now length first day) result }
+{
+    let marked = ask(weekdays, weekday_of(first, day) as u16, LAST_BIT)?;
+    Ok(marked && is_last_weekday(length, day))
+}
+
+/// The bit of the place that a day has among the like weekdays of its month.
+fn occurrence_bit(day: u32) -> u8
+    requires { IsInRange 1 31 day }
+    ensures { (first : ℕ) → first < 7 → result ≡ nth_bit (occurrence first day) }
+{
+    match (day - 1) / WEEK {
+        0 => NTH_1ST_BIT,
+        1 => NTH_2ND_BIT,
+        2 => NTH_3RD_BIT,
+        3 => NTH_4TH_BIT,
+        _ => NTH_5TH_BIT,
+    }
+}
+
+fn is_last_weekday(length: u32, day: u32) -> bool
+    requires length { IsInRange 28 31 length }
+    requires day { IsInRange 1 length day }
+    ensures { (first : ℕ) → first < 7 → result ≡ is_last_weekday length first day }
+{
+    day + WEEK > length
+}

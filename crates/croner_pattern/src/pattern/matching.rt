@@ -1,0 +1,104 @@
+//! Whether a year, a month, an hour, a minute or a second is a plain value of its field.
+
+ghost use Rattle.std.specs.Prelude.{◌≡◌, ◌≤◌, ◌<◌, ◌⊎◌, ◌^◌, pos, ◌≤ℤ◌, ◌<ℤ◌, true, false, Ok, Err, unsigned_abs};
+ghost use Rattle.std.specs.Int.{IsInRange};
+ghost use Rattle.croner_base.specs.Answers.{Finds};
+ghost use Rattle.croner_pattern.specs.Meaning.{meaning_of};
+ghost use Rattle.croner_pattern.specs.Questions.{asked};
+ghost use Rattle.croner_pattern.specs.Schedule.{is_plain, is_year_matching};
+ghost use Rattle.croner_pattern.specs.Shapes.{has_field_shapes};
+
+use super::{CronPattern, LAST_HOUR, LAST_MONTH, LAST_SECOND, ask, has_plain};
+use croner_base::component::ALL_BIT;
+use croner_base::errors::CronError;
+use croner_base::time::{YEAR_LOWER_LIMIT, YEAR_UPPER_LIMIT};
+
+impl CronPattern {
+    /// Whether a year is named. A year outside 1 to 5000 never is.
+    ///
+    /// A field of another shape refuses a year that it doesn't hold: `ComponentError`, or `OutOfMemory` where the message
+    /// finds no memory. With the shape of its place it refuses none.
+    pub fn year_match(&self, year: i32) -> Result<bool, CronError>
+        ensures outside { (year <ℤ pos 1) ⊎ (pos 5000 <ℤ year) → result ≡ Ok false }
+        ensures asked { pos 1 ≤ℤ year → year ≤ℤ pos 5000 →
+            Finds (λ held. held) (asked ALL_BIT (meaning_of self.now).years (unsigned_abs year)) result }
+        ensures shaped { has_field_shapes (meaning_of self.now) ≡ true → result ≡ Ok (is_year_matching (meaning_of self.now) year) }
+    {
+        if year < YEAR_LOWER_LIMIT || year > YEAR_UPPER_LIMIT {
+            return Ok(false);
+        }
+        ask(&self.years, year as u16, ALL_BIT)
+    }
+
+    /// Whether a month is named.
+    ///
+    /// `InvalidDate` outside 1 to 12. A field of another shape refuses a month that it doesn't hold: `ComponentError`, or
+    /// `OutOfMemory` where the message finds no memory.
+    pub fn month_match(&self, month: u32) -> Result<bool, CronError>
+        ensures outside { (month < 1) ⊎ (12 < month) → result ≡ Err CronError.InvalidDate }
+        ensures asked { IsInRange 1 12 month → Finds (λ held. held) (asked ALL_BIT (meaning_of self.now).months month) result }
+        ensures shaped { has_field_shapes (meaning_of self.now) ≡ true → IsInRange 1 12 month →
+            result ≡ Ok (is_plain (meaning_of self.now).months month) }
+    {
+        if month < 1 || month > u32::from(LAST_MONTH) {
+            return Err(CronError::InvalidDate);
+        }
+        ask(&self.months, month as u16, ALL_BIT)
+    }
+
+    /// Whether an hour is named.
+    ///
+    /// `InvalidTime` above 23. A field of another shape refuses an hour that it doesn't hold: `ComponentError`, or
+    /// `OutOfMemory` where the message finds no memory.
+    pub fn hour_match(&self, hour: u32) -> Result<bool, CronError>
+        ensures outside { 23 < hour → result ≡ Err CronError.InvalidTime }
+        ensures asked { hour ≤ 23 → Finds (λ held. held) (asked ALL_BIT (meaning_of self.now).hours hour) result }
+        ensures shaped { has_field_shapes (meaning_of self.now) ≡ true → hour ≤ 23 →
+            result ≡ Ok (is_plain (meaning_of self.now).hours hour) }
+    {
+        if hour > u32::from(LAST_HOUR) {
+            return Err(CronError::InvalidTime);
+        }
+        ask(&self.hours, hour as u16, ALL_BIT)
+    }
+
+    /// Whether a minute is named.
+    ///
+    /// `InvalidTime` above 59. A field of another shape refuses a minute that it doesn't hold: `ComponentError`, or
+    /// `OutOfMemory` where the message finds no memory.
+    pub fn minute_match(&self, minute: u32) -> Result<bool, CronError>
+        ensures outside { 59 < minute → result ≡ Err CronError.InvalidTime }
+        ensures asked { minute ≤ 59 → Finds (λ held. held) (asked ALL_BIT (meaning_of self.now).minutes minute) result }
+        ensures shaped { has_field_shapes (meaning_of self.now) ≡ true → minute ≤ 59 →
+            result ≡ Ok (is_plain (meaning_of self.now).minutes minute) }
+    {
+        if minute > u32::from(LAST_SECOND) {
+            return Err(CronError::InvalidTime);
+        }
+        ask(&self.minutes, minute as u16, ALL_BIT)
+    }
+
+    /// Whether a second is named.
+    ///
+    /// `InvalidTime` above 59. A field of another shape refuses a second that it doesn't hold: `ComponentError`, or
+    /// `OutOfMemory` where the message finds no memory.
+    pub fn second_match(&self, second: u32) -> Result<bool, CronError>
+        ensures outside { 59 < second → result ≡ Err CronError.InvalidTime }
+        ensures asked { second ≤ 59 → Finds (λ held. held) (asked ALL_BIT (meaning_of self.now).seconds second) result }
+        ensures shaped { has_field_shapes (meaning_of self.now) ≡ true → second ≤ 59 →
+            result ≡ Ok (is_plain (meaning_of self.now).seconds second) }
+    {
+        if second > u32::from(LAST_SECOND) {
+            return Err(CronError::InvalidTime);
+        }
+        ask(&self.seconds, second as u16, ALL_BIT)
+    }
+
+    /// Whether a year is named: [`year_match`](Self::year_match) without the refusal of a field of another shape, whose
+    /// values it hasn't.
+    pub fn is_year_named(&self, year: i32) -> bool
+        ensures { result ≡ is_year_matching (meaning_of self.now) year }
+    {
+        year >= YEAR_LOWER_LIMIT && year <= YEAR_UPPER_LIMIT && has_plain(&self.years, year as u16)
+    }
+}
