@@ -17,3 +17,14 @@ pub mod WordLists
 pub mod Names
 pub mod Starred
 pub mod Reads
+pub mod CivilOrder
+pub mod Weekdays
+pub mod Ahead
+pub mod Values
+pub mod Months
+pub mod Dates
+pub mod Times
+pub mod Scheduled
+pub mod Singles
+pub mod Covered
+pub mod ExamplesCursor

@@ -13,3 +13,5 @@ pub mod Listing
 pub mod Settings
 pub mod Words
 pub mod Views
+pub mod Cursor
+pub mod SearchedYears

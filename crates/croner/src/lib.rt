@@ -1,10 +1,12 @@
 //! Cron patterns and their runs.
 #![tactic(auto)]
 
+mod cursor;
 mod fold;
 mod instant;
-mod search;
-mod wall;
 mod job;
 pub mod parser;
+mod search;
+mod wall;
+
 pub use job::Cron;
