@@ -4,7 +4,9 @@ pub mod CivilOrder
 pub mod Covered
 pub mod Cuts
 pub mod Dates
+pub mod Examples
 pub mod ExamplesCursor
+pub mod FieldReads
 pub mod FirstInstants
 pub mod GapSides
 pub mod HalfEdges
@@ -12,13 +14,15 @@ pub mod HeldRuns
 pub mod ItemsGiven
 pub mod Iterating
 pub mod Listings
+pub mod Matching
 pub mod Months
 pub mod Names
-pub mod Reads
+pub mod NoTexts
 pub mod RunsOfSeconds
 pub mod Scheduled
 pub mod SearchLimit
 pub mod SearchedYears
+pub mod ShapedTexts
 pub mod Singles
 pub mod Starred
 pub mod Times
@@ -32,3 +36,4 @@ pub mod WallSeconds
 pub mod Weekdays
 pub mod WordLists
 pub mod ZoneOrder
+pub mod ErrorsKept

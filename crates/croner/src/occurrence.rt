@@ -1,5 +1,5 @@
 //! The searches of a job: its next and its previous run.
-ghost use Rattle.std.specs.Prelude.{◌≡◌, true, IfOk, IfErr};
+ghost use Rattle.std.specs.Prelude.{◌≡◌, true, false, IfOk, IfErr};
 ghost use Rattle.croner_pattern.specs.Shapes.{has_field_shapes};
 ghost use Rattle.croner.specs.Limit.{NoneInSpan};
 ghost use Rattle.croner.specs.Listing.{standing_of, new_standing};

@@ -5,6 +5,7 @@ use Rattle.croner.specs.Walk.{walk_start}
 use Rattle.croner.proofs.CalmZone.{calm_of}
 use Rattle.croner.proofs.WalkPace.{paced_start, paced_on, paced_ends}
 use Rattle.croner.proofs.WalkLoop.{walking_start, walking_next, walk_reaches, out_far}
+use Rattle.croner.proofs.ErrorsKept.{error_kept}
 use Rattle.croner.proofs.search.walk.walk.Goals as goal
 
 pub returns-in_default-clause-value : goal.returns-in_default-clause-value
@@ -54,3 +55,7 @@ returns-clause-value g c =
     λ start.
     let ends = paced_ends c.args.direction origin.zone start.calm origin.instant (wall_second c.loop.wall) c.loop.counter (c.loop.invariant.paced start) in
     absurd (omega arith)
+
+pub returns-in_err-answer-clause-err : goal.returns-in_err-answer-clause-err
+returns-in_err-answer-clause-err g c =
+    error_kept c.from_residual.result c.in_err-answer.field-0.0 _ c.from_residual.ensures.1 c.in_err-answer.ensures.err
