@@ -2,4 +2,8 @@ pub mod Cuts
 pub mod WordLists
 pub mod Names
 pub mod Starred
-pub mod Reads
+pub mod FieldReads
+pub mod NoTexts
+pub mod ShapedTexts
+pub mod Matching
+pub mod Examples

@@ -2,7 +2,15 @@
 #![tactic(auto)]
 
 mod job;
+pub mod laws;
 pub mod parser;
 mod search;
 
-pub use job::Cron;
+pub use croner_base::component::CronComponent;
+pub use croner_base::time::{
+    CivilDate, CivilDateTime, CivilTime, CronDateTime, Direction, Resolution, TimeComponent,
+    Weekday, YEAR_LOWER_LIMIT, YEAR_UPPER_LIMIT,
+};
+pub use croner_base::{component, errors, time};
+pub use croner_pattern::pattern::CronPattern;
+pub use job::{Cron, JobType};

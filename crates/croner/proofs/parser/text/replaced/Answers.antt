@@ -12,6 +12,6 @@ loop-rest-preserved c =
     record {
       is_text = step.is_text;
       same =
-        ap (λ t. behind (string_bytes c.push_piece.new.written) (replaced c.args.quartz (has_dash t) c.in-Some.next.now)) c.as_bytes.ensures.value ∙ sym step.same
-        ∙ c.loop-rest.invariant.same;
+          ap (λ t. behind (string_bytes c.push_piece.new.written) (replaced c.args.quartz (has_dash t) c.in-Some.next.now)) c.as_bytes.ensures.value ∙ sym step.same
+          ∙ c.loop-rest.invariant.same;
     }
