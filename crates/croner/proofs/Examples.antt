@@ -1,15 +1,14 @@
 -- Worked texts, computed from the definitions: which text a pattern keeps, which values its fields name, and why a text is
 -- refused.
-use Rattle.std.proofs.Common.{◌≡◌, ℕ, Bool, true, false, List, [], ◌∷◌, Option, Some, None, Result, Ok, Err, option_map, refl}
+use Rattle.std.proofs.Common.{◌≡◌, ℕ, Bool, true, false, List, [], ◌∷◌, Option, Some, None, Err, option_map, refl}
 use Rattle.std.specs.Prelude.{codes, option_and_then}
 use Rattle.std.specs.Str.{trim, trim_start, trim_end, chars, str_to_ascii_uppercase}
-use Rattle.croner_base.specs.Field.{Field, marked_values}
-use Rattle.croner_pattern.specs.Meaning.{Meaning}
-use Rattle.croner_pattern.specs.Shapes.{sixty_shape, hour_shape, day_shape, month_shape, year_shape}
+use Rattle.croner_base.specs.Field.{marked_values}
+use Rattle.croner_pattern.specs.Shapes.{sixty_shape, hour_shape, day_shape, month_shape}
 use Rattle.croner.specs.declared.parser.Seconds.TheVariants as seconds
 use Rattle.croner.specs.declared.parser.Year.TheVariants as year
 use Rattle.croner.specs.Cut.{replaced}
-use Rattle.croner.specs.Grammar.{Texts, Refusal, Empty, Invalid, Illegal, Component, outcome, nicknamed, fields_of, settled, has_plus, is_star, are_legal, are_read, value_of, weekdays_of, settled_weekdays}
+use Rattle.croner.specs.Grammar.{Texts, Empty, Invalid, Illegal, Component, outcome, nicknamed, fields_of, settled, is_star, are_legal, are_read, value_of, weekdays_of, settled_weekdays}
 use Rattle.croner.specs.Settings.{Settings, default_settings}
 use Rattle.croner.specs.Words.{words}
 

@@ -1,5 +1,5 @@
 -- A date and time that a clock shows is scheduled just where the wall second is.
-use Rattle.std.proofs.Common.{◌≡◌, ◌↔◌, ℕ, ◌≤◌, Bool, true, IsTrue, Result, Ok, Err, IfOk, refl, ap, sym, ◌∙◌, subst, ℤ}
+use Rattle.std.proofs.Common.{◌≡◌, ◌↔◌, ℕ, ◌≤◌, Bool, true, IsTrue, Result, Ok, Err, IfOk, ap, sym, ◌∙◌, subst, ℤ}
 use Rattle.jiff_core.specs.Calendar.{days_in_month}
 use Rattle.croner_base.specs.declared.errors.CronError.{CronError}
 use Rattle.croner_base.specs.declared.time.civil.CivilDate.{CivilDate}

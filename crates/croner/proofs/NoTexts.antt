@@ -1,14 +1,12 @@
 -- Settings that accept no text.
-use Rattle.std.proofs.Common.{◌≡◌, ℕ, Bool, true, false, cond, eqb, List, length, Option, Some, None, Result, Ok, Err, refl, ap, sym, ◌∙◌, subst}
+use Rattle.std.proofs.Common.{◌≡◌, ℕ, Bool, true, false, cond, eqb, List, length, Option, Some, None, Result, Ok, Err, refl, ap, sym, subst}
 use Rattle.std.proofs.lemmas.Bool.{cond_both, false≢true}
 use Rattle.std.specs.Str.{trim, str_to_ascii_uppercase}
 use Rattle.croner_pattern.specs.Meaning.{Meaning}
-use Rattle.croner.specs.declared.parser.Seconds.{Seconds}
 use Rattle.croner.specs.declared.parser.Seconds.TheVariants as seconds
-use Rattle.croner.specs.declared.parser.Year.{Year}
 use Rattle.croner.specs.declared.parser.Year.TheVariants as year
 use Rattle.croner.specs.Cut.{replaced}
-use Rattle.croner.specs.Grammar.{Refusal, Empty, Invalid, Illegal, outcome, of_replaced, of_fields, fields_of, seven, nicknamed}
+use Rattle.croner.specs.Grammar.{Refusal, Empty, Invalid, Illegal, outcome, of_replaced, of_fields, seven, nicknamed}
 use Rattle.croner.specs.Settings.{Settings, accepts_count}
 use Rattle.croner.specs.Words.{words}
 

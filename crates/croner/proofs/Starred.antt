@@ -1,5 +1,5 @@
 -- The `?` of a text, and the `+` in front of it.
-use Rattle.std.proofs.Common.{◌≡◌, ◌⊎◌, ℕ, suc, ◌+◌, ◌<◌, ◌≤◌, true, false, cond, eqb, List, [], ◌∷◌, ◌++◌, length, map, get_or, drop, refl, ap, sym, ◌∙◌, arith, lit<, inl, inr}
+use Rattle.std.proofs.Common.{◌≡◌, ℕ, suc, ◌+◌, ◌<◌, false, cond, eqb, List, [], ◌∷◌, ◌++◌, length, get_or, drop, refl, ap, sym, ◌∙◌, arith, lit<, inl, inr}
 use Rattle.std.proofs.lemmas.Bool.{ne_eqb, cases_lt, cond_both, or_parts}
 use Rattle.std.proofs.lemmas.List.{map-append, append_assoc, append-nil, at_drop_more, at_drop_all}
 use Rattle.std.proofs.lemmas.Str.{encode_ascii}

@@ -1,6 +1,6 @@
 -- The words of a text are those that its split at white space gives, and no other list is.
-use Rattle.std.proofs.Common.{◌≡◌, ◌⊎◌, ℕ, ◌+◌, ◌<◌, Bool, true, false, cond, ltb, not, ◌&&◌, List, [], ◌∷◌, ◌++◌, length, map, refl, ap, sym, ◌∙◌, subst, arith, inl, inr}
-use Rattle.std.proofs.lemmas.Bool.{false≢true, not-false, lt-ltb, cases_Bool, and_parts}
+use Rattle.std.proofs.Common.{◌≡◌, ℕ, ◌<◌, Bool, true, cond, ltb, not, List, [], ◌∷◌, ◌++◌, length, map, refl, ap, sym, ◌∙◌, subst, arith, inl, inr}
+use Rattle.std.proofs.lemmas.Bool.{not-false, lt-ltb, cases_Bool, and_parts}
 use Rattle.std.proofs.lemmas.List.{append_assoc, append-nil, length-append}
 use Rattle.std.proofs.lemmas.List.Splits.{slice_split-cons_yes, slice_split-cons_no}
 use Rattle.std.proofs.lemmas.Str.{encodes-append, cons_from_encodes, encodes_same, encode_same, length-encode, len_utf8_bounds, encodes-chars, scalars-chars, NoCharPasses-append, NoCharPasses-nil}
@@ -9,7 +9,7 @@ use Rattle.std.specs.List.{slice_split, onto_first, filter}
 use Rattle.std.specs.Str.{NoCharPasses, NonePass, EmptyOrStartsWithPassing, IsUtf8, chars, encode_utf8_all, all_scalars}
 use Rattle.std.specs.Char.{encode_utf8}
 use lib.Utf8.{scalar}
-use Rattle.croner.specs.Words.{StartsWith, AreWords, words_of_chars, words}
+use Rattle.croner.specs.Words.{AreWords, words_of_chars, words}
 
 abbrev is_some_word : List ℕ → Bool
 is_some_word w = ltb 0 (length w)

@@ -1,9 +1,9 @@
-use Rattle.std.proofs.Common.{◌≡◌, ◌∙◌, sym, ap, refl, true, false, cond}
+use Rattle.std.proofs.Common.{◌≡◌, ◌∙◌, sym, ap, refl, false, cond}
 use Rattle.std.proofs.lemmas.Result.{err_from_is_err_and}
 use Rattle.croner_base.specs.Field.{empty_field}
 use Rattle.croner_pattern.specs.Meaning.{Meaning, meaning_of}
 use Rattle.croner_pattern.specs.Shapes.{new_meaning, weekday_shape}
-use Rattle.croner.specs.Grammar.{start_meaning, settled_weekdays, with_sunday, weekday_modifiers, is_star}
+use Rattle.croner.specs.Grammar.{start_meaning, settled_weekdays, with_sunday, weekday_modifiers}
 use Rattle.croner.specs.Settings.{Settings, default_settings}
 use Rattle.croner.specs.Views.{texts_of}
 use Rattle.croner.proofs.FieldReads.{refused_fields, read_takes_sunday, finished}

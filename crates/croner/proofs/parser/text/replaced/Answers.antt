@@ -1,4 +1,4 @@
-use Rattle.std.proofs.Common.{rules, arith, ◌≡◌, ap, sym, ◌∙◌, string_bytes}
+use Rattle.std.proofs.Common.{rules, ap, sym, ◌∙◌, string_bytes}
 use Rattle.croner.specs.Cut.{behind, replaced, has_dash, Advances}
 use Rattle.croner.proofs.Names.{behind-nil}
 use Rattle.croner.proofs.parser.text.replaced.Goals as goal
