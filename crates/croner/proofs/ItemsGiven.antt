@@ -47,7 +47,7 @@ searchable_item : (cur : Standing) (item : Moment) → IsSearchable cur.position
     → Counts cur.direction (counts_position cur) (job_at cur) cur.position.instant item.instant → IsSearchable item
 searchable_item cur item p same_zone whole counts =
     let searched = searched_run cur.pattern cur.position.zone item.instant
-        (is_run cur.direction (counts_position cur) (job_at cur) cur.position.instant item.instant counts) in
+    (is_run cur.direction (counts_position cur) (job_at cur) cur.position.instant item.instant counts) in
     let held = holds_from cur.position p.calm p.held item.instant searched in
     let in_zone : Zone → Moment = λ z. at_instant z item.instant in
     let with_fraction : ℕ → Moment = λ f. record { zone = item.zone; instant = item.instant; fraction = f } in

@@ -49,7 +49,7 @@ steps moment lack old new found None inclusive is item moved_to kept memory same
 steps moment lack old new found (Some x) inclusive is item moved_to kept memory same_zone whole nearest =
     found_steps (standing_of moment old) (standing_of moment new) (moment found) (moment x) item moved_to same_zone whole
     (λ p. let P : Bool → Type 0 = λ b. Nearest old.direction b (job_at (standing_of moment old)) (moment old.position).instant (moment found).instant in
-        subst P is (nearest p))
+    subst P is (nearest p))
 
 -- the limit: no fault, and nothing is left
 pub limit_steps : (lack : Bool) (old : Standing) (inclusive : Bool) → inclusive ≡ counts_position old

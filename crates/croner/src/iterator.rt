@@ -89,7 +89,10 @@ impl<T: CronDateTime> Iterator for CronIterator<T> {
 
     fn next(&mut self) -> Option<T> {
         let inclusive = self.counts_position();
-        match self.cron.find_occurrence(&self.position, inclusive, self.direction) {
+        match self
+            .cron
+            .find_occurrence(&self.position, inclusive, self.direction)
+        {
             Ok(found) => self.step_to(found),
             Err(CronError::TimeSearchLimitExceeded) => {
                 self.fault = None;

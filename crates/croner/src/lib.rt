@@ -12,14 +12,12 @@ pub mod parser;
 mod search;
 mod wall;
 
-pub use croner_base::component;
 pub use croner_base::component::CronComponent;
-pub use croner_base::errors;
-pub use croner_base::time;
 pub use croner_base::time::{
     CivilDate, CivilDateTime, CivilTime, CronDateTime, Direction, Resolution, TimeComponent,
     Weekday, YEAR_LOWER_LIMIT, YEAR_UPPER_LIMIT,
 };
+pub use croner_base::{component, errors, time};
 pub use croner_pattern::pattern::CronPattern;
 pub use iterator::CronIterator;
 pub use job::{Cron, JobType};

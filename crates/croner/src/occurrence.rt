@@ -9,9 +9,8 @@ ghost use Rattle.croner.specs.Refusal.{IsRefusal, IsLimitOrMemory};
 ghost use Rattle.croner.specs.Runs.{Nearest};
 ghost use Rattle.croner.specs.Views.{job_of};
 
-use crate::Cron;
 use crate::iterator::CronIterator;
-use crate::search;
+use crate::{Cron, search};
 use croner_base::errors::CronError;
 use croner_base::time::{CronDateTime, Direction};
 
@@ -85,7 +84,13 @@ impl Cron {
         ensures same_zone { IfOk result (λ t. (T.moment t).zone ≡ (T.moment start.now).zone) }
         ensures whole { IfOk result (λ t. (T.moment t).fraction ≡ 0) }
     {
-        search::find(self.pattern.allocator(), &self.pattern, start, inclusive, direction)
+        search::find(
+            self.pattern.allocator(),
+            &self.pattern,
+            start,
+            inclusive,
+            direction,
+        )
     }
 
     /// The runs from a start on, the start itself included where it is a run, in a direction. The pattern is copied for the
