@@ -119,10 +119,10 @@ pub place_of-at : (name : List ℕ) (n : ℕ) (xs : List (List ℕ)) (k : ℕ) �
 place_of-at name n [] k e = absurd (none-some k e)
 place_of-at name n (x ∷ xs) k e = elim (cases_Bool (bytes_eq name x)) [
   | inl t ↦
-    (0, omega (arith, same_Some n k (sym (ap (λ b. cond b (Some n) (place_of name (n + 1) xs)) t) ∙ e)), omega arith, sym ((bytes_eq-Decides name x).0 t))
+      (0, omega (arith, same_Some n k (sym (ap (λ b. cond b (Some n) (place_of name (n + 1) xs)) t) ∙ e)), omega arith, sym ((bytes_eq-Decides name x).0 t))
   | inr f ↦
-    let r = place_of-at name (n + 1) xs k (sym (ap (λ b. cond b (Some n) (place_of name (n + 1) xs)) f) ∙ e) in
-    (suc r.0, omega (arith, r.1), omega (arith, r.2), r.3)
+      let r = place_of-at name (n + 1) xs k (sym (ap (λ b. cond b (Some n) (place_of name (n + 1) xs)) f) ∙ e) in
+      (suc r.0, omega (arith, r.1), omega (arith, r.2), r.3)
 ]
 
 month_named : (name : List ℕ) (k : ℕ) → place_of name 0 months ≡ Some k → IsPiece (month k) × (letters (month k) ≡ name)
@@ -175,10 +175,10 @@ cut_found (a ∷ []) ps e = alone_cut a [] (Some []) ps end_cut e
 cut_found (a ∷ b ∷ []) ps e = alone_cut a (b ∷ []) (alone b (Some [])) ps (λ qs k. alone_cut b [] (Some []) qs end_cut k) e
 cut_found (a ∷ b ∷ c ∷ rest) ps e = elim (names_of (a ∷ b ∷ c ∷ [])) [
   | inl none ↦
-    alone_cut a (b ∷ c ∷ rest) (cut_of (b ∷ c ∷ rest)) ps (cut_found (b ∷ c ∷ rest))
-        (sym (ap (λ p. named p (alone a (cut_of (b ∷ c ∷ rest))) (cut_of rest)) none) ∙ e)
+      alone_cut a (b ∷ c ∷ rest) (cut_of (b ∷ c ∷ rest)) ps (cut_found (b ∷ c ∷ rest))
+      (sym (ap (λ p. named p (alone a (cut_of (b ∷ c ∷ rest))) (cut_of rest)) none) ∙ e)
   | inr some ↦
-    subst (λ text. IsCut text ps) (ap (λ name. name ++ rest) some.3)
-        (onto_cut some.0 rest (cut_of rest) ps some.2 (cut_found rest)
-        (sym (ap (λ p. named p (alone a (cut_of (b ∷ c ∷ rest))) (cut_of rest)) some.1) ∙ e))
+      subst (λ text. IsCut text ps) (ap (λ name. name ++ rest) some.3)
+      (onto_cut some.0 rest (cut_of rest) ps some.2 (cut_found rest)
+      (sym (ap (λ p. named p (alone a (cut_of (b ∷ c ∷ rest))) (cut_of rest)) some.1) ∙ e))
 ]

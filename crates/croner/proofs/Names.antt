@@ -1,9 +1,9 @@
 -- The names and characters at the front of a text, and what stands for them.
-use Rattle.std.proofs.Common.{◌≡◌, ◌⊎◌, ℕ, suc, zero, ◌+◌, ◌<◌, ◌≤◌, Bool, true, false, cond, eqb, ltb, leb, ◌&&◌, List, [], ◌∷◌, ◌++◌, length, take, drop, get_or, Option, Some, None, option_map, refl, ap, sym, ◌∙◌, subst, arith, inl, inr}
-use Rattle.std.proofs.lemmas.Bool.{ne_eqb, cases_Bool, and_parts, eqb-true, cases_lt, ltb-true, leb-true, false≢true}
+use Rattle.std.proofs.Common.{◌≡◌, ℕ, suc, zero, ◌+◌, ◌<◌, ◌≤◌, Bool, true, false, cond, eqb, ltb, leb, ◌&&◌, List, [], ◌∷◌, ◌++◌, length, take, drop, get_or, Option, Some, None, option_map, refl, ap, sym, ◌∙◌, subst, arith, inl, inr}
+use Rattle.std.proofs.lemmas.Bool.{ne_eqb, and_parts, eqb-true, cases_lt, ltb-true, leb-true}
 use Rattle.std.proofs.lemmas.Bool.Decides.{nat_tests}
 use Rattle.std.proofs.lemmas.List.{append_assoc, append-nil, length-append, length-take, length-drop, get_or-take}
-use Rattle.std.proofs.lemmas.Option.{none-some, same_Some}
+use Rattle.std.proofs.lemmas.Option.{none-some}
 use Rattle.std.proofs.lemmas.Str.{encode_ascii, length-encode, len_utf8_bounds, inside_one, IsCharBoundary-after_ascii, IsUtf8-drop, IsUtf8-past_char}
 use Rattle.std.specs.Char.{encode_utf8}
 use Rattle.std.specs.List.{list_all}
@@ -66,13 +66,13 @@ pub no_name_between : (text : List ℕ) → IsUtf8 text → (IsCharBoundary text
 no_name_between text utf8 h = elim (names_of (take 3 text)) [
   | inl none ↦ none
   | inr some ↦
-    let good = good_names (take 3 text) some.0 some.1 in
-    let parts = and_parts (eqb (length (take 3 text)) 3) _ good in
-    let three : length (take 3 text) ≡ 3 = eqb-true _ 3 parts.0 in
-    let long : 3 ≤ length text = grind (arith, length-take) in
-    let ascii = ltb-true _ _ (and_parts (leb 65 (get_or (take 3 text) 0 0)) _ (and_parts (ltb (get_or (take 3 text) 0 0) 128) _ parts.1).1).1 in
-    let third : get_or text 2 0 < 128 = grind (arith, get_or-take) in
-    absurd (h (IsCharBoundary-after_ascii text 2 utf8 (omega (arith, long)) third))
+      let good = good_names (take 3 text) some.0 some.1 in
+      let parts = and_parts (eqb (length (take 3 text)) 3) _ good in
+      let three : length (take 3 text) ≡ 3 = eqb-true _ 3 parts.0 in
+      let long : 3 ≤ length text = grind (arith, length-take) in
+      let ascii = ltb-true _ _ (and_parts (leb 65 (get_or (take 3 text) 0 0)) _ (and_parts (ltb (get_or (take 3 text) 0 0) 128) _ parts.1).1).1 in
+      let third : get_or text 2 0 < 128 = grind (arith, get_or-take) in
+      absurd (h (IsCharBoundary-after_ascii text 2 utf8 (omega (arith, long)) third))
 ]
 
 -- what stands for a name goes behind what was written
@@ -91,7 +91,7 @@ advance_name quartz after_dash text rest written now number utf8 boundary is_res
       shorter = omega (arith, ap length is_rest, length-drop 3 text);
       is_text = rw is_rest (IsUtf8-drop text 3 utf8 boundary);
       same =
-        ap (behind written) whole ∙ behind_behind written (decimal_of number) (replaced quartz false (drop 3 text)) ∙ rw (e, is_rest, no_dash) refl;
+          ap (behind written) whole ∙ behind_behind written (decimal_of number) (replaced quartz false (drop 3 text)) ∙ rw (e, is_rest, no_dash) refl;
     }
 
 -- ---- a character at the front
@@ -115,10 +115,10 @@ high_no_name : (c : ℕ) (t : List ℕ) → 128 ≤ c → HasNoName (c ∷ t)
 high_no_name c t h = elim (names_of (take 3 (c ∷ t))) [
   | inl none ↦ none
   | inr some ↦
-    let good = good_names (take 3 (c ∷ t)) some.0 some.1 in
-    let parts = and_parts (eqb (length (take 3 (c ∷ t))) 3) _ good in
-    let low : c < 128 = ltb-true c 128 (and_parts (ltb c 128) _ parts.1).0 in
-    absurd (omega (arith, low, h))
+      let good = good_names (take 3 (c ∷ t)) some.0 some.1 in
+      let parts = and_parts (eqb (length (take 3 (c ∷ t))) 3) _ good in
+      let low : c < 128 = ltb-true c 128 (and_parts (ltb c 128) _ parts.1).0 in
+      absurd (omega (arith, low, h))
 ]
 
 high_kept : (c : ℕ) → 128 ≤ c → (is_lost c ≡ false) × (eqb c 45 ≡ false)
@@ -157,8 +157,8 @@ advance_high quartz after_dash (b ∷ bs) rest written utf8 some h =
       shorter = omega (arith, length-append bs rest);
       is_text = utf8;
       same =
-        ap (behind written) (replaced_high quartz after_dash b bs rest h) ∙ behind_behind written (b ∷ bs) (replaced quartz false rest)
-        ∙ ap (λ d. behind (written ++ b ∷ bs) (replaced quartz d rest)) (sym k.1);
+          ap (behind written) (replaced_high quartz after_dash b bs rest h) ∙ behind_behind written (b ∷ bs) (replaced quartz false rest)
+          ∙ ap (λ d. behind (written ++ b ∷ bs) (replaced quartz d rest)) (sym k.1);
     }
 
 pub high_bytes : (c : ℕ) → 128 ≤ c → AreHigh (encode_utf8 c)
@@ -172,15 +172,15 @@ pub advance_char : (quartz after_dash : Bool) (text rest written now : List ℕ)
 advance_char quartz after_dash text rest written now c utf8 h kept e f =
     let is_rest : IsUtf8 rest = IsUtf8-past_char text rest c utf8 e in
     elim (cases_lt c 128) [
-  | inl small ↦
-    let one = encode_ascii c small in
-    let is_text : text ≡ c ∷ rest = e ∙ ap (λ x. x ++ rest) one in
-    let is_now : now ≡ written ++ c ∷ [] = f ∙ ap (λ x. written ++ x) one in
-    rw (is_text, is_now) (advance_ascii quartz after_dash c rest written is_rest (subst HasNoName is_text h) kept)
-  | inr high ↦
-    let some : 0 < length (encode_utf8 c) = omega (arith, length-encode c, (len_utf8_bounds c).0) in
-    rw (e, f) (advance_high quartz after_dash (encode_utf8 c) rest written is_rest some (high_bytes c high))
-]
+      | inl small ↦
+          let one = encode_ascii c small in
+          let is_text : text ≡ c ∷ rest = e ∙ ap (λ x. x ++ rest) one in
+          let is_now : now ≡ written ++ c ∷ [] = f ∙ ap (λ x. written ++ x) one in
+          rw (is_text, is_now) (advance_ascii quartz after_dash c rest written is_rest (subst HasNoName is_text h) kept)
+      | inr high ↦
+          let some : 0 < length (encode_utf8 c) = omega (arith, length-encode c, (len_utf8_bounds c).0) in
+          rw (e, f) (advance_high quartz after_dash (encode_utf8 c) rest written is_rest some (high_bytes c high))
+    ]
 
 -- a letter that stands for nothing ends it
 pub lost_char : (quartz after_dash : Bool) (text rest : List ℕ) (c : ℕ) → HasNoName text → is_lost c ≡ true → text ≡ encode_utf8 c ++ rest → replaced quartz after_dash text ≡ None

@@ -1,5 +1,5 @@
 -- The `?` of a text, and the `+` in front of it.
-use Rattle.std.proofs.Common.{◌≡◌, ◌⊎◌, ℕ, suc, ◌+◌, ◌<◌, ◌≤◌, true, false, cond, eqb, List, [], ◌∷◌, ◌++◌, length, map, get_or, drop, refl, ap, sym, ◌∙◌, arith, lit<, inl, inr}
+use Rattle.std.proofs.Common.{◌≡◌, ℕ, suc, ◌+◌, ◌<◌, false, cond, eqb, List, [], ◌∷◌, ◌++◌, length, get_or, drop, refl, ap, sym, ◌∙◌, arith, lit<, inl, inr}
 use Rattle.std.proofs.lemmas.Bool.{ne_eqb, cases_lt, cond_both, or_parts}
 use Rattle.std.proofs.lemmas.List.{map-append, append_assoc, append-nil, at_drop_more, at_drop_all}
 use Rattle.std.proofs.lemmas.Str.{encode_ascii}
@@ -35,8 +35,8 @@ pub starred_char : (c : ℕ) → starred (encode_utf8 c) ≡ encode_utf8 (cond (
 starred_char c = elim (cases_lt c 128) [
   | inl small ↦ ap starred (encode_ascii c small) ∙ sym (encode_ascii (cond (eqb c 63) 42 c) (cond_both (eqb c 63) 42 c (λ d. d < 128) (λ e. lit< tt) (λ e. small)))
   | inr high ↦
-    let other : eqb c 63 ≡ false = ne_eqb c 63 (λ e. omega (arith, e, high)) in
-    high_stay (encode_utf8 c) (high_bytes c high) ∙ ap (λ x. encode_utf8 (cond x 42 c)) (sym other)
+      let other : eqb c 63 ≡ false = ne_eqb c 63 (λ e. omega (arith, e, high)) in
+      high_stay (encode_utf8 c) (high_bytes c high) ∙ ap (λ x. encode_utf8 (cond x 42 c)) (sym other)
 ]
 
 pub starred_more : (c : ℕ) (cs : List ℕ) → starred (encode_utf8_all (c ∷ cs)) ≡ encode_utf8 (cond (eqb c 63) 42 c) ++ starred (encode_utf8_all cs)

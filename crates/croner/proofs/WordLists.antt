@@ -1,6 +1,6 @@
 -- The words of a text are those that its split at white space gives, and no other list is.
-use Rattle.std.proofs.Common.{◌≡◌, ◌⊎◌, ℕ, ◌+◌, ◌<◌, Bool, true, false, cond, ltb, ◌&&◌, List, [], ◌∷◌, ◌++◌, length, map, refl, ap, sym, ◌∙◌, subst, arith, inl, inr}
-use Rattle.std.proofs.lemmas.Bool.{false≢true, not-false, lt-ltb, cases_Bool, and_parts}
+use Rattle.std.proofs.Common.{◌≡◌, ℕ, ◌<◌, Bool, true, cond, ltb, not, List, [], ◌∷◌, ◌++◌, length, map, refl, ap, sym, ◌∙◌, subst, arith, inl, inr}
+use Rattle.std.proofs.lemmas.Bool.{not-false, lt-ltb, cases_Bool, and_parts}
 use Rattle.std.proofs.lemmas.List.{append_assoc, append-nil, length-append}
 use Rattle.std.proofs.lemmas.List.Splits.{slice_split-cons_yes, slice_split-cons_no}
 use Rattle.std.proofs.lemmas.Str.{encodes-append, cons_from_encodes, encodes_same, encode_same, length-encode, len_utf8_bounds, encodes-chars, scalars-chars, NoCharPasses-append, NoCharPasses-nil}
@@ -8,7 +8,8 @@ use Rattle.std.specs.Char.{is_whitespace, is_not_whitespace}
 use Rattle.std.specs.List.{slice_split, onto_first, filter}
 use Rattle.std.specs.Str.{NoCharPasses, NonePass, EmptyOrStartsWithPassing, IsUtf8, chars, encode_utf8_all, all_scalars}
 use Rattle.std.specs.Char.{encode_utf8}
-use Rattle.croner.specs.Words.{StartsWith, AreWords, words_of_chars, words}
+use lib.Utf8.{scalar}
+use Rattle.croner.specs.Words.{AreWords, words_of_chars, words}
 
 abbrev is_some_word : List ℕ → Bool
 is_some_word w = ltb 0 (length w)
@@ -79,3 +80,104 @@ words_unique (w ∷ ws) cs h =
 pub words_are : (text : List ℕ) (ws : List (List ℕ)) → IsUtf8 text → AreWords text ws → ws ≡ words text
 words_are text ws utf8 h =
     words_unique ws (chars text) (subst (λ t. AreWords t ws) (sym (encodes-chars text utf8)) h)
+
+-- ---- and it is one
+
+gap_more : (g t : List ℕ) (ws : List (List ℕ)) → NoCharPasses is_not_whitespace g → AreWords t ws → AreWords (g ++ t) ws
+gap_more g t [] gap h = NoCharPasses-append is_not_whitespace g t gap h
+gap_more g t (w ∷ ws) gap h =
+    let s = h.1 in (
+      h.0,
+      record {
+        gap = g ++ s.gap;
+        spells = ap (λ x. g ++ x) s.spells ∙ sym (append_assoc g s.gap (w ++ h.0));
+        some = s.some;
+        is_gap = NoCharPasses-append is_not_whitespace g s.gap gap s.is_gap;
+        is_word = s.is_word;
+        ends = s.ends;
+      },
+      h.2,
+    )
+
+-- the first part of a split is empty or the first word
+front_words : (g cs first rest : List ℕ) (parts : List (List ℕ)) → NoCharPasses is_not_whitespace g → cs ≡ first ++ rest → NonePass is_whitespace first → ((more : List ℕ) × EmptyOrStartsWithPassing is_whitespace (encode_utf8_all rest) more) → AreWords (encode_utf8_all rest) (map encode_utf8_all (filter is_some_word parts)) → AreWords (g ++ encode_utf8_all cs) (map encode_utf8_all (filter is_some_word (first ∷ parts)))
+front_words g cs [] rest parts gap e word ends others =
+    gap_more g (encode_utf8_all cs) (map encode_utf8_all (filter is_some_word parts)) gap
+    (subst (λ x. AreWords (encode_utf8_all x) (map encode_utf8_all (filter is_some_word parts))) (sym e) others)
+front_words g cs (u ∷ us) rest parts gap e word ends others =
+    let some : is_some_word (u ∷ us) ≡ true = lt-ltb 0 (length (u ∷ us)) (omega arith) in
+    let kept : filter is_some_word ((u ∷ us) ∷ parts) ≡ (u ∷ us) ∷ filter is_some_word parts =
+    ap (λ b. cond b ((u ∷ us) ∷ filter is_some_word parts) (filter is_some_word parts)) some in
+    let whole : AreWords (g ++ encode_utf8_all cs) (encode_utf8_all (u ∷ us) ∷ map encode_utf8_all (filter is_some_word parts)) = (
+      encode_utf8_all rest,
+      record {
+        gap = g;
+        spells = ap (λ x. g ++ x) (ap encode_utf8_all e ∙ encodes-append (u ∷ us) rest);
+        some = some_bytes u (encode_utf8_all us);
+        is_gap = gap;
+        is_word = (u ∷ us, refl, word);
+        ends = ends;
+      },
+      others,
+    ) in
+    subst (λ ws. AreWords (g ++ encode_utf8_all cs) (map encode_utf8_all ws)) (sym kept) whole
+
+-- the characters split at white space: the first part, the others, and what follows the first
+record Parted (cs : List ℕ) : Type 0 where
+  first : List ℕ
+  parts : List (List ℕ)
+  rest : List ℕ
+  parted : slice_split is_whitespace cs ≡ first ∷ parts
+  same : cs ≡ first ++ rest
+  word : NonePass is_whitespace first
+  ends : (more : List ℕ) × EmptyOrStartsWithPassing is_whitespace (encode_utf8_all rest) more
+  others : AreWords (encode_utf8_all rest) (map encode_utf8_all (filter is_some_word parts))
+
+parted : (cs : List ℕ) → all_scalars cs ≡ true → Parted cs
+parted [] h = record {
+  first = [];
+  parts = [];
+  rest = [];
+  parted = refl;
+  same = refl;
+  word = tt;
+  ends = ([], λ l. absurd (omega (arith, l)));
+  others = NoCharPasses-nil is_not_whitespace;
+}
+parted (c ∷ cs) h =
+    let scalars = and_parts (scalar c) (all_scalars cs) h in
+    let r = parted cs scalars.1 in
+    elim (cases_Bool (is_whitespace c)) [
+      | inl white ↦ record {
+        first = [];
+        parts = r.first ∷ r.parts;
+        rest = c ∷ cs;
+        parted = slice_split-cons_yes is_whitespace c cs white ∙ ap (λ ps. [] ∷ ps) r.parted;
+        same = refl;
+        word = tt;
+        ends = (encode_utf8_all cs, λ l. (c, white, refl, scalars.0));
+        others =
+            front_words (encode_utf8 c) cs r.first r.rest r.parts (c ∷ [], append-nil (encode_utf8 c), (ap not white, tt)) r.same r.word r.ends r.others;
+      }
+      | inr other ↦ record {
+        first = c ∷ r.first;
+        parts = r.parts;
+        rest = r.rest;
+        parted = slice_split-cons_no is_whitespace c cs other ∙ ap (onto_first c) r.parted;
+        same = ap (λ xs. c ∷ xs) r.same;
+        word = (other, r.word);
+        ends = r.ends;
+        others = r.others;
+      }
+    ]
+
+words_hold : (cs : List ℕ) → all_scalars cs ≡ true → AreWords (encode_utf8_all cs) (map encode_utf8_all (words_of_chars cs))
+words_hold cs h =
+    let r = parted cs h in
+    subst (λ ps. AreWords (encode_utf8_all cs) (map encode_utf8_all (filter is_some_word ps))) (sym r.parted)
+    (front_words [] cs r.first r.rest r.parts (NoCharPasses-nil is_not_whitespace) r.same r.word r.ends r.others)
+
+-- the words of a text are its words
+pub are_words : (text : List ℕ) → IsUtf8 text → AreWords text (words text)
+are_words text utf8 =
+    subst (λ t. AreWords t (words text)) (encodes-chars text utf8) (words_hold (chars text) (scalars-chars text utf8))

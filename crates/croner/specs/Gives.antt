@@ -36,8 +36,3 @@ Starts (Err e) text offset = e ≡ OutOfMemory
 abbrev pub ReadsAll : Settings → List ℕ → Texts → Meaning → Result (Unit {0}) CronError → Type 0
 ReadsAll s text t new (Ok x) = (are_read s t ≡ true) × (new ≡ read_meaning s text t)
 ReadsAll s text t new (Err e) = (are_read s t ≡ false) × IsFieldError e
-
--- the error is the one of the meaning, unless memory ran out before it was made
-abbrev pub Refuses : {Y : Type 0} → Result CronError CronError → Result Y Refusal → Type 0
-Refuses (Ok e) meaning = Fails e meaning
-Refuses (Err e) meaning = e ≡ OutOfMemory

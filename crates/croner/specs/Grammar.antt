@@ -1,5 +1,5 @@
 -- The grammar of cron patterns: for settings and a text the one outcome, in the order in which the rules are tested.
-use Rattle.std.specs.Prelude.{◌≡◌, ℕ, Bool, true, false, not, ◌&&◌, ◌||◌, ◌==◌, nat_le, List, [], ◌∷◌, ◌++◌, length, map, Option, Some, None, Result, Ok, Err, slice_index, codes, if◌then◌else◌}
+use Rattle.std.specs.Prelude.{◌≡◌, ℕ, Bool, true, false, ◌&&◌, ◌||◌, ◌==◌, nat_le, List, [], ◌∷◌, ◌++◌, length, map, Option, Some, None, Result, Ok, Err, slice_index, codes, if◌then◌else◌}
 use Rattle.std.specs.List.{list_all}
 use Rattle.std.specs.Str.{trim, bytes_eq, str_to_ascii_uppercase}
 use Rattle.croner_base.specs.Field.{Shape, Field, empty_field, with_sloppy, with_mark, without_mark, is_marked, can_ask, can_mark}
@@ -195,10 +195,12 @@ abbrev pub of_replaced : Settings → List ℕ → Option (List ℕ) → Result 
 of_replaced s full None = if accepts_count s.seconds_field s.year_field (length (words full)) then Err Illegal else Err Invalid
 of_replaced s full (Some text) = of_fields s text (fields_of s (words text))
 
+-- a text that is raised and trimmed: its nickname and its names are replaced
+abbrev pub of_trimmed : Settings → List ℕ → Result Meaning Refusal
+of_trimmed s text = of_replaced s (nicknamed s text) (replaced s.quartz false (nicknamed s text))
+
 -- what a text means: it is raised and trimmed, its nickname and its names are replaced, its fields are counted, settled,
 -- tested for their characters and read
 abbrev pub outcome : Settings → List ℕ → Result Meaning Refusal
 outcome s given =
-    let text = trim (str_to_ascii_uppercase given) in
-    if length text == 0 then Err Empty
-    else of_replaced s (nicknamed s text) (replaced s.quartz false (nicknamed s text))
+    let text = trim (str_to_ascii_uppercase given) in if length text == 0 then Err Empty else of_trimmed s text

@@ -1,5 +1,5 @@
 -- The settings of a parser: what its builder can choose, and what stands where nothing is chosen.
-use Rattle.std.specs.Prelude.{ℕ, Bool, true, false, ◌&&◌, ◌||◌, ◌==◌, nat_le}
+use Rattle.std.specs.Prelude.{ℕ, Bool, true, false, ◌||◌, ◌==◌}
 use Rattle.croner.specs.declared.parser.Seconds.{Seconds}
 use Rattle.croner.specs.declared.parser.Seconds.TheVariants as seconds
 use Rattle.croner.specs.declared.parser.Year.{Year}

@@ -1,10 +1,141 @@
 //! A job: a cron pattern, and the times at which it runs.
 
-use croner_pattern::pattern::CronPattern;
+ghost use Rattle.std.specs.Prelude.{◌≡◌, ◌↔◌, ◌&&◌, true, Ok, IsTrue, IsOk, IfOk, if◌then◌else◌};
+ghost use Rattle.jiff_core.specs.Calendar.{days_in_month};
+ghost use Rattle.croner_base.specs.Civil.{weekday_index, weekday_of_date};
+ghost use Rattle.croner_base.specs.Zone.{reading};
+ghost use Rattle.croner_pattern.specs.Schedule.{is_scheduled, is_date_matching, is_day_matching, is_plain, first_weekday, is_fixed_time, IsScheduled};
+ghost use Rattle.croner_pattern.specs.Shapes.{has_field_shapes};
+ghost use Rattle.croner.specs.Gives.{Gives};
+ghost use Rattle.croner.specs.Grammar.{outcome};
+ghost use Rattle.croner.specs.Settings.{default_settings};
+ghost use Rattle.croner.specs.Views.{job_of};
 
-/// A cron job: the pattern of its times.
-#[derive(Drop)]
+use crate::parser::CronParser;
+use croner_base::errors::CronError;
+use croner_base::time::{CivilDate, CivilDateTime, CronDateTime, Weekday};
+use croner_pattern::pattern::CronPattern;
+use std::alloc::Global;
+use std::fmt;
+
+/// How a job meets changes of the clock.
+#[derive(Debug, Drop, PartialEq, Eq)]
+pub enum JobType {
+    /// It runs at one time of the day: seconds, minutes and hours each name exactly one value, with step 1 and without a
+    /// star.
+    FixedTime,
+    /// Any other job.
+    IntervalWildcard,
+}
+
+/// A cron job: the pattern of its times. Jobs compare, and are hashed, as their patterns do, and not by their texts.
+#[derive(Debug, Clone, Drop, PartialEq, Eq, PartialOrd, Ord, Hash)]
 pub struct Cron {
     /// The fields, the flags and the text.
     pub pattern: CronPattern,
+}
+
+impl Cron {
+    /// Reads a pattern with the default settings; see [`CronParser::parse`] for the errors.
+    pub fn from_str(alloc: Global, text: &str) -> Result<Cron, CronError>
+        ensures meaning { Gives job_of result (outcome default_settings text.now) }
+        ensures shapes { IfOk result (λ job. has_field_shapes (job_of job) ≡ true) }
+    {
+        CronParser::new().parse(alloc, text)
+    }
+
+    /// The text of the pattern: in capitals, trimmed, with numbers in the place of nicknames and names.
+    pub fn as_str(&self) -> &str
+        ensures { result.now ≡ (job_of self.now).text }
+    {
+        self.pattern.as_str()
+    }
+
+    /// Whether the clock of a time's zone shows a scheduled second there. The fraction of a second is dropped. It is true
+    /// in both halves of a repeated range, and false where a run is only carried over a gap.
+    ///
+    /// Each field has to have the shape of its place, as in every pattern that was parsed; the answer is then always `Ok`.
+    pub fn is_time_matching<T: CronDateTime>(&self, time: &T) -> Result<bool, CronError>
+        requires { has_field_shapes (job_of self.now) ≡ true }
+        ensures ok { IsOk result }
+        ensures value { IfOk result (λ held. IsTrue held ↔ IsScheduled (job_of self.now) (reading (T.moment time.now))) }
+    {
+        self.matches_civil(time.to_civil(), time.civil_weekday())
+    }
+
+    /// Whether a civil date and time is scheduled. The weekday is that of its date.
+    fn matches_civil(&self, civil: CivilDateTime, weekday: Weekday) -> Result<bool, CronError>
+        requires shapes { has_field_shapes (job_of self.now) ≡ true }
+        requires weekday { weekday_index weekday ≡ weekday_of_date civil.date }
+        ensures { result ≡ Ok (is_scheduled (job_of self.now) civil) }
+    {
+        if !self.pattern.second_match(civil.second())? {
+            return Ok(false);
+        }
+        if !self.pattern.minute_match(civil.minute())? {
+            return Ok(false);
+        }
+        self.matches_hour(civil, weekday)
+    }
+
+    /// Whether the hour and the date are named. The weekday is that of the date.
+    fn matches_hour(&self, civil: CivilDateTime, weekday: Weekday) -> Result<bool, CronError>
+        requires shapes { has_field_shapes (job_of self.now) ≡ true }
+        requires weekday { weekday_index weekday ≡ weekday_of_date civil.date }
+        ensures { result
+            ≡ Ok (is_plain (job_of self.now).hours civil.time.hour && is_date_matching (job_of self.now) civil.date) }
+    {
+        if !self.pattern.hour_match(civil.hour())? {
+            return Ok(false);
+        }
+        self.matches_date(civil.date(), weekday)
+    }
+
+    /// Whether a date is named. The weekday is that of the date.
+    fn matches_date(&self, date: CivilDate, weekday: Weekday) -> Result<bool, CronError>
+        requires shapes { has_field_shapes (job_of self.now) ≡ true }
+        requires weekday { weekday_index weekday ≡ weekday_of_date date }
+        ensures { result ≡ Ok (is_date_matching (job_of self.now) date) }
+    {
+        if !self.pattern.year_match(date.year())? {
+            return Ok(false);
+        }
+        if !self.pattern.month_match(date.month())? {
+            return Ok(false);
+        }
+        self.matches_day(date, weekday)
+    }
+
+    /// Whether the day of a date is named. The weekday is that of the date.
+    fn matches_day(&self, date: CivilDate, weekday: Weekday) -> Result<bool, CronError>
+        requires shapes { has_field_shapes (job_of self.now) ≡ true }
+        requires weekday { weekday_index weekday ≡ weekday_of_date date }
+        ensures { result ≡ Ok (is_day_matching (job_of self.now) (days_in_month date.year date.month) (first_weekday date.year date.month) date.day) }
+    {
+        self.pattern
+            .day_match(date.year(), date.month(), date.day(), weekday)
+    }
+
+    /// Which kind of job it is.
+    pub fn determine_job_type(&self) -> JobType
+        ensures { result ≡ (if is_fixed_time (job_of self.now) then JobType.FixedTime else JobType.IntervalWildcard) }
+    {
+        if self.pattern.is_fixed_time() {
+            JobType::FixedTime
+        } else {
+            JobType::IntervalWildcard
+        }
+    }
+}
+
+impl fmt::Display for Cron {
+    ghost use Rattle.std.specs.Prelude.{Some};
+    ghost use Rattle.croner.specs.Views.{job_of};
+
+    ghost output = { λ c. Some ((job_of c).text) };
+
+    fn fmt<W: fmt::Write>(&self, f: &mut fmt::Formatter<W>) -> fmt::Result {
+        let text = self.as_str();
+        write!(f, "{text}")
+    }
 }

@@ -1,8 +1,23 @@
 //! Cron patterns and their runs.
 #![tactic(auto)]
 
+mod cursor;
+mod fold;
+mod instant;
+pub mod iterator;
 mod job;
+pub mod laws;
+mod occurrence;
 pub mod parser;
 mod search;
+mod wall;
 
-pub use job::Cron;
+pub use croner_base::component::CronComponent;
+pub use croner_base::time::{
+    CivilDate, CivilDateTime, CivilTime, CronDateTime, Direction, Resolution, TimeComponent,
+    Weekday, YEAR_LOWER_LIMIT, YEAR_UPPER_LIMIT,
+};
+pub use croner_base::{component, errors, time};
+pub use croner_pattern::pattern::CronPattern;
+pub use iterator::CronIterator;
+pub use job::{Cron, JobType};

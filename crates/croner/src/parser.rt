@@ -1,6 +1,6 @@
 //! Reading a cron pattern: the settings of a parser, and its one call `parse`.
 
-ghost use Rattle.std.specs.Prelude.{◌≡◌, [], false, Some, None};
+ghost use Rattle.std.specs.Prelude.{◌≡◌, ◌||◌, [], true, false, Some, None, IfOk, MatchOption, string_bytes};
 
 mod fields;
 mod read;
@@ -9,10 +9,12 @@ mod text;
 
 use crate::job::Cron;
 use croner_base::errors::CronError;
-use fields::{FieldTexts, has_byte, has_plus, illegal_field, seven, starred, text_or, without_plus};
+use fields::{
+    FieldTexts, has_byte, has_plus, illegal_field, seven, starred, text_or, without_plus,
+};
 use read::{Mode, read_pattern};
 use refusals::{illegal_character, lost_letter, wrong_count};
-use std::alloc::Global;
+use std::alloc::{AllocError, Global};
 use std::marker::Model;
 use text::{nicknamed, replaced, words};
 
@@ -131,9 +133,10 @@ impl Model for CronParser {
 impl CronParser {
     ghost use Rattle.croner.specs.Settings.{default_settings, accepts_count};
     ghost use Rattle.croner.specs.Cut.{replaced};
-    ghost use Rattle.croner.specs.Gives.{Gives, Refuses};
-    ghost use Rattle.croner.specs.Grammar.{outcome, of_replaced, of_fields, of_settled};
+    ghost use Rattle.croner.specs.Gives.{Gives};
+    ghost use Rattle.croner.specs.Grammar.{outcome, of_trimmed, nicknamed, of_replaced, of_fields, of_settled, has_plus};
     ghost use Rattle.croner.specs.Views.{job_of, texts_of};
+    ghost use Rattle.croner_pattern.specs.Shapes.{has_field_shapes};
 
     /// A parser with the default settings: seconds and year optional, and the three switches off.
     pub fn new() -> Self
@@ -151,6 +154,14 @@ impl CronParser {
     /// fields that the settings don't accept, `IllegalCharacters` for a character that is not legal in its field,
     /// `ComponentError` for a field that can't be read. `OutOfMemory` where memory runs out.
     pub fn parse(&self, alloc: Global, pattern: &str) -> Result<Cron, CronError>
+        ensures meaning { Gives job_of result (outcome self.now pattern.now) }
+        ensures shapes { IfOk result (λ job. has_field_shapes (job_of job) ≡ true) }
+    {
+        self.parse_text(alloc, pattern)
+    }
+
+    /// Raises and trims a text, and reads it.
+    fn parse_text(&self, alloc: Global, pattern: &str) -> Result<Cron, CronError>
         ensures { Gives job_of result (outcome self.now pattern.now) }
     {
         let raised = pattern.to_ascii_uppercase(alloc)?;
@@ -158,13 +169,29 @@ impl CronParser {
         if text.is_empty() {
             return Err(CronError::EmptyPattern);
         }
+        self.parse_trimmed(alloc, text)
+    }
+
+    /// Reads a text that is raised and trimmed.
+    fn parse_trimmed(&self, alloc: Global, text: &str) -> Result<Cron, CronError>
+        ensures { Gives job_of result (of_trimmed self.now text.now) }
+    {
+        let nickname = self.nickname(alloc, text)?;
+        let full = text_or(&nickname, text);
+        self.parse_full(alloc, full)
+    }
+
+    /// The text in which a nickname is replaced, where there is an `@`.
+    fn nickname(&self, alloc: Global, text: &str) -> Result<Option<String>, AllocError>
+        ensures { IfOk result (λ t. MatchOption t (nicknamed self.now text.now ≡ text.now) (λ t. string_bytes t ≡ nicknamed self.now text.now)) }
+    {
         if !has_byte(text, b'@') {
-            return self.parse_full(alloc, text);
+            return Ok(None);
         }
         let seconds = self.seconds.is_required();
         let year = self.year.is_required();
         let full = nicknamed(alloc, text, seconds, year)?;
-        self.parse_full(alloc, full.as_str())
+        Ok(Some(full))
     }
 
     /// Reads a text whose nickname is replaced.
@@ -173,19 +200,19 @@ impl CronParser {
     {
         match replaced(alloc, full, self.alternative_weekdays)? {
             Some(text) => self.parse_replaced(alloc, text.as_str()),
-            None => Err(self.lost(alloc, full)?),
+            None => self.refuse_lost(alloc, full),
         }
     }
 
-    /// Why a text is refused in which a letter stands for nothing.
-    fn lost(&self, alloc: Global, full: &str) -> Result<CronError, CronError>
-        ensures { Refuses result (of_replaced self.now full.now None) }
+    /// Refuses a text in which a letter stands for nothing: for its count of fields, or for the letter.
+    fn refuse_lost(&self, alloc: Global, full: &str) -> Result<Cron, CronError>
+        ensures { Gives job_of result (of_replaced self.now full.now None) }
     {
         let count = words(alloc, full)?.len();
         if self.accepts_count(count) {
-            Ok(lost_letter(alloc, full))
+            Err(lost_letter(alloc, full))
         } else {
-            Ok(wrong_count(alloc, count, self.seconds, self.year))
+            Err(wrong_count(alloc, count, self.seconds, self.year))
         }
     }
 
@@ -228,7 +255,7 @@ impl CronParser {
     ) -> Result<Cron, CronError>
         ensures { Gives job_of result (of_fields self.now text.now (Some (texts_of given.entry))) }
     {
-        let and = self.dom_and_dow || has_plus(given.days_of_week);
+        let and = self.joins(given.days_of_week);
         let weekdays = without_plus(given.days_of_week);
         let starred_days = starred(alloc, given.days)?;
         let starred_weekdays = starred(alloc, weekdays)?;
@@ -242,6 +269,13 @@ impl CronParser {
             years: given.years,
         };
         self.parse_settled(alloc, text, fields, and)
+    }
+
+    /// Whether both day fields have to fit: by the settings, or by the `+` of the weekday field.
+    fn joins(&self, weekdays: &str) -> bool
+        ensures { result ≡ (self.now.both_days || has_plus weekdays.now) }
+    {
+        self.dom_and_dow || has_plus(weekdays)
     }
 
     /// Reads fields that are settled.

@@ -167,7 +167,10 @@ pub fn illegal_field(texts: FieldTexts<'_>) -> Option<(&'static str, &'static st
     } else if !all_plain(texts.months) {
         Some(("month", "digits, names and * / , -"))
     } else if !all_for_weekdays(texts.days_of_week) {
-        Some(("weekday", "digits, names and * / , - ? # L, and one + in front"))
+        Some((
+            "weekday",
+            "digits, names and * / , - ? # L, and one + in front",
+        ))
     } else if !all_plain(texts.years) {
         Some(("year", plain))
     } else {

@@ -1,12 +1,12 @@
 //! Reading the seven fields into a pattern.
 
-ghost use Rattle.std.specs.Prelude.{◌≡◌, ℕ, List, true, IsOk, if◌then◌else◌};
+ghost use Rattle.std.specs.Prelude.{◌≡◌, ℕ, List, true, false, IsOk, if◌then◌else◌};
 ghost use Rattle.croner_base.specs.Field.{with_sloppy, has_all};
 ghost use Rattle.croner_base.specs.Part.{field_of};
 ghost use Rattle.croner_base.specs.Reading.{Reads};
 ghost use Rattle.croner_pattern.specs.Meaning.{meaning_of};
 ghost use Rattle.croner.specs.Gives.{Gives, Starts, ReadsAll};
-ghost use Rattle.croner.specs.Grammar.{TakesSunday, sunday_moved, with_sunday, weekday_modifiers, start_meaning, of_legal};
+ghost use Rattle.croner.specs.Grammar.{TakesSunday, sunday_moved, with_sunday, weekday_modifiers, start_meaning, of_legal, is_star};
 ghost use Rattle.croner.specs.Settings.{Settings};
 ghost use Rattle.croner.specs.Views.{texts_of};
 
@@ -38,12 +38,15 @@ pub fn read_field(field: &mut CronComponent, sloppy: bool, text: &str) -> Result
     field.parse(text)
 }
 
-/// Stores weekday 7 as 0, for every modifier.
-pub fn settle_sunday(weekdays: &mut CronComponent) -> Result<(), CronError>
-    requires { (bit : ℕ) → has_all 127 bit ≡ true → TakesSunday weekdays.old.shape bit }
+/// Stores weekday 7 as 0, for every modifier; in Quartz mode it stays.
+pub fn settle_weekdays(weekdays: &mut CronComponent, quartz: bool) -> Result<(), CronError>
+    requires { quartz ≡ false → (bit : ℕ) → has_all 127 bit ≡ true → TakesSunday weekdays.old.shape bit }
     ensures ok { IsOk result }
-    ensures moved { weekdays.new ≡ with_sunday weekday_modifiers weekdays.old }
+    ensures moved { weekdays.new ≡ (if quartz then weekdays.old else with_sunday weekday_modifiers weekdays.old) }
 {
+    if quartz {
+        return Ok(());
+    }
     move_sunday(weekdays, ALL_BIT)?;
     move_sunday(weekdays, NTH_1ST_BIT)?;
     move_sunday(weekdays, NTH_2ND_BIT)?;
@@ -110,9 +113,14 @@ pub fn read_pattern(
 {
     let mut pattern = start_pattern(alloc, text, mode.quartz)?;
     read_fields(&mut pattern, fields, mode.sloppy)?;
-    if !mode.quartz {
-        settle_sunday(&mut pattern.days_of_week)?;
-    }
-    pattern.set_flags(fields.days == "*", fields.days_of_week == "*", mode.and);
+    settle_weekdays(&mut pattern.days_of_week, mode.quartz)?;
+    pattern.set_flags(is_star(fields.days), is_star(fields.days_of_week), mode.and);
     Ok(pattern)
+}
+
+/// Whether a field is written as a star.
+fn is_star(text: &str) -> bool
+    ensures { result ≡ is_star text.now }
+{
+    text == "*"
 }

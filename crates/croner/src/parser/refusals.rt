@@ -37,8 +37,9 @@ fn expected_counts(seconds: Seconds, year: Year) -> &'static str {
 pub fn lost_letter(alloc: Global, text: &str) -> CronError
     ensures { Fails {Y = Meaning} result (Err Illegal) }
 {
-    match format!(in alloc; "The pattern `{text}` has a letter that is neither L nor W, and in no name of a month or a weekday.")
-    {
+    match format!(in alloc;
+        "The pattern `{text}` has a letter that is neither L nor W, and in no name of a month or a weekday."
+    ) {
         Ok(message) => CronError::IllegalCharacters(message),
         Err(_) => CronError::OutOfMemory,
     }

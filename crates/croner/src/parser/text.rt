@@ -26,12 +26,7 @@ fn nickname(text: &str) -> &str
 
 /// The pattern of a text with `@`: that of its nickname, where it is one, with the fields in front and behind that are
 /// required.
-pub fn nicknamed(
-    alloc: Global,
-    text: &str,
-    seconds: bool,
-    year: bool,
-) -> Result<String, AllocError>
+pub fn nicknamed(alloc: Global, text: &str, seconds: bool, year: bool) -> Result<String, AllocError>
     ensures { IfOk result (λ t. string_bytes t
         ≡ (if seconds then codes "0 " else []) ++ nickname_of text.now ++ (if year then codes " *" else [])) }
 {

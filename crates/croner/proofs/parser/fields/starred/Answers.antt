@@ -20,7 +20,7 @@ loop-c-preserved c =
     let t = YieldsList-turn (YieldsList-from_chars c.args.text.now c.utf8.text cc) c.loop-c.yielded _ c.loop-c.yielded_by _ _ c.in-Some.c c.in-Some.is c.next.ensures.steps in
     let pushed : string_bytes c.push.new.self ≡ string_bytes c.loop-c.written ++ encode_utf8 c.star_for.result = search rules in
     rw (length_push c.loop-c.yielded c.in-Some.c)
-        (starred_step (chars c.args.text.now) (length c.loop-c.yielded) c.in-Some.c (string_bytes c.loop-c.written) (string_bytes c.push.new.self) (starred c.args.text.now) t (pushed ∙ ap (λ x. string_bytes c.loop-c.written ++ encode_utf8 x) c.star_for.ensures) c.loop-c.invariant)
+    (starred_step (chars c.args.text.now) (length c.loop-c.yielded) c.in-Some.c (string_bytes c.loop-c.written) (string_bytes c.push.new.self) (starred c.args.text.now) t (pushed ∙ ap (λ x. string_bytes c.loop-c.written ++ encode_utf8 x) c.star_for.ensures) c.loop-c.invariant)
 
 pub returns : goal.returns
 returns c =

@@ -1,4 +1,4 @@
-use Rattle.std.proofs.Common.{rules, arith, ◌≡◌, ◌++◌, None, take, sym, ◌∙◌, subst, ap, string_bytes}
+use Rattle.std.proofs.Common.{rules, ◌≡◌, ◌++◌, sym, ◌∙◌, subst, ap, string_bytes}
 use Rattle.std.proofs.lemmas.Bool.{false≢true}
 use Rattle.std.proofs.lemmas.Option.{MatchOption-at_none}
 use Rattle.std.proofs.lemmas.Result.{IfOk-weaker}
@@ -19,7 +19,7 @@ pub returns : goal.returns
 returns c =
     let none : HasNoName c.args.text.now = elim c.match-split_at_checked.branch [
       | in-Some+in_default-number_of w ↦
-        ap name_of (sym w.in-Some.ensures.front) ∙ MatchOption-at_none _ _ w.in_default-number_of.is w.number_of.ensures
+          ap name_of (sym w.in-Some.ensures.front) ∙ MatchOption-at_none _ _ w.in_default-number_of.is w.number_of.ensures
       | in_default w ↦ no_name_between c.args.text.now c.utf8.text (λ b. false≢true (w.in_default.ensures.variant.1 b))
     ] in
     IfOk-weaker c.push_char.result _ _ (λ rest h. h c.args.quartz c.args.after_dash none) c.push_char.ensures

@@ -1,4 +1,4 @@
-use Rattle.std.proofs.Common.{rules, arith, ◌≡◌, ap, sym, ◌∙◌, string_bytes}
+use Rattle.std.proofs.Common.{rules, ap, sym, ◌∙◌, string_bytes}
 use Rattle.croner.specs.Cut.{behind, replaced, has_dash, Advances}
 use Rattle.croner.proofs.Names.{behind-nil}
 use Rattle.croner.proofs.parser.text.replaced.Goals as goal
@@ -12,6 +12,6 @@ loop-rest-preserved c =
     record {
       is_text = step.is_text;
       same =
-        ap (λ t. behind (string_bytes c.push_piece.new.written) (replaced c.args.quartz (has_dash t) c.in-Some.next.now)) c.as_bytes.ensures.value ∙ sym step.same
-        ∙ c.loop-rest.invariant.same;
+          ap (λ t. behind (string_bytes c.push_piece.new.written) (replaced c.args.quartz (has_dash t) c.in-Some.next.now)) c.as_bytes.ensures.value ∙ sym step.same
+          ∙ c.loop-rest.invariant.same;
     }

@@ -1,0 +1,124 @@
+-- What an iterator gave between two standings, call by call.
+use Rattle.std.proofs.Common.{◌≡◌, ℕ, ℤ, ◌⊎◌, inl, inr, refl, sym, subst, Bool, true, false, List, [], ◌∷◌, ◌++◌, None, ap, ◌∙◌, IsTrue}
+use Rattle.croner_base.specs.Zone.{Zone, Moment, at_instant}
+use Rattle.croner_base.specs.Calm.{HoldsAround}
+use Rattle.croner_base.specs.declared.time.Direction.{Direction}
+use Rattle.croner_pattern.specs.Meaning.{Meaning}
+use Rattle.croner.specs.Runs.{Job, Counts, Precedes, Reaches, Nearest}
+use Rattle.croner.specs.Premises.{IsSearchable}
+use Rattle.croner.specs.PatternJob.{pattern_job}
+use Rattle.croner.specs.Limit.{InSpan, NoneInSpan}
+use Rattle.croner.specs.Listing.{Standing, standing_of, instants, Takes, IsLeft, BeginsRest, Gave, GaveAll, moved, counts_position, job_at, GivesItem, GivesNone}
+use Rattle.croner.specs.declared.iterator.CronIterator.{CronIterator}
+use Rattle.std.proofs.lemmas.Bool.{false≢true}
+use Rattle.std.proofs.lemmas.List.{map_push}
+use Rattle.croner.proofs.HeldRuns.{holds_from}
+use Rattle.croner.proofs.Listings.{Splits, splits_none, splits_next, IsNext, is_next, is_run, begins}
+use Rattle.croner.proofs.SearchedYears.{searched_run}
+
+-- the invariant of repeated calls
+pub record Goes (old cur : Standing) (items : List ℤ) : Type 0 where
+  pub direction : cur.direction ≡ old.direction
+  pub zone : cur.position.zone ≡ old.position.zone
+  pub splits : IsSearchable old.position → Splits old.direction (IsLeft old) (IsLeft cur) items
+  pub searchable : IsSearchable old.position → IsSearchable cur.position
+
+pub goes_none : (s : Standing) → Goes s s []
+goes_none s = record {
+  direction = refl;
+  zone = refl;
+  splits = λ p. splits_none s.direction (IsLeft s);
+  searchable = λ p. p;
+}
+
+-- a call without an item
+pub goes_on : (lack : Bool) (old cur new : Standing) (items : List ℤ) → Goes old cur items → GivesNone lack cur new → Goes old new items
+goes_on lack old cur new items g n =
+    let P : Standing → Type 0 = λ s. Goes old s items in
+    subst P (sym n.stands) (record {
+      direction = g.direction;
+      zone = g.zone;
+      splits = g.splits;
+      searchable = g.searchable;
+    })
+
+-- the item is a run that searches are promised from
+searchable_item : (cur : Standing) (item : Moment) → IsSearchable cur.position → item.zone ≡ cur.position.zone → item.fraction ≡ 0
+    → Counts cur.direction (counts_position cur) (job_at cur) cur.position.instant item.instant → IsSearchable item
+searchable_item cur item p same_zone whole counts =
+    let searched = searched_run cur.pattern cur.position.zone item.instant
+    (is_run cur.direction (counts_position cur) (job_at cur) cur.position.instant item.instant counts) in
+    let held = holds_from cur.position p.calm p.held item.instant searched in
+    let in_zone : Zone → Moment = λ z. at_instant z item.instant in
+    let with_fraction : ℕ → Moment = λ f. record { zone = item.zone; instant = item.instant; fraction = f } in
+    let same : at_instant cur.position.zone item.instant ≡ item = ap in_zone (sym same_zone) ∙ ap with_fraction (sym whole) in
+    subst IsSearchable same (record { calm = p.calm; whole = refl; held = held })
+
+next_of : (cur new : Standing) (item : Moment) → IsSearchable cur.position → GivesItem cur item new → IsNext cur.direction (IsLeft cur) (IsLeft (moved cur item)) item.instant
+next_of cur new item p g =
+    let P : Zone → Type 0 = λ z. IsNext cur.direction (IsLeft cur) (Counts cur.direction false (pattern_job cur.pattern z) item.instant) item.instant in
+    subst P (sym g.same_zone) (is_next cur.direction (counts_position cur) (job_at cur) cur.position.instant item.instant (g.nearest p))
+
+-- a call with an item
+pub goes_to : (old cur new : Standing) (items : List ℤ) (item : Moment) → Goes old cur items → GivesItem cur item new → Goes old new (items ++ item.instant ∷ [])
+goes_to old cur new items item g n =
+    let P : Standing → Type 0 = λ s. Goes old s (items ++ item.instant ∷ []) in
+    subst P (sym n.stands) (record {
+      direction = g.direction;
+      zone = n.same_zone ∙ g.zone;
+      splits = λ p.
+          let Q : Direction → Type 0 = λ d. IsNext d (IsLeft cur) (IsLeft (moved cur item)) item.instant in
+          splits_next old.direction (IsLeft old) (IsLeft cur) (IsLeft (moved cur item)) items item.instant (g.splits p)
+          (subst Q g.direction (next_of cur new item (g.searchable p) n));
+      searchable = λ p. searchable_item cur item (g.searchable p) n.same_zone n.whole (n.nearest (g.searchable p)).counts;
+    })
+
+-- what the calls show
+pub gave : (old cur : Standing) (items : List ℤ) → Goes old cur items → IsSearchable old.position → Gave old cur items
+gave old cur items g p =
+    let s = g.splits p in
+    record { ordered = s.ordered; counts = s.counts; either = s.either; behind = s.behind; within = s.within }
+
+pub begins_rest : (old cur : Standing) (items : List ℤ) → Goes old cur items → IsSearchable old.position → BeginsRest old items
+begins_rest old cur items g p =
+    begins old.direction (counts_position old) (job_at old) old.position.instant (IsLeft cur) items (g.splits p)
+
+-- nothing that is left lies in the span
+abbrev pub IsOver : Standing → Standing → Type 0
+IsOver old cur = IsSearchable old.position → (i : ℤ) → IsLeft cur i → InSpan old.direction old.position.zone.reads i → ⊥
+
+-- a call without an item and without a fault says so
+pub is_over : (lack : Bool) (old cur new : Standing) (items : List ℤ) → Goes old cur items → GivesNone lack cur new → new.fault ≡ None → IsOver old new
+is_over lack old cur new items g n without =
+    let P : Standing → Type 0 = λ s. IsOver old s in
+    subst P (sym n.stands) (λ p i left span.
+    let in_direction : InSpan cur.direction old.position.zone.reads i = let Q : Direction → Type 0 = λ d. InSpan d old.position.zone.reads i in subst Q (sym g.direction) span in
+    let in_zone : InSpan cur.direction cur.position.zone.reads i = let R : Zone → Type 0 = λ z. InSpan cur.direction z.reads i in subst R (sym g.zone) in_direction in
+    n.ends (g.searchable p) without i in_zone left)
+
+pub gave_all : (old cur : Standing) (items : List ℤ) → Goes old cur items → IsOver old cur → IsSearchable old.position → GaveAll old items
+gave_all old cur items g over p = λ i left span.
+    elim ((g.splits p).either i left) [
+      | inl had ↦ had
+      | inr rest ↦ absurd (over p i rest span)
+    ]
+
+-- one call more
+module _ {T : Type 0} (moment : T → Moment) (lack : Bool) (old : Standing) (cur new : CronIterator T) (before after : List T) where
+  pub goes_by_call : (b : Bool) → Goes old (standing_of moment cur) (instants moment before) → Takes moment lack cur new before after b → Goes old (standing_of moment new) (instants moment after)
+  goes_by_call true g (none, without, e) =
+      let P : List T → Type 0 = λ ts. Goes old (standing_of moment new) (instants moment ts) in
+      subst P (sym e) (goes_on lack old (standing_of moment cur) (standing_of moment new) (instants moment before) g none)
+  goes_by_call false g takes =
+      let P : List T → Type 0 = λ ts. Goes old (standing_of moment new) (instants moment ts) in
+      let Q : List ℤ → Type 0 = λ is. Goes old (standing_of moment new) is in
+      elim takes [
+        | inl (none, e) ↦ subst P (sym e) (goes_on lack old (standing_of moment cur) (standing_of moment new) (instants moment before) g none)
+        | inr (t, item, e) ↦
+            subst P (sym e) (subst Q (sym (map_push (λ x. (moment x).instant) before t))
+            (goes_to old (standing_of moment cur) (standing_of moment new) (instants moment before) (moment t) g item))
+      ]
+
+  pub over_by_call : (b : Bool) → Goes old (standing_of moment cur) (instants moment before) → Takes moment lack cur new before after b → IsTrue b → IsOver old (standing_of moment new)
+  over_by_call true g (none, without, e) h = is_over lack old (standing_of moment cur) (standing_of moment new) (instants moment before) g none without
+  over_by_call false g takes h = absurd (false≢true h)

@@ -1,0 +1,187 @@
+-- The search for the nearest scheduled date and time.
+use Rattle.std.proofs.Common.{◌≡◌, inl, inr, Bool, true, false, sym, ap, subst, ◌∙◌}
+use Rattle.std.proofs.lemmas.Bool.{false≢true}
+use Rattle.croner_base.specs.declared.time.Direction.{Direction}
+use Rattle.croner_base.specs.declared.time.civil.CivilDate.{CivilDate}
+use Rattle.croner_base.specs.declared.time.civil.CivilTime.{CivilTime}
+use Rattle.croner_base.specs.declared.time.civil.CivilDateTime.{CivilDateTime}
+use Rattle.croner_base.specs.Civil.{wall_second, day_of_date}
+use Rattle.croner_pattern.specs.Meaning.{Meaning}
+use Rattle.croner_pattern.specs.Schedule.{is_date_matching, is_scheduled}
+use Rattle.croner.specs.Runs.{Precedes, Reaches}
+use Rattle.croner.specs.Cursor.{one_on, has_room, edge_day, last_day, place_in_day, IsMatchingTime, IsMove, IsOpenTime, IsFirstTime, IsReached, IsOpen, IsOnSchedule, IsNearest, NoneOn}
+use Rattle.croner.proofs.Ahead.{reaches-trans, precedes-reaches, precedes-trans, either, same_or_ahead, both_ways, one_on-ahead, one_on-next}
+use Rattle.croner.proofs.CivilOrder.{same_date, reach-date, reach-time, wall-reach_date, wall-reach_time, room-before, no_room-past}
+use Rattle.croner.proofs.Dates.{bool_cases, and-split, and-join, same_match, last_day-room, last_day-no_room, walking-start}
+use Rattle.croner.proofs.Times.{first-least, first-matches, move-between}
+
+-- what is scheduled has a matching time on a matching date
+pub record Parts (m : Meaning) (c : CivilDateTime) : Type 0 where
+  pub time : IsMatchingTime m c.time
+  pub date : is_date_matching m c.date ≡ true
+
+pub scheduled_parts : (m : Meaning) (c : CivilDateTime) → is_scheduled m c ≡ true → Parts m c
+scheduled_parts m c h =
+    let one = and-split _ _ h in
+    let two = and-split _ _ one.1 in
+    let three = and-split _ _ two.1 in
+    record { time = record { hour = three.0; minute = two.0; second = one.0 }; date = three.1 }
+
+pub parts_scheduled : (m : Meaning) (c : CivilDateTime) → Parts m c → is_scheduled m c ≡ true
+parts_scheduled m c p =
+    and-join _ _ p.time.second (and-join _ _ p.time.minute (and-join _ _ p.time.hour p.date))
+
+-- a date and time made of a date and a time
+pub parts_of : (m : Meaning) (c : CivilDateTime) (d : CivilDate) (t : CivilTime) → c.date ≡ d → c.time ≡ t → is_date_matching m d ≡ true → IsMatchingTime m t → Parts m c
+parts_of m c d t e f date time = record {
+  time = subst (IsMatchingTime m) (sym f) time;
+  date = ap (is_date_matching m) e ∙ date;
+}
+
+module _ (m : Meaning) (dir : Direction) (from : CivilDateTime) where
+  -- no field of the time may be empty
+  pub no_time : ((t : CivilTime) → IsMatchingTime m t → ⊥) → NoneOn wall_second (IsOpen m dir from) dir (wall_second from)
+  no_time none y r is = let p = scheduled_parts m y is.scheduled in none y.time p.time
+
+  open_time : (y : CivilDateTime) → IsOpen m dir from y → IsOpenTime m (has_room dir from.date.year) from.time y.time
+  open_time y is = let p = scheduled_parts m y is.scheduled in record { matches = p.time; move = is.move }
+
+  -- ---- on the start's own day
+
+  pub today-reached : (room : Bool) (t : CivilTime) (c : CivilDateTime) → room ≡ has_room dir from.date.year → is_date_matching m from.date ≡ true → IsNearest place_in_day (IsOpenTime m room from.time) dir (place_in_day from.time) t → c.date ≡ from.date → c.time ≡ t → IsNearest wall_second (IsOpen m dir from) dir (wall_second from) c
+  today-reached room t c has date n e f =
+      let same : day_of_date c.date ≡ day_of_date from.date = ap day_of_date e in
+      let start = walking-start m dir from.date in
+      record {
+        on = wall-reach_time dir from c same (subst (λ z. Reaches dir (place_in_day from.time) (place_in_day z)) (sym f) n.on);
+        is = record {
+          scheduled = parts_scheduled m c (parts_of m c from.date t e f date n.is.matches);
+          within = subst (λ z. Reaches dir z (last_day dir from.date)) (sym same) start.within;
+          move = λ lacks. subst (IsMove m from.time) (sym f) (n.is.move (has ∙ lacks));
+        };
+        first = λ y r is.
+            elim (same_or_ahead dir (day_of_date from.date) (day_of_date y.date) (reach-date dir from y r)) [
+              | inl today ↦
+                  let is_open : IsOpenTime m room from.time y.time = subst (λ b. IsOpenTime m b from.time y.time) (sym has) (open_time y is) in
+                  wall-reach_time dir c y (sym today ∙ sym same)
+                  (subst (λ z. Reaches dir (place_in_day z) (place_in_day y.time)) (sym f) (n.first y.time (reach-time dir from y (sym today) r) is_open))
+              | inr later ↦
+                  wall-reach_date dir c y (subst (λ z. Precedes dir z (day_of_date y.date)) (sym same) later)
+            ];
+      }
+
+  -- what is scheduled before an answer is open, so the answer is the nearest of all
+  nearest_of_all : (c : CivilDateTime) → IsNearest wall_second (IsOpen m dir from) dir (wall_second from) c → ((y : CivilDateTime) → Reaches dir (wall_second from) (wall_second y) → Reaches dir (wall_second y) (wall_second c) → is_scheduled m y ≡ true → IsOpen m dir from y) → IsNearest wall_second (IsOnSchedule m) dir (wall_second from) c
+  nearest_of_all c n is_open = record {
+    on = n.on;
+    is = n.is.scheduled;
+    first = λ y r is.
+        elim (either dir (wall_second y) (wall_second c)) [
+          | inl before ↦ n.first y r (is_open y r (precedes-reaches dir (wall_second y) (wall_second c) before) is)
+          | inr on ↦ on
+        ];
+  }
+
+  pub today-nearest : (c : CivilDateTime) → c.date ≡ from.date → IsNearest wall_second (IsOpen m dir from) dir (wall_second from) c → IsNearest wall_second (IsOnSchedule m) dir (wall_second from) c
+  today-nearest c e n =
+      let same : day_of_date c.date ≡ day_of_date from.date = ap day_of_date e in
+      nearest_of_all c n (λ y r k is.
+      let p = scheduled_parts m y is in
+      let back : Reaches dir (day_of_date y.date) (day_of_date from.date) = subst (λ z. Reaches dir (day_of_date y.date) z) same (reach-date dir y c k) in
+      let today : day_of_date y.date ≡ day_of_date from.date = both_ways dir (day_of_date y.date) (day_of_date from.date) back (reach-date dir from y r) in
+      let start = walking-start m dir from.date in
+      record {
+        scheduled = is;
+        within = subst (λ z. Reaches dir z (last_day dir from.date)) (sym today) start.within;
+        move = λ lacks. move-between m dir from.time y.time c.time (n.is.move lacks) p.time (reach-time dir from y today r) (reach-time dir y c (same ∙ sym today) k);
+      })
+
+  -- nothing is left of the day
+  pub record NoneToday : Type 0 where
+    pub none : (y : CivilDateTime) → Reaches dir (wall_second from) (wall_second y) → day_of_date y.date ≡ day_of_date from.date → IsOpen m dir from y → ⊥
+
+  pub today-no_time : (room : Bool) → room ≡ has_room dir from.date.year → NoneOn place_in_day (IsOpenTime m room from.time) dir (place_in_day from.time) → NoneToday
+  today-no_time room has h = record {
+    none = λ y r today is.
+        let is_open : IsOpenTime m room from.time y.time = subst (λ b. IsOpenTime m b from.time y.time) (sym has) (open_time y is) in
+        h y.time (reach-time dir from y today r) is_open;
+  }
+
+  pub today-no_date : is_date_matching m from.date ≡ false → NoneToday
+  today-no_date h = record {
+    none = λ y r today is.
+        let p = scheduled_parts m y is.scheduled in
+        false≢true (sym h ∙ same_match m from.date y.date (same_date from.date y.date (sym today)) p.date);
+  }
+
+  -- there is no room for a step
+  pub stays : has_room dir from.date.year ≡ false → NoneToday → NoneOn wall_second (IsOpen m dir from) dir (wall_second from)
+  stays lacks t y r is =
+      let last : Reaches dir (day_of_date y.date) (day_of_date from.date) = subst (λ z. Reaches dir (day_of_date y.date) z) (last_day-no_room dir from.date lacks) is.within in
+      let today : day_of_date y.date ≡ day_of_date from.date = both_ways dir (day_of_date y.date) (day_of_date from.date) last (reach-date dir from y r) in
+      t.none y r today is
+
+  -- ---- from the next day on
+
+  module _ (next : CivilDate) (step : day_of_date next ≡ one_on dir (day_of_date from.date)) (has : has_room dir from.date.year ≡ true) where
+    last_day-next : last_day dir next ≡ last_day dir from.date
+    last_day-next =
+        let far = last_day-room dir from.date has in
+        elim (bool_cases (has_room dir next.year)) [
+          | inl room ↦ last_day-room dir next room ∙ sym far
+          | inr none ↦
+              let up_to : Reaches dir (day_of_date next) (edge_day dir) = subst (λ z. Reaches dir z (edge_day dir)) (sym step) (one_on-next dir (day_of_date from.date) (edge_day dir) (room-before dir from.date has)) in
+              last_day-no_room dir next none ∙ both_ways dir (day_of_date next) (edge_day dir) up_to (no_room-past dir next none) ∙ sym far
+        ]
+
+    -- what is open on a later day lies on a date that the search comes to
+    later_date : (y : CivilDateTime) → IsOpen m dir from y → Precedes dir (day_of_date from.date) (day_of_date y.date) → Reaches dir (day_of_date next) (day_of_date y.date) × IsReached m dir (last_day dir next) y.date
+    later_date y is later =
+        let p = scheduled_parts m y is.scheduled in (
+          subst (λ z. Reaches dir z (day_of_date y.date)) (sym step) (one_on-next dir (day_of_date from.date) (day_of_date y.date) later),
+          record { matches = p.date; within = subst (λ z. Reaches dir (day_of_date y.date) z) (sym last_day-next) is.within },
+        )
+
+    pub later-none : NoneToday → NoneOn day_of_date (IsReached m dir (last_day dir next)) dir (day_of_date next) → NoneOn wall_second (IsOpen m dir from) dir (wall_second from)
+    later-none t none y r is =
+        elim (same_or_ahead dir (day_of_date from.date) (day_of_date y.date) (reach-date dir from y r)) [
+          | inl today ↦ t.none y r (sym today) is
+          | inr later ↦ let there = later_date y is later in none y.date there.0 there.1
+        ]
+
+    pub later-reached : NoneToday → (d : CivilDate) (first : CivilTime) (c : CivilDateTime) → IsNearest day_of_date (IsReached m dir (last_day dir next)) dir (day_of_date next) d → IsFirstTime m dir first → c.date ≡ d → c.time ≡ first → IsNearest wall_second (IsOpen m dir from) dir (wall_second from) c
+    later-reached t d first c n f e g =
+        let same : day_of_date c.date ≡ day_of_date d = ap day_of_date e in
+        let ahead : Precedes dir (day_of_date from.date) (day_of_date c.date) = precedes-trans dir (day_of_date from.date) (day_of_date next) (day_of_date c.date)
+        (subst (λ z. Precedes dir (day_of_date from.date) z) (sym step) (one_on-ahead dir (day_of_date from.date)))
+        (subst (λ z. Reaches dir (day_of_date next) z) (sym same) n.on) in
+        record {
+          on = wall-reach_date dir from c ahead;
+          is = record {
+            scheduled = parts_scheduled m c (parts_of m c d first e g n.is.matches (first-matches m dir first f));
+            within = subst (λ z. Reaches dir z (last_day dir from.date)) (sym same) (subst (λ z. Reaches dir (day_of_date d) z) last_day-next n.is.within);
+            move = λ lacks. absurd (false≢true (sym lacks ∙ has));
+          };
+          first = λ y r is.
+              elim (same_or_ahead dir (day_of_date from.date) (day_of_date y.date) (reach-date dir from y r)) [
+                | inl today ↦ absurd (t.none y r (sym today) is)
+                | inr later ↦
+                    let there = later_date y is later in
+                    let p = scheduled_parts m y is.scheduled in
+                    let on : Reaches dir (day_of_date c.date) (day_of_date y.date) = subst (λ z. Reaches dir z (day_of_date y.date)) (sym same) (n.first y.date there.0 there.1) in
+                    elim (same_or_ahead dir (day_of_date c.date) (day_of_date y.date) on) [
+                      | inl that_day ↦
+                          wall-reach_time dir c y (sym that_day)
+                          (subst (λ z. Reaches dir (place_in_day z) (place_in_day y.time)) (sym g) (first-least m dir first y.time f p.time))
+                      | inr after ↦ wall-reach_date dir c y after
+                    ]
+              ];
+        }
+
+    pub later-nearest : (c : CivilDateTime) → IsNearest wall_second (IsOpen m dir from) dir (wall_second from) c → IsNearest wall_second (IsOnSchedule m) dir (wall_second from) c
+    later-nearest c n =
+        nearest_of_all c n (λ y r k is. record {
+          scheduled = is;
+          within = reaches-trans dir (day_of_date y.date) (day_of_date c.date) (last_day dir from.date) (reach-date dir y c k) n.is.within;
+          move = λ lacks. absurd (false≢true (sym lacks ∙ has));
+        })

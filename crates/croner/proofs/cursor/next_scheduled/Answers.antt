@@ -1,0 +1,107 @@
+use Rattle.std.proofs.Common.{◌≡◌, true, sym, ap, ◌∙◌, subst, rules, FitsSigned, w32}
+use Rattle.std.proofs.lemmas.Int.{to_z-of_z}
+use Rattle.croner_base.specs.declared.time.civil.CivilDate.{CivilDate}
+use Rattle.croner_base.specs.declared.time.civil.CivilTime.{CivilTime}
+use Rattle.croner_base.specs.Civil.{day_of_date}
+use Rattle.croner_pattern.specs.Meaning.{meaning_of}
+use Rattle.croner_pattern.specs.Schedule.{is_date_matching}
+use Rattle.croner.specs.Cursor.{one_on, has_room, place_in_day, IsOpenTime, IsNearest, NoneOn}
+use Rattle.croner.proofs.Scheduled.{no_time, today-reached, today-nearest, NoneToday, today-no_time, today-no_date, stays, later-none, later-reached, later-nearest}
+use Rattle.croner.proofs.cursor.next_scheduled.Goals as goal
+use Rattle.croner.proofs.cursor.next_scheduled.Goals.{then-matches+in_default, else-matches}
+
+pub returns-in_err-first-clause-reached : goal.returns-in_err-first-clause-reached
+returns-in_err-first-clause-reached c =
+    rw c.from_residual.ensures (no_time (meaning_of c.args.pattern.now) c.args.direction c.args.from c.in_err-first.ensures)
+
+pub returns-in-Some-clause-reached : goal.returns-in-Some-clause-reached
+returns-in-Some-clause-reached c =
+    let m = meaning_of c.args.pattern.now in
+    let dir = c.args.direction in
+    let f : FitsSigned w32 c.year.result = search rules in
+    let r = simp to_z-of_z at c.has_room-room.ensures in
+    let has : c.has_room-room.result ≡ has_room dir c.args.from.date.year = r ∙ ap (has_room dir) (c.year.ensures ∙ ap (λ (d : CivilDate). d.year) c.date-date.ensures) in
+    let date : is_date_matching m c.args.from.date ≡ true = sym (ap (is_date_matching m) c.date-date.ensures) ∙ sym c.matches.ensures ∙ c.if-matches.true in
+    let n = subst (λ (t : CivilTime). IsNearest place_in_day (IsOpenTime m c.has_room-room.result t) dir (place_in_day t) c.in-Some.time) c.time.ensures c.in-Some.ensures in
+    today-reached m dir c.args.from c.has_room-room.result c.in-Some.time c.new.result has date n (c.new.ensures.date ∙ c.date-date.ensures) c.new.ensures.time
+
+pub returns-in-Some-clause-nearest : goal.returns-in-Some-clause-nearest
+returns-in-Some-clause-nearest c =
+    let m = meaning_of c.args.pattern.now in
+    let dir = c.args.direction in
+    let f : FitsSigned w32 c.year.result = search rules in
+    let r = simp to_z-of_z at c.has_room-room.ensures in
+    let has : c.has_room-room.result ≡ has_room dir c.args.from.date.year = r ∙ ap (has_room dir) (c.year.ensures ∙ ap (λ (d : CivilDate). d.year) c.date-date.ensures) in
+    let date : is_date_matching m c.args.from.date ≡ true = sym (ap (is_date_matching m) c.date-date.ensures) ∙ sym c.matches.ensures ∙ c.if-matches.true in
+    let n = subst (λ (t : CivilTime). IsNearest place_in_day (IsOpenTime m c.has_room-room.result t) dir (place_in_day t) c.in-Some.time) c.time.ensures c.in-Some.ensures in
+    today-nearest m dir c.args.from c.new.result (c.new.ensures.date ∙ c.date-date.ensures)
+    (today-reached m dir c.args.from c.has_room-room.result c.in-Some.time c.new.result has date n (c.new.ensures.date ∙ c.date-date.ensures) c.new.ensures.time)
+
+pub returns-then-not-room-clause-reached : goal.returns-then-not-room-clause-reached
+returns-then-not-room-clause-reached c =
+    let m = meaning_of c.args.pattern.now in
+    let dir = c.args.direction in
+    let f : FitsSigned w32 c.year.result = search rules in
+    let r = simp to_z-of_z at c.has_room-room.ensures in
+    let has : c.has_room-room.result ≡ has_room dir c.args.from.date.year = r ∙ ap (has_room dir) (c.year.ensures ∙ ap (λ (d : CivilDate). d.year) c.date-date.ensures) in
+    let today : NoneToday m dir c.args.from = elim c.if-matches.branch [
+      | then-matches+in_default w ↦
+          today-no_time m dir c.args.from c.has_room-room.result has
+          (subst (λ (t : CivilTime). NoneOn place_in_day (IsOpenTime m c.has_room-room.result t) dir (place_in_day t)) w.time.ensures w.in_default.ensures)
+      | else-matches w ↦
+          today-no_date m dir c.args.from (sym (ap (is_date_matching m) c.date-date.ensures) ∙ sym c.matches.ensures ∙ w.if-matches.false)
+    ] in
+    stays m dir c.args.from (sym has ∙ c.if-not-room.true) today
+
+pub returns-in_err-date-clause-reached : goal.returns-in_err-date-clause-reached
+returns-in_err-date-clause-reached c =
+    let m = meaning_of c.args.pattern.now in
+    let dir = c.args.direction in
+    let f : FitsSigned w32 c.year.result = search rules in
+    let r = simp to_z-of_z at c.has_room-room.ensures in
+    let has : c.has_room-room.result ≡ has_room dir c.args.from.date.year = r ∙ ap (has_room dir) (c.year.ensures ∙ ap (λ (d : CivilDate). d.year) c.date-date.ensures) in
+    let today : NoneToday m dir c.args.from = elim c.if-matches.branch [
+      | then-matches+in_default w ↦
+          today-no_time m dir c.args.from c.has_room-room.result has
+          (subst (λ (t : CivilTime). NoneOn place_in_day (IsOpenTime m c.has_room-room.result t) dir (place_in_day t)) w.time.ensures w.in_default.ensures)
+      | else-matches w ↦
+          today-no_date m dir c.args.from (sym (ap (is_date_matching m) c.date-date.ensures) ∙ sym c.matches.ensures ∙ w.if-matches.false)
+    ] in
+    let step = c.next_day-next.ensures ∙ ap (λ (d : CivilDate). one_on dir (day_of_date d)) c.date-date.ensures in
+    rw c.from_residual-in_err-date.ensures
+    (later-none m dir c.args.from c.next_day-next.result step (sym has ∙ c.if-not-room.false) today c.in_err-date.ensures)
+
+pub returns-clause-reached : goal.returns-clause-reached
+returns-clause-reached c =
+    let m = meaning_of c.args.pattern.now in
+    let dir = c.args.direction in
+    let f : FitsSigned w32 c.year.result = search rules in
+    let r = simp to_z-of_z at c.has_room-room.ensures in
+    let has : c.has_room-room.result ≡ has_room dir c.args.from.date.year = r ∙ ap (has_room dir) (c.year.ensures ∙ ap (λ (d : CivilDate). d.year) c.date-date.ensures) in
+    let today : NoneToday m dir c.args.from = elim c.if-matches.branch [
+      | then-matches+in_default w ↦
+          today-no_time m dir c.args.from c.has_room-room.result has
+          (subst (λ (t : CivilTime). NoneOn place_in_day (IsOpenTime m c.has_room-room.result t) dir (place_in_day t)) w.time.ensures w.in_default.ensures)
+      | else-matches w ↦
+          today-no_date m dir c.args.from (sym (ap (is_date_matching m) c.date-date.ensures) ∙ sym c.matches.ensures ∙ w.if-matches.false)
+    ] in
+    let step = c.next_day-next.ensures ∙ ap (λ (d : CivilDate). one_on dir (day_of_date d)) c.date-date.ensures in
+    later-reached m dir c.args.from c.next_day-next.result step (sym has ∙ c.if-not-room.false) today c.in_ok-date.date c.in_ok-first.first c.new-2.result c.in_ok-date.ensures c.in_ok-first.ensures c.new-2.ensures.date c.new-2.ensures.time
+
+pub returns-clause-nearest : goal.returns-clause-nearest
+returns-clause-nearest c =
+    let m = meaning_of c.args.pattern.now in
+    let dir = c.args.direction in
+    let f : FitsSigned w32 c.year.result = search rules in
+    let r = simp to_z-of_z at c.has_room-room.ensures in
+    let has : c.has_room-room.result ≡ has_room dir c.args.from.date.year = r ∙ ap (has_room dir) (c.year.ensures ∙ ap (λ (d : CivilDate). d.year) c.date-date.ensures) in
+    let today : NoneToday m dir c.args.from = elim c.if-matches.branch [
+      | then-matches+in_default w ↦
+          today-no_time m dir c.args.from c.has_room-room.result has
+          (subst (λ (t : CivilTime). NoneOn place_in_day (IsOpenTime m c.has_room-room.result t) dir (place_in_day t)) w.time.ensures w.in_default.ensures)
+      | else-matches w ↦
+          today-no_date m dir c.args.from (sym (ap (is_date_matching m) c.date-date.ensures) ∙ sym c.matches.ensures ∙ w.if-matches.false)
+    ] in
+    let step = c.next_day-next.ensures ∙ ap (λ (d : CivilDate). one_on dir (day_of_date d)) c.date-date.ensures in
+    later-nearest m dir c.args.from c.next_day-next.result step (sym has ∙ c.if-not-room.false) c.new-2.result
+    (later-reached m dir c.args.from c.next_day-next.result step (sym has ∙ c.if-not-room.false) today c.in_ok-date.date c.in_ok-first.first c.new-2.result c.in_ok-date.ensures c.in_ok-first.ensures c.new-2.ensures.date c.new-2.ensures.time)

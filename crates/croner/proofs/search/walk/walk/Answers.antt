@@ -1,0 +1,61 @@
+use Rattle.std.proofs.Common.{sym, ◌∙◌, refl, ap, arith}
+use Rattle.croner_base.specs.Civil.{wall_second}
+use Rattle.croner.specs.Runs.{Job, job_in}
+use Rattle.croner.specs.Walk.{walk_start}
+use Rattle.croner.proofs.CalmZone.{calm_of}
+use Rattle.croner.proofs.WalkPace.{paced_start, paced_on, paced_ends}
+use Rattle.croner.proofs.WalkLoop.{walking_start, walking_next, walk_reaches, out_far}
+use Rattle.croner.proofs.ErrorsKept.{error_kept}
+use Rattle.croner.proofs.search.walk.walk.Goals as goal
+
+pub returns-in_default-clause-value : goal.returns-in_default-clause-value
+returns-in_default-clause-value g c =
+    let last = rw c.in_default.is at c.first_second.ensures in
+    let origin = g.T.CronDateTime.moment c.args.origin.now in
+    λ start. out_far _ _ (job_in origin.zone (g.S.Schedule.scheduled c.args.schedule.now) (g.S.Schedule.date_matches c.args.schedule.now) (g.S.Schedule.fixed_time c.args.schedule.now)) origin.instant c.to_civil.result last c.to_civil.ensures
+
+pub loop-init : goal.loop-init
+loop-init g c =
+    let begun = rw c.in-Some.is at c.first_second.ensures in
+    record {
+      walking = walking_start _ _ _ _ _ _ (begun ∙ ap (walk_start c.args.direction c.args.inclusive) c.to_civil.ensures);
+      paced = λ start. paced_start _ _ _ _;
+    }
+
+pub returns-in_default-next_scheduled-clause-value :
+    goal.returns-in_default-next_scheduled-clause-value
+returns-in_default-next_scheduled-clause-value g c =
+    let none = rw c.in_default-next_scheduled.is at c.next_scheduled.ensures in
+    λ start. (wall_second c.loop.wall, c.loop.invariant.walking.none start, none)
+
+pub pass-requires-clause-scheduled : goal.pass-requires-clause-scheduled
+pass-requires-clause-scheduled g c = (rw c.in-Some-next_scheduled.is at c.next_scheduled.ensures).is
+
+pub pass-requires-clause-walking : goal.pass-requires-clause-walking
+pass-requires-clause-walking g c =
+    let found = rw c.in-Some-next_scheduled.is at c.next_scheduled.ensures in
+    walking_next _ _ _ _ _ _ _ c.loop.invariant.walking found
+
+pub loop-preserved : goal.loop-preserved
+loop-preserved g c =
+    let origin = g.T.CronDateTime.moment c.args.origin.now in
+    let job = job_in origin.zone (g.S.Schedule.scheduled c.args.schedule.now) (g.S.Schedule.date_matches c.args.schedule.now) (g.S.Schedule.fixed_time c.args.schedule.now) in
+    let found = rw c.in-Some-next_scheduled.is at c.next_scheduled.ensures in
+    let searched = g.met.S.Schedule.in_years c.args.schedule.now c.requires (wall_second c.in-Some-next_scheduled.found) found.is in
+    let there = walking_next _ _ job _ _ _ _ c.loop.invariant.walking found in
+    let passed = rw c.in-GoOn.is at c.in_ok-answer.ensures in
+    record {
+      walking = passed.value.0;
+      paced = λ start. paced_on c.args.direction origin.zone.reads (calm_of origin.zone start.calm) origin.instant _ _ _ _ (c.loop.invariant.paced start) found.on (walk_reaches _ _ job _ _ _ there) searched (passed.value.1 start);
+    }
+
+pub returns-clause-value : goal.returns-clause-value
+returns-clause-value g c =
+    let origin = g.T.CronDateTime.moment c.args.origin.now in
+    λ start.
+    let ends = paced_ends c.args.direction origin.zone start.calm origin.instant (wall_second c.loop.wall) c.loop.counter (c.loop.invariant.paced start) in
+    absurd (omega arith)
+
+pub returns-in_err-answer-clause-err : goal.returns-in_err-answer-clause-err
+returns-in_err-answer-clause-err g c =
+    error_kept c.from_residual.result c.in_err-answer.field-0.0 _ c.from_residual.ensures.1 c.in_err-answer.ensures.err

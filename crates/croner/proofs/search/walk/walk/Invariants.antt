@@ -1,0 +1,16 @@
+use Rattle.croner.specs.Runs.{job_in}
+use Rattle.croner.specs.Premises.{IsCalmStart}
+use Rattle.croner.specs.Walk.{Walking}
+use Rattle.croner_base.specs.Civil.{wall_second}
+use Rattle.croner.proofs.WalkPace.{Paced}
+use Rattle.croner.proofs.search.walk.walk.Given as goal
+
+abbrev pub invariant-loop : goal.invariant-loop
+invariant-loop g l =
+    let origin = g.T.CronDateTime.moment l.origin in
+    record {
+      walking : Walking l.fn.direction l.fn.inclusive
+          (job_in origin.zone (g.S.Schedule.scheduled l.schedule) (g.S.Schedule.date_matches l.schedule) (g.S.Schedule.fixed_time l.schedule))
+          origin.instant origin.fraction (wall_second l.wall);
+      paced : IsCalmStart origin.zone origin.fraction → Paced l.fn.direction origin.zone.reads origin.instant (wall_second l.wall) l.counter;
+    }

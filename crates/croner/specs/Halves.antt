@@ -1,0 +1,82 @@
+-- The two halves of a repeated range of the wall clock.
+use Rattle.std.specs.Prelude.{◌≡◌, ⊤, ℕ, ◌<◌, ◌≤◌, ℤ, pos, ◌+ℤ◌, ◌-ℤ◌, ◌<ℤ◌, ◌≤ℤ◌, Bool, false, Option, Some, None}
+use Rattle.croner_base.specs.declared.time.Direction.{Direction}
+use Rattle.croner_base.specs.declared.time.Direction.TheVariants.{Forward, Backward}
+use Rattle.croner_base.specs.Zone.{Zone, Moment}
+use Rattle.croner.specs.Runs.{Job, Precedes, Nearest}
+use Rattle.croner.specs.Walk.{one_on}
+use Rattle.croner.specs.Premises.{IsSearchable, IsCalmStart, Shows}
+
+-- the clock is put forward or back right after the instant p
+abbrev pub Break : (ℤ → ℤ) → ℤ → Type 0
+Break reads p = ¬ (reads (p +ℤ pos 1) ≡ reads p +ℤ pos 1)
+
+-- another instant, ahead in the direction, shows what i shows
+abbrev pub HasTwin : Direction → (ℤ → ℤ) → ℤ → Type 0
+HasTwin direction reads i = (x : ℤ) × (reads x ≡ reads i) × Precedes direction i x
+
+-- s is at most two days before the change after p
+pub record EdgeAfter (reads : ℤ → ℤ) (s p : ℤ) : Type 0 where
+  pub from : s ≤ℤ p
+  pub near : p ≤ℤ (s +ℤ pos 172800)
+  pub breaks : Break reads p
+
+-- s is at most two days after the change after p
+pub record EdgeBefore (reads : ℤ → ℤ) (p s : ℤ) : Type 0 where
+  pub from : p <ℤ s
+  pub near : s ≤ℤ (p +ℤ pos 172801)
+  pub breaks : Break reads p
+
+-- e is the nearest instant of the half that s is not on
+abbrev pub EdgeOf : Direction → (ℤ → ℤ) → ℤ → ℤ → Type 0
+EdgeOf Forward reads s e = (p : ℤ) × (e ≡ p +ℤ pos 1) × EdgeAfter reads s p
+EdgeOf Backward reads s e = EdgeBefore reads e s
+
+-- so many seconds on in the direction
+abbrev pub offset_from : Direction → ℤ → ℕ → ℤ
+offset_from Forward s n = s +ℤ pos n
+offset_from Backward s n = s -ℤ pos n
+
+-- the same moment so many seconds on in the direction
+abbrev pub moment_from : Direction → Moment → ℕ → Moment
+moment_from direction m n = record m { instant = offset_from direction m.instant n }
+
+-- the other half counts too: not so for a fixed-time job forward
+abbrev pub CountsBoth : Direction → Bool → Type 0
+CountsBoth Forward fixed_time = fixed_time ≡ false
+CountsBoth Backward fixed_time = ⊤
+
+-- between these two offsets from s the half that s is on ends
+pub record Bisected (direction : Direction) (z : Zone) (s : ℤ) (fraction : ℕ) (inside outside : ℕ) : Type 0 where
+  pub ordered : inside < outside
+  pub margin : outside ≤ 86400
+  pub within : IsCalmStart z fraction → HasTwin direction z.reads s → HasTwin direction z.reads (offset_from direction s inside)
+  pub beyond : IsCalmStart z fraction → ¬ (HasTwin direction z.reads (offset_from direction s outside))
+
+-- the value stands at the edge of the other half, or there is none within the margin
+abbrev pub IsEdge : {T : Type 0} → (T → Moment) → Direction → Moment → Option T → Type 0
+IsEdge moment direction m (Some t) =
+    ((moment t).zone ≡ m.zone) × ((moment t).fraction ≡ m.fraction)
+    × (IsCalmStart m.zone m.fraction → HasTwin direction m.zone.reads m.instant → EdgeOf direction m.zone.reads m.instant (moment t).instant)
+    × ((n : ℕ) × (n ≤ 86400) × ((moment t).instant ≡ offset_from direction m.instant n))
+IsEdge moment direction m None = IsCalmStart m.zone m.fraction → ¬ (HasTwin direction m.zone.reads m.instant)
+
+-- the value is an answer of a search
+pub record IsFound {T : Type 0} (moment : T → Moment) (direction : Direction) (inclusive : Bool) (job : Job) (start : Moment) (t : T) : Type 0 where
+  pub zone_is : (moment t).zone ≡ job.zone
+  pub whole : (moment t).fraction ≡ 0
+  pub shows : Shows job (moment t).instant
+  pub nearest : IsSearchable start → Nearest direction inclusive job start.instant (moment t).instant
+
+-- the other direction
+abbrev pub opposite_way : Direction → Direction
+opposite_way Forward = Backward
+opposite_way Backward = Forward
+
+-- the edge of the other half and the last instant of the half that m is on; none where m is on no first half
+abbrev pub HasOtherHalf : {T : Type 0} → (T → Moment) → Direction → Moment → Option (T × T) → Type 0
+HasOtherHalf moment direction m (Some halves) =
+    ((moment halves.0).zone ≡ m.zone) × ((moment halves.0).fraction ≡ m.fraction) × ((moment halves.1).zone ≡ m.zone)
+    × ((moment halves.1).instant ≡ one_on (opposite_way direction) (moment halves.0).instant)
+    × (IsSearchable m → EdgeOf direction m.zone.reads m.instant (moment halves.0).instant)
+HasOtherHalf moment direction m None = IsSearchable m → ¬ (HasTwin direction m.zone.reads m.instant)

@@ -1,0 +1,107 @@
+//! Iterators over the runs of a pattern.
+ghost use Rattle.std.specs.Prelude.{◌≡◌, true, None};
+ghost use Rattle.croner_base.specs.declared.time.Direction.{Direction};
+ghost use Rattle.croner_pattern.specs.Meaning.{meaning_of};
+ghost use Rattle.croner_pattern.specs.Shapes.{has_field_shapes};
+
+use crate::Cron;
+use croner_base::errors::CronError;
+use croner_base::time::{CronDateTime, Direction};
+
+/// The runs of a pattern from a start, in one direction, each once.
+///
+/// Each item is the position from which the next search starts. A call of `next` that gives no item leaves the iterator
+/// where it stands, so a later call can go on; `fault` says why it gave none where the end of the searched years is not the reason.
+#[derive(Drop)]
+pub struct CronIterator<T> {
+    cron: Cron,
+    position: T,
+    is_first: bool,
+    inclusive: bool,
+    direction: Direction,
+    fault: Option<CronError>,
+    ghost shaped: { has_field_shapes (meaning_of cron.pattern) ≡ true },
+}
+
+impl<T: CronDateTime> CronIterator<T> {
+    ghost use Rattle.std.specs.Prelude.{IfSome, IfNone, IsTrue, Some, option_map};
+    ghost use Rattle.croner.specs.Listing.{standing_of, new_standing, counts_position, moved};
+
+    /// An iterator from a start: it counts the start where it is inclusive and the start is a run.
+    pub fn new(cron: Cron, start: T, inclusive: bool, direction: Direction) -> Self
+        requires { has_field_shapes (meaning_of cron.pattern) ≡ true }
+        ensures { standing_of T.moment result ≡ new_standing (meaning_of cron.pattern) (T.moment start) inclusive direction }
+    {
+        CronIterator {
+            cron,
+            position: start,
+            is_first: true,
+            inclusive,
+            direction,
+            fault: None,
+        }
+    }
+
+    /// The error, other than the limit, that ended the last call of `next`; none where that call gave an item or found none left.
+    pub fn fault(&self) -> Option<&CronError>
+        ensures { option_map (λ e. e.now) result ≡ (standing_of T.moment self.now).fault }
+    {
+        self.fault.as_ref()
+    }
+
+    // Whether the next search counts the position.
+    fn counts_position(&self) -> bool
+        ensures { result ≡ counts_position (standing_of T.moment self.now) }
+    {
+        self.is_first && self.inclusive
+    }
+
+    // Stands at the run that was found from now on, and gives it; or keeps the want of memory for its copy.
+    fn step_to(&mut self, found: T) -> Option<T>
+        ensures item { IfSome result (λ item. T.moment item ≡ T.moment found) }
+        ensures moved { IfSome result
+            (λ item. standing_of T.moment self.new ≡ moved (standing_of T.moment self.old) (T.moment item)) }
+        ensures kept { IfNone result
+            (standing_of T.moment self.new ≡ record (standing_of T.moment self.old) { fault = Some CronError.OutOfMemory }) }
+        ensures memory { IfNone result (IsTrue T.can_lack_memory) }
+    {
+        match found.clone() {
+            Ok(item) => {
+                self.position = found;
+                self.is_first = false;
+                self.fault = None;
+                Some(item)
+            }
+            Err(_) => {
+                self.fault = Some(CronError::OutOfMemory);
+                None
+            }
+        }
+    }
+}
+
+impl<T: CronDateTime> Iterator for CronIterator<T> {
+    type Item = T;
+
+    ghost use Rattle.croner.specs.Listing.{Steps};
+
+    ghost next_gives = { Steps T.moment T.can_lack_memory };
+
+    fn next(&mut self) -> Option<T> {
+        let inclusive = self.counts_position();
+        match self
+            .cron
+            .find_occurrence(&self.position, inclusive, self.direction)
+        {
+            Ok(found) => self.step_to(found),
+            Err(CronError::TimeSearchLimitExceeded) => {
+                self.fault = None;
+                None
+            }
+            Err(refused) => {
+                self.fault = Some(refused);
+                None
+            }
+        }
+    }
+}

@@ -1,0 +1,234 @@
+//! One walk along the wall clock.
+ghost use Rattle.std.specs.Prelude.{◌≡◌, ◌⊎◌, ℤ, IfOk, IfErr, MatchOption, Some};
+ghost use Rattle.croner_base.specs.declared.time.value.Resolution.TheVariants.{Ambiguous, Gap};
+ghost use Rattle.croner_base.specs.Zone.{IsResolved};
+ghost use Rattle.croner.specs.Wall.{IsLastYear};
+ghost use Rattle.croner_base.specs.Calm.{IsCalm};
+ghost use Rattle.croner_base.specs.Civil.{wall_second};
+ghost use Rattle.croner.specs.Runs.{job_in};
+ghost use Rattle.croner.specs.Premises.{HoldsYears};
+ghost use Rattle.croner.specs.Walk.{CannotMove, HasPassed, HasWalked, Walking, walk_start, NearerOf, ChosenOf, IsOneOf};
+ghost use Rattle.croner.specs.Refusal.{IsBackendError};
+
+use super::Schedule;
+use super::gap::{gap_end, gap_front};
+use crate::instant::{is_behind, lies_ahead};
+use crate::wall::one_second_on;
+use croner_base::errors::CronError;
+use croner_base::time::{CivilDateTime, CronDateTime, Direction, Resolution};
+use std::alloc::Global;
+
+/// The most scheduled seconds that a walk looks at: the seconds of a leap year.
+const PASS_LIMIT: u32 = 31_622_400;
+
+/// What one pass of a walk comes to.
+#[derive(Drop)]
+pub(crate) enum Passed<T> {
+    Answer(T),
+    GoOn(CivilDateTime),
+    Limit,
+}
+
+// The nearer of two that is not behind the origin, or else the other.
+fn nearer<T: CronDateTime>(
+    alloc: Global,
+    origin: &T,
+    near: T,
+    far: T,
+    direction: Direction,
+) -> Result<Option<T>, CronError>
+    ensures value { (T.moment origin.now).fraction ≡ 0 → (T.moment near).fraction ≡ 0 → (T.moment far).fraction ≡ 0
+        → IfOk result (NearerOf T.moment direction (T.moment origin.now).instant near far) }
+    ensures one { IfOk result (IsOneOf near far) }
+    ensures err { IfErr result (IsBackendError T.can_lack_memory (CannotMove direction (T.moment near) ⊎ CannotMove direction (T.moment far))) }
+{
+    if !is_behind(alloc, origin, &near, direction)? {
+        return Ok(Some(near));
+    }
+    if !is_behind(alloc, origin, &far, direction)? {
+        return Ok(Some(far));
+    }
+    Ok(None)
+}
+
+// The one of a second's two instants that a job takes, where it is not behind the origin.
+fn chosen<T: CronDateTime>(
+    alloc: Global,
+    origin: &T,
+    earlier: T,
+    later: T,
+    fixed_time: bool,
+    direction: Direction,
+) -> Result<Option<T>, CronError>
+    ensures value { (T.moment origin.now).fraction ≡ 0 → (T.moment earlier).fraction ≡ 0 → (T.moment later).fraction ≡ 0
+        → IfOk result (ChosenOf T.moment fixed_time direction (T.moment origin.now).instant earlier later) }
+    ensures one { IfOk result (IsOneOf earlier later) }
+    ensures err { IfErr result (IsBackendError T.can_lack_memory
+        (CannotMove direction (T.moment earlier) ⊎ CannotMove direction (T.moment later))) }
+{
+    if fixed_time {
+        if is_behind(alloc, origin, &earlier, direction)? {
+            return Ok(None);
+        }
+        return Ok(Some(earlier));
+    }
+    match direction {
+        Direction::Forward => nearer(alloc, origin, earlier, later, direction),
+        Direction::Backward => nearer(alloc, origin, later, earlier, direction),
+    }
+}
+
+// The pass at a scheduled second that two instants show.
+fn pass_two<T: CronDateTime, S: Schedule>(
+    alloc: Global,
+    schedule: &S,
+    origin: &T,
+    found: CivilDateTime,
+    earlier: T,
+    later: T,
+    inclusive: bool,
+    direction: Direction,
+) -> Result<Passed<T>, CronError>
+    requires shaped { S.shaped schedule.now }
+    requires resolved { IsResolved T.moment (T.moment origin.now).zone found (Ambiguous earlier later) }
+    requires scheduled { S.scheduled schedule.now (wall_second found) }
+    requires walking { Walking direction inclusive
+        (job_in (T.moment origin.now).zone (S.scheduled schedule.now) (S.date_matches schedule.now) (S.fixed_time schedule.now))
+        (T.moment origin.now).instant (T.moment origin.now).fraction (wall_second found) }
+    ensures value { IfOk result (HasPassed T.moment direction inclusive
+        (job_in (T.moment origin.now).zone (S.scheduled schedule.now) (S.date_matches schedule.now) (S.fixed_time schedule.now))
+        (T.moment origin.now) (wall_second found)) }
+    ensures err { IfErr result (IsBackendError T.can_lack_memory
+        (IsCalm (T.moment origin.now).zone → ¬ (HoldsYears (T.moment origin.now).zone))) }
+{
+    let fixed_time = schedule.is_fixed_time();
+    match chosen(alloc, origin, earlier, later, fixed_time, direction) {
+        Ok(Some(answer)) => Ok(Passed::Answer(answer)),
+        Ok(None) => match one_second_on(found, direction) {
+            Some(next) => Ok(Passed::GoOn(next)),
+            None => unreachable!(),
+        },
+        Err(error) => Err(error),
+    }
+}
+
+// The pass at a scheduled second that lies in a gap.
+fn pass_gap<T: CronDateTime, S: Schedule>(
+    alloc: Global,
+    schedule: &S,
+    origin: &T,
+    found: CivilDateTime,
+    inclusive: bool,
+    direction: Direction,
+) -> Result<Passed<T>, CronError>
+    requires shaped { S.shaped schedule.now }
+    requires in_gap { (T.moment origin.now).zone.resolves found ≡ Some Gap }
+    requires scheduled { S.scheduled schedule.now (wall_second found) }
+    requires walking { Walking direction inclusive
+        (job_in (T.moment origin.now).zone (S.scheduled schedule.now) (S.date_matches schedule.now) (S.fixed_time schedule.now))
+        (T.moment origin.now).instant (T.moment origin.now).fraction (wall_second found) }
+    ensures value { IfOk result (HasPassed T.moment direction inclusive
+        (job_in (T.moment origin.now).zone (S.scheduled schedule.now) (S.date_matches schedule.now) (S.fixed_time schedule.now))
+        (T.moment origin.now) (wall_second found)) }
+    ensures err { IfErr result (IsBackendError T.can_lack_memory
+        (IsCalm (T.moment origin.now).zone → ¬ (HoldsYears (T.moment origin.now).zone))) }
+{
+    if !schedule.is_fixed_time() {
+        return match one_second_on(found, direction) {
+            Some(next) => Ok(Passed::GoOn(next)),
+            None => unreachable!(),
+        };
+    }
+    let Some((end, carried)) = gap_end(alloc, origin, found)? else {
+        return Ok(Passed::Limit);
+    };
+    if schedule.matches_date(end) && lies_ahead(origin, &carried, inclusive, direction) {
+        return Ok(Passed::Answer(carried));
+    }
+    match direction {
+        Direction::Forward => Ok(Passed::GoOn(end)),
+        Direction::Backward => match gap_front(alloc, origin, found)? {
+            Some(front) => Ok(Passed::GoOn(front)),
+            None => Ok(Passed::Limit),
+        },
+    }
+}
+
+// One pass of the walk, at a scheduled second that it has come to.
+fn pass<T: CronDateTime, S: Schedule>(
+    alloc: Global,
+    schedule: &S,
+    origin: &T,
+    found: CivilDateTime,
+    inclusive: bool,
+    direction: Direction,
+) -> Result<Passed<T>, CronError>
+    requires shaped { S.shaped schedule.now }
+    requires scheduled { S.scheduled schedule.now (wall_second found) }
+    requires walking { Walking direction inclusive
+        (job_in (T.moment origin.now).zone (S.scheduled schedule.now) (S.date_matches schedule.now) (S.fixed_time schedule.now))
+        (T.moment origin.now).instant (T.moment origin.now).fraction (wall_second found) }
+    ensures value { IfOk result (HasPassed T.moment direction inclusive
+        (job_in (T.moment origin.now).zone (S.scheduled schedule.now) (S.date_matches schedule.now) (S.fixed_time schedule.now))
+        (T.moment origin.now) (wall_second found)) }
+    ensures err { IfErr result (IsBackendError T.can_lack_memory
+        (IsCalm (T.moment origin.now).zone → ¬ (HoldsYears (T.moment origin.now).zone))) }
+{
+    match origin.resolve_civil(alloc, found)? {
+        Resolution::Single(only) => Ok(Passed::Answer(only)),
+        Resolution::Ambiguous(earlier, later) => {
+            pass_two(
+                alloc, schedule, origin, found, earlier, later, inclusive, direction,
+            )
+        }
+        Resolution::Gap => pass_gap(alloc, schedule, origin, found, inclusive, direction),
+    }
+}
+
+// Where a walk begins, from what the origin shows.
+fn first_second(
+    shown: CivilDateTime,
+    inclusive: bool,
+    direction: Direction,
+) -> Option<CivilDateTime>
+    ensures { MatchOption result (IsLastYear direction shown.date.year)
+        (λ wall. wall_second wall ≡ walk_start direction inclusive (wall_second shown)) }
+{
+    if inclusive {
+        Some(shown)
+    } else {
+        one_second_on(shown, direction)
+    }
+}
+
+/// The nearest run that a walk along the wall clock from the origin meets, over one half of each repeated range; `None`
+/// where it meets none in the years that are searched.
+pub(crate) fn walk<T: CronDateTime, S: Schedule>(
+    alloc: Global,
+    schedule: &S,
+    origin: &T,
+    inclusive: bool,
+    direction: Direction,
+) -> Result<Option<T>, CronError>
+    requires { S.shaped schedule.now }
+    ensures value { IfOk result (HasWalked T.moment direction inclusive
+        (job_in (T.moment origin.now).zone (S.scheduled schedule.now) (S.date_matches schedule.now) (S.fixed_time schedule.now))
+        (T.moment origin.now)) }
+    ensures err { IfErr result (IsBackendError T.can_lack_memory
+        (IsCalm (T.moment origin.now).zone → ¬ (HoldsYears (T.moment origin.now).zone))) }
+{
+    let Some(mut wall) = first_second(origin.to_civil(), inclusive, direction) else {
+        return Ok(None);
+    };
+    for _ in 0..PASS_LIMIT {
+        let Some(found) = schedule.next_scheduled(wall, direction) else {
+            return Ok(None);
+        };
+        match pass(alloc, schedule, origin, found, inclusive, direction)? {
+            Passed::Answer(answer) => return Ok(Some(answer)),
+            Passed::GoOn(next) => wall = next,
+            Passed::Limit => return Ok(None),
+        }
+    }
+    Ok(None)
+}
