@@ -1,6 +1,8 @@
 //! The command line of `cronrun` as a function: words in, text and a status out.
 #![tactic(auto)]
 
+ghost use Rattle.std.specs.Prelude.{◌≡◌, ◌≤◌};
+
 mod answer;
 mod count;
 mod moment;
@@ -42,7 +44,9 @@ const USAGE: &str = "usage: cronrun match PATTERN DATETIME | next PATTERN DATETI
 /// than COUNT runs came, those found being written; else [`ANSWERED`]. The words are looked at
 /// first, then the pattern is read, then the start is sought in the zone. A failed write to
 /// standard output is [`REFUSED`] too, one to standard error changes no status.
-pub fn run<O: Write, E: Write>(alloc: Global, words: &[String], out: &mut O, err: &mut E) -> u8 {
+pub fn run<O: Write, E: Write>(alloc: Global, words: &[String], out: &mut O, err: &mut E) -> u8
+    ensures { result ≤ MISUSED }
+{
     let Some(request) = Request::read(words) else {
         return misused(err);
     };
@@ -59,7 +63,9 @@ pub fn run<O: Write, E: Write>(alloc: Global, words: &[String], out: &mut O, err
 }
 
 /// Writes the usage line, and gives the status of words that are no call.
-pub fn misused<E: Write>(err: &mut E) -> u8 {
+pub fn misused<E: Write>(err: &mut E) -> u8
+    ensures { result ≡ MISUSED }
+{
     let _ = writeln!(err, "{USAGE}");
     MISUSED
 }

@@ -1,4 +1,6 @@
 //! Reading the words of a call.
+ghost use Rattle.std.specs.Prelude.{◌↔◌, IsSome};
+ghost use Rattle.cronrun_command.specs.Call.{NamesMoment, NamesCount};
 
 use crate::count::read_count;
 use crate::moment::read_datetime;
@@ -30,37 +32,55 @@ impl<'w> Request<'w> {
     pub fn read(words: &'w [String]) -> Option<Request<'w>> {
         let (command, rest) = words.split_first()?;
         match command.as_str() {
-            "match" => read_match(rest),
-            "next" => read_runs(rest, Direction::Forward),
-            "prev" => read_runs(rest, Direction::Backward),
+            "match" => match rest {
+                [pattern, at] => read_match(pattern.as_str(), at.as_str()),
+                _ => None,
+            },
+            "next" => read_listing(rest, Direction::Forward),
+            "prev" => read_listing(rest, Direction::Backward),
             _ => None,
         }
     }
 }
 
-fn read_match(words: &[String]) -> Option<Request<'_>> {
-    let [pattern, at] = words else {
-        return None;
-    };
-    Some(Request::Match {
-        pattern: pattern.as_str(),
-        at: read_datetime(at.as_str())?,
-    })
+fn read_match<'w>(pattern: &'w str, at: &str) -> Option<Request<'w>>
+    ensures { IsSome result ↔ NamesMoment at.now }
+{
+    let at = read_datetime(at)?;
+    Some(Request::Match { pattern, at })
 }
 
-fn read_runs(words: &[String], direction: Direction) -> Option<Request<'_>> {
-    let (pattern, start, count, zone) = match words {
-        [pattern, start, count] => (pattern, start, count, None),
+// PATTERN DATETIME COUNT [RULE].
+fn read_listing(words: &[String], direction: Direction) -> Option<Request<'_>> {
+    match words {
+        [pattern, start, count] => {
+            let (start, count) = (start.as_str(), count.as_str());
+            read_runs(pattern.as_str(), start, count, direction, None)
+        }
         [pattern, start, count, rule] => {
             let zone = TimeZone::posix(rule.as_str()).ok()?;
-            (pattern, start, count, Some(zone))
+            let (start, count) = (start.as_str(), count.as_str());
+            read_runs(pattern.as_str(), start, count, direction, Some(zone))
         }
-        _ => return None,
-    };
+        _ => None,
+    }
+}
+
+fn read_runs<'w>(
+    pattern: &'w str,
+    start: &str,
+    count: &str,
+    direction: Direction,
+    zone: Option<TimeZone<'static>>,
+) -> Option<Request<'w>>
+    ensures { IsSome result ↔ (NamesMoment start.now × NamesCount count.now) }
+{
+    let start = read_datetime(start)?;
+    let count = read_count(count)?;
     Some(Request::Runs {
-        pattern: pattern.as_str(),
-        start: read_datetime(start.as_str())?,
-        count: read_count(count.as_str())?,
+        pattern,
+        start,
+        count,
         direction,
         zone,
     })
