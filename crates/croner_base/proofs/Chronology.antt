@@ -1,5 +1,5 @@
 -- The order of civil date-times is that of their wall seconds, and a wall second has one date and time.
-use Rattle.std.proofs.Common.{◌≡◌, ◌↔◌, ◌==◌, if◌then◌else◌, ap, ℕ, ◌+◌, ◌*◌, ◌%◌, ◌<◌, ◌≤◌, refl, sym, subst, ◌∙◌, arith, ℤ, pos, ◌+ℤ◌, ◌*ℤ◌, ◌<ℤ◌, ◌≤ℤ◌, nat_cmp, int_cmp}
+use Rattle.std.proofs.Common.{◌≡◌, ◌↔◌, ◌==◌, if◌then◌else◌, ap, ℕ, ◌+◌, ◌*◌, ◌%◌, ◌<◌, ◌≤◌, refl, sym, subst, ◌∙◌, arith, ℤ, pos, neg_ℤ, ◌+ℤ◌, ◌*ℤ◌, ◌<ℤ◌, ◌≤ℤ◌, nat_cmp, int_cmp}
 use Rattle.std.proofs.lemmas.Int.{by_lt_z}
 use Rattle.std.proofs.Props.{props}
 use mathlib.Core.HLevel.{is_prop→PathP}
@@ -16,6 +16,8 @@ use Rattle.croner_base.specs.declared.time.civil.Weekday.{Weekday}
 use Rattle.croner_base.specs.declared.time.civil.Weekday.TheVariants.{Sunday, Monday, Tuesday, Wednesday, Thursday, Friday, Saturday}
 use Rattle.croner_base.specs.Calendar.{IsRealDate, day_number, weekday_of_day}
 use Rattle.croner_base.specs.Civil.{wall_second, day_of_date, seconds_of_time, weekday_index}
+use Rattle.croner_base.specs.Calm.{IsSearched, IsInReach, IsStart}
+use Rattle.croner_base.proofs.ExamplesCalendar.{year_0, year_1, year_5001, year_5002, year_before_9996, year_9998}
 use Rattle.croner_base.proofs.Days.{day_number-parts, day_number-lt_year, day_number-lt_month}
 use Rattle.croner_base.proofs.JiffSeconds.{wall_second-parts}
 
@@ -149,11 +151,11 @@ pub year_reached : (c : CivilDateTime) (y : ℤ) → (y ≤ℤ c.date.year) ↔ 
 year_reached c y =
     let first : IsRealDate y 1 1 = ((omega arith, omega arith), (omega arith, omega arith)) in (
       λ le. by_lt_z y c.date.year
-      (λ lt. omega (arith, signed_arith, wall_second-parts c, day_number-lt_year y 1 1 c.date.year c.date.month c.date.day first c.date.real lt))
-      (λ ge. omega (arith, signed_arith, wall_second-parts c, first_of_year y c.date (omega (arith, signed_arith, le, ge)))),
+          (λ lt. omega (arith, signed_arith, wall_second-parts c, day_number-lt_year y 1 1 c.date.year c.date.month c.date.day first c.date.real lt))
+          (λ ge. omega (arith, signed_arith, wall_second-parts c, first_of_year y c.date (omega (arith, signed_arith, le, ge)))),
       λ le. by_lt_z c.date.year y
-      (λ lt. absurd (omega (arith, signed_arith, le, wall_second-parts c, c.time.hour_in, c.time.minute_in, c.time.second_in, day_number-lt_year c.date.year c.date.month c.date.day y 1 1 c.date.real first lt)))
-      (λ ge. ge),
+          (λ lt. absurd (omega (arith, signed_arith, le, wall_second-parts c, c.time.hour_in, c.time.minute_in, c.time.second_in, day_number-lt_year c.date.year c.date.month c.date.day y 1 1 c.date.real first lt)))
+          (λ ge. ge),
     )
 
 -- the weekday goes on with the day
@@ -188,3 +190,31 @@ of_number-index Saturday = refl
 
 pub weekday_index-injective : (a b : Weekday) → weekday_index a ≡ weekday_index b → a ≡ b
 weekday_index-injective a b e = sym (of_number-index a) ∙ ap of_number e ∙ of_number-index b
+
+-- years from one to another are the wall seconds from the first of the one to the last of the other
+years_between : (c : CivilDateTime) (y z a b : ℤ) → day_number y 1 1 *ℤ pos 86_400 ≡ a → day_number (z +ℤ pos 1) 1 1 *ℤ pos 86_400 ≡ b +ℤ pos 1 → ((a ≤ℤ wall_second c) × (wall_second c ≤ℤ b)) ↔ ((y ≤ℤ c.date.year) × (c.date.year ≤ℤ z))
+years_between c y z a b first next =
+    let low = year_reached c y in
+    let high = year_reached c (z +ℤ pos 1) in (
+      λ h. (
+        low.1 (omega (arith, signed_arith, first, h)),
+        by_lt_z z c.date.year
+            (λ lt. absurd (omega (arith, signed_arith, next, h, high.0 (omega (arith, signed_arith, lt)))))
+            (λ le. le),
+      ),
+      λ h. (
+        omega (arith, signed_arith, first, low.0 h.0),
+        by_lt_z b (wall_second c)
+            (λ lt. absurd (omega (arith, signed_arith, h, high.1 (omega (arith, signed_arith, next, lt)))))
+            (λ le. le),
+      ),
+    )
+
+pub searched_years : (c : CivilDateTime) → IsSearched (wall_second c) ↔ ((pos 1 ≤ℤ c.date.year) × (c.date.year ≤ℤ pos 5000))
+searched_years c = years_between c (pos 1) (pos 5000) _ _ year_1 year_5001
+
+pub needed_years : (c : CivilDateTime) → IsInReach (wall_second c) ↔ ((pos 0 ≤ℤ c.date.year) × (c.date.year ≤ℤ pos 5001))
+needed_years c = years_between c (pos 0) (pos 5001) _ _ year_0 year_5002
+
+pub start_years : (c : CivilDateTime) → IsStart (wall_second c) ↔ ((neg_ℤ (pos 9997) ≤ℤ c.date.year) × (c.date.year ≤ℤ pos 9997))
+start_years c = years_between c (neg_ℤ (pos 9997)) (pos 9997) _ _ year_before_9996 year_9998

@@ -2,6 +2,7 @@
 use Rattle.std.proofs.Common.{rules, ◌≡◌, Bool, true, false, ◌≤◌, sym, ◌∙◌, arith, ℤ, pos, neg_ℤ, ◌≤ℤ◌, List, [], ◌∷◌, length, Some, None, IsSome, if◌then◌else◌}
 use Rattle.jiff_core.proofs.SignedLemmas.{signed_arith}
 use Rattle.std.specs.List.{All}
+use Rattle.croner_base.specs.declared.time.civil.CivilDateTime.{CivilDateTime}
 use Rattle.croner_base.specs.declared.time.value.Resolution.{Resolution}
 use Rattle.croner_base.specs.declared.time.value.Resolution.TheVariants.{Single, Ambiguous, Gap}
 use Rattle.croner_base.specs.Civil.{wall_second}
@@ -32,6 +33,14 @@ civil_calm = record {
   apart = λ d e h k l. absurd (no_change d h);
   few = λ ds r h. none_met ds h;
 }
+
+-- each second that is held is one instant
+single_by : (w : ℤ) (b : Bool) (r : Resolution ℤ) → (if b then Some (Single w) else None) ≡ Some r → r ≡ Single w
+single_by w true r e = cc
+single_by w false r e = absurd (cc)
+
+pub civil_single : (c : CivilDateTime) (r : Resolution ℤ) → civil_zone.resolves c ≡ Some r → r ≡ Single (wall_second c)
+civil_single c r e = single_by (wall_second c) _ r e
 
 resolved_by : (w : ℤ) → is_jiff_second w ≡ true → IsSome (if is_jiff_second w then Some (Single w) else None)
 resolved_by w h = rw h (search rules)

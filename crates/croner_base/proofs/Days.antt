@@ -1,5 +1,6 @@
 -- How day numbers go on from a date to the next.
-use Rattle.std.proofs.Common.{add-one, add-zero, true, false, nat_lt, get_or, [], ◌∷◌, ◌≡◌, ℕ, zero, suc, ◌+◌, ◌-◌, ◌<◌, ◌≤◌, ◌⊎◌, refl, ◌∙◌, arith, ℤ, pos, negsuc, neg_ℤ, ◌+ℤ◌, ◌-ℤ◌, ◌<ℤ◌, ◌≤ℤ◌}
+use mir.Val.{bool_byte}
+use Rattle.std.proofs.Common.{add-one, add-zero, Bool, true, false, sym, nat_lt, get_or, [], ◌∷◌, ◌≡◌, ℕ, zero, suc, ◌+◌, ◌-◌, ◌<◌, ◌≤◌, ◌⊎◌, refl, ◌∙◌, arith, ℤ, pos, negsuc, neg_ℤ, ◌+ℤ◌, ◌-ℤ◌, ◌<ℤ◌, ◌≤ℤ◌}
 use Rattle.std.specs.Int.{IsInRange}
 use Rattle.std.proofs.lemmas.Bool.Decides.{nat_tests}
 use Rattle.jiff_core.specs.Calendar.{is_leap_year, days_in_year, days_in_month, days_of_months, day_of_year, day_count, days_from_civil}
@@ -98,3 +99,15 @@ months_before y m h =
       (λ late plain. let b : nat_lt 1 (m - 1) ≡ true = grind (arith, nat_tests) in (rw (b, plain) at t) ∙ add-zero _),
       (λ early. let b : nat_lt 1 (m - 1) ≡ false = grind (arith, nat_tests) in (rw b at t) ∙ add-zero _),
     )
+
+-- the place of a date is the days of that table, the leap day that is behind it, and its own day
+pub place_late : (y : ℤ) (m d leap_day : ℕ) (b : Bool) → IsInRange 1 12 m → 2 < m → b ≡ is_leap_year y → leap_day ≡ bool_byte b → get_or (0 ∷ 31 ∷ 59 ∷ 90 ∷ 120 ∷ 151 ∷ 181 ∷ 212 ∷ 243 ∷ 273 ∷ 304 ∷ 334 ∷ []) (m - 1) 0 + leap_day + d ≡ day_of_year y m d
+place_late y m d leap_day true h late e g = omega (arith, (months_before y m h).0 late (sym e), g)
+place_late y m d leap_day false h late e g = omega (arith, (months_before y m h).1 late (sym e), g)
+
+pub not_late : (m : ℕ) → m ≤ 2 → nat_lt 2 m ≡ false
+not_late m early = grind (arith, nat_tests)
+
+pub place_early : (y : ℤ) (m d leap_day : ℕ) (b : Bool) → IsInRange 1 12 m → m ≤ 2 → b ≡ false → leap_day ≡ bool_byte b → get_or (0 ∷ 31 ∷ 59 ∷ 90 ∷ 120 ∷ 151 ∷ 181 ∷ 212 ∷ 243 ∷ 273 ∷ 304 ∷ 334 ∷ []) (m - 1) 0 + leap_day + d ≡ day_of_year y m d
+place_early y m d leap_day true h early e g = absurd (cc)
+place_early y m d leap_day false h early e g = omega (arith, (months_before y m h).2 early, g)

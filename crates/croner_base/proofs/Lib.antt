@@ -1,5 +1,6 @@
 pub mod Days
 pub mod Chronology
+pub mod ExamplesCalendar
 pub mod Padded
 pub mod JiffSeconds
 pub mod CivilMoments

@@ -1,5 +1,5 @@
 -- What a zone of jiff resolves a civil second to.
-use Rattle.std.proofs.Common.{◌≡◌, inl, inr, Bool, true, false, refl, sym, ap, ◌∙◌, arith, ℤ, pos, neg_ℤ, ◌-ℤ◌, ◌*ℤ◌, ◌<ℤ◌, ◌≤ℤ◌, Some, None, int_eq, int_lt, int_cmp, Less, Equal, Greater}
+use Rattle.std.proofs.Common.{◌≡◌, inl, inr, Bool, true, false, refl, sym, ap, ◌∙◌, arith, ℤ, pos, neg_ℤ, ◌-ℤ◌, ◌*ℤ◌, ◌<ℤ◌, ◌≤ℤ◌, Some, None, if◌then◌else◌, int_eq, int_lt}
 use Rattle.std.proofs.lemmas.Int.{ints, by_lt_z}
 use Rattle.std.specs.Int.{int_div_euclid}
 use Rattle.jiff_core.specs.DateTime.{civil_seconds, civil_nanos}
@@ -15,7 +15,7 @@ use Rattle.jiff_tz.specs.Zone.{ambiguous_at}
 use Rattle.jiff_tz.specs.declared.ambiguous.AmbiguousOffset.{AmbiguousOffset}
 use Rattle.jiff_tz.specs.declared.timezone.TimeZone.{TimeZone}
 use Rattle.jiff_zoned.proofs.SameLemmas.{same_datetime}
-use Rattle.jiff.specs.ZonedView.{plain_zoned}
+use Rattle.jiff.specs.ZonedView.{plain_zoned, zoned_nanos}
 use Rattle.jiff.specs.declared.zoned.Zoned.{Zoned}
 use Rattle.croner_base.specs.declared.errors.CronError.TheVariants.{InvalidDate}
 use Rattle.croner_base.specs.declared.time.civil.CivilDateTime.{CivilDateTime}
@@ -23,7 +23,7 @@ use Rattle.croner_base.specs.declared.time.value.Resolution.TheVariants.{Single,
 use Rattle.croner_base.specs.Civil.{wall_second}
 use Rattle.croner_base.specs.Zone.{Names, IsUnheld, IsResolved}
 use Rattle.croner_base.specs.ZonedZone.{zoned_zone, zone_reads, is_near_year, jiff_datetime, pick, pick_offsets, resolve_by}
-use Rattle.croner_base.specs.ZonedValue.{value_moment}
+use Rattle.croner_base.specs.ZonedValue.{value_moment, chosen}
 use Rattle.croner_base.proofs.JiffSeconds.{wall_second-civil_seconds, near_second}
 use Rattle.croner_base.proofs.ZonedMoments.{Side, side}
 
@@ -74,14 +74,11 @@ pub record Sides (tz : TimeZone) (c : CivilDateTime) (dt : DateTime) (e l : Zone
 picked : (tz : TimeZone) (c : CivilDateTime) (dt : DateTime) (e l : Zoned) (b₁ b₂ : Bool) → Sides tz c dt e l b₁ b₂ → (zoned_zone tz).resolves c ≡ Some (pick b₁ b₂ (value_moment e).instant (value_moment l).instant)
 picked tz c dt e l b₁ b₂ s = resolves_near tz c dt s.near s.nanos ∙ rw (s.earlier.test, s.later.test, s.earlier.second, s.later.second)
 
-pub neither : (tz : TimeZone) (c : CivilDateTime) (dt : DateTime) (e l : Zoned) → Sides tz c dt e l false false → IsResolved value_moment (zoned_zone tz) c Gap
-neither tz c dt e l s = picked tz c dt e l false false s
+lt_of : (a b : ℤ) → int_lt a b ≡ true → a <ℤ b
+lt_of a b h = grind (arith, ints, h)
 
-pub earlier_alone : (tz : TimeZone) (c : CivilDateTime) (dt : DateTime) (e l : Zoned) → Sides tz c dt e l true false → IsResolved value_moment (zoned_zone tz) c (Single e)
-earlier_alone tz c dt e l s = (names_side tz _ _ e s.earlier, picked tz c dt e l true false s)
-
-pub later_alone : (tz : TimeZone) (c : CivilDateTime) (dt : DateTime) (e l : Zoned) → Sides tz c dt e l false true → IsResolved value_moment (zoned_zone tz) c (Single l)
-later_alone tz c dt e l s = (names_side tz _ _ l s.later, picked tz c dt e l false true s)
+le_of : (a b : ℤ) → int_lt a b ≡ false → b ≤ℤ a
+le_of a b h = grind (arith, ints, h)
 
 pick_less : (a b : ℤ) → a <ℤ b → pick true true a b ≡ Ambiguous a b
 pick_less a b h = let t : int_lt a b ≡ true = grind (arith, ints) in rw t
@@ -92,19 +89,23 @@ pick_greater a b h = let t : int_lt a b ≡ false = grind (arith, ints) in let u
 pick_equal : (a b : ℤ) → a ≡ b → pick true true a b ≡ Single a
 pick_equal a b h = let t : int_lt a b ≡ false = grind (arith, ints) in let u : int_lt b a ≡ false = grind (arith, ints) in rw (t, u)
 
-pub both_less : (tz : TimeZone) (c : CivilDateTime) (dt : DateTime) (e l : Zoned) → Sides tz c dt e l true true → (plain_zoned e).timestamp.nanosecond <ℤ (plain_zoned l).timestamp.nanosecond → IsResolved value_moment (zoned_zone tz) c (Ambiguous e l)
-both_less tz c dt e l s h =
-    let lt : (value_moment e).instant <ℤ (value_moment l).instant = omega (arith, signed_arith, s.earlier.nanos, s.later.nanos, s.earlier.second, s.later.second) in
-    (names_side tz _ _ e s.earlier, names_side tz _ _ l s.later, lt, picked tz c dt e l true true s ∙ ap Some (pick_less _ _ lt))
+in_order : (tz : TimeZone) (c : CivilDateTime) (dt : DateTime) (e l : Zoned) → Sides tz c dt e l true true → (p q : Bool) → int_lt (zoned_nanos e) (zoned_nanos l) ≡ p → int_lt (zoned_nanos l) (zoned_nanos e) ≡ q → IsResolved value_moment (zoned_zone tz) c (if p then Ambiguous e l else (if q then Ambiguous l e else Single e))
+in_order tz c dt e l s true q h k =
+    let before : (value_moment e).instant <ℤ (value_moment l).instant = omega (arith, signed_arith, s.earlier.nanos, s.later.nanos, s.earlier.second, s.later.second, lt_of (zoned_nanos e) (zoned_nanos l) h) in
+    (names_side tz _ _ e s.earlier, names_side tz _ _ l s.later, before, picked tz c dt e l true true s ∙ ap Some (pick_less _ _ before))
+in_order tz c dt e l s false true h k =
+    let before : (value_moment l).instant <ℤ (value_moment e).instant = omega (arith, signed_arith, s.earlier.nanos, s.later.nanos, s.earlier.second, s.later.second, lt_of (zoned_nanos l) (zoned_nanos e) k) in
+    (names_side tz _ _ l s.later, names_side tz _ _ e s.earlier, before, picked tz c dt e l true true s ∙ ap Some (pick_greater _ _ before))
+in_order tz c dt e l s false false h k =
+    let same : (value_moment e).instant ≡ (value_moment l).instant = omega (arith, signed_arith, s.earlier.nanos, s.later.nanos, s.earlier.second, s.later.second, le_of (zoned_nanos e) (zoned_nanos l) h, le_of (zoned_nanos l) (zoned_nanos e) k) in
+    (names_side tz _ _ e s.earlier, picked tz c dt e l true true s ∙ ap Some (pick_equal _ _ same))
 
-pub both_greater : (tz : TimeZone) (c : CivilDateTime) (dt : DateTime) (e l : Zoned) → Sides tz c dt e l true true → (plain_zoned l).timestamp.nanosecond <ℤ (plain_zoned e).timestamp.nanosecond → IsResolved value_moment (zoned_zone tz) c (Ambiguous l e)
-both_greater tz c dt e l s h =
-    let lt : (value_moment l).instant <ℤ (value_moment e).instant = omega (arith, signed_arith, s.earlier.nanos, s.later.nanos, s.earlier.second, s.later.second) in
-    (names_side tz _ _ l s.later, names_side tz _ _ e s.earlier, lt, picked tz c dt e l true true s ∙ ap Some (pick_greater _ _ lt))
-
-pub both_equal : (tz : TimeZone) (c : CivilDateTime) (dt : DateTime) (e l : Zoned) → Sides tz c dt e l true true → (plain_zoned e).timestamp.nanosecond ≡ (plain_zoned l).timestamp.nanosecond → IsResolved value_moment (zoned_zone tz) c (Single e)
-both_equal tz c dt e l s h =
-    (names_side tz _ _ e s.earlier, picked tz c dt e l true true s ∙ ap Some (pick_equal _ _ (ap (λ (n : ℤ). int_div_euclid n (pos 1_000_000_000)) h)))
+-- what is chosen of two is what the zone resolves the second to
+pub chosen_resolved : (tz : TimeZone) (c : CivilDateTime) (dt : DateTime) (e l : Zoned) (b₁ b₂ : Bool) → Sides tz c dt e l b₁ b₂ → IsResolved value_moment (zoned_zone tz) c (chosen b₁ b₂ e l)
+chosen_resolved tz c dt e l true true s = in_order tz c dt e l s _ _ refl refl
+chosen_resolved tz c dt e l true false s = (names_side tz _ _ e s.earlier, picked tz c dt e l true false s)
+chosen_resolved tz c dt e l false true s = (names_side tz _ _ l s.later, picked tz c dt e l false true s)
+chosen_resolved tz c dt e l false false s = picked tz c dt e l false false s
 
 -- each offset gives an instant near these years
 pub near_timestamp : (c : CivilDateTime) (dt : DateTime) (o : Offset) → neg_ℤ (pos 9998) ≤ℤ c.date.year → c.date.year ≤ℤ pos 9998 → civil_nanos dt ≡ wall_second c *ℤ pos 1_000_000_000 → IsTimestampNanos (instant_of dt o)
@@ -132,35 +133,6 @@ sides tz tz₁ c dt d₁ offsets zone₁ e l b₁ b₂ p q r s low high w te ze 
       earlier = side tz (wall_second c) _ (plain_zoned e) dt b₁ n (te ∙ rw (q, o)) (ze ∙ s ∙ p) xe;
       later = side tz (wall_second c) _ (plain_zoned l) dt b₂ n (tl ∙ rw (q, o)) (zl ∙ s ∙ p) xl;
     }
-
--- what a comparison says
-less_of : (x y : ℤ) → Less ≡ int_cmp x y → x <ℤ y
-less_of x y h = by_lt_z x y (λ lt. lt) (λ ge. absurd (grind (arith, ints, h)))
-
-greater_of : (x y : ℤ) → Greater ≡ int_cmp x y → y <ℤ x
-greater_of x y h = by_lt_z y x (λ lt. lt) (λ ge. absurd (grind (arith, ints, h)))
-
-equal_of : (x y : ℤ) → Equal ≡ int_cmp x y → x ≡ y
-equal_of x y h = grind (arith, ints, h)
-
-pub cmp_less : (s t x y : Timestamp) → s ≡ x → t ≡ y → Less ≡ int_cmp s.nanosecond t.nanosecond → x.nanosecond <ℤ y.nanosecond
-cmp_less s t x y p q h =
-    let g : Less ≡ int_cmp x.nanosecond y.nanosecond = rw (p, q) at h in
-    less_of x.nanosecond y.nanosecond g
-
-pub cmp_greater : (s t x y : Timestamp) → s ≡ x → t ≡ y → Greater ≡ int_cmp s.nanosecond t.nanosecond → y.nanosecond <ℤ x.nanosecond
-cmp_greater s t x y p q h =
-    let g : Greater ≡ int_cmp x.nanosecond y.nanosecond = rw (p, q) at h in
-    greater_of x.nanosecond y.nanosecond g
-
-pub cmp_equal : (s t x y : Timestamp) → s ≡ x → t ≡ y → Equal ≡ int_cmp s.nanosecond t.nanosecond → x.nanosecond ≡ y.nanosecond
-cmp_equal s t x y p q h =
-    let g : Equal ≡ int_cmp x.nanosecond y.nanosecond = rw (p, q) at h in
-    equal_of x.nanosecond y.nanosecond g
-
--- what `==` says
-pub shows_test : (d x dt : DateTime) (t b : Bool) → d ≡ x → t ≡ int_eq (civil_nanos d) (civil_nanos dt) → t ≡ b → int_eq (civil_nanos x) (civil_nanos dt) ≡ b
-shows_test d x dt t b p h e = ap (λ (y : DateTime). int_eq (civil_nanos y) (civil_nanos dt)) (sym p) ∙ sym h ∙ e
 
 pub false_is_not_true : false ≡ true → ⊥
 false_is_not_true h = cc

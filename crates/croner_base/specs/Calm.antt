@@ -5,7 +5,7 @@ use Rattle.croner_base.specs.declared.time.civil.CivilDateTime.{CivilDateTime}
 use Rattle.croner_base.specs.declared.time.value.Resolution.{Resolution}
 use Rattle.croner_base.specs.declared.time.value.Resolution.TheVariants.{Single, Ambiguous, Gap}
 use Rattle.croner_base.specs.Civil.{wall_second}
-use Rattle.croner_base.specs.Limits.{gap_limit, fold_limit, apart_limit, most_changes, most_gap_seconds, near_limit, first_searched, last_searched, first_needed, last_needed}
+use Rattle.croner_base.specs.Limits.{gap_limit, fold_limit, apart_limit, most_changes, most_gap_seconds, near_limit, first_searched, last_searched, first_needed, last_needed, first_start, last_start}
 use Rattle.croner_base.specs.Zone.{Zone, Moment, reading}
 
 -- at d the clock does not go on by one second
@@ -58,6 +58,10 @@ IsNear x y = ((x -ℤ pos near_limit) ≤ℤ y) × (y ≤ℤ (x +ℤ pos near_li
 -- a wall second of the years 0 to 5001
 abbrev pub IsInReach : ℤ → Type 0
 IsInReach w = (first_needed ≤ℤ w) × (w ≤ℤ last_needed)
+
+-- a wall second of the years -9997 to 9997
+abbrev pub IsStart : ℤ → Type 0
+IsStart w = (first_start ≤ℤ w) × (w ≤ℤ last_start)
 
 -- what a search from a moment needs held
 pub record HoldsAround (m : Moment) : Type 0 where

@@ -1,4 +1,4 @@
-//! Why a pattern or a search is refused.
+//! The one type of error: why a pattern, a date or a search is refused.
 
 ghost use Rattle.std.specs.Prelude.{◌≡◌};
 ghost use Rattle.croner_base.specs.declared.errors.CronError.TheVariants.{OutOfMemory};
@@ -7,19 +7,28 @@ use std::alloc::{AllocError, AllocFailed};
 use std::error::Error;
 use std::fmt;
 
-/// Why a pattern, a date or a search is refused.
+/// Why a pattern, a date, a time or a search is refused. A message inside names what was wrong and what was expected.
 #[derive(Debug, Clone, Drop)]
 pub enum CronError {
+    /// The pattern has nothing but white space.
     EmptyPattern,
+    /// There is no such date, or the time library doesn't hold it.
     InvalidDate,
+    /// There is no such time of day, or the time library or a table doesn't hold it.
     InvalidTime,
+    /// A search came to the end of the years, of its passes or of its look over a gap.
     TimeSearchLimitExceeded,
+    /// The pattern has a number of fields that isn't accepted, or isn't a text.
     InvalidPattern(String),
+    /// A field has a character that it can't have.
     IllegalCharacters(String),
+    /// A part of a field, a value or a mark is refused.
     ComponentError(String),
+    /// Memory was asked for and not found.
     OutOfMemory,
 }
 
+/// A sentence for a person, with the message where there is one.
 impl fmt::Display for CronError {
     ghost use Rattle.std.specs.Prelude.{Some};
     ghost use Rattle.croner_base.specs.Refusal.{text_of};
@@ -46,6 +55,7 @@ impl fmt::Display for CronError {
 
 impl Error for CronError {}
 
+/// Want of memory.
 impl From<AllocError> for CronError {
     ghost from_gives = { λ _ e. e ≡ OutOfMemory };
 
@@ -54,6 +64,7 @@ impl From<AllocError> for CronError {
     }
 }
 
+/// Want of memory; what could not be stored is dropped.
 impl<T: Drop> From<AllocFailed<T>> for CronError {
     ghost from_gives = { λ _ e. e ≡ OutOfMemory };
 

@@ -2,8 +2,9 @@
 //! of their wall seconds.
 ghost use Rattle.std.specs.Prelude.{◌≡◌, ◌↔◌, ℕ, ◌+◌, ◌%◌, ◌≤◌, ℤ, pos, ◌+ℤ◌, ◌*ℤ◌, ◌≤ℤ◌};
 ghost use Rattle.std.specs.Ordering.{int_cmp};
-ghost use Rattle.jiff_core.specs.Calendar.{days_in_month};
+ghost use Rattle.jiff_core.specs.Calendar.{days_in_month, IsBetween, IsWithin};
 ghost use Rattle.croner_base.specs.Calendar.{day_number, weekday_of_day};
+ghost use Rattle.croner_base.specs.Calm.{IsSearched, IsInReach, IsStart};
 ghost use Rattle.croner_base.specs.Civil.{wall_second, day_of_date, weekday_index};
 
 use crate::time::{CivilDate, CivilDateTime, Weekday};
@@ -20,15 +21,13 @@ pub fn day_numbers_count_dates()
         → day_number year (month + 1) 1 ≡ day_number year month (days_in_month year month) +ℤ pos 1 }
     ensures next_year { (year : ℤ)
         → day_number (year +ℤ pos 1) 1 1 ≡ day_number year 12 31 +ℤ pos 1 }
-{
-}
+{}
 
 /// 1970-01-01 was a Thursday, and each day has the weekday after that of the day before it.
 pub fn weekdays_follow_days()
     ensures epoch { weekday_of_day (pos 0) ≡ weekday_index Weekday.Thursday }
     ensures next_day { (day : ℤ) → weekday_of_day (day +ℤ pos 1) ≡ (weekday_of_day day + 1) % 7 }
-{
-}
+{}
 
 /// A weekday is known by its number of days from Sunday.
 pub fn weekday_of_its_number(weekday: Weekday) -> Weekday
@@ -39,10 +38,10 @@ pub fn weekday_of_its_number(weekday: Weekday) -> Weekday
 }
 
 /// Dates compare as their day numbers do.
-pub fn date_order_is_chronological(left: CivilDate, right: CivilDate) -> Ordering
-    ensures { result ≡ int_cmp (day_of_date left) (day_of_date right) }
+pub fn date_order_is_chronological(date: CivilDate, other: CivilDate) -> Ordering
+    ensures { result ≡ int_cmp (day_of_date date) (day_of_date other) }
 {
-    left.cmp(&right)
+    date.cmp(&other)
 }
 
 /// Civil date-times compare as their wall seconds do.
@@ -55,12 +54,18 @@ pub fn order_is_chronological(left: CivilDateTime, right: CivilDateTime) -> Orde
 /// No two civil date-times have one wall second.
 pub fn wall_second_has_one_date_time(left: CivilDateTime, right: CivilDateTime)
     ensures { wall_second left ≡ wall_second right → left ≡ right }
-{
-}
+{}
 
 /// A civil date-time is of a year or a later one exactly from the year's first second on.
 pub fn year_begins_on_its_first_day(civil: CivilDateTime)
     ensures { (year : ℤ)
         → (year ≤ℤ civil.date.year) ↔ ((day_number year 1 1 *ℤ pos 86_400) ≤ℤ wall_second civil) }
-{
-}
+{}
+
+/// The wall seconds that a pattern can name are those of the years 1 to 5000, a search needs those of the years 0 to
+/// 5001 held, and what it needs around its start is held from the year -9997 to the year 9997.
+pub fn years_of_the_limits(civil: CivilDateTime)
+    ensures searched { IsSearched (wall_second civil) ↔ IsBetween (pos 1) (pos 5000) civil.date.year }
+    ensures needed { IsInReach (wall_second civil) ↔ IsBetween (pos 0) (pos 5001) civil.date.year }
+    ensures start { IsStart (wall_second civil) ↔ IsWithin 9997 civil.date.year }
+{}

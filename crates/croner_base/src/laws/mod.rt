@@ -2,3 +2,4 @@
 //! without reading how a definition is written.
 
 pub mod calendar;
+pub mod clocks;

@@ -1,4 +1,4 @@
-//! Dates and times of day without a zone.
+//! Dates and times of day without a zone, and weekdays.
 ghost use Rattle.std.specs.Prelude.{◌≡◌, ◌↔◌, ◌+◌, ◌*◌, ◌<◌, ◌≤◌, ◌%◌, ◌++◌, ◌∷◌, ℤ, pos, ◌+ℤ◌, unsigned_abs, Some, IsSome, IfSome, IsOk, IfOk, IfErr, FitsSigned};
 ghost use Rattle.std.specs.Int.{IsInRange, int_rem_euclid};
 ghost use mir.Syntax.{w32};
@@ -9,22 +9,29 @@ use crate::errors::CronError;
 use crate::time::{day_of_year, days_in_month};
 use std::fmt;
 
-/// A day of the week.
+/// A day of the week. Weekdays are counted and ordered from Sunday, as cron does.
 #[derive(Debug, Clone, Copy, PartialEq, Eq, PartialOrd, Ord, Hash)]
 pub enum Weekday {
+    /// Day 0 of the week.
     Sunday = 0,
+    /// Day 1.
     Monday = 1,
+    /// Day 2.
     Tuesday = 2,
+    /// Day 3.
     Wednesday = 3,
+    /// Day 4.
     Thursday = 4,
+    /// Day 5.
     Friday = 5,
+    /// Day 6.
     Saturday = 6,
 }
 
 impl Weekday {
     ghost use Rattle.croner_base.specs.Civil.{weekday_index};
 
-    /// The number of days from Sunday.
+    /// How many days after Sunday it is: 0 to 6.
     pub fn num_days_from_sunday(self) -> u32
         ensures value { result ≡ weekday_index self }
         ensures bound { result < 7 }
@@ -32,31 +39,36 @@ impl Weekday {
         self as u32
     }
 
-    /// The weekday that many days from Sunday, wrapping every seven days.
+    /// The weekday so many days after a Sunday. Whole weeks don't matter, so it undoes `num_days_from_sunday`.
     pub fn from_days_from_sunday(days: u32) -> Weekday
         ensures { weekday_index result ≡ days % 7 }
     {
-        match days % 7 {
-            0 => Weekday::Sunday,
-            1 => Weekday::Monday,
-            2 => Weekday::Tuesday,
-            3 => Weekday::Wednesday,
-            4 => Weekday::Thursday,
-            5 => Weekday::Friday,
-            _ => Weekday::Saturday,
-        }
+        const WEEK: [Weekday; 7] = [
+            Weekday::Sunday,
+            Weekday::Monday,
+            Weekday::Tuesday,
+            Weekday::Wednesday,
+            Weekday::Thursday,
+            Weekday::Friday,
+            Weekday::Saturday,
+        ];
+
+        WEEK[days as usize % WEEK.len()]
     }
 
-    /// The weekday a signed number of days away.
+    /// The weekday `days` days later, or earlier where it is negative. The caller sees to it that `days` and the
+    /// number of this weekday add up within an `i32`.
     pub fn shift(self, days: i32) -> Weekday
         requires { FitsSigned w32 (pos (weekday_index self) +ℤ days) }
-        ensures { weekday_index result ≡ unsigned_abs (int_rem_euclid (pos (weekday_index self) +ℤ days) (pos 7)) }
+        ensures { weekday_index result
+            ≡ unsigned_abs (int_rem_euclid (pos (weekday_index self) +ℤ days) (pos 7)) }
     {
-        Weekday::from_days_from_sunday((self as i32 + days).rem_euclid(7) as u32)
+        let number = self as i32 + days;
+        Weekday::from_days_from_sunday(number.rem_euclid(7) as u32)
     }
 }
 
-/// A civil date: a year, a month and a day, without a time zone.
+/// A date that the calendar has: a year, a month from 1 to 12, and a day of it from 1. Dates are ordered in time.
 #[derive(Debug, Clone, Copy, PartialEq, Eq, PartialOrd, Ord, Hash)]
 pub struct CivilDate {
     year: i32,
@@ -68,25 +80,18 @@ pub struct CivilDate {
 impl CivilDate {
     ghost use Rattle.croner_base.specs.Civil.{HasYmd};
 
-    /// Creates a date, or returns `None` if the date does not exist.
+    /// The date of these parts, or `None` where the calendar has no such date.
     pub fn from_ymd_opt(year: i32, month: u32, day: u32) -> Option<CivilDate>
         ensures some { IsSome result ↔ IsRealDate year month day }
         ensures value { IfSome result (HasYmd year month day) }
     {
-        if month == 0 || month > 12 {
+        if month < 1 || month > 12 || day < 1 || day > days_in_month(year, month) {
             return None;
         }
-        if day == 0 || day > days_in_month(year, month) {
-            return None;
-        }
-        Some(CivilDate {
-            year,
-            month: month as u8,
-            day: day as u8,
-        })
+        Some(CivilDate::from_parts_unchecked(year, month, day))
     }
 
-    /// Creates a date, or refuses one that does not exist.
+    /// The date of these parts. `InvalidDate` where the calendar has no such date.
     pub fn from_ymd(year: i32, month: u32, day: u32) -> Result<CivilDate, CronError>
         ensures ok { IsOk result ↔ IsRealDate year month day }
         ensures value { IfOk result (HasYmd year month day) }
@@ -95,7 +100,7 @@ impl CivilDate {
         CivilDate::from_ymd_opt(year, month, day).ok_or(CronError::InvalidDate)
     }
 
-    /// Creates a date that the caller knows to exist.
+    /// The date of parts that the caller knows to make one: nothing is tested as the program runs.
     pub fn from_parts_unchecked(year: i32, month: u32, day: u32) -> CivilDate
         requires { IsRealDate year month day }
         ensures { HasYmd year month day result }
@@ -107,30 +112,35 @@ impl CivilDate {
         }
     }
 
+    /// The year. Year 0 lies before year 1.
     pub fn year(self) -> i32
         ensures { result ≡ self.year }
     {
         self.year
     }
 
+    /// The month of the year: 1 to 12.
     pub fn month(self) -> u32
         ensures { result ≡ self.month }
     {
         self.month as u32
     }
 
+    /// The day of the month: 1 to 31.
     pub fn day(self) -> u32
         ensures { result ≡ self.day }
     {
         self.day as u32
     }
 
+    /// How many days the date's month has: 28 to 31.
     pub fn days_in_month(self) -> u32
         ensures { result ≡ month_days self.year self.month }
     {
         days_in_month(self.year, self.month())
     }
 
+    /// The place of the date in its year: 1 to 366.
     pub fn day_of_year(self) -> u32
         ensures { result ≡ place_in_year self.year self.month self.day }
     {
@@ -138,6 +148,8 @@ impl CivilDate {
     }
 }
 
+/// Year, month and day with `-` between them: the year in four places or more with leading zeros, of which a minus
+/// sign takes one, month and day in two places. `2024-07-01`, `-005-01-01`.
 impl fmt::Display for CivilDate {
     ghost use Rattle.croner_base.specs.CivilText.{date_text};
     ghost use Rattle.std.specs.Prelude.{Some};
@@ -150,7 +162,8 @@ impl fmt::Display for CivilDate {
     }
 }
 
-/// A civil time of day to the second.
+/// A time of day to the second: an hour from 0 to 23, a minute and a second from 0 to 59. There are no leap seconds.
+/// Times are ordered within the day.
 #[derive(Debug, Clone, Copy, PartialEq, Eq, PartialOrd, Ord, Hash)]
 pub struct CivilTime {
     hour: u8,
@@ -164,18 +177,21 @@ pub struct CivilTime {
 impl CivilTime {
     ghost use Rattle.croner_base.specs.Civil.{HasHms, IsTimeOfDay, seconds_of_time};
 
+    /// 00:00:00, where each day begins.
     pub const MIDNIGHT: CivilTime = CivilTime {
         hour: 0,
         minute: 0,
         second: 0,
     };
 
+    /// 23:59:59, the last second of each day.
     pub const END_OF_DAY: CivilTime = CivilTime {
         hour: 23,
         minute: 59,
         second: 59,
     };
 
+    /// The time of these parts, or `None` where one of them is out of its range.
     pub fn from_hms_opt(hour: u32, minute: u32, second: u32) -> Option<CivilTime>
         ensures some { IsSome result ↔ IsTimeOfDay hour minute second }
         ensures value { IfSome result (HasHms hour minute second) }
@@ -186,6 +202,7 @@ impl CivilTime {
         Some(CivilTime::from_parts_unchecked(hour, minute, second))
     }
 
+    /// The time of parts that the caller knows to be in range: nothing is tested as the program runs.
     pub fn from_parts_unchecked(hour: u32, minute: u32, second: u32) -> CivilTime
         requires hour { hour < 24 }
         requires minute { minute < 60 }
@@ -199,18 +216,21 @@ impl CivilTime {
         }
     }
 
+    /// The hour of the day: 0 to 23.
     pub fn hour(self) -> u32
         ensures { result ≡ self.hour }
     {
         self.hour as u32
     }
 
+    /// The minute of the hour: 0 to 59.
     pub fn minute(self) -> u32
         ensures { result ≡ self.minute }
     {
         self.minute as u32
     }
 
+    /// The second of the minute: 0 to 59.
     pub fn second(self) -> u32
         ensures { result ≡ self.second }
     {
@@ -222,20 +242,24 @@ impl CivilTime {
         requires { seconds < 86_400 }
         ensures { seconds_of_time result ≡ seconds }
     {
+        let minutes = seconds / 60;
         CivilTime {
-            hour: (seconds / 3600) as u8,
-            minute: (seconds % 3600 / 60) as u8,
+            hour: (minutes / 60) as u8,
+            minute: (minutes % 60) as u8,
             second: (seconds % 60) as u8,
         }
     }
 
+    /// The seconds that have gone by since midnight: 0 to 86,399.
     pub(crate) fn seconds_of_day(self) -> i64
         ensures { result ≡ pos (seconds_of_time self) }
     {
-        self.hour as i64 * 3600 + self.minute as i64 * 60 + self.second as i64
+        let minutes = self.hour as i64 * 60 + self.minute as i64;
+        minutes * 60 + self.second as i64
     }
 }
 
+/// `HH:MM:SS`, each in two places.
 impl fmt::Display for CivilTime {
     ghost use Rattle.croner_base.specs.CivilText.{time_text};
     ghost use Rattle.std.specs.Prelude.{Some};
@@ -248,7 +272,7 @@ impl fmt::Display for CivilTime {
     }
 }
 
-/// A civil date and time to the second.
+/// A date and a time of day to the second, as a wall clock without a zone shows them. They are ordered in time.
 #[derive(Debug, Clone, Copy, PartialEq, Eq, PartialOrd, Ord, Hash)]
 pub struct CivilDateTime {
     date: CivilDate,
@@ -258,6 +282,7 @@ pub struct CivilDateTime {
 impl CivilDateTime {
     ghost use Rattle.croner_base.specs.Civil.{HasYmd, HasHms, IsTimeOfDay};
 
+    /// That time of that date.
     pub fn new(date: CivilDate, time: CivilTime) -> CivilDateTime
         ensures date { result.date ≡ date }
         ensures time { result.time ≡ time }
@@ -265,6 +290,7 @@ impl CivilDateTime {
         CivilDateTime { date, time }
     }
 
+    /// The date and time of these parts, or `None` where there is no such date or no such time of day.
     pub fn from_ymd_hms_opt(
         year: i32,
         month: u32,
@@ -283,6 +309,8 @@ impl CivilDateTime {
         Some(CivilDateTime::new(date, time))
     }
 
+    /// The date and time of these parts. `InvalidDate` where there is no such date, whatever the time; `InvalidTime`
+    /// where the date exists and the time of day doesn't.
     pub fn from_ymd_hms(
         year: i32,
         month: u32,
@@ -302,48 +330,56 @@ impl CivilDateTime {
         Ok(CivilDateTime::new(date, time))
     }
 
+    /// The date.
     pub fn date(self) -> CivilDate
         ensures { result ≡ self.date }
     {
         self.date
     }
 
+    /// The time of day.
     pub fn time(self) -> CivilTime
         ensures { result ≡ self.time }
     {
         self.time
     }
 
+    /// The year of the date.
     pub fn year(self) -> i32
         ensures { result ≡ self.date.year }
     {
         self.date.year()
     }
 
+    /// The month of the date: 1 to 12.
     pub fn month(self) -> u32
         ensures { result ≡ self.date.month }
     {
         self.date.month()
     }
 
+    /// The day of the month: 1 to 31.
     pub fn day(self) -> u32
         ensures { result ≡ self.date.day }
     {
         self.date.day()
     }
 
+    /// The hour of the day: 0 to 23.
     pub fn hour(self) -> u32
         ensures { result ≡ self.time.hour }
     {
         self.time.hour()
     }
 
+    /// The minute of the hour: 0 to 59.
     pub fn minute(self) -> u32
         ensures { result ≡ self.time.minute }
     {
         self.time.minute()
     }
 
+    /// The second of the minute: 0 to 59.
     pub fn second(self) -> u32
         ensures { result ≡ self.time.second }
     {
@@ -351,6 +387,7 @@ impl CivilDateTime {
     }
 }
 
+/// The date, a `T` and the time: `2024-07-01T09:30:00`.
 impl fmt::Display for CivilDateTime {
     ghost use Rattle.croner_base.specs.CivilText.{datetime_text};
     ghost use Rattle.std.specs.Prelude.{Some};

@@ -1,7 +1,10 @@
-//! Civil dates and times by counting.
+//! The calendar, dates and times without a zone, and the trait by which a search sees a date and time library.
+//!
+//! The calendar is the proleptic Gregorian one: its rules of today reach back without end, year 0 lies before year 1,
+//! and years before it are negative. A day has 86,400 seconds.
 ghost use Rattle.std.specs.Prelude.{◌≡◌};
 ghost use Rattle.std.specs.Int.{IsInRange};
-ghost use Rattle.jiff.specs.Words.{is_leap_year as leap, days_in_month as month_days, days_in_year as year_days};
+ghost use Rattle.jiff_core.specs.Calendar.{is_leap_year as leap, days_in_month as month_days, days_in_year as year_days};
 ghost use Rattle.croner_base.specs.Calendar.{IsRealDate, place_in_year};
 
 mod civil;
@@ -15,18 +18,26 @@ pub use value::{CronDateTime, Resolution};
 /// The way in which a search goes through time.
 #[derive(Debug, Clone, Copy, PartialEq, Eq, PartialOrd, Ord, Hash)]
 pub enum Direction {
+    /// To later instants.
     Forward,
+    /// To earlier instants.
     Backward,
 }
 
 /// A part of a date and time, from the finest.
 #[derive(Debug, Clone, Copy, PartialEq, Eq, PartialOrd, Ord, Hash)]
 pub enum TimeComponent {
+    /// The second of the minute.
     Second = 1,
+    /// The minute of the hour.
     Minute,
+    /// The hour of the day.
     Hour,
+    /// The day of the month.
     Day,
+    /// The month of the year.
     Month,
+    /// The year.
     Year,
 }
 
@@ -36,47 +47,45 @@ pub const YEAR_UPPER_LIMIT: i32 = 5000;
 /// The first year that a pattern can name.
 pub const YEAR_LOWER_LIMIT: i32 = 1;
 
-/// `true` for a leap year of the proleptic Gregorian calendar.
+/// Whether a year has a 29 February: each fourth year has, but of the whole hundreds only each fourth.
 pub fn is_leap_year(year: i32) -> bool
     ensures { result ≡ leap year }
 {
-    (year % 4 == 0 && year % 100 != 0) || year % 400 == 0
+    if year % 100 == 0 {
+        year % 400 == 0
+    } else {
+        year % 4 == 0
+    }
 }
 
-/// The number of days in a month.
+/// How many days a year has: 366 where it is a leap year, and 365 otherwise.
+pub fn days_in_year(year: i32) -> u32
+    ensures { result ≡ year_days year }
+{
+    365 + u32::from(is_leap_year(year))
+}
+
+/// How many days a month of a year has, from 28 to 31. The caller sees to it that the month is one, from 1 to 12.
 pub fn days_in_month(year: i32, month: u32) -> u32
     requires { IsInRange 1 12 month }
     ensures value { result ≡ month_days year month }
     ensures bound { IsInRange 28 31 result }
 {
     match month {
-        1 | 3 | 5 | 7 | 8 | 10 | 12 => 31,
+        2 => 28 + u32::from(is_leap_year(year)),
         4 | 6 | 9 | 11 => 30,
-        2 if is_leap_year(year) => 29,
-        2 => 28,
-        _ => unreachable!(),
+        _ => 31,
     }
 }
 
-/// 366 in a leap year, and else 365.
-pub fn days_in_year(year: i32) -> u32
-    ensures { result ≡ year_days year }
-{
-    if is_leap_year(year) { 366 } else { 365 }
-}
-
-/// The place of a date in its year, from 1.
+/// The place of a date in its year, from 1 for 1 January. The caller sees to it that the date exists.
 pub fn day_of_year(year: i32, month: u32, day: u32) -> u32
     requires { IsRealDate year month day }
     ensures { result ≡ place_in_year year month day }
 {
-    // Days in the whole months before each month of a common year.
-    const BEFORE_MONTH: [u32; 12] = [0, 31, 59, 90, 120, 151, 181, 212, 243, 273, 304, 334];
+    // What has gone by on the first of each month, where February has 28 days.
+    const DAYS_GONE: [u32; 12] = [0, 31, 59, 90, 120, 151, 181, 212, 243, 273, 304, 334];
 
-    let leap_day = if month > 2 && is_leap_year(year) {
-        1
-    } else {
-        0
-    };
-    BEFORE_MONTH[(month - 1) as usize] + day + leap_day
+    let leap_day = u32::from(month > 2 && is_leap_year(year));
+    DAYS_GONE[month as usize - 1] + leap_day + day
 }

@@ -1,13 +1,10 @@
 //! Zoned date-times of `jiff` as time values, in every time zone.
-ghost use Rattle.std.specs.Prelude.{◌≡◌, false, pos, IfOk, IfErr, ◌+ℤ◌};
+ghost use Rattle.std.specs.Prelude.{◌≡◌, ◌↔◌, true, false, IsTrue, IsOk, IfOk, IfErr};
 ghost use Rattle.std.proofs.Common.{ap};
-ghost use Rattle.std.specs.Int.{int_div_euclid};
-ghost use Rattle.jiff.specs.ZonedView.{plain_zoned};
 ghost use Rattle.jiff.specs.Words.{civil_seconds};
-ghost use Rattle.croner_base.specs.Civil.{wall_second, weekday_index, weekday_of_second};
 ghost use Rattle.croner_base.specs.Zone.{reading, IsResolved, IsUnheld};
-ghost use Rattle.croner_base.specs.ZonedZone.{zoned_moment};
-ghost use Rattle.croner_base.specs.ZonedValue.{value_moment};
+ghost use Rattle.croner_base.specs.ZonedZone.{is_near_year};
+ghost use Rattle.croner_base.specs.ZonedValue.{value_moment, is_showing, chosen};
 
 use crate::errors::CronError;
 use crate::time::jiff_impl::{to_civil, to_jiff, to_weekday};
@@ -16,6 +13,9 @@ use jiff::civil::DateTime;
 use jiff::{SignedDuration, Timestamp, Zoned};
 use std::alloc::Global;
 use std::cmp::Ordering;
+
+// In the years from this one before to this one after year 0, every second plus any offset is an instant of `jiff`.
+const YEAR_LIMIT: i32 = 9998;
 
 // What the zone's clock shows at the whole second. A rule may change its clock inside the last
 // second of a year, so the fraction is taken off first.
@@ -29,11 +29,38 @@ fn shown(zoned: &Zoned<'_>) -> DateTime
     }
 }
 
+// Of two instants those at which their clock shows the date-time, each once and the earlier first.
+fn showing<'a>(datetime: DateTime, one: Zoned<'a>, other: Zoned<'a>) -> Resolution<Zoned<'a>>
+    ensures { result ≡ chosen (is_showing one.entry datetime) (is_showing other.entry datetime) one.entry other.entry }
+{
+    match (one.datetime() == datetime, other.datetime() == datetime) {
+        (true, true) => in_order(one, other),
+        (true, false) => Resolution::Single(one),
+        (false, true) => Resolution::Single(other),
+        (false, false) => Resolution::Gap,
+    }
+}
+
+// Two instants, the earlier first, or the one that both are.
+fn in_order<'a>(one: Zoned<'a>, other: Zoned<'a>) -> Resolution<Zoned<'a>>
+    ensures { result ≡ chosen true true one.entry other.entry }
+{
+    match one.timestamp().cmp(&other.timestamp()) {
+        Ordering::Less => Resolution::Ambiguous(one, other),
+        Ordering::Equal => Resolution::Single(one),
+        Ordering::Greater => Resolution::Ambiguous(other, one),
+    }
+}
+
+// The instants of the value's zone that show the second. Where the clock is moved, `jiff` offers an earlier and a later
+// choice of offset: only those count that really show the second.
 fn resolved<'a>(zoned: &Zoned<'a>, civil: CivilDateTime) -> Result<Resolution<Zoned<'a>>, CronError>
+    ensures held { IsOk result ↔ IsTrue (is_near_year civil.date.year) }
     ensures value { IfOk result (IsResolved value_moment (value_moment zoned.now).zone civil) }
     ensures err { IfErr result (IsUnheld false (value_moment zoned.now).zone civil) }
+    ensures date { IfErr result (λ e. e ≡ CronError.InvalidDate) }
 {
-    if civil.year() < -9998 || civil.year() > 9998 {
+    if civil.year() < -YEAR_LIMIT || civil.year() > YEAR_LIMIT {
         return Err(CronError::InvalidDate);
     }
     let datetime = match to_jiff(civil) {
@@ -49,23 +76,7 @@ fn resolved<'a>(zoned: &Zoned<'a>, civil: CivilDateTime) -> Result<Resolution<Zo
         Ok(later) => later,
         Err(_) => unreachable!(),
     };
-    let at_earlier = earlier.datetime() == datetime;
-    let at_later = later.datetime() == datetime;
-    if at_earlier {
-        if at_later {
-            match earlier.timestamp().cmp(&later.timestamp()) {
-                Ordering::Less => Ok(Resolution::Ambiguous(earlier, later)),
-                Ordering::Equal => Ok(Resolution::Single(earlier)),
-                Ordering::Greater => Ok(Resolution::Ambiguous(later, earlier)),
-            }
-        } else {
-            Ok(Resolution::Single(earlier))
-        }
-    } else if at_later {
-        Ok(Resolution::Single(later))
-    } else {
-        Ok(Resolution::Gap)
-    }
+    Ok(showing(datetime, earlier, later))
 }
 
 impl<'a> CronDateTime for Zoned<'a> {
@@ -85,7 +96,12 @@ impl<'a> CronDateTime for Zoned<'a> {
         &self,
         _alloc: Global,
         civil: CivilDateTime,
-    ) -> Result<Resolution<Zoned<'a>>, CronError> {
+    ) -> Result<Resolution<Zoned<'a>>, CronError>
+        ensures held { IsOk result ↔ IsTrue (is_near_year civil.date.year) }
+        ensures value { IfOk result (IsResolved value_moment (value_moment self.now).zone civil) }
+        ensures err { IfErr result (IsUnheld false (value_moment self.now).zone civil) }
+        ensures date { IfErr result (λ e. e ≡ CronError.InvalidDate) }
+    {
         resolved(self, civil)
     }
 
