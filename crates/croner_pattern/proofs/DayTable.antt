@@ -3,7 +3,7 @@ use Rattle.std.proofs.Common.{◌≡◌, ℕ, zero, suc, ◌+◌, ◌-◌, ◌/�
 use Rattle.std.proofs.Common.{subst, ◌^◌, nat_eq, if◌then◌else◌, ◌==◌}
 use Rattle.std.proofs.lemmas.Bool.Decides.{nat_tests}
 use Rattle.std.proofs.lemmas.Bool.{and_parts, cases_eq, eqb-true}
-use Rattle.croner_pattern.specs.Days.{weekday_of, is_nearest, is_last_weekday, is_last_working, occurrence, resolved_day}
+use Rattle.croner_pattern.specs.Days.{weekday_of, is_nearest, is_last_weekday, is_last_day, is_last_working, occurrence, resolved_day}
 
 -- each number of a range passes
 abbrev pub all_from : ℕ → ℕ → (ℕ → Bool) → Bool
@@ -88,3 +88,13 @@ working_is len first day a b c d e =
 -- the day that a target goes to is at most two days off
 pub resolved_near : (len w target : ℕ) → 28 ≤ len → 1 ≤ target → target ≤ len → (resolved_day len w target ≤ target + 2) × (target ≤ resolved_day len w target + 2)
 resolved_near len w target a b c = (grind (arith, nat_tests), grind (arith, nat_tests))
+
+-- no later day in the month: the day is its length
+last_day_table : all_from 28 4 (λ len. all_from 1 len (λ day. same (eqb day len) (is_last_day len day))) ≡ true
+last_day_table = refl
+
+pub last_day_is : (len day : ℕ) → 28 ≤ len → len ≤ 31 → 1 ≤ day → day ≤ len → eqb day len ≡ is_last_day len day
+last_day_is len day a b c d =
+    same-true _ _
+    (all_from-at 1 len (λ day. same (eqb day len) (is_last_day len day)) day
+    (all_from-at 28 4 (λ len. all_from 1 len (λ day. same (eqb day len) (is_last_day len day))) len last_day_table a (omega arith)) c (omega arith))

@@ -91,10 +91,10 @@ asks_weekday s v bits h has b = can_ask-alike s (weekday_shape 0) v bits h ∙ r
 pub asked-is : (bits : ℕ) (f : Field) (v : ℕ) → can_ask f.shape v bits ≡ true → asked bits f v ≡ Some (is_named bits f v)
 asked-is bits f v h = rw h refl
 
-some-same : {X : Type 0} (x y : X) → Some x ≡ Some y → x ≡ y
+pub some-same : {X : Type 0} (x y : X) → Some x ≡ Some y → x ≡ y
 some-same x y e = cc
 
-none-some : {X : Type 0} (x : X) → None ≡ Some x → ⊥
+pub none-some : {X : Type 0} (x : X) → None ≡ Some x → ⊥
 none-some x e = cc
 
 pub Finds-some : {X : Type 0} (x : X) (found : Option X) (result : Result X CronError) → found ≡ Some x → Finds (λ y. y) found result → result ≡ Ok x

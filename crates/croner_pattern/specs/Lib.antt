@@ -3,3 +3,5 @@ pub mod Shapes
 pub mod Days
 pub mod Schedule
 pub mod Questions
+pub mod Order
+pub mod Written

@@ -55,11 +55,15 @@ abbrev pub day_answer : Field → ℕ → ℕ → ℕ → Option Bool
 day_answer days len first day =
     first_yes (asked 1 days day ∷ Some (is_named_last days len first day) ∷ near_answers days len first day ∷ [])
 
+-- the weekday is marked with `L`, and this is its last of the month
+abbrev pub last_answer : Field → ℕ → ℕ → ℕ → Option Bool
+last_answer weekdays len first day = and_test (is_last_weekday len first day) (asked 64 weekdays (weekday_of first day))
+
 -- the weekday side: the nth, then the last, then plain
 abbrev pub weekday_answer : Field → ℕ → ℕ → ℕ → Option Bool
 weekday_answer weekdays len first day =
     first_yes (asked (nth_bit (occurrence first day)) weekdays (weekday_of first day)
-    ∷ and_test (is_last_weekday len first day) (asked 64 weekdays (weekday_of first day))
+    ∷ last_answer weekdays len first day
     ∷ asked 1 weekdays (weekday_of first day) ∷ [])
 
 -- both sides, joined

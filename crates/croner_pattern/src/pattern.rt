@@ -1,14 +1,16 @@
 //! A pattern: its seven fields, and the dates and times that they name.
 
 ghost use Rattle.std.specs.Prelude.{◌≡◌, true, IfOk, IfErr};
-ghost use Rattle.croner_base.specs.Answers.{IsFieldError, SucceedsIff};
+ghost use Rattle.croner_base.specs.Answers.{Finds, IsFieldError, SucceedsIff};
 ghost use Rattle.croner_base.specs.Field.{new_shape};
 ghost use Rattle.croner_pattern.specs.Meaning.{Meaning, meaning_of};
-ghost use Rattle.croner_pattern.specs.Questions.{clock_field, can_find, FindsMember};
+ghost use Rattle.croner_pattern.specs.Questions.{asked, clock_field, can_find, FindsMember};
 ghost use Rattle.croner_pattern.specs.Schedule.{is_single, is_fixed_time};
 ghost use Rattle.croner_pattern.specs.Shapes.{has_field_shapes, is_like, new_meaning};
 
+mod compare;
 mod days;
+mod flags;
 mod matching;
 mod members;
 
@@ -17,7 +19,7 @@ use croner_base::component::{
 };
 use croner_base::errors::CronError;
 use croner_base::time::{Direction, TimeComponent, YEAR_LOWER_LIMIT, YEAR_UPPER_LIMIT};
-use std::alloc::Global;
+use std::alloc::{AllocError, Global};
 use std::fmt;
 
 pub use members::{has_plain, nearest_member};
@@ -120,27 +122,6 @@ impl CronPattern {
         self.day_and_weekday = and;
     }
 
-    /// Whether the day of month is written as `*`.
-    pub fn is_dom_wildcard(&self) -> bool
-        ensures { result ≡ (meaning_of self.now).star_day }
-    {
-        self.star_day
-    }
-
-    /// Whether the weekday is written as `*`.
-    pub fn is_dow_wildcard(&self) -> bool
-        ensures { result ≡ (meaning_of self.now).star_weekday }
-    {
-        self.star_weekday
-    }
-
-    /// Whether a day has to match both the day of month and the weekday, where neither is written as `*`.
-    pub fn matches_dom_and_dow(&self) -> bool
-        ensures { result ≡ (meaning_of self.now).and }
-    {
-        self.day_and_weekday
-    }
-
     /// The text of the pattern: the one handed to [`new`](Self::new).
     pub fn as_str(&self) -> &str
         ensures { result.now ≡ (meaning_of self.now).text }
@@ -209,11 +190,42 @@ fn is_like(field: &CronComponent, min: u16, max: u16, features: u8, offset: u16)
         && field.input_offset() == offset
 }
 
+/// Whether a value has one of the modifiers, where the field can be asked.
+fn ask(field: &CronComponent, value: u16, bit: u8) -> Result<bool, CronError>
+    ensures { Finds (λ held. held) (asked bit field.now value) result }
+{
+    field.is_bit_set(value, bit)
+}
+
 /// Whether a field names exactly one value, with step 1 and without a `*`.
 fn is_single(field: &CronComponent) -> bool
     ensures { result ≡ is_single field.now }
 {
     field.step() == 1 && !field.from_wildcard() && field.count_set_values(ALL_BIT) == 1
+}
+
+impl Clone for CronPattern {
+    ghost use Rattle.std.specs.Prelude.{◌≡◌};
+    ghost use Rattle.croner_pattern.specs.Meaning.{meaning_of};
+
+    ghost is_clone = { λ original copy. meaning_of copy ≡ meaning_of original };
+
+    fn clone(&self) -> Result<CronPattern, AllocError> {
+        Ok(CronPattern {
+            seconds: self.seconds.clone()?,
+            minutes: self.minutes.clone()?,
+            hours: self.hours.clone()?,
+            days: self.days.clone()?,
+            months: self.months.clone()?,
+            days_of_week: self.days_of_week.clone()?,
+            years: self.years.clone()?,
+            text: self.text.clone()?,
+            star_day: self.star_day,
+            star_weekday: self.star_weekday,
+            day_and_weekday: self.day_and_weekday,
+            alloc: self.alloc,
+        })
+    }
 }
 
 impl fmt::Display for CronPattern {

@@ -8,11 +8,11 @@ ghost use Rattle.croner_base.specs.Civil.{weekday_index};
 ghost use Rattle.jiff_core.specs.Calendar.{days_in_month as month_days};
 ghost use Rattle.croner_pattern.specs.Days.{weekday_of, occurrence, is_last_weekday, is_last_working, is_nearest, resolved_day};
 ghost use Rattle.croner_pattern.specs.Meaning.{meaning_of};
-ghost use Rattle.croner_pattern.specs.Questions.{first_from, near_answers, is_named_last, day_answer, weekday_answer, date_answer};
+ghost use Rattle.croner_pattern.specs.Questions.{first_from, first_target, last_target, near_answer, near_answers, is_named_last, last_answer, day_answer, weekday_answer, date_answer};
 ghost use Rattle.croner_pattern.specs.Schedule.{nth_bit, are_joined, is_near_target, is_day_matching};
 ghost use Rattle.croner_pattern.specs.Shapes.{has_field_shapes};
 
-use super::CronPattern;
+use super::{CronPattern, ask};
 use croner_base::component::{
     ALL_BIT, CLOSEST_WEEKDAY_BIT, CronComponent, LAST_BIT, NTH_1ST_BIT, NTH_2ND_BIT, NTH_3RD_BIT,
     NTH_4TH_BIT, NTH_5TH_BIT,
@@ -46,20 +46,17 @@ impl CronPattern {
         weekday: Weekday,
     ) -> Result<bool, CronError>
         ensures no_date { (IsRealDate year month day → ⊥) → result ≡ Err CronError.InvalidDate }
-        ensures asked { IsRealDate year month day → Finds (λ yes. yes)
+        ensures asked { IsRealDate year month day → Finds (λ held. held)
             (date_answer (meaning_of self.now) (month_days year month) (first_from (weekday_index weekday) day) day) result }
-        ensures value { IfOk result (λ yes. yes
+        ensures value { IfOk result (λ held. held
             ≡ is_day_matching (meaning_of self.now) (month_days year month) (first_from (weekday_index weekday) day) day) }
         ensures shaped { has_field_shapes (meaning_of self.now) ≡ true → IsRealDate year month day → result
             ≡ Ok (is_day_matching (meaning_of self.now) (month_days year month) (first_from (weekday_index weekday) day) day) }
     {
-        if month < 1 || month > 12 {
+        if CivilDate::from_ymd_opt(year, month, day).is_none() {
             return Err(CronError::InvalidDate);
         }
         let length = days_in_month(year, month);
-        if day < 1 || day > length {
-            return Err(CronError::InvalidDate);
-        }
         self.fits(length, first_weekday(day, weekday), day)
     }
 
@@ -75,9 +72,9 @@ impl CronPattern {
     ) -> Result<bool, CronError>
         requires length { IsInRange 28 31 month_length }
         requires day { IsInRange 1 month_length day }
-        ensures asked { Finds (λ yes. yes)
+        ensures asked { Finds (λ held. held)
             (near_answers (meaning_of self.now).days month_length (first_from (weekday_index weekday) day) day) result }
-        ensures value { IfOk result (λ yes. yes
+        ensures value { IfOk result (λ held. held
             ≡ is_near_target (meaning_of self.now).days month_length (first_from (weekday_index weekday) day) day) }
         ensures shaped { has_field_shapes (meaning_of self.now) ≡ true → result
             ≡ Ok (is_near_target (meaning_of self.now).days month_length (first_from (weekday_index weekday) day) day) }
@@ -85,12 +82,23 @@ impl CronPattern {
         is_near_target(&self.days, month_length, first_weekday(day, weekday), day)
     }
 
-    /// Whether a day of a month with this length and this weekday of its first fits.
+    /// Whether a day fits in a month of `length` days whose first has the weekday `first`, from 0 for Sunday. With the
+    /// shapes of a pattern's fields nothing is refused.
+    pub fn is_day_named(&self, length: u32, first: u32, day: u32) -> bool
+        requires shapes { has_field_shapes (meaning_of self.now) ≡ true }
+        requires length { IsInRange 28 31 length }
+        requires first { first < 7 }
+        requires day { IsInRange 1 length day }
+        ensures { result ≡ is_day_matching (meaning_of self.now) length first day }
+    {
+        self.fits(length, first, day).unwrap_or(false)
+    }
+
     fn fits(&self, length: u32, first: u32, day: u32) -> Result<bool, CronError>
         requires length { IsInRange 28 31 length }
         requires first { first < 7 }
         requires day { IsInRange 1 length day }
-        ensures { Finds (λ yes. yes) (date_answer (meaning_of self.now) length first day) result }
+        ensures { Finds (λ held. held) (date_answer (meaning_of self.now) length first day) result }
     {
         let day_fits = fits_days(&self.days, length, first, day)?;
         let weekday_fits = fits_weekdays(&self.days_of_week, length, first, day)?;
@@ -133,9 +141,12 @@ fn fits_days(days: &CronComponent, length: u32, first: u32, day: u32) -> Result<
     requires length { IsInRange 28 31 length }
     requires first { first < 7 }
     requires day { IsInRange 1 length day }
-    ensures { Finds (λ yes. yes) (day_answer days.now length first day) result }
+    ensures { Finds (λ held. held) (day_answer days.now length first day) result }
 {
-    if days.is_bit_set(day as u16, ALL_BIT)? || is_named_last(days, length, first, day) {
+    if ask(days, day as u16, ALL_BIT)? {
+        return Ok(true);
+    }
+    if is_named_last(days, length, first, day) {
         return Ok(true);
     }
     is_near_target(days, length, first, day)
@@ -180,17 +191,57 @@ fn is_near_target(
     requires length { IsInRange 28 31 length }
     requires first { first < 7 }
     requires day { IsInRange 1 length day }
-    ensures { Finds (λ yes. yes) (near_answers days.now length first day) result }
+    ensures { Finds (λ held. held) (near_answers days.now length first day) result }
 {
-    let from = if day > NEAREST_REACH { day - NEAREST_REACH } else { 1 };
-    let to = if day + NEAREST_REACH < length { day + NEAREST_REACH } else { length };
-    for target in from..=to {
-        let marked = days.is_bit_set(target as u16, CLOSEST_WEEKDAY_BIT)?;
-        if marked && goes_to(length, first, target, day) {
+    for target in first_target(day)..=last_target(length, day) {
+        if is_target(days, length, first, day, target)? {
             return Ok(true);
         }
     }
     Ok(false)
+}
+
+fn first_target(day: u32) -> u32
+    requires { 1 ≤ day }
+    ensures value { result ≡ first_target day }
+    ensures bound { 1 ≤ result }
+{
+    if day > NEAREST_REACH {
+        day - NEAREST_REACH
+    } else {
+        1
+    }
+}
+
+fn last_target(length: u32, day: u32) -> u32
+    requires length { length ≤ 31 }
+    requires day { day ≤ length }
+    ensures value { result ≡ last_target length day }
+    ensures bound { result ≤ length }
+{
+    if day + NEAREST_REACH < length {
+        day + NEAREST_REACH
+    } else {
+        length
+    }
+}
+
+/// Whether a target is marked, and goes to the day.
+fn is_target(
+    days: &CronComponent,
+    length: u32,
+    first: u32,
+    day: u32,
+    target: u32,
+) -> Result<bool, CronError>
+    requires length { IsInRange 28 31 length }
+    requires first { first < 7 }
+    requires day { IsInRange 1 length day }
+    requires target { IsInRange 1 length target }
+    ensures { Finds (λ held. held) (near_answer days.now length first day target) result }
+{
+    let marked = ask(days, target as u16, CLOSEST_WEEKDAY_BIT)?;
+    Ok(marked && goes_to(length, first, target, day))
 }
 
 /// Whether the nearest Monday-to-Friday day of a target is this day.
@@ -229,16 +280,32 @@ fn fits_weekdays(
     requires length { IsInRange 28 31 length }
     requires first { first < 7 }
     requires day { IsInRange 1 length day }
-    ensures { Finds (λ yes. yes) (weekday_answer weekdays.now length first day) result }
+    ensures { Finds (λ held. held) (weekday_answer weekdays.now length first day) result }
 {
     let weekday = weekday_of(first, day) as u16;
-    if weekdays.is_bit_set(weekday, occurrence_bit(day))? {
+    if ask(weekdays, weekday, occurrence_bit(day))? {
         return Ok(true);
     }
-    if weekdays.is_bit_set(weekday, LAST_BIT)? && is_last_weekday(length, day) {
+    if is_last_named(weekdays, length, first, day)? {
         return Ok(true);
     }
-    weekdays.is_bit_set(weekday, ALL_BIT)
+    ask(weekdays, weekday, ALL_BIT)
+}
+
+/// Whether the day's weekday is marked with `L`, and this is its last of the month.
+fn is_last_named(
+    weekdays: &CronComponent,
+    length: u32,
+    first: u32,
+    day: u32,
+) -> Result<bool, CronError>
+    requires length { IsInRange 28 31 length }
+    requires first { first < 7 }
+    requires day { IsInRange 1 length day }
+    ensures { Finds (λ held. held) (last_answer weekdays.now length first day) result }
+{
+    let marked = ask(weekdays, weekday_of(first, day) as u16, LAST_BIT)?;
+    Ok(marked && is_last_weekday(length, day))
 }
 
 /// The bit of the place that a day has among the like weekdays of its month.

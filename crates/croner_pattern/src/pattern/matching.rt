@@ -8,8 +8,8 @@ ghost use Rattle.croner_pattern.specs.Questions.{asked};
 ghost use Rattle.croner_pattern.specs.Schedule.{is_plain, is_year_matching};
 ghost use Rattle.croner_pattern.specs.Shapes.{has_field_shapes};
 
-use super::{CronPattern, LAST_HOUR, LAST_MONTH, LAST_SECOND, has_plain};
-use croner_base::component::{ALL_BIT, CronComponent};
+use super::{CronPattern, LAST_HOUR, LAST_MONTH, LAST_SECOND, ask, has_plain};
+use croner_base::component::ALL_BIT;
 use croner_base::errors::CronError;
 use croner_base::time::{YEAR_LOWER_LIMIT, YEAR_UPPER_LIMIT};
 
@@ -21,13 +21,13 @@ impl CronPattern {
     pub fn year_match(&self, year: i32) -> Result<bool, CronError>
         ensures outside { (year <ℤ pos 1) ⊎ (pos 5000 <ℤ year) → result ≡ Ok false }
         ensures asked { pos 1 ≤ℤ year → year ≤ℤ pos 5000 →
-            Finds (λ yes. yes) (asked ALL_BIT (meaning_of self.now).years (unsigned_abs year)) result }
+            Finds (λ held. held) (asked ALL_BIT (meaning_of self.now).years (unsigned_abs year)) result }
         ensures shaped { has_field_shapes (meaning_of self.now) ≡ true → result ≡ Ok (is_year_matching (meaning_of self.now) year) }
     {
         if year < YEAR_LOWER_LIMIT || year > YEAR_UPPER_LIMIT {
             return Ok(false);
         }
-        ask(&self.years, year as u16)
+        ask(&self.years, year as u16, ALL_BIT)
     }
 
     /// Whether a month is named.
@@ -36,14 +36,14 @@ impl CronPattern {
     /// `OutOfMemory` where the message finds no memory.
     pub fn month_match(&self, month: u32) -> Result<bool, CronError>
         ensures outside { (month < 1) ⊎ (12 < month) → result ≡ Err CronError.InvalidDate }
-        ensures asked { IsInRange 1 12 month → Finds (λ yes. yes) (asked ALL_BIT (meaning_of self.now).months month) result }
+        ensures asked { IsInRange 1 12 month → Finds (λ held. held) (asked ALL_BIT (meaning_of self.now).months month) result }
         ensures shaped { has_field_shapes (meaning_of self.now) ≡ true → IsInRange 1 12 month →
             result ≡ Ok (is_plain (meaning_of self.now).months month) }
     {
         if month < 1 || month > u32::from(LAST_MONTH) {
             return Err(CronError::InvalidDate);
         }
-        ask(&self.months, month as u16)
+        ask(&self.months, month as u16, ALL_BIT)
     }
 
     /// Whether an hour is named.
@@ -52,14 +52,14 @@ impl CronPattern {
     /// `OutOfMemory` where the message finds no memory.
     pub fn hour_match(&self, hour: u32) -> Result<bool, CronError>
         ensures outside { 23 < hour → result ≡ Err CronError.InvalidTime }
-        ensures asked { hour ≤ 23 → Finds (λ yes. yes) (asked ALL_BIT (meaning_of self.now).hours hour) result }
+        ensures asked { hour ≤ 23 → Finds (λ held. held) (asked ALL_BIT (meaning_of self.now).hours hour) result }
         ensures shaped { has_field_shapes (meaning_of self.now) ≡ true → hour ≤ 23 →
             result ≡ Ok (is_plain (meaning_of self.now).hours hour) }
     {
         if hour > u32::from(LAST_HOUR) {
             return Err(CronError::InvalidTime);
         }
-        ask(&self.hours, hour as u16)
+        ask(&self.hours, hour as u16, ALL_BIT)
     }
 
     /// Whether a minute is named.
@@ -68,14 +68,14 @@ impl CronPattern {
     /// `OutOfMemory` where the message finds no memory.
     pub fn minute_match(&self, minute: u32) -> Result<bool, CronError>
         ensures outside { 59 < minute → result ≡ Err CronError.InvalidTime }
-        ensures asked { minute ≤ 59 → Finds (λ yes. yes) (asked ALL_BIT (meaning_of self.now).minutes minute) result }
+        ensures asked { minute ≤ 59 → Finds (λ held. held) (asked ALL_BIT (meaning_of self.now).minutes minute) result }
         ensures shaped { has_field_shapes (meaning_of self.now) ≡ true → minute ≤ 59 →
             result ≡ Ok (is_plain (meaning_of self.now).minutes minute) }
     {
         if minute > u32::from(LAST_SECOND) {
             return Err(CronError::InvalidTime);
         }
-        ask(&self.minutes, minute as u16)
+        ask(&self.minutes, minute as u16, ALL_BIT)
     }
 
     /// Whether a second is named.
@@ -84,14 +84,14 @@ impl CronPattern {
     /// `OutOfMemory` where the message finds no memory.
     pub fn second_match(&self, second: u32) -> Result<bool, CronError>
         ensures outside { 59 < second → result ≡ Err CronError.InvalidTime }
-        ensures asked { second ≤ 59 → Finds (λ yes. yes) (asked ALL_BIT (meaning_of self.now).seconds second) result }
+        ensures asked { second ≤ 59 → Finds (λ held. held) (asked ALL_BIT (meaning_of self.now).seconds second) result }
         ensures shaped { has_field_shapes (meaning_of self.now) ≡ true → second ≤ 59 →
             result ≡ Ok (is_plain (meaning_of self.now).seconds second) }
     {
         if second > u32::from(LAST_SECOND) {
             return Err(CronError::InvalidTime);
         }
-        ask(&self.seconds, second as u16)
+        ask(&self.seconds, second as u16, ALL_BIT)
     }
 
     /// Whether a year is named: [`year_match`](Self::year_match) without the refusal of a field of another shape, whose
@@ -101,10 +101,4 @@ impl CronPattern {
     {
         year >= YEAR_LOWER_LIMIT && year <= YEAR_UPPER_LIMIT && has_plain(&self.years, year as u16)
     }
-}
-
-fn ask(field: &CronComponent, value: u16) -> Result<bool, CronError>
-    ensures { Finds (λ yes. yes) (asked ALL_BIT field.now value) result }
-{
-    field.is_bit_set(value, ALL_BIT)
 }
