@@ -2,7 +2,7 @@
 
 use croner::Cron;
 use croner::errors::CronError;
-use croner::iterator::CronIterator;
+use croner::CronIterator;
 use croner::parser::{CronParser, Seconds, Year};
 use croner::time::table::TableTime;
 use croner::time::{CronDateTime, Direction};

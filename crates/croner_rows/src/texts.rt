@@ -3,7 +3,7 @@
 use crate::shown::{parser, refusal};
 use croner::JobType;
 use croner::component::CronComponent;
-use croner::pattern::CronPattern;
+use croner::CronPattern;
 use std::test::Fail;
 
 #[test]

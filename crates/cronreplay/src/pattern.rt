@@ -5,7 +5,7 @@ use crate::fault::Fault;
 use crate::member::{member, text};
 use crate::shown;
 use croner::parser::{CronParser, Seconds, Year};
-use croner::pattern::CronPattern;
+use croner::CronPattern;
 use croner::{Cron, JobType};
 use serde_json::{Map, Value, put};
 use std::alloc::Global;

@@ -8,7 +8,7 @@ use crate::shown::Shown;
 use crate::zone::{Zone, civil_value, zone_of};
 use croner::Cron;
 use croner::errors::CronError;
-use croner::iterator::CronIterator;
+use croner::CronIterator;
 use croner::time::table::TableTime;
 use croner::time::{Direction, Resolution};
 use jiff::civil::DateTime;

@@ -4,7 +4,7 @@ use crate::request::Request;
 use crate::stop::Stop;
 use croner::Cron;
 use croner::errors::CronError;
-use croner::iterator::CronIterator;
+use croner::CronIterator;
 use croner::time::{CivilDateTime, CronDateTime, Direction, Resolution};
 use jiff::civil::DateTime;
 use jiff::tz::TimeZone;
@@ -99,7 +99,7 @@ fn write_next<T: Line, W: Write>(
 }
 
 // Why the last call of `next` gave no run.
-fn why_none<T>(runs: &CronIterator<T>) -> CronError {
+fn why_none<T: CronDateTime>(runs: &CronIterator<T>) -> CronError {
     match runs.fault() {
         None => CronError::TimeSearchLimitExceeded,
         Some(fault) => match fault.clone() {
