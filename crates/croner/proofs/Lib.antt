@@ -1,3 +1,5 @@
 pub mod Cuts
 pub mod WordLists
 pub mod Names
+pub mod Starred
+pub mod Reads

@@ -124,7 +124,7 @@ high_no_name c t h = elim (names_of (take 3 (c ∷ t))) [
 high_kept : (c : ℕ) → 128 ≤ c → (is_lost c ≡ false) × (eqb c 45 ≡ false)
 high_kept c h = (grind (arith, nat_tests), grind (arith, nat_tests))
 
-abbrev AreHigh : List ℕ → Type 0
+abbrev pub AreHigh : List ℕ → Type 0
 AreHigh bs = (k : ℕ) → k < length bs → 128 ≤ get_or bs k 0
 
 replaced_high : (quartz after_dash : Bool) (b : ℕ) (bs t : List ℕ) → AreHigh (b ∷ bs) → replaced quartz after_dash ((b ∷ bs) ++ t) ≡ behind (b ∷ bs) (replaced quartz false t)
@@ -161,7 +161,7 @@ advance_high quartz after_dash (b ∷ bs) rest written utf8 some h =
         ∙ ap (λ d. behind (written ++ b ∷ bs) (replaced quartz d rest)) (sym k.1);
     }
 
-high_bytes : (c : ℕ) → 128 ≤ c → AreHigh (encode_utf8 c)
+pub high_bytes : (c : ℕ) → 128 ≤ c → AreHigh (encode_utf8 c)
 high_bytes c h = λ k l. elim (cases_lt (get_or (encode_utf8 c) k 0) 128) [
   | inl low ↦ absurd (omega (arith, inside_one c [] (encode_utf8 c) k (sym (append-nil (encode_utf8 c))) l low, low, h))
   | inr high ↦ high

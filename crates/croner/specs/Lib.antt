@@ -6,3 +6,4 @@ pub mod Runs
 pub mod Schedule
 pub mod Settings
 pub mod Words
+pub mod Views

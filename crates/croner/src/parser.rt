@@ -1,10 +1,20 @@
 //! Reading a cron pattern: the settings of a parser, and its one call `parse`.
 
-ghost use Rattle.std.specs.Prelude.{◌≡◌};
+ghost use Rattle.std.specs.Prelude.{◌≡◌, [], false, Some, None};
 
+mod fields;
+mod read;
+mod refusals;
 mod text;
 
+use crate::job::Cron;
+use croner_base::errors::CronError;
+use fields::{FieldTexts, has_byte, has_plus, illegal_field, seven, starred, text_or, without_plus};
+use read::{Mode, read_pattern};
+use refusals::{illegal_character, lost_letter, wrong_count};
+use std::alloc::Global;
 use std::marker::Model;
+use text::{nicknamed, replaced, words};
 
 /// Whether a pattern has a field for seconds.
 #[derive(Debug, Clone, Copy, Default, PartialEq, Eq, PartialOrd, Ord)]
@@ -119,13 +129,141 @@ impl Model for CronParser {
 }
 
 impl CronParser {
-    ghost use Rattle.croner.specs.Settings.{default_settings};
+    ghost use Rattle.croner.specs.Settings.{default_settings, accepts_count};
+    ghost use Rattle.croner.specs.Cut.{replaced};
+    ghost use Rattle.croner.specs.Gives.{Gives, Refuses};
+    ghost use Rattle.croner.specs.Grammar.{outcome, of_replaced, of_fields, of_settled};
+    ghost use Rattle.croner.specs.Views.{job_of, texts_of};
 
     /// A parser with the default settings: seconds and year optional, and the three switches off.
     pub fn new() -> Self
         ensures { result ≡ default_settings }
     {
         CronParser::default()
+    }
+
+    /// Reads a pattern.
+    ///
+    /// The text is raised to capitals (ASCII letters alone) and trimmed; nicknames and names are replaced; the fields are
+    /// counted, tested for their characters and read. The pattern keeps the text in which names are numbers.
+    ///
+    /// The first fault is the answer: `EmptyPattern` for a text of white space alone, `InvalidPattern` for a count of
+    /// fields that the settings don't accept, `IllegalCharacters` for a character that is not legal in its field,
+    /// `ComponentError` for a field that can't be read. `OutOfMemory` where memory runs out.
+    pub fn parse(&self, alloc: Global, pattern: &str) -> Result<Cron, CronError>
+        ensures { Gives job_of result (outcome self.now pattern.now) }
+    {
+        let raised = pattern.to_ascii_uppercase(alloc)?;
+        let text = raised.as_str().trim();
+        if text.is_empty() {
+            return Err(CronError::EmptyPattern);
+        }
+        if !has_byte(text, b'@') {
+            return self.parse_full(alloc, text);
+        }
+        let seconds = self.seconds.is_required();
+        let year = self.year.is_required();
+        let full = nicknamed(alloc, text, seconds, year)?;
+        self.parse_full(alloc, full.as_str())
+    }
+
+    /// Reads a text whose nickname is replaced.
+    fn parse_full(&self, alloc: Global, full: &str) -> Result<Cron, CronError>
+        ensures { Gives job_of result (of_replaced self.now full.now (replaced self.now.quartz false full.now)) }
+    {
+        match replaced(alloc, full, self.alternative_weekdays)? {
+            Some(text) => self.parse_replaced(alloc, text.as_str()),
+            None => Err(self.lost(alloc, full)?),
+        }
+    }
+
+    /// Why a text is refused in which a letter stands for nothing.
+    fn lost(&self, alloc: Global, full: &str) -> Result<CronError, CronError>
+        ensures { Refuses result (of_replaced self.now full.now None) }
+    {
+        let count = words(alloc, full)?.len();
+        if self.accepts_count(count) {
+            Ok(lost_letter(alloc, full))
+        } else {
+            Ok(wrong_count(alloc, count, self.seconds, self.year))
+        }
+    }
+
+    /// Whether a text may have so many fields.
+    fn accepts_count(&self, count: usize) -> bool
+        ensures { result ≡ accepts_count self.now.seconds_field self.now.year_field count }
+    {
+        match (self.seconds, self.year) {
+            (Seconds::Optional, Year::Optional) => count == 5 || count == 6 || count == 7,
+            (Seconds::Optional, Year::Required) => count == 7,
+            (Seconds::Optional, Year::Disallowed) => count == 5 || count == 6,
+            (Seconds::Required, Year::Optional) => count == 6 || count == 7,
+            (Seconds::Required, Year::Required) => count == 7,
+            (Seconds::Required, Year::Disallowed) => count == 6,
+            (Seconds::Disallowed, Year::Required) => false,
+            (Seconds::Disallowed, Year::Optional | Year::Disallowed) => count == 5,
+        }
+    }
+
+    /// Reads a text whose names are replaced.
+    fn parse_replaced(&self, alloc: Global, text: &str) -> Result<Cron, CronError>
+        ensures { Gives job_of result (of_replaced self.now [] (Some text.now)) }
+    {
+        let words = words(alloc, text)?;
+        let count = words.len();
+        if self.accepts_count(count) {
+            if let Some(given) = seven(words.as_slice()) {
+                return self.parse_fields(alloc, text, given);
+            }
+        }
+        Err(wrong_count(alloc, count, self.seconds, self.year))
+    }
+
+    /// Reads a text of seven fields.
+    fn parse_fields(
+        &self,
+        alloc: Global,
+        text: &str,
+        given: FieldTexts<'_>,
+    ) -> Result<Cron, CronError>
+        ensures { Gives job_of result (of_fields self.now text.now (Some (texts_of given.entry))) }
+    {
+        let and = self.dom_and_dow || has_plus(given.days_of_week);
+        let weekdays = without_plus(given.days_of_week);
+        let starred_days = starred(alloc, given.days)?;
+        let starred_weekdays = starred(alloc, weekdays)?;
+        let fields = FieldTexts {
+            seconds: given.seconds,
+            minutes: given.minutes,
+            hours: given.hours,
+            days: text_or(&starred_days, given.days),
+            months: given.months,
+            days_of_week: text_or(&starred_weekdays, weekdays),
+            years: given.years,
+        };
+        self.parse_settled(alloc, text, fields, and)
+    }
+
+    /// Reads fields that are settled.
+    fn parse_settled(
+        &self,
+        alloc: Global,
+        text: &str,
+        fields: FieldTexts<'_>,
+        and: bool,
+    ) -> Result<Cron, CronError>
+        ensures { Gives job_of result (of_settled self.now text.now (texts_of fields.entry) and) }
+    {
+        if let Some((field, legal)) = illegal_field(fields) {
+            return Err(illegal_character(alloc, field, legal));
+        }
+        let mode = Mode {
+            quartz: self.alternative_weekdays,
+            sloppy: self.sloppy_ranges,
+            and,
+        };
+        let pattern = read_pattern(alloc, text, fields, mode)?;
+        Ok(Cron { pattern })
     }
 
     /// A builder that stands at the default settings.

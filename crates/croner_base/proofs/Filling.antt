@@ -1,13 +1,13 @@
 -- Marking a range of values at once.
-use Rattle.std.proofs.Common.{◌≡◌, ℕ, zero, suc, ◌+◌, ◌-◌, ◌<◌, ◌≤◌, Bool, true, false, List, [], ◌∷◌, ◌++◌, length, get_or, set, take, drop, map, bit_or, Result, Ok, Err, refl, ap, sym, ◌∙◌, arith, subst, append_assoc, length-set, add-zero}
+use Rattle.std.proofs.Common.{◌≡◌, ℕ, zero, suc, ◌+◌, ◌-◌, ◌<◌, ◌≤◌, true, false, List, [], ◌∷◌, ◌++◌, length, get_or, set, take, drop, map, bit_or, Ok, Err, refl, ap, sym, ◌∙◌, arith, subst, append_assoc, length-set, add-zero}
 use Rattle.std.specs.List.{range_with_len}
 use Rattle.std.proofs.lemmas.Bool.Decides.{nat_tests}
 use Rattle.std.proofs.lemmas.List.{take-append-drop, drop-set-lt, drop_more, take_more_set, drop-drop}
 use Rattle.croner_base.specs.declared.errors.CronError.{CronError}
 use Rattle.croner_base.specs.Answers.{IsFieldError}
 use Rattle.croner_base.specs.Field.{Shape, Field, with_mark, can_mark, room, values_between}
-use Rattle.croner_base.specs.Part.{marked, all_marked}
-use Rattle.croner_base.specs.Reading.{Reading, nothing, ◌then◌, applied, Reads}
+use Rattle.croner_base.specs.Part.{all_marked}
+use Rattle.croner_base.specs.Reading.{Reading, applied, Reads}
 use Rattle.croner_base.proofs.Readings.{Completes-all, all_marked-fault}
 
 -- n sums from place a on, each with the bits

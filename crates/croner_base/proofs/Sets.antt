@@ -1,8 +1,8 @@
 -- Marks as sets: what a mark adds to the set of each modifier.
-use Rattle.std.proofs.Common.{◌≡◌, ◌≢◌, ℕ, ◌+◌, ◌*◌, ◌^◌, ◌<◌, ◌≤◌, Bool, true, false, not, ◌||◌, ◌&&◌, eqb, List, length, get_or, set, refl, ap, sym, ◌∙◌, arith, inl, inr, get_or-set_same, get_or-set_other}
+use Rattle.std.proofs.Common.{◌≡◌, ◌≢◌, ℕ, ◌*◌, ◌^◌, ◌<◌, not, ◌||◌, eqb, length, ap, sym, ◌∙◌, arith, inl, inr, get_or-set_same, get_or-set_other}
 use Rattle.std.specs.Int.{bit_at}
 use Rattle.std.specs.Prelude.{bit_and, bit_or, max}
-use Rattle.std.proofs.lemmas.Bool.{cases_eq, eqb-true, ne_eqb}
+use Rattle.std.proofs.lemmas.Bool.{cases_eq, ne_eqb}
 use Rattle.std.proofs.Common.{eq-eqb}
 use Rattle.std.proofs.lemmas.Bool.Decides.{nat_tests}
 use Rattle.std.proofs.lemmas.Nat.Bits.{and_pow, bit_at_or, bit_at-lt}
@@ -11,7 +11,7 @@ use Rattle.std.proofs.Math.Nat.{zero-mul, one-mul}
 use Rattle.croner_base.specs.Field.{Field, has_any, is_marked, with_mark}
 
 -- a bit stands just where it is not 0
-has_bit : (n k : ℕ) → has_any n (2 ^ k) ≡ not (eqb (bit_at n k) 0)
+pub has_bit : (n k : ℕ) → has_any n (2 ^ k) ≡ not (eqb (bit_at n k) 0)
 has_bit n k = ap not (elim (cases_eq (bit_at n k) 0) [
   | inl e ↦ eq-eqb _ 0 (and_pow n k ∙ ap (λ b. b * 2 ^ k) e ∙ zero-mul (2 ^ k)) ∙ sym (eq-eqb (bit_at n k) 0 e)
   | inr ne ↦

@@ -2,16 +2,36 @@
 use Rattle.std.proofs.Common.{ℕ, ◌+◌, ◌<◌, length, get_or, drop, drop-cons, add-one, ◌≡◌, ◌⊎◌, inl, inr, true, false, refl, arith, ℤ, pos, neg_ℤ, ◌+ℤ◌, ◌-ℤ◌, ◌<ℤ◌, ◌≤ℤ◌, List, [], ◌∷◌, int_le}
 use Rattle.std.proofs.lemmas.Int.{ints, by_lt_z}
 use Rattle.jiff_core.proofs.SignedLemmas.{signed_arith}
-use Rattle.croner_base.specs.Table.{offset_at, IsSpread, IsAfter, AreOffsets}
+use Rattle.croner_base.specs.Limits.{apart_limit}
+use Rattle.croner_base.specs.Table.{offset_at, offset_limit}
 
-int_le-true : (a b : ℤ) → a ≤ℤ b → int_le a b ≡ true
+-- the next change is more than two days after it
+abbrev pub IsAfter : ℤ × ℤ → List (ℤ × ℤ) → Type 0
+IsAfter c [] = Unit {0}
+IsAfter c (d ∷ ds) = (c.0 +ℤ pos apart_limit) <ℤ d.0
+
+-- each change is more than two days after the one before
+abbrev pub IsSpread : List (ℤ × ℤ) → Type 0
+IsSpread [] = Unit {0}
+IsSpread (c ∷ cs) = IsAfter c cs × IsSpread cs
+
+-- an offset is at most a day
+abbrev pub IsOffset : ℤ → Type 0
+IsOffset o = (neg_ℤ (pos offset_limit) ≤ℤ o) × (o ≤ℤ pos offset_limit)
+
+-- each offset is at most a day
+abbrev pub AreOffsets : ℤ → List (ℤ × ℤ) → Type 0
+AreOffsets o [] = IsOffset o
+AreOffsets o (c ∷ cs) = IsOffset o × AreOffsets c.1 cs
+
+pub int_le-true : (a b : ℤ) → a ≤ℤ b → int_le a b ≡ true
 int_le-true a b h = grind (arith, ints)
 
-int_le-false : (a b : ℤ) → b <ℤ a → int_le a b ≡ false
+pub int_le-false : (a b : ℤ) → b <ℤ a → int_le a b ≡ false
 int_le-false a b h = grind (arith, ints)
 
 -- before the next change the offset stays
-stays : (c : ℤ × ℤ) (cs : List (ℤ × ℤ)) (i : ℤ) → IsAfter c cs → i ≤ℤ (c.0 +ℤ pos 172_800) → offset_at c.1 cs i ≡ c.1
+pub stays : (c : ℤ × ℤ) (cs : List (ℤ × ℤ)) (i : ℤ) → IsAfter c cs → i ≤ℤ (c.0 +ℤ pos 172_800) → offset_at c.1 cs i ≡ c.1
 stays c [] i h le = refl
 stays c (d ∷ ds) i h le = let t : int_le d.0 i ≡ false = int_le-false d.0 i (omega (arith, signed_arith)) in rw t
 

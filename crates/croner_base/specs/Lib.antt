@@ -8,8 +8,11 @@ pub mod ZonedValue
 pub mod Limits
 pub mod Calm
 pub mod Table
+pub mod TableSteps
+pub mod TableZone
 pub mod Answers
 pub mod Field
+pub mod Marks
 pub mod Order
 pub mod Part
 pub mod Reading

@@ -6,6 +6,7 @@
 ghost use Rattle.std.specs.Prelude.{◌≡◌, ◌+◌, ◌-◌, ◌≤◌, length, OnOk, OnErr, IfOk, IfErr};
 ghost use Rattle.croner_base.specs.Answers.{SucceedsIff};
 ghost use Rattle.croner_base.specs.Field.{with_mark, without_mark, with_sloppy, is_marked, can_mark, can_ask, default_field, empty_field, new_shape, has_all, has_modifiers, marked_values};
+ghost use Rattle.croner_base.specs.Marks.{IsWhole};
 ghost use Rattle.croner_base.specs.Part.{enabled};
 ghost use Rattle.croner_base.specs.Reading.{Reads};
 
@@ -140,7 +141,8 @@ impl CronComponent {
 
     /// The greatest value that the component may hold. Where it is 0 there is none.
     pub fn max(&self) -> u16
-        ensures { result ≡ self.now.shape.max }
+        ensures value { result ≡ self.now.shape.max }
+        ensures whole { IsWhole self.now }
     {
         self.max
     }

@@ -44,9 +44,9 @@ known-near : (days : Field) (len first day : ℕ) → Alike days.shape day_shape
 known-near days len first day s k =
     known-range (near_answer days len first day) (first_target day) ((last_target len day + 1) - first_target day)
     (λ x low high.
-      let from : 1 ≤ x = first_low day x low in
-      let to : x < 1 + len = last_high len day x k.high low high in
-      known-tested (is_nearest len first x day) (asked 128 days x) (known-asked 128 days x (asks_day days.shape x 128 s refl from (omega (arith, k.longest)))))
+    let from : 1 ≤ x = first_low day x low in
+    let to : x < 1 + len = last_high len day x k.high low high in
+    known-tested (is_nearest len first x day) (asked 128 days x) (known-asked 128 days x (asks_day days.shape x 128 s refl from (omega (arith, k.longest)))))
 
 known-day : (days : Field) (len first day : ℕ) → Alike days.shape day_shape → Kind len first day → Known (day_answer days len first day)
 known-day days len first day s k =

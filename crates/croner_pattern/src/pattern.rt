@@ -19,10 +19,9 @@ use croner_base::component::{
 };
 use croner_base::errors::CronError;
 use croner_base::time::{Direction, TimeComponent, YEAR_LOWER_LIMIT, YEAR_UPPER_LIMIT};
+pub use members::{has_plain, nearest_member};
 use std::alloc::{AllocError, Global};
 use std::fmt;
-
-pub use members::{has_plain, nearest_member};
 
 /// The greatest second and the greatest minute.
 const LAST_SECOND: u16 = 59;
@@ -127,6 +126,13 @@ impl CronPattern {
         ensures { result.now ≡ (meaning_of self.now).text }
     {
         self.text.as_str()
+    }
+
+    /// The allocator that the pattern's maker took.
+    pub fn allocator(&self) -> Global
+        ensures { result ≡ self.now.alloc }
+    {
+        self.alloc
     }
 
     /// Whether seconds, minutes and hours each name exactly one value, with step 1 and without a `*`: such a pattern runs

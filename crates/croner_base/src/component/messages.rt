@@ -10,7 +10,7 @@ impl CronComponent {
     pub(super) fn below_offset(&self, number: u16) -> CronError
         ensures { IsFieldError result }
     {
-        let least = self.input_offset;
+        let least = self.min + self.input_offset;
         refusal(format!(in self.alloc;
             "The number {number} is too small: this field counts from {least}."
         ))
@@ -61,18 +61,18 @@ impl CronComponent {
     pub(super) fn number_out_of_bounds(&self, number: u16, part: &str) -> CronError
         ensures { IsFieldError result }
     {
-        let (min, max) = (self.min, self.max);
+        let (least, greatest) = (self.min + self.input_offset, self.max);
         refusal(format!(in self.alloc;
-            "The number {number} in the part '{part}' is out of bounds: expected one from {min} to {max}."
+            "The number {number} in the part '{part}' is out of bounds: expected one from {least} to {greatest}."
         ))
     }
 
     pub(super) fn range_out_of_bounds(&self, start: u16, end: u16, part: &str) -> CronError
         ensures { IsFieldError result }
     {
-        let (min, max) = (self.min, self.max);
+        let (least, greatest) = (self.min + self.input_offset, self.max);
         refusal(format!(in self.alloc;
-            "Invalid range {start} to {end} in the part '{part}': expected an ascending one from {min} to {max}."
+            "Invalid range {start} to {end} in the part '{part}': expected an ascending one from {least} to {greatest}."
         ))
     }
 

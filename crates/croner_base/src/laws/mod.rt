@@ -3,3 +3,5 @@
 
 pub mod calendar;
 pub mod clocks;
+pub mod marks;
+pub mod tables;

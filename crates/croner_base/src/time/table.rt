@@ -1,87 +1,256 @@
-//! Clocks that are given by a table of offsets.
-ghost use Rattle.std.specs.Prelude.{◌≡◌, ◌↔◌, IsTrue, IsOk, IfOk, IfErr, pos, ◌+ℤ◌};
-ghost use Rattle.std.specs.Prelude.{◌≤ℤ◌, neg_ℤ};
-ghost use Rattle.croner_base.specs.Table.{is_calm_table, offset_at};
-ghost use Rattle.croner_base.specs.Civil.{wall_second};
+//! Clocks that are given by a table of offsets: what a clock is ahead of UTC, first and after each of its changes.
+ghost use Rattle.std.specs.Prelude.{◌≡◌, ◌↔◌, ◌<◌, ◌≤◌, IsTrue, IsOk, IfOk, IfErr, pos, neg_ℤ, ◌≤ℤ◌, int_le, false, vec_len, slice_index_or};
+ghost use Rattle.std.proofs.Common.{ap};
+ghost use Rattle.croner_base.specs.Table as Spec;
+
+mod check;
+mod civil;
 
 use crate::errors::CronError;
-use crate::time::jiff_impl::to_civil;
-use crate::time::{CivilDate, CivilDateTime, CivilTime};
-use jiff::civil::DateTime;
+use crate::time::table::check::{OFFSET_LIMIT_SECONDS, is_calm, is_instant};
+use crate::time::table::civil::{SECONDS_PER_DAY, civil_of_second, second_of_civil};
+use crate::time::{CivilDateTime, CronDateTime, Resolution, Weekday};
+use std::alloc::Global;
+use std::cmp::Ordering;
 
-const FIRST_SECOND: i64 = -377_705_116_800;
+/// The first year whose wall seconds are resolved.
+const FIRST_YEAR: i32 = -9998;
 
-const LAST_SECOND: i64 = 253_402_300_799;
+/// The last one.
+const LAST_YEAR: i32 = 9998;
 
-/// A clock that is an offset ahead of UTC, up to its first change and from each change on.
-#[derive(Drop)]
+/// A clock that is some seconds ahead of UTC, up to its first change and from each change on.
+///
+/// Every `ClockTable` is a calm clock: it changes seldom and by little.
+#[derive(Debug, Drop)]
 pub struct ClockTable {
     first_offset: i32,
     changes: Vec<(i64, i32)>,
-    pub ghost calm: { IsTrue (is_calm_table first_offset changes.items) },
+    pub ghost calm: { IsTrue (Spec.is_calm_table first_offset changes.items) },
 }
 
-/// A second on the clock of a table.
-#[derive(Clone, Copy)]
+impl ClockTable {
+    ghost use Rattle.croner_base.specs.TableSteps.{IsCountUntil, offset_past};
+    ghost use Rattle.croner_base.specs.TableZone.{HasParts, table_zone};
+    ghost use Rattle.croner_base.specs.Calm.{NamesAll};
+
+    /// The clock that is `first_offset` seconds ahead of UTC before its first change. Each change is an instant, in
+    /// seconds since 1970-01-01T00:00:00 UTC, and the seconds that the clock is ahead of UTC from that instant on.
+    ///
+    /// Refused as `InvalidTime`, and the list dropped, unless
+    ///
+    /// - every offset is from -86,400 to 86,400;
+    /// - the instants are from -377,705,116,800 to 253,402,300,799 (the UTC years -9999 to 9999) and ascend, each more
+    ///   than 172,800 after the one before;
+    /// - each offset differs from the one before by 1 to 7,200 either way;
+    /// - at most 20,000 changes have a reading in the years 1 to 5000 at their instant or one second before it, and
+    ///   the positive differences of offsets at these add up to at most 20,000,000.
+    pub fn new(first_offset: i32, changes: Vec<(i64, i32)>) -> Result<ClockTable, CronError>
+        ensures ok { IsOk result ↔ IsTrue (Spec.is_calm_table first_offset changes.items) }
+        ensures value { IfOk result (HasParts first_offset changes.items) }
+        ensures err { IfErr result (λ e. e ≡ CronError.InvalidTime) }
+    {
+        if is_calm(first_offset, &changes) {
+            Ok(ClockTable {
+                first_offset,
+                changes,
+            })
+        } else {
+            Err(CronError::InvalidTime)
+        }
+    }
+
+    // How many changes lie at or before an instant.
+    fn changes_until(&self, second: i64) -> usize
+        ensures bound { result ≤ vec_len self.now.changes }
+        ensures count { IsCountUntil self.now.changes.items second result }
+    {
+        self.changes.as_slice().partition_point(
+            |change: &(i64, i32)| -> bool
+                ensures { result ≡ int_le change.now.0 second }
+            { change.0 <= second },
+        )
+    }
+
+    // The instant of a change.
+    fn instant_of(&self, index: usize) -> i64
+        requires { index < vec_len self.now.changes }
+        ensures { result ≡ (slice_index_or self.now.changes.items index (pos 0, pos 0)).0 }
+    {
+        self.changes[index].0
+    }
+
+    // The offset in force after so many changes.
+    fn offset_past(&self, count: usize) -> i64
+        requires { count ≤ vec_len self.now.changes }
+        ensures value { result ≡ offset_past self.now.first_offset self.now.changes.items count }
+        ensures bound { IsTrue (Spec.is_offset result) }
+    {
+        if count == 0 {
+            self.first_offset as i64
+        } else {
+            self.changes[count - 1].1 as i64
+        }
+    }
+
+    // The offset in force at an instant.
+    fn offset_at(&self, second: i64) -> i64
+        ensures value { result ≡ Spec.offset_at self.now.first_offset self.now.changes.items second }
+        ensures bound { IsTrue (Spec.is_offset result) }
+    {
+        self.offset_past(self.changes_until(second))
+    }
+
+    // The instants at which the clock reads a wall second.
+    fn instants_of(&self, wall: i64) -> Resolution<i64>
+        requires low { neg_ℤ (pos 377_705_116_800) ≤ℤ wall }
+        requires high { wall ≤ℤ pos 253_402_300_799 }
+        ensures { NamesAll (table_zone self.now) wall result }
+    {
+        let passed = self.changes_until(wall + OFFSET_LIMIT_SECONDS as i64);
+        let after = self.offset_past(passed);
+        let later = wall - after;
+        if passed == 0 {
+            return Resolution::Single(later);
+        }
+        let before = self.offset_past(passed - 1);
+        let earlier = wall - before;
+        let change = self.instant_of(passed - 1);
+        if earlier < change {
+            if later < change {
+                Resolution::Single(earlier)
+            } else {
+                Resolution::Ambiguous(earlier, later)
+            }
+        } else if later < change {
+            Resolution::Gap
+        } else {
+            Resolution::Single(later)
+        }
+    }
+}
+
+/// A second on the clock of a table, counted from 1970-01-01T00:00:00 UTC.
+#[derive(Debug, Clone, Copy)]
 pub struct TableTime<'t> {
     table: &'t ClockTable,
     second: i64,
+    pub ghost held: { IsTrue (Spec.is_table_second second) },
 }
 
 impl<'t> TableTime<'t> {
-    ghost use Rattle.croner_base.specs.Table.{is_table_second};
+    ghost use Rattle.croner_base.specs.TableZone.{table_zone, table_moment};
+    ghost use Rattle.croner_base.specs.Zone.{reading, at_instant};
 
+    /// The second on the clock of the table. Refused as `InvalidTime` outside -377,705,116,800 to 253,402,300,799, the
+    /// UTC years -9999 to 9999.
     pub fn new(table: &'t ClockTable, second: i64) -> Result<TableTime<'t>, CronError>
-        ensures ok { IsOk result ↔ IsTrue (is_table_second second) }
+        ensures ok { IsOk result ↔ IsTrue (Spec.is_table_second second) }
         ensures value { IfOk result (λ t. t.second ≡ second) }
         ensures table { IfOk result (λ t. t.table.now ≡ table.now) }
         ensures err { IfErr result (λ e. e ≡ CronError.InvalidTime) }
     {
-        if second < FIRST_SECOND || second > LAST_SECOND {
-            return Err(CronError::InvalidTime);
+        if is_instant(second) {
+            Ok(TableTime { table, second })
+        } else {
+            Err(CronError::InvalidTime)
         }
-        Ok(TableTime { table, second })
     }
 
+    /// Seconds since 1970-01-01T00:00:00 UTC, from -377,705,116,800 to 253,402,300,799.
     pub fn second(&self) -> i64
-        ensures { result ≡ self.now.second }
+        ensures value { result ≡ self.now.second }
+        ensures bound { IsTrue (Spec.is_table_second result) }
     {
         self.second
     }
-}
 
-/// The date and time of a wall second, up to a day past the years that `jiff` has.
-pub(crate) fn civil_of_second(wall: i64) -> CivilDateTime
-    requires low { neg_ℤ (pos 377_705_203_200) ≤ℤ wall }
-    requires high { wall ≤ℤ pos 253_402_387_199 }
-    ensures { wall_second result ≡ wall }
-{
-    if wall < FIRST_SECOND {
-        let date = CivilDate::from_parts_unchecked(-10_000, 12, 31);
-        let time = CivilTime::from_seconds_of_day((wall + 377_705_203_200) as u32);
-        CivilDateTime::new(date, time)
-    } else if wall > LAST_SECOND {
-        let date = CivilDate::from_parts_unchecked(10_000, 1, 1);
-        let time = CivilTime::from_seconds_of_day((wall - 253_402_300_800) as u32);
-        CivilDateTime::new(date, time)
-    } else {
-        let plain = jiff_core::civil::DateTime::from_nanosecond_in_range(
-            wall as i128 * 1_000_000_000,
-        );
-        to_civil(DateTime::from_plain(plain))
+    // What the clock reads.
+    fn wall(&self) -> i64
+        ensures value { result ≡ reading (table_moment self.now) }
+        ensures low { neg_ℤ (pos 377_705_203_200) ≤ℤ result }
+        ensures high { result ≤ℤ pos 253_402_387_199 }
+    {
+        self.second + self.table.offset_at(self.second)
     }
-}
 
-// The offset in force at an instant.
-fn offset_of(first_offset: i32, changes: &[(i64, i32)], second: i64) -> i32
-    ensures { result ≡ offset_at first_offset changes.now second }
-{
-    let mut offset = first_offset;
-    for &(from, after) in changes {
-        if from > second {
-            return offset;
+    // Another second on the same clock.
+    fn at(&self, second: i64) -> TableTime<'t>
+        requires { IsTrue (Spec.is_table_second second) }
+        ensures { table_moment result ≡ at_instant (table_zone self.now.table.now) second }
+    {
+        TableTime {
+            table: self.table,
+            second,
         }
-        offset = after;
     }
-    offset
 }
+
+impl<'t> CronDateTime for TableTime<'t> {
+    ghost use Rattle.croner_base.specs.TableZone.{table_moment};
+    ghost use Rattle.croner_base.specs.Zone.{IsResolved, IsUnheld};
+    ghost use Rattle.croner_base.specs.ZonedZone.{is_near_year};
+
+    ghost moment = { table_moment };
+
+    ghost can_lack_memory = { false };
+
+    fn to_civil(&self) -> CivilDateTime {
+        civil_of_second(self.wall())
+    }
+
+    fn civil_weekday(&self) -> Weekday {
+        let day = self.wall().div_euclid(SECONDS_PER_DAY);
+        Weekday::from_days_from_sunday((day + 4).rem_euclid(7) as u32)
+    }
+
+    fn resolve_civil(
+        &self,
+        _alloc: Global,
+        civil: CivilDateTime,
+    ) -> Result<Resolution<TableTime<'t>>, CronError>
+        ensures held { IsOk result ↔ IsTrue (is_near_year civil.date.year) }
+        ensures value { IfOk result (IsResolved table_moment (table_moment self.now).zone civil) }
+        ensures err { IfErr result (IsUnheld false (table_moment self.now).zone civil) }
+        ensures date { IfErr result (λ e. e ≡ CronError.InvalidDate) }
+    {
+        if civil.year() < FIRST_YEAR || civil.year() > LAST_YEAR {
+            return Err(CronError::InvalidDate);
+        }
+        Ok(match self.table.instants_of(second_of_civil(civil)) {
+            Resolution::Single(second) => Resolution::Single(self.at(second)),
+            Resolution::Ambiguous(earlier, later) => Resolution::Ambiguous(
+                self.at(earlier),
+                self.at(later),
+            ),
+            Resolution::Gap => Resolution::Gap,
+        })
+    }
+
+    fn checked_add_seconds(
+        &self,
+        _alloc: Global,
+        seconds: i64,
+    ) -> Result<Option<TableTime<'t>>, CronError> {
+        let sum = match self.second.checked_add(seconds) {
+            Some(sum) => sum,
+            None => return Ok(None),
+        };
+        if is_instant(sum) {
+            Ok(Some(self.at(sum)))
+        } else {
+            Ok(None)
+        }
+    }
+
+    fn cmp_instant(&self, other: &Self) -> Ordering {
+        self.second.cmp(&other.second)
+    }
+
+    ghost clone_keeps = { λ a b e. ap table_moment e };
+
+    ghost clone_memory = { λ a h. tt };
+}
+
+#[cfg(test)]
+mod tests;

@@ -18,18 +18,11 @@ use jiff::civil::DateTime;
 pub(crate) fn to_civil(datetime: DateTime) -> CivilDateTime
     ensures { wall_second result ≡ civil_seconds datetime }
 {
-    CivilDateTime::new(
-        CivilDate::from_parts_unchecked(
-            i32::from(datetime.year()),
-            datetime.month() as u32,
-            datetime.day() as u32,
-        ),
-        CivilTime::from_parts_unchecked(
-            datetime.hour() as u32,
-            datetime.minute() as u32,
-            datetime.second() as u32,
-        ),
-    )
+    let (year, month, day) = (datetime.year(), datetime.month(), datetime.day());
+    let (hour, minute, second) = (datetime.hour(), datetime.minute(), datetime.second());
+    let date = CivilDate::from_parts_unchecked(year as i32, month as u32, day as u32);
+    let time = CivilTime::from_parts_unchecked(hour as u32, minute as u32, second as u32);
+    CivilDateTime::new(date, time)
 }
 
 /// The date-time of `jiff` at a civil second. `InvalidDate` for a year outside -9999 to 9999.

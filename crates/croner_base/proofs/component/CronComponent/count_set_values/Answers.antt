@@ -1,4 +1,4 @@
-use Rattle.std.proofs.Common.{rules, arith, sym, ◌∙◌}
+use Rattle.std.proofs.Common.{rules, arith}
 use Rattle.croner_base.specs.Field.{is_marked}
 use Rattle.croner_base.proofs.Ranges.{count_range_yes, count_range_no}
 use Rattle.croner_base.proofs.component.CronComponent.count_set_values.Goals as goal

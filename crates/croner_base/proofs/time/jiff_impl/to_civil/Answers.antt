@@ -7,8 +7,8 @@ pub returns : goal.returns
 returns c =
     let d = c.new.ensures.date in
     let t = c.new.ensures.time in
-    let p = c.from_parts_unchecked.ensures in
-    let q = c.from_parts_unchecked-2.ensures in
+    let p = c.from_parts_unchecked-date.ensures in
+    let q = c.from_parts_unchecked-time.ensures in
     wall_second-civil_seconds c.new.result c.args.datetime (record {
       year = rw d (p.year_is ∙ omega (arith, ints));
       month = rw d (p.month_is ∙ omega (arith, ints));

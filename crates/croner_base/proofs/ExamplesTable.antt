@@ -1,0 +1,144 @@
+-- Tables that are accepted and refused, and what their clocks read, computed from the definitions.
+use Rattle.std.proofs.Common.{◌≡◌, refl, Bool, true, false, ℤ, pos, neg_ℤ, ◌+ℤ◌, ◌-ℤ◌, ◌*ℤ◌, List, [], ◌∷◌}
+use Rattle.jiff_core.specs.Calendar.{days_of_months}
+use Rattle.croner_base.specs.declared.time.value.Resolution.TheVariants.{Single, Ambiguous, Gap}
+use Rattle.croner_base.specs.Calendar.{day_number, year_start, days_since_zero}
+use Rattle.croner_base.specs.Table.{is_calm_table, met_count, met_gaps}
+use Rattle.croner_base.specs.TableZone.{clock_reads, instants_of}
+
+-- Paris in 2024
+abbrev paris : List (ℤ × ℤ)
+paris = (pos 1_711_846_800, pos 7_200) ∷ (pos 1_729_990_800, pos 3_600) ∷ []
+
+paris_accepted : is_calm_table (pos 3_600) paris ≡ true
+unfolding is_calm_table
+paris_accepted = refl
+
+-- 2024-03-31 and 2024-10-27
+march : day_number (pos 2024) 3 31 ≡ pos 19_813
+unfolding day_number year_start days_since_zero days_of_months
+march = refl
+
+october : day_number (pos 2024) 10 27 ≡ pos 20_023
+unfolding day_number year_start days_since_zero days_of_months
+october = refl
+
+-- half past two in the gap, at 2024-03-31T02:30:00
+paris_gap : instants_of (pos 3_600) paris (pos 19_813 *ℤ pos 86_400 +ℤ pos 9_000) ≡ Gap
+paris_gap = refl
+
+-- half past two twice, at 2024-10-27T02:30:00, and three o'clock once
+paris_twice : instants_of (pos 3_600) paris (pos 20_023 *ℤ pos 86_400 +ℤ pos 9_000) ≡ Ambiguous (pos 1_729_989_000) (pos 1_729_992_600)
+paris_twice = refl
+
+paris_once : instants_of (pos 3_600) paris (pos 20_023 *ℤ pos 86_400 +ℤ pos 10_800) ≡ Single (pos 1_729_994_400)
+paris_once = refl
+
+-- the second before a change reads with the offset before it
+paris_before : clock_reads (pos 3_600) paris (pos 1_711_846_799) ≡ pos 1_711_850_399
+paris_before = refl
+
+paris_after : clock_reads (pos 3_600) paris (pos 1_711_846_800) ≡ pos 1_711_854_000
+paris_after = refl
+
+-- a repeated range of one second
+one_second : instants_of (pos 7_200) ((pos 0, pos 7_199) ∷ []) (pos 7_199) ≡ Ambiguous (neg_ℤ (pos 1)) (pos 0)
+one_second = refl
+
+one_second_before : instants_of (pos 7_200) ((pos 0, pos 7_199) ∷ []) (pos 7_198) ≡ Single (neg_ℤ (pos 2))
+one_second_before = refl
+
+one_second_after : instants_of (pos 7_200) ((pos 0, pos 7_199) ∷ []) (pos 7_200) ≡ Single (pos 1)
+one_second_after = refl
+
+-- offsets of a day either way
+day_ahead : is_calm_table (pos 86_400) [] ≡ true
+unfolding is_calm_table
+day_ahead = refl
+
+past_a_day : is_calm_table (pos 86_401) [] ≡ false
+unfolding is_calm_table
+past_a_day = refl
+
+day_behind : is_calm_table (neg_ℤ (pos 86_400)) [] ≡ true
+unfolding is_calm_table
+day_behind = refl
+
+past_a_day_behind : is_calm_table (neg_ℤ (pos 86_401)) [] ≡ false
+unfolding is_calm_table
+past_a_day_behind = refl
+
+past_a_day_later : is_calm_table (pos 86_400) ((pos 0, pos 86_401) ∷ []) ≡ false
+unfolding is_calm_table
+past_a_day_later = refl
+
+-- how far a change moves the clock
+two_hours : is_calm_table (pos 0) ((pos 0, pos 7_200) ∷ []) ≡ true
+unfolding is_calm_table
+two_hours = refl
+
+past_two_hours : is_calm_table (pos 0) ((pos 0, pos 7_201) ∷ []) ≡ false
+unfolding is_calm_table
+past_two_hours = refl
+
+two_hours_back : is_calm_table (pos 0) ((pos 0, neg_ℤ (pos 7_200)) ∷ []) ≡ true
+unfolding is_calm_table
+two_hours_back = refl
+
+past_two_hours_back : is_calm_table (pos 0) ((pos 0, neg_ℤ (pos 7_201)) ∷ []) ≡ false
+unfolding is_calm_table
+past_two_hours_back = refl
+
+no_move : is_calm_table (pos 0) ((pos 0, pos 0) ∷ []) ≡ false
+unfolding is_calm_table
+no_move = refl
+
+-- how far changes lie apart
+two_days : is_calm_table (pos 0) ((pos 0, pos 3_600) ∷ (pos 172_800, pos 0) ∷ []) ≡ false
+unfolding is_calm_table
+two_days = refl
+
+past_two_days : is_calm_table (pos 0) ((pos 0, pos 3_600) ∷ (pos 172_801, pos 0) ∷ []) ≡ true
+unfolding is_calm_table
+past_two_days = refl
+
+descending : is_calm_table (pos 0) ((pos 172_801, pos 3_600) ∷ (pos 0, pos 0) ∷ []) ≡ false
+unfolding is_calm_table
+descending = refl
+
+-- the instants of changes
+first_one : is_calm_table (pos 0) ((neg_ℤ (pos 377_705_116_800), pos 1) ∷ []) ≡ true
+unfolding is_calm_table
+first_one = refl
+
+before_first : is_calm_table (pos 0) ((neg_ℤ (pos 377_705_116_801), pos 1) ∷ []) ≡ false
+unfolding is_calm_table
+before_first = refl
+
+last_one : is_calm_table (pos 0) ((pos 253_402_300_799, pos 1) ∷ []) ≡ true
+unfolding is_calm_table
+last_one = refl
+
+after_last : is_calm_table (pos 0) ((pos 253_402_300_800, pos 1) ∷ []) ≡ false
+unfolding is_calm_table
+after_last = refl
+
+-- which changes count: a reading in the years 1 to 5000 at the instant or one second before it
+last_met : met_count (pos 0) ((pos 95_649_120_000, pos 60) ∷ []) ≡ 1
+last_met = refl
+
+after_last_met : met_count (pos 0) ((pos 95_649_120_001, pos 60) ∷ []) ≡ 0
+after_last_met = refl
+
+moved_into_the_years : met_count (pos 60) ((pos 95_649_120_000, pos 0 -ℤ pos 1) ∷ []) ≡ 1
+moved_into_the_years = refl
+
+first_met : met_count (pos 0) ((neg_ℤ (pos 62_135_596_800), neg_ℤ (pos 60)) ∷ []) ≡ 0
+first_met = refl
+
+first_met_forward : met_count (neg_ℤ (pos 60)) ((neg_ℤ (pos 62_135_596_800), pos 0) ∷ []) ≡ 1
+first_met_forward = refl
+
+-- only clocks that are moved forward skip seconds
+sums : met_gaps (pos 3_600) paris ≡ 3_600
+sums = refl

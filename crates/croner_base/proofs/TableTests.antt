@@ -1,0 +1,76 @@
+-- What the tests of a table say.
+use Rattle.std.proofs.Common.{◌≡◌, ◌⊎◌, inl, inr, Bool, true, false, refl, arith, ◌&&◌, ◌||◌, not, ℕ, ◌≤◌, nat_le, ℤ, pos, neg_ℤ, ◌+ℤ◌, ◌-ℤ◌, ◌<ℤ◌, ◌≤ℤ◌, int_le, int_lt, int_eq, IsTrue}
+use Rattle.std.proofs.lemmas.Int.{ints}
+use Rattle.jiff_core.proofs.SignedLemmas.{signed_arith}
+use Rattle.croner_base.specs.Limits.{gap_limit, fold_limit, first_searched, last_searched}
+use Rattle.croner_base.specs.Table.{first_instant, last_instant, offset_limit, is_offset, is_table_second, is_step, is_searched}
+
+pub both_parts : (a b : Bool) → (a && b) ≡ true → (a ≡ true) × (b ≡ true)
+both_parts true true h = (refl, refl)
+both_parts true false h = absurd (cc)
+both_parts false b h = absurd (cc)
+
+pub le_of : (a b : ℤ) → int_le a b ≡ true → a ≤ℤ b
+le_of a b h = grind (arith, ints)
+
+pub lt_of : (a b : ℤ) → int_lt a b ≡ true → a <ℤ b
+lt_of a b h = grind (arith, ints)
+
+pub le_test : (a b : ℤ) → a ≤ℤ b → int_le a b ≡ true
+le_test a b h = grind (arith, ints)
+
+pub lt_test : (a b : ℤ) → a <ℤ b → int_lt a b ≡ true
+lt_test a b h = grind (arith, ints)
+
+pub eq_false : (a b : ℤ) → (a ≡ b → ⊥) → int_eq a b ≡ false
+eq_false a b h = grind (arith, ints)
+
+pub ne_of : (a b : ℤ) → int_eq a b ≡ false → a ≡ b → ⊥
+ne_of a b h e = absurd (grind (arith, ints, h, e))
+
+pub nat_le_of : (a b : ℕ) → nat_le a b ≡ true → a ≤ b
+nat_le_of a b h = grind arith
+
+pub nat_le_test : (a b : ℕ) → a ≤ b → nat_le a b ≡ true
+nat_le_test a b h = grind arith
+
+-- an instant of the UTC years -9999 to 9999
+pub instant_bounds : (i : ℤ) → is_table_second i ≡ true → (first_instant ≤ℤ i) × (i ≤ℤ last_instant)
+instant_bounds i h =
+    let p = both_parts _ _ h in
+    (le_of _ _ p.0, le_of _ _ p.1)
+
+pub instant_test : (i : ℤ) → first_instant ≤ℤ i → i ≤ℤ last_instant → is_table_second i ≡ true
+instant_test i low high = let a = le_test _ _ low in let b = le_test _ _ high in rw (a, b)
+
+-- an offset of at most a day
+pub offset_bounds : (o : ℤ) → is_offset o ≡ true → (neg_ℤ (pos 86_400) ≤ℤ o) × (o ≤ℤ pos 86_400)
+offset_bounds o h =
+    let p = both_parts _ _ h in
+    (le_of _ _ p.0, le_of _ _ p.1)
+
+pub offset_test : (o : ℤ) → neg_ℤ (pos 86_400) ≤ℤ o → o ≤ℤ pos 86_400 → is_offset o ≡ true
+offset_test o low high = let a = le_test _ _ low in let b = le_test _ _ high in rw (a, b)
+
+-- what a change does to the clock
+pub record Step (before after : ℤ) : Type 0 where
+  pub moved : before ≡ after → ⊥
+  pub back : neg_ℤ (pos fold_limit) ≤ℤ (after -ℤ before)
+  pub forward : (after -ℤ before) ≤ℤ pos gap_limit
+
+not_true : (b : Bool) → not b ≡ true → b ≡ false
+not_true true h = absurd (cc)
+not_true false h = refl
+
+pub step_parts : (before after : ℤ) → is_step before after ≡ true → Step before after
+step_parts before after h =
+    let p = both_parts _ _ h in
+    let q = both_parts _ _ p.0 in
+    record { moved = ne_of _ _ (not_true _ q.0); back = le_of _ _ q.1; forward = le_of _ _ p.1 }
+
+-- a wall second of the years 1 to 5000
+pub searched_test : (w : ℤ) → first_searched ≤ℤ w → w ≤ℤ last_searched → is_searched w ≡ true
+searched_test w low high = let a = le_test _ _ low in let b = le_test _ _ high in rw (a, b)
+
+pub gt_of : (a b : ℤ) → int_le a b ≡ false → b <ℤ a
+gt_of a b h = grind (arith, ints)

@@ -1,0 +1,13 @@
+use Rattle.std.proofs.Common.{refl}
+use Rattle.croner_base.specs.Table.{is_calm_table}
+use Rattle.croner_base.specs.TableZone.{clock}
+use Rattle.croner_base.proofs.TableTests.{offset_test}
+use Rattle.croner_base.proofs.laws.tables.fixed_offset_is_calm.Goals as goal
+
+pub returns-clause-calm : goal.returns-clause-calm
+unfolding is_calm_table
+returns-clause-calm c = λ low high. let h = offset_test c.args.offset low high in rw h refl
+
+pub returns-clause-reads : goal.returns-clause-reads
+unfolding clock
+returns-clause-reads c = λ i. refl

@@ -1,0 +1,5 @@
+use Rattle.croner_base.proofs.TableCalm.{table_holds}
+use Rattle.croner_base.proofs.laws.tables.table_time_holds_around.Goals as goal
+
+pub returns : goal.returns
+returns c = λ h. table_holds c.args.start.now h.0 h.1

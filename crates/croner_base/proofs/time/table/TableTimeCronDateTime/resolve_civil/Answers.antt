@@ -1,0 +1,100 @@
+use Rattle.std.proofs.Common.{◌≡◌, ◌↔◌, ◌∙◌, sym, refl, true, false, arith, ℤ, pos, neg_ℤ, ◌≤ℤ◌, inl, inr, FitsSigned, w64}
+use Rattle.std.proofs.lemmas.Int.{ints, to_z-of_z}
+use Rattle.croner_base.specs.Civil.{wall_second}
+use Rattle.croner_base.proofs.JiffSeconds.{near_second}
+use Rattle.croner_base.proofs.TableTests.{instant_bounds}
+use Rattle.croner_base.proofs.TableMoments.{near_year-true, near_year-false, unheld, named_held, resolved_single, resolved_ambiguous, resolved_gap}
+use Rattle.croner_base.proofs.time.table.TableTimeCronDateTime.resolve_civil.Goals as goal
+use Rattle.croner_base.proofs.time.table.TableTimeCronDateTime.resolve_civil.Goals.{in-Single, in-Ambiguous, in-Gap, then-year-lt-FIRST_YEAR-via-then-year-lt-FIRST_YEAR, then-year-lt-FIRST_YEAR-via-else-year-lt-FIRST_YEAR+then-year-gt-LAST_YEAR}
+
+pub returns-then-year-lt-FIRST_YEAR-clause-err : goal.returns-then-year-lt-FIRST_YEAR-clause-err
+returns-then-year-lt-FIRST_YEAR-clause-err c =
+    elim c.then-year-lt-FIRST_YEAR.branch [
+      | then-year-lt-FIRST_YEAR-via-then-year-lt-FIRST_YEAR w ↦ unheld c.args.self.now.table.now c.args.civil (λ low high. absurd (omega (arith, ints)))
+      | then-year-lt-FIRST_YEAR-via-else-year-lt-FIRST_YEAR+then-year-gt-LAST_YEAR w ↦ unheld c.args.self.now.table.now c.args.civil (λ low high. absurd (omega (arith, ints)))
+    ]
+
+pub returns-then-year-lt-FIRST_YEAR-clause-held : goal.returns-then-year-lt-FIRST_YEAR-clause-held
+returns-then-year-lt-FIRST_YEAR-clause-held c =
+    elim c.then-year-lt-FIRST_YEAR.branch [
+      | then-year-lt-FIRST_YEAR-via-then-year-lt-FIRST_YEAR w ↦
+          let far = near_year-false c.args.civil.date.year (λ low high. absurd (omega (arith, ints))) in
+          (λ h. absurd (cc), λ h. absurd (cc))
+      | then-year-lt-FIRST_YEAR-via-else-year-lt-FIRST_YEAR+then-year-gt-LAST_YEAR w ↦
+          let far = near_year-false c.args.civil.date.year (λ low high. absurd (omega (arith, ints))) in
+          (λ h. absurd (cc), λ h. absurd (cc))
+    ]
+
+pub returns-clause-held : goal.returns-clause-held
+returns-clause-held c =
+    let near = near_year-true c.args.civil.date.year (omega (arith, ints)) (omega (arith, ints)) in
+    (λ h. near, λ h. refl)
+
+pub instants_of-requires-clause-low : goal.instants_of-requires-clause-low
+instants_of-requires-clause-low c =
+    let b = near_second c.args.civil (omega (arith, ints)) (omega (arith, ints)) in
+    omega (arith, ints, b)
+
+pub instants_of-requires-clause-high : goal.instants_of-requires-clause-high
+instants_of-requires-clause-high c =
+    let b = near_second c.args.civil (omega (arith, ints)) (omega (arith, ints)) in
+    omega (arith, ints, b)
+
+pub at-requires : goal.at-requires
+at-requires c =
+    let b = near_second c.args.civil (omega (arith, ints)) (omega (arith, ints)) in
+    let fw : FitsSigned w64 c.second_of_civil.result = omega (arith, ints, b) in
+    let n = simp to_z-of_z at c.in-Single.ensures in
+    let h = named_held c.args.self.now.table.now (wall_second c.args.civil) c.in-Single.second b ((n c.in-Single.second).1 refl ∙ c.second_of_civil.ensures) in
+    let i = instant_bounds c.in-Single.second h in
+    let f : FitsSigned w64 c.in-Single.second = omega (arith, ints, i) in
+    simp to_z-of_z h
+
+pub at-requires-in-Ambiguous : goal.at-requires-in-Ambiguous
+at-requires-in-Ambiguous c =
+    let b = near_second c.args.civil (omega (arith, ints)) (omega (arith, ints)) in
+    let fw : FitsSigned w64 c.second_of_civil.result = omega (arith, ints, b) in
+    let n = simp to_z-of_z at c.in-Ambiguous.ensures in
+    let h = named_held c.args.self.now.table.now (wall_second c.args.civil) c.in-Ambiguous.earlier b ((n.1 c.in-Ambiguous.earlier).1 (inl refl) ∙ c.second_of_civil.ensures) in
+    let i = instant_bounds c.in-Ambiguous.earlier h in
+    let f : FitsSigned w64 c.in-Ambiguous.earlier = omega (arith, ints, i) in
+    simp to_z-of_z h
+
+pub at-requires-in-Ambiguous-2 : goal.at-requires-in-Ambiguous-2
+at-requires-in-Ambiguous-2 c =
+    let b = near_second c.args.civil (omega (arith, ints)) (omega (arith, ints)) in
+    let fw : FitsSigned w64 c.second_of_civil.result = omega (arith, ints, b) in
+    let n = simp to_z-of_z at c.in-Ambiguous.ensures in
+    let h = named_held c.args.self.now.table.now (wall_second c.args.civil) c.in-Ambiguous.later b ((n.1 c.in-Ambiguous.later).1 (inr refl) ∙ c.second_of_civil.ensures) in
+    let i = instant_bounds c.in-Ambiguous.later h in
+    let f : FitsSigned w64 c.in-Ambiguous.later = omega (arith, ints, i) in
+    simp to_z-of_z h
+
+pub returns-clause-value : goal.returns-clause-value
+returns-clause-value c =
+    let t = c.args.self.now.table.now in
+    let b = near_second c.args.civil (omega (arith, ints)) (omega (arith, ints)) in
+    let fw : FitsSigned w64 c.second_of_civil.result = omega (arith, ints, b) in
+    elim c.match-instants_of.branch [
+      | in-Single w ↦
+          let p = simp to_z-of_z at w.in-Single.ensures in
+          let n = rw c.second_of_civil.ensures at p in
+          let i = instant_bounds w.in-Single.second (named_held t (wall_second c.args.civil) w.in-Single.second b ((n w.in-Single.second).1 refl)) in
+          let f : FitsSigned w64 w.in-Single.second = omega (arith, ints, i) in
+          let m = simp to_z-of_z at w.at.ensures in
+          rw w.result-is (resolved_single t c.args.civil w.in-Single.second w.at.result (omega (arith, ints)) (omega (arith, ints)) n m)
+      | in-Ambiguous w ↦
+          let p = simp to_z-of_z at w.in-Ambiguous.ensures in
+          let n = rw c.second_of_civil.ensures at p in
+          let i = instant_bounds w.in-Ambiguous.earlier (named_held t (wall_second c.args.civil) w.in-Ambiguous.earlier b ((n.1 w.in-Ambiguous.earlier).1 (inl refl))) in
+          let j = instant_bounds w.in-Ambiguous.later (named_held t (wall_second c.args.civil) w.in-Ambiguous.later b ((n.1 w.in-Ambiguous.later).1 (inr refl))) in
+          let f : FitsSigned w64 w.in-Ambiguous.earlier = omega (arith, ints, i) in
+          let g : FitsSigned w64 w.in-Ambiguous.later = omega (arith, ints, j) in
+          let m = simp to_z-of_z at w.at-in-Ambiguous.ensures in
+          let l = simp to_z-of_z at w.at-in-Ambiguous-2.ensures in
+          rw w.result-is (resolved_ambiguous t c.args.civil w.in-Ambiguous.earlier w.in-Ambiguous.later w.at-in-Ambiguous.result w.at-in-Ambiguous-2.result (omega (arith, ints)) (omega (arith, ints)) n m l)
+      | in-Gap w ↦
+          let p = simp to_z-of_z at w.in-Gap.ensures in
+          let n = rw c.second_of_civil.ensures at p in
+          rw w.result-is (resolved_gap t c.args.civil (omega (arith, ints)) (omega (arith, ints)) n)
+    ]

@@ -1,0 +1,51 @@
+use Rattle.std.proofs.Common.{rules, ◌≡◌, ◌∙◌, sym, ap, refl, arith, ◌+◌, true, ℤ, pos, ◌+ℤ◌, ◌≤ℤ◌, FitsSigned, w32, w64}
+use Rattle.std.proofs.lemmas.Int.{ints, to_z-of_z}
+use Rattle.croner_base.specs.Table as Spec
+use Rattle.croner_base.specs.TableSteps.{IsNext, HasTallied}
+use Rattle.croner_base.proofs.time.table.check.Tally.with.Goals as goal
+
+pub invariant_of-result : goal.invariant_of-result
+invariant_of-result c =
+    let f : FitsSigned w64 c.args.second = c.ranges.second in
+    let g : FitsSigned w32 c.args.offset = c.ranges.offset in
+    let within = simp to_z-of_z at c.is_offset.ensures in
+    record {
+      offset_in = simp to_z-of_z (sym within ∙ c.if-not-is_offset.false);
+      earliest_in = omega (arith, ints);
+      met_in = omega arith;
+      gaps_in = omega arith;
+    }
+
+pub returns-clause-some : goal.returns-clause-some
+returns-clause-some c =
+    let f : FitsSigned w64 c.args.second = c.ranges.second in
+    let g : FitsSigned w32 c.args.offset = c.ranges.offset in
+    let h : FitsSigned w32 c.args.self.offset = search rules in
+    let within = simp to_z-of_z at c.is_offset.ensures in
+    let moved = simp to_z-of_z at c.is_step.ensures in
+    let met = simp to_z-of_z at c.met_at.ensures.value in
+    let gap = simp to_z-of_z at c.gap_at.ensures.value in (
+      λ _. record {
+        late_enough = omega (arith, ints);
+        early_enough = omega (arith, ints);
+        offset_in = sym within ∙ c.if-not-is_offset.false;
+        step = sym moved ∙ c.if-not-is_step.false;
+        few = rw (← met) c.if-met-gt-MOST_CHANGES.false;
+        few_seconds = rw (← gap) c.if-gap_seconds-gt-MOST_GAP_SECONDS.false;
+      },
+      λ _. refl,
+    )
+
+pub returns-clause-value : goal.returns-clause-value
+returns-clause-value c =
+    let f : FitsSigned w64 c.args.second = c.ranges.second in
+    let g : FitsSigned w32 c.args.offset = c.ranges.offset in
+    let h : FitsSigned w32 c.args.self.offset = search rules in
+    let met = simp to_z-of_z at c.met_at.ensures.value in
+    let gap = simp to_z-of_z at c.gap_at.ensures.value in
+    record {
+      offset_is = omega (arith, ints);
+      earliest_is = omega (arith, ints);
+      met_is = ap (λ n. c.args.self.met + n) met;
+      gaps_are = ap (λ n. c.args.self.gap_seconds + n) gap;
+    }

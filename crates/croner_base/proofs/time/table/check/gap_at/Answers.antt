@@ -1,0 +1,22 @@
+use Rattle.std.proofs.Common.{rules, ◌≡◌, ◌∙◌, sym, arith, true, ℤ, pos, ◌<ℤ◌, ◌-ℤ◌, FitsSigned, w32, w64}
+use Rattle.std.proofs.lemmas.Int.{ints, to_z-of_z}
+use Rattle.croner_base.specs.Table.{is_met}
+use Rattle.croner_base.proofs.TableTests.{step_parts}
+use Rattle.croner_base.proofs.TableSums.{gap_is}
+use Rattle.croner_base.proofs.time.table.check.gap_at.Goals as goal
+
+pub overflow_cast-result : goal.overflow_cast-result
+overflow_cast-result c =
+    let s = step_parts c.args.before c.args.after c.requires.step in
+    omega (arith, ints)
+
+pub returns-then-before-after-clause-value : goal.returns-then-before-after-clause-value
+returns-then-before-after-clause-value c =
+    let s = step_parts c.args.before c.args.after c.requires.step in
+    let f : FitsSigned w64 c.args.second = c.ranges.second in
+    let g : FitsSigned w32 c.args.before = c.ranges.before in
+    let h : FitsSigned w32 c.args.after = c.ranges.after in
+    let d : FitsSigned w32 (c.args.after -ℤ c.args.before) = omega (arith, ints) in
+    let e = simp to_z-of_z at c.is_met.ensures in
+    let lt : c.args.before <ℤ c.args.after = omega (arith, ints) in
+    simp to_z-of_z (gap_is c.args.before c.args.second c.args.after (sym e ∙ c.if-is_met.true) lt)

@@ -1,0 +1,31 @@
+-- The steps by which a table is checked, change by change, and searched.
+use Rattle.std.specs.Prelude.{◌≡◌, ℕ, zero, suc, ◌+◌, ◌<◌, ◌≤◌, IsTrue, ℤ, pos, ◌+ℤ◌, ◌<ℤ◌, ◌≤ℤ◌, List, length, slice_index_or}
+use Rattle.croner_base.specs.declared.time.table.check.Tally.{Tally}
+use Rattle.croner_base.specs.Limits.{apart_limit, most_changes, most_gap_seconds}
+use Rattle.croner_base.specs.Table.{last_instant, is_offset, is_step, met_at, gap_at}
+
+-- a change can follow the changes so far: they leave an offset, the least instant of the next one, and the two sums
+pub record IsNext (offset earliest : ℤ) (met gaps : ℕ) (c : ℤ × ℤ) : Type 0 where
+  pub late_enough : earliest ≤ℤ c.0
+  pub early_enough : c.0 ≤ℤ last_instant
+  pub offset_in : IsTrue (is_offset c.1)
+  pub step : IsTrue (is_step offset c.1)
+  pub few : met + met_at offset c ≤ most_changes
+  pub few_seconds : gaps + gap_at offset c ≤ most_gap_seconds
+
+-- what is known of the changes after it
+pub record HasTallied (offset : ℤ) (met gaps : ℕ) (c : ℤ × ℤ) (t : Tally) : Type 0 where
+  pub offset_is : t.offset ≡ c.1
+  pub earliest_is : t.earliest ≡ c.0 +ℤ pos apart_limit +ℤ pos 1
+  pub met_is : t.met ≡ met + met_at offset c
+  pub gaps_are : t.gap_seconds ≡ gaps + gap_at offset c
+
+-- the offset after the first n changes
+abbrev pub offset_past : ℤ → List (ℤ × ℤ) → ℕ → ℤ
+offset_past offset cs zero = offset
+offset_past offset cs (suc n) = (slice_index_or cs n (pos 0, pos 0)).1
+
+-- the first n changes are those at or before an instant
+pub record IsCountUntil (cs : List (ℤ × ℤ)) (i : ℤ) (n : ℕ) : Type 0 where
+  pub passed : (k : ℕ) → k < n → (slice_index_or cs k (pos 0, pos 0)).0 ≤ℤ i
+  pub ahead : (k : ℕ) → n ≤ k → k < length cs → i <ℤ (slice_index_or cs k (pos 0, pos 0)).0

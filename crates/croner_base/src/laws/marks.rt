@@ -1,0 +1,53 @@
+//! The marks of a component are sets of values, one for each modifier: what each change adds to them or takes from
+//! them, and what a text names.
+ghost use Rattle.std.specs.Prelude.{◌≡◌, ℕ, ◌<◌, ◌≤◌, ◌||◌, true, false, List, bit_or};
+ghost use Rattle.croner_base.specs.Field.{Shape, Field, can_ask, can_mark, is_marked};
+ghost use Rattle.croner_base.specs.Marks.{IsWhole, AddsOne, TakesOne, AddsNamed, NamesRange, NamesSteps, NamesUnion, ListsSet};
+ghost use Rattle.croner_base.specs.Reading.{Reading};
+
+/// A mark adds its value to the sets of its modifiers, and changes nothing else: no other value, no other modifier, and
+/// neither step, enabled features nor the wildcard mark.
+pub fn a_mark_adds_one_value()
+    ensures { (f : Field) (value bits : ℕ) → IsWhole f → can_ask f.shape value bits ≡ true → AddsOne f value bits }
+{}
+
+/// An unset takes its value from the sets of its modifiers, and changes nothing else.
+pub fn an_unset_takes_one_value()
+    ensures { (f : Field) (value bits : ℕ) → IsWhole f → can_ask f.shape value bits ≡ true → bits < 256 → TakesOne f value bits }
+{}
+
+/// Reading a text, accepted or refused, leaves each set as it was but for what the reading names.
+pub fn reading_adds_what_it_names()
+    ensures { (f : Field) (reading : Reading) → AddsNamed f reading }
+{}
+
+/// An accepted range names each value from its first to its last, and no other.
+pub fn a_range_names_its_values()
+    ensures { (shape : Shape) (bits a b : ℕ) → NamesRange shape bits a b }
+{}
+
+/// An accepted step names the start, the start plus the step, and so on up to the end, and no other value.
+pub fn a_step_names_each_step()
+    ensures { (shape : Shape) (bits s e step : ℕ) → 0 < step → s ≤ e → NamesSteps shape bits s e step }
+{}
+
+/// An accepted list names the union of what its parts name.
+pub fn a_list_names_the_union()
+    ensures { (shape : Shape) (parts : List (List ℕ)) → NamesUnion shape parts }
+{}
+
+/// The values that are listed for some modifiers are the members of their sets, in ascending order.
+pub fn values_list_the_set()
+    ensures { (f : Field) (bits : ℕ) → ListsSet bits f }
+{}
+
+/// A value has one of several modifiers exactly if it has one of the first or one of the others.
+pub fn several_modifiers_ask_for_any()
+    ensures { (f : Field) (a b value : ℕ) → is_marked (bit_or a b) f value ≡ (is_marked a f value || is_marked b f value) }
+{}
+
+/// A component whose maximum is 0 holds no value: each set, unset and question is refused.
+pub fn a_maximum_of_zero_holds_nothing()
+    ensures asks { (shape : Shape) (value bits : ℕ) → shape.max ≡ 0 → can_ask shape value bits ≡ false }
+    ensures marks { (shape : Shape) (value bits : ℕ) → shape.max ≡ 0 → can_mark shape value bits ≡ false }
+{}

@@ -1,0 +1,26 @@
+//! What the clocks of tables keep, whatever a search asks of them.
+ghost use Rattle.std.specs.Prelude.{◌≡◌, IsTrue, ℤ, pos, neg_ℤ, ◌+ℤ◌, ◌≤ℤ◌, []};
+ghost use Rattle.croner_base.specs.Calm.{IsCalm, IsStart, HoldsAround};
+ghost use Rattle.croner_base.specs.Table.{is_calm_table, offset_limit};
+ghost use Rattle.croner_base.specs.TableZone.{clock, table_zone, table_moment};
+ghost use Rattle.croner_base.specs.Zone.{reading};
+
+use crate::time::table::{ClockTable, TableTime};
+
+/// The clock of a table is calm: each second that is held is resolved to exactly the instants that show it, and the
+/// changes are small, far apart and few.
+pub fn table_is_calm(table: &ClockTable)
+    ensures { IsCalm (table_zone table.now) }
+{}
+
+/// Around a second of a table whose clock reads a year from -9997 to 9997 everything is held that a search needs.
+pub fn table_time_holds_around(start: &TableTime<'_>)
+    ensures { IsStart (reading (table_moment start.now)) → HoldsAround (table_moment start.now) }
+{}
+
+/// A fixed offset of at most a day either way makes a table without changes, and its clock shows each instant with
+/// that offset.
+pub fn fixed_offset_is_calm(offset: i32)
+    ensures calm { neg_ℤ (pos offset_limit) ≤ℤ offset → offset ≤ℤ pos offset_limit → IsTrue (is_calm_table offset []) }
+    ensures reads { (i : ℤ) → (clock offset []).reads i ≡ i +ℤ offset }
+{}

@@ -1,0 +1,55 @@
+//! Dates and times of wall seconds, and back.
+ghost use Rattle.std.specs.Prelude.{◌≡◌, pos, neg_ℤ, ◌≤ℤ◌};
+ghost use Rattle.croner_base.specs.Civil.{wall_second, day_of_date};
+ghost use Rattle.jiff_core.specs.Calendar.{IsYear};
+
+use crate::time::{CivilDate, CivilDateTime, CivilTime};
+use jiff_core::civil::Date;
+
+/// The day number of -9999-01-01.
+const FIRST_DAY: i64 = -4_371_587;
+
+/// The day number of 9999-12-31.
+const LAST_DAY: i64 = 2_932_896;
+
+/// The seconds of a day on a wall clock.
+pub(crate) const SECONDS_PER_DAY: i64 = 86_400;
+
+// The date and time of a wall second, up to a day past the years -9999 to 9999.
+pub(crate) fn civil_of_second(wall: i64) -> CivilDateTime
+    requires low { neg_ℤ (pos 377_705_203_200) ≤ℤ wall }
+    requires high { wall ≤ℤ pos 253_402_387_199 }
+    ensures { wall_second result ≡ wall }
+{
+    let time = CivilTime::from_seconds_of_day(wall.rem_euclid(SECONDS_PER_DAY) as u32);
+    CivilDateTime::new(date_of_day(wall.div_euclid(SECONDS_PER_DAY)), time)
+}
+
+// The date of a day number, up to a day past those years.
+fn date_of_day(day: i64) -> CivilDate
+    requires low { neg_ℤ (pos 4_371_588) ≤ℤ day }
+    requires high { day ≤ℤ pos 2_932_897 }
+    ensures { day_of_date result ≡ day }
+{
+    if day < FIRST_DAY {
+        CivilDate::from_parts_unchecked(-10_000, 12, 31)
+    } else if day > LAST_DAY {
+        CivilDate::from_parts_unchecked(10_000, 1, 1)
+    } else {
+        let date = Date::from_days_since_min((day - FIRST_DAY) as u32);
+        CivilDate::from_parts_unchecked(date.year as i32, date.month as u32, date.day as u32)
+    }
+}
+
+// The wall second of a date and time of those years.
+pub(crate) fn second_of_civil(civil: CivilDateTime) -> i64
+    requires { IsYear civil.date.year }
+    ensures { result ≡ wall_second civil }
+{
+    let date = Date {
+        year: civil.year() as i16,
+        month: civil.month() as u8,
+        day: civil.day() as u8,
+    };
+    date.to_unix_epoch_day() as i64 * SECONDS_PER_DAY + civil.time().seconds_of_day()
+}
