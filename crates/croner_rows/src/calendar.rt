@@ -17,16 +17,16 @@ fn counts_weekdays_and_prints_dates(rt: HostRuntime) -> Result<(), Fail> {
     Ok(())
 }
 
-/// The clock of Paris in 2024.
-pub fn paris(alloc: Global) -> Result<ClockTable, CronError> {
+// The clock of Paris in 2024.
+fn paris(alloc: Global) -> Result<ClockTable, CronError> {
     let mut changes = Vec::new(alloc);
     changes.push((1711846800, 7200))?;
     changes.push((1729990800, 3600))?;
     ClockTable::new(3600, changes)
 }
 
-/// A clock of one change.
-pub fn one_change(
+// A clock of one change.
+fn one_change(
     alloc: Global,
     first: i32,
     instant: i64,

@@ -4,18 +4,12 @@
 #[cfg(test)]
 mod calendar;
 #[cfg(test)]
-mod civil;
-#[cfg(test)]
 mod command;
 #[cfg(test)]
 mod components;
 #[cfg(test)]
 mod days;
 #[cfg(test)]
-mod listings;
-#[cfg(test)]
 mod shown;
 #[cfg(test)]
 mod texts;
-#[cfg(test)]
-mod zones;

@@ -1,8 +1,11 @@
 //! Patterns: the parser of a question's settings, and what it reads.
+ghost use Rattle.std.specs.Prelude.{◌≡◌, true, IfOk};
+ghost use Rattle.croner_pattern.specs.Shapes.{has_field_shapes};
+ghost use Rattle.croner.specs.Views.{job_of};
 
 use crate::component::field;
 use crate::fault::Fault;
-use crate::member::{member, text};
+use crate::member::text;
 use crate::shown;
 use croner::parser::{CronParser, Seconds, Year};
 use croner::CronPattern;
@@ -11,7 +14,9 @@ use serde_json::{Map, Value, put};
 use std::alloc::Global;
 
 /// The pattern of a question: its text, read by the parser of its settings.
-pub fn cron(alloc: Global, question: &Value) -> Result<Cron, Fault> {
+pub fn cron(alloc: Global, question: &Value) -> Result<Cron, Fault>
+    ensures { IfOk result (λ cron. has_field_shapes (job_of cron) ≡ true) }
+{
     let parser = parser(question)?;
     Ok(parser.parse(alloc, text(question, "text")?)?)
 }

@@ -1,16 +1,12 @@
-//! Questions from a start: searches, listings and what a clock shows.
+//! Questions of a clock: what it shows, and which instants show a second.
 
 use crate::fault::Fault;
-use crate::member::{civil, flag, number_at, text};
-use crate::pattern::cron;
+use crate::member::{civil, number_at};
 use crate::shown;
 use crate::shown::Shown;
 use crate::zone::{Zone, civil_value, zone_of};
-use croner::Cron;
-use croner::errors::CronError;
-use croner::CronIterator;
 use croner::time::table::TableTime;
-use croner::time::{Direction, Resolution};
+use croner::time::Resolution;
 use jiff::civil::DateTime;
 use jiff::{Timestamp, Zoned};
 use serde_json::Value;
@@ -19,9 +15,6 @@ use std::alloc::Global;
 /// What is asked of a start.
 #[derive(Clone, Copy, PartialEq, Eq)]
 pub enum Ask {
-    Next,
-    Previous,
-    Iterate,
     Resolve,
     Reading,
     Add,
@@ -59,80 +52,9 @@ fn start_second(question: &Value, ask: Ask) -> Result<i64, Fault> {
 
 fn answer_at<T: Shown>(alloc: Global, question: &Value, ask: Ask, start: T) -> Result<Value, Fault> {
     match ask {
-        Ask::Next => search(alloc, question, start, Direction::Forward),
-        Ask::Previous => search(alloc, question, start, Direction::Backward),
-        Ask::Iterate => iterate(alloc, question, start),
         Ask::Resolve => resolve(alloc, question, &start),
         Ask::Reading => reading(alloc, &start),
         Ask::Add => add(alloc, question, &start),
-    }
-}
-
-// The search repeated from each answer, inclusively at most the first time; a refusal ends it.
-fn search<T: Shown>(
-    alloc: Global,
-    question: &Value,
-    start: T,
-    direction: Direction,
-) -> Result<Value, Fault> {
-    let cron = cron(alloc, question)?;
-    let count: u32 = number_at(question, "count")?;
-    let mut inclusive = flag(question, "inclusive")?;
-    let mut found = Vec::new(alloc);
-    let mut position = start;
-    for _ in 0..count {
-        match nearest(&cron, &position, inclusive, direction) {
-            Ok(run) => {
-                found.push(run.shown(alloc)?)?;
-                position = run;
-                inclusive = false;
-            }
-            Err(refused) => {
-                found.push(shown::refusal(alloc, &refused)?)?;
-                break;
-            }
-        }
-    }
-    Ok(Value::Array(found))
-}
-
-fn nearest<T: Shown>(
-    cron: &Cron,
-    start: &T,
-    inclusive: bool,
-    direction: Direction,
-) -> Result<T, CronError> {
-    match direction {
-        Direction::Forward => cron.find_next_occurrence(start, inclusive),
-        Direction::Backward => cron.find_previous_occurrence(start, inclusive),
-    }
-}
-
-// The answers of so many calls of `next`, null where there is none.
-fn iterate<T: Shown>(alloc: Global, question: &Value, start: T) -> Result<Value, Fault> {
-    let cron = cron(alloc, question)?;
-    let count: u32 = number_at(question, "count")?;
-    let mut runs = match text(question, "how")? {
-        "from_forward" => cron.iter_from(start, Direction::Forward)?,
-        "from_backward" => cron.iter_from(start, Direction::Backward)?,
-        "after" => cron.iter_after(start)?,
-        "before" => cron.iter_before(start)?,
-        _ => return Err(Fault::Malformed),
-    };
-    let mut items = Vec::new(alloc);
-    for _ in 0..count {
-        items.push(item(alloc, &mut runs)?)?;
-    }
-    Ok(Value::Array(items))
-}
-
-fn item<T: Shown>(alloc: Global, runs: &mut CronIterator<T>) -> Result<Value, Fault> {
-    match runs.next() {
-        Some(run) => run.shown(alloc),
-        None => match runs.fault() {
-            Some(CronError::OutOfMemory) => Err(Fault::OutOfMemory),
-            _ => Ok(Value::Null),
-        },
     }
 }
 

@@ -4,7 +4,6 @@
 ghost use Rattle.std.specs.Prelude.{◌≡◌, ◌≤◌};
 
 mod answer;
-mod count;
 mod moment;
 mod request;
 mod stop;
@@ -17,8 +16,7 @@ use std::io::Write;
 /// The status of a call that was answered.
 pub const ANSWERED: u8 = 0;
 
-/// The status of a call that was refused, that gave fewer runs than asked for, or whose answer
-/// could not be written.
+/// The status of a call that was refused, or whose answer could not be written.
 pub const REFUSED: u8 = 1;
 
 /// The status of words that are no call.
@@ -29,21 +27,14 @@ const USAGE: &str = "usage: cronrun match PATTERN DATETIME | next PATTERN DATETI
 /// Answers the call that the words name, on two writers for standard output and standard error,
 /// and gives the status of the process.
 ///
-/// The words are those behind the program's own name:
-///
-/// - `match PATTERN DATETIME` writes `true` or `false`.
-/// - `next PATTERN DATETIME COUNT [RULE]` and `prev PATTERN DATETIME COUNT [RULE]` write the runs
-///   after, or before, the start, the nearest first, one a line: as a civil date and time, and with
-///   a rule a space and the second since 1970-01-01T00:00:00 UTC behind.
-///
-/// The default parser reads PATTERN. DATETIME is `YYYY-MM-DDTHH:MM:SS`, COUNT is 1 to 1000, RULE is
-/// a POSIX rule of a zone. A repeated DATETIME names its earlier instant.
+/// The words are those behind the program's own name. `match PATTERN DATETIME` writes `true` or
+/// `false`; the other commands of the usage line are not there yet. The default parser reads
+/// PATTERN, and DATETIME is `YYYY-MM-DDTHH:MM:SS`.
 ///
 /// The status is [`MISUSED`] with the usage line on standard error where the words are no call;
-/// [`REFUSED`] with the error's text there where the pattern or the search is refused, or fewer
-/// than COUNT runs came, those found being written; else [`ANSWERED`]. The words are looked at
-/// first, then the pattern is read, then the start is sought in the zone. A failed write to
-/// standard output is [`REFUSED`] too, one to standard error changes no status.
+/// [`REFUSED`] with the error's text there where the pattern is refused; else [`ANSWERED`]. The
+/// words are looked at before the pattern is read. A failed write to standard output is [`REFUSED`]
+/// too, one to standard error changes no status.
 pub fn run<O: Write, E: Write>(alloc: Global, words: &[String], out: &mut O, err: &mut E) -> u8
     ensures { result ≤ MISUSED }
 {

@@ -1,11 +1,9 @@
 //! Reading the words of a call.
 ghost use Rattle.std.specs.Prelude.{◌↔◌, IsSome};
-ghost use Rattle.cronrun_command.specs.Call.{NamesMoment, NamesCount};
+ghost use Rattle.cronrun_command.specs.Call.{NamesMoment};
 
-use crate::count::read_count;
 use crate::moment::read_datetime;
-use croner::time::{CivilDateTime, Direction};
-use jiff::tz::TimeZone;
+use croner::time::CivilDateTime;
 
 /// A call of the program, its words read.
 #[derive(Drop)]
@@ -14,15 +12,6 @@ pub enum Request<'w> {
     Match {
         pattern: &'w str,
         at: CivilDateTime,
-    },
-    /// The runs nearest to a start.
-    Runs {
-        pattern: &'w str,
-        start: CivilDateTime,
-        count: u32,
-        direction: Direction,
-        /// The zone in which the start is read; none for civil time.
-        zone: Option<TimeZone<'static>>,
     },
 }
 
@@ -36,8 +25,6 @@ impl<'w> Request<'w> {
                 [pattern, at] => read_match(pattern.as_str(), at.as_str()),
                 _ => None,
             },
-            "next" => read_listing(rest, Direction::Forward),
-            "prev" => read_listing(rest, Direction::Backward),
             _ => None,
         }
     }
@@ -48,40 +35,4 @@ fn read_match<'w>(pattern: &'w str, at: &str) -> Option<Request<'w>>
 {
     let at = read_datetime(at)?;
     Some(Request::Match { pattern, at })
-}
-
-// PATTERN DATETIME COUNT [RULE].
-fn read_listing(words: &[String], direction: Direction) -> Option<Request<'_>> {
-    match words {
-        [pattern, start, count] => {
-            let (start, count) = (start.as_str(), count.as_str());
-            read_runs(pattern.as_str(), start, count, direction, None)
-        }
-        [pattern, start, count, rule] => {
-            let zone = TimeZone::posix(rule.as_str()).ok()?;
-            let (start, count) = (start.as_str(), count.as_str());
-            read_runs(pattern.as_str(), start, count, direction, Some(zone))
-        }
-        _ => None,
-    }
-}
-
-fn read_runs<'w>(
-    pattern: &'w str,
-    start: &str,
-    count: &str,
-    direction: Direction,
-    zone: Option<TimeZone<'static>>,
-) -> Option<Request<'w>>
-    ensures { IsSome result ↔ (NamesMoment start.now × NamesCount count.now) }
-{
-    let start = read_datetime(start)?;
-    let count = read_count(count)?;
-    Some(Request::Runs {
-        pattern,
-        start,
-        count,
-        direction,
-        zone,
-    })
 }
