@@ -60,7 +60,10 @@ fn takes_calm_tables(rt: HostRuntime) -> Result<(), Fail> {
         changes.push((between, 0))?;
         assert_eq!(rt; ClockTable::new(0, changes).is_ok(), want, "{case}");
     }
-    assert!(rt; ClockTable::new(86_401, Vec::new(alloc)).is_err(), "more than a day ahead");
+    assert!(rt;
+        ClockTable::new(86_401, Vec::new(alloc)).is_err(),
+        "more than a day ahead"
+    );
     Ok(())
 }
 

@@ -6,7 +6,8 @@ use std::io;
 use std::io::Write;
 use std::test::Fail;
 
-const USAGE: &str = "usage: cronrun match PATTERN DATETIME | next PATTERN DATETIME COUNT [RULE] | prev PATTERN DATETIME COUNT [RULE] | describe PATTERN\n";
+const USAGE: &str =
+    "usage: cronrun match PATTERN DATETIME | next PATTERN DATETIME COUNT [RULE] | prev PATTERN DATETIME COUNT [RULE] | describe PATTERN\n";
 
 // The words of a call, which bars part in a row.
 fn words(alloc: Global, call: &str) -> Result<Vec<String>, AllocError> {
@@ -40,7 +41,10 @@ fn answers_calls(rt: HostRuntime) -> Result<(), Fail> {
         ("match|* * * * *|5000-12-31T23:59:00", "0|true\n|"),
         ("match|* * * * *|5001-01-01T00:00:00", "0|false\n|"),
         ("match|, * * * *|2024-07-01T09:30:00", "0|false\n|"),
-        ("match||2024-07-01T09:30:00", "1||CronPattern cannot be an empty string.\n"),
+        (
+            "match||2024-07-01T09:30:00",
+            "1||CronPattern cannot be an empty string.\n",
+        ),
     ] {
         let answered = answer(rt.alloc(), call)?;
         assert_eq!(rt; answered.as_str(), want, "{call}");
@@ -53,7 +57,10 @@ fn refuses_fields_out_of_range(rt: HostRuntime) -> Result<(), Fail> {
     for pattern in ["*,5 * * * *", "60 * * * *", "65536 * * * *"] {
         let call = format!(in rt.alloc(); "match|{pattern}|2024-07-01T09:30:00")?;
         let answered = answer(rt.alloc(), call.as_str())?;
-        assert!(rt; answered.as_str().starts_with("1||Component error: "), "{answered}");
+        assert!(rt;
+            answered.as_str().starts_with("1||Component error: "),
+            "{answered}"
+        );
     }
     Ok(())
 }
@@ -105,17 +112,42 @@ impl Write for Full {
 fn tells_a_failed_write(rt: HostRuntime) -> Result<(), Fail> {
     let alloc = rt.alloc();
     for (case, call, room, want) in [
-        ("no room for the answer", "match|* * * * *|2024-07-01T09:30:00", 0, 1),
-        ("room for the answer", "match|* * * * *|2024-07-01T09:30:00", 5, 0),
+        (
+            "no room for the answer",
+            "match|* * * * *|2024-07-01T09:30:00",
+            0,
+            1,
+        ),
+        (
+            "room for the answer",
+            "match|* * * * *|2024-07-01T09:30:00",
+            5,
+            0,
+        ),
     ] {
         let mut err = Vec::new(alloc);
-        let status = run(alloc, words(alloc, call)?.as_slice(), &mut Full { room }, &mut err);
+        let status = run(
+            alloc,
+            words(alloc, call)?.as_slice(),
+            &mut Full { room },
+            &mut err,
+        );
         assert_eq!(rt; status, want, "{case}");
     }
     let mut out = Vec::new(alloc);
-    let status = run(alloc, words(alloc, "match||2024-07-01T09:30:00")?.as_slice(), &mut out, &mut Full { room: 0 });
+    let status = run(
+        alloc,
+        words(alloc, "match||2024-07-01T09:30:00")?.as_slice(),
+        &mut out,
+        &mut Full { room: 0 },
+    );
     assert_eq!(rt; status, 1, "nowhere to say why");
-    let status = run(alloc, words(alloc, "match")?.as_slice(), &mut out, &mut Full { room: 0 });
+    let status = run(
+        alloc,
+        words(alloc, "match")?.as_slice(),
+        &mut out,
+        &mut Full { room: 0 },
+    );
     assert_eq!(rt; status, 2, "nowhere to say how");
     assert!(rt; out.is_empty(), "nothing on standard output");
     Ok(())

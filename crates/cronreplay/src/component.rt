@@ -26,9 +26,19 @@ const MODIFIERS: [(&str, u8); 8] = [
 pub fn field(alloc: Global, component: &CronComponent) -> Result<Value, Fault> {
     let mut field = Map::new(alloc);
     put(&mut field, alloc, "marks", marks(alloc, component)?)?;
-    put(&mut field, alloc, "enabled", Value::from(enabled(component)))?;
+    put(
+        &mut field,
+        alloc,
+        "enabled",
+        Value::from(enabled(component)),
+    )?;
     put(&mut field, alloc, "step", Value::from(component.step()))?;
-    put(&mut field, alloc, "wildcard", Value::Bool(component.from_wildcard()))?;
+    put(
+        &mut field,
+        alloc,
+        "wildcard",
+        Value::Bool(component.from_wildcard()),
+    )?;
     Ok(Value::Object(field))
 }
 
@@ -38,7 +48,12 @@ fn marks(alloc: Global, component: &CronComponent) -> Result<Value, Fault> {
     for (name, bit) in MODIFIERS {
         let values = component.get_set_values(bit)?;
         if !values.is_empty() {
-            put(&mut marks, alloc, name, shown::runs(alloc, values.as_slice())?)?;
+            put(
+                &mut marks,
+                alloc,
+                name,
+                shown::runs(alloc, values.as_slice())?,
+            )?;
         }
     }
     Ok(Value::Object(marks))

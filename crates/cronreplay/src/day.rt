@@ -19,7 +19,9 @@ pub fn find(alloc: Global, question: &Value) -> Result<Value, Fault> {
     let (value, part) = (number_at(question, "value")?, time_component(question)?);
     let direction = direction(question)?;
     let cron = cron(alloc, question)?;
-    let found = cron.pattern.find_match_in_component(value, part, direction)?;
+    let found = cron
+        .pattern
+        .find_match_in_component(value, part, direction)?;
     Ok(Value::from(found))
 }
 

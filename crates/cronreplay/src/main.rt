@@ -15,8 +15,8 @@ mod time;
 mod zone;
 
 use replay::{Stop, replay};
-use std::io::{BufReader, BufWriter, Write};
 use std::io;
+use std::io::{BufReader, BufWriter, Write};
 use std::process::ExitCode;
 
 fn run(rt: &HostRuntime) -> Result<bool, Stop> {

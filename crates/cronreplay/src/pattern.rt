@@ -8,8 +8,7 @@ use crate::fault::Fault;
 use crate::member::text;
 use crate::shown;
 use croner::parser::{CronParser, Seconds, Year};
-use croner::CronPattern;
-use croner::{Cron, JobType};
+use croner::{Cron, CronPattern, JobType};
 use serde_json::{Map, Value, put};
 use std::alloc::Global;
 
@@ -68,10 +67,30 @@ fn switch(settings: &Value, name: &str) -> Result<bool, Fault> {
 fn shown_pattern(alloc: Global, cron: &Cron) -> Result<Value, Fault> {
     let pattern = &cron.pattern;
     let mut shown = Map::new(alloc);
-    put(&mut shown, alloc, "as_str", shown::text(alloc, cron.as_str())?)?;
-    put(&mut shown, alloc, "star_day", Value::Bool(pattern.is_dom_wildcard()))?;
-    put(&mut shown, alloc, "star_weekday", Value::Bool(pattern.is_dow_wildcard()))?;
-    put(&mut shown, alloc, "and", Value::Bool(pattern.matches_dom_and_dow()))?;
+    put(
+        &mut shown,
+        alloc,
+        "as_str",
+        shown::text(alloc, cron.as_str())?,
+    )?;
+    put(
+        &mut shown,
+        alloc,
+        "star_day",
+        Value::Bool(pattern.is_dom_wildcard()),
+    )?;
+    put(
+        &mut shown,
+        alloc,
+        "star_weekday",
+        Value::Bool(pattern.is_dow_wildcard()),
+    )?;
+    put(
+        &mut shown,
+        alloc,
+        "and",
+        Value::Bool(pattern.matches_dom_and_dow()),
+    )?;
     put(&mut shown, alloc, "job_type", job_type(alloc, cron)?)?;
     put(&mut shown, alloc, "fields", fields(alloc, pattern)?)?;
     Ok(Value::Object(shown))
@@ -89,12 +108,27 @@ fn job_type(alloc: Global, cron: &Cron) -> Result<Value, Fault> {
 
 fn fields(alloc: Global, pattern: &CronPattern) -> Result<Value, Fault> {
     let mut fields = Map::new(alloc);
-    put(&mut fields, alloc, "seconds", field(alloc, &pattern.seconds)?)?;
-    put(&mut fields, alloc, "minutes", field(alloc, &pattern.minutes)?)?;
+    put(
+        &mut fields,
+        alloc,
+        "seconds",
+        field(alloc, &pattern.seconds)?,
+    )?;
+    put(
+        &mut fields,
+        alloc,
+        "minutes",
+        field(alloc, &pattern.minutes)?,
+    )?;
     put(&mut fields, alloc, "hours", field(alloc, &pattern.hours)?)?;
     put(&mut fields, alloc, "days", field(alloc, &pattern.days)?)?;
     put(&mut fields, alloc, "months", field(alloc, &pattern.months)?)?;
-    put(&mut fields, alloc, "days_of_week", field(alloc, &pattern.days_of_week)?)?;
+    put(
+        &mut fields,
+        alloc,
+        "days_of_week",
+        field(alloc, &pattern.days_of_week)?,
+    )?;
     put(&mut fields, alloc, "years", field(alloc, &pattern.years)?)?;
     Ok(Value::Object(fields))
 }

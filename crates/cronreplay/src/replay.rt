@@ -5,9 +5,8 @@ use crate::question::answer;
 use crate::shown::refusal;
 use serde_json::Value;
 use std::alloc::{AllocError, Global};
-use std::fmt;
-use std::io;
 use std::io::{BufRead, Write};
+use std::{fmt, io};
 
 /// What ends the program before its summary.
 #[derive(Debug, Drop)]
@@ -60,7 +59,10 @@ impl Summary {
 impl fmt::Display for Summary {
     fn fmt<W: fmt::Write>(&self, f: &mut fmt::Formatter<W>) -> fmt::Result {
         let (lines, differing, unsupported) = (self.lines, self.differing, self.unsupported);
-        write!(f, "{lines} lines, {differing} differ, {unsupported} unsupported")
+        write!(
+            f,
+            "{lines} lines, {differing} differ, {unsupported} unsupported"
+        )
     }
 }
 

@@ -5,8 +5,8 @@ use crate::member::{civil, number_at};
 use crate::shown;
 use crate::shown::Shown;
 use crate::zone::{Zone, civil_value, zone_of};
-use croner::time::table::TableTime;
 use croner::time::Resolution;
+use croner::time::table::TableTime;
 use jiff::civil::DateTime;
 use jiff::{Timestamp, Zoned};
 use serde_json::Value;
@@ -50,7 +50,12 @@ fn start_second(question: &Value, ask: Ask) -> Result<i64, Fault> {
     }
 }
 
-fn answer_at<T: Shown>(alloc: Global, question: &Value, ask: Ask, start: T) -> Result<Value, Fault> {
+fn answer_at<T: Shown>(
+    alloc: Global,
+    question: &Value,
+    ask: Ask,
+    start: T,
+) -> Result<Value, Fault> {
     match ask {
         Ask::Resolve => resolve(alloc, question, &start),
         Ask::Reading => reading(alloc, &start),

@@ -9,9 +9,9 @@ mod request;
 mod stop;
 
 use request::Request;
-use stop::Stop;
 use std::alloc::Global;
 use std::io::Write;
+use stop::Stop;
 
 /// The status of a call that was answered.
 pub const ANSWERED: u8 = 0;
@@ -22,7 +22,8 @@ pub const REFUSED: u8 = 1;
 /// The status of words that are no call.
 pub const MISUSED: u8 = 2;
 
-const USAGE: &str = "usage: cronrun match PATTERN DATETIME | next PATTERN DATETIME COUNT [RULE] | prev PATTERN DATETIME COUNT [RULE] | describe PATTERN";
+const USAGE: &str =
+    "usage: cronrun match PATTERN DATETIME | next PATTERN DATETIME COUNT [RULE] | prev PATTERN DATETIME COUNT [RULE] | describe PATTERN";
 
 /// Answers the call that the words name, on two writers for standard output and standard error,
 /// and gives the status of the process.

@@ -9,10 +9,7 @@ use croner::time::CivilDateTime;
 #[derive(Drop)]
 pub enum Request<'w> {
     /// Whether the pattern names a date and time.
-    Match {
-        pattern: &'w str,
-        at: CivilDateTime,
-    },
+    Match { pattern: &'w str, at: CivilDateTime },
 }
 
 impl<'w> Request<'w> {
