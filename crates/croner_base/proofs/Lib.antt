@@ -15,12 +15,9 @@ pub mod TableOffsets
 pub mod TableReadings
 pub mod TableCivil
 pub mod PickExact
-<<<<<<< HEAD
 pub mod ExamplesParts
-=======
 pub mod TableMoments
 pub mod TableCalm
->>>>>>> d509046363d3dee3bd6f8ad82f11f12d26ad0240
 pub mod Filling
 pub mod MarkSets
 pub mod Parts
