@@ -1,2 +1,2 @@
-pub mod Count
+pub mod Call
 pub mod Moment

@@ -1,48 +1,44 @@
 //! The command line of `cronrun` as a function: words in, text and a status out.
 #![tactic(auto)]
 
+ghost use Rattle.std.specs.Prelude.{◌≡◌, ◌≤◌};
+
 mod answer;
-mod count;
 mod moment;
 mod request;
 mod stop;
 
 use request::Request;
-use stop::Stop;
 use std::alloc::Global;
 use std::io::Write;
+use stop::Stop;
 
 /// The status of a call that was answered.
 pub const ANSWERED: u8 = 0;
 
-/// The status of a call that was refused, that gave fewer runs than asked for, or whose answer
-/// could not be written.
+/// The status of a call that was refused, or whose answer could not be written.
 pub const REFUSED: u8 = 1;
 
 /// The status of words that are no call.
 pub const MISUSED: u8 = 2;
 
-const USAGE: &str = "usage: cronrun match PATTERN DATETIME | next PATTERN DATETIME COUNT [RULE] | prev PATTERN DATETIME COUNT [RULE] | describe PATTERN";
+const USAGE: &str =
+    "usage: cronrun match PATTERN DATETIME | next PATTERN DATETIME COUNT [RULE] | prev PATTERN DATETIME COUNT [RULE] | describe PATTERN";
 
 /// Answers the call that the words name, on two writers for standard output and standard error,
 /// and gives the status of the process.
 ///
-/// The words are those behind the program's own name:
-///
-/// - `match PATTERN DATETIME` writes `true` or `false`.
-/// - `next PATTERN DATETIME COUNT [RULE]` and `prev PATTERN DATETIME COUNT [RULE]` write the runs
-///   after, or before, the start, the nearest first, one a line: as a civil date and time, and with
-///   a rule a space and the second since 1970-01-01T00:00:00 UTC behind.
-///
-/// The default parser reads PATTERN. DATETIME is `YYYY-MM-DDTHH:MM:SS`, COUNT is 1 to 1000, RULE is
-/// a POSIX rule of a zone. A repeated DATETIME names its earlier instant.
+/// The words are those behind the program's own name. `match PATTERN DATETIME` writes `true` or
+/// `false`; the other commands of the usage line are not there yet. The default parser reads
+/// PATTERN, and DATETIME is `YYYY-MM-DDTHH:MM:SS`.
 ///
 /// The status is [`MISUSED`] with the usage line on standard error where the words are no call;
-/// [`REFUSED`] with the error's text there where the pattern or the search is refused, or fewer
-/// than COUNT runs came, those found being written; else [`ANSWERED`]. The words are looked at
-/// first, then the pattern is read, then the start is sought in the zone. A failed write to
-/// standard output is [`REFUSED`] too, one to standard error changes no status.
-pub fn run<O: Write, E: Write>(alloc: Global, words: &[String], out: &mut O, err: &mut E) -> u8 {
+/// [`REFUSED`] with the error's text there where the pattern is refused; else [`ANSWERED`]. The
+/// words are looked at before the pattern is read. A failed write to standard output is [`REFUSED`]
+/// too, one to standard error changes no status.
+pub fn run<O: Write, E: Write>(alloc: Global, words: &[String], out: &mut O, err: &mut E) -> u8
+    ensures { result ≤ MISUSED }
+{
     let Some(request) = Request::read(words) else {
         return misused(err);
     };
@@ -59,7 +55,9 @@ pub fn run<O: Write, E: Write>(alloc: Global, words: &[String], out: &mut O, err
 }
 
 /// Writes the usage line, and gives the status of words that are no call.
-pub fn misused<E: Write>(err: &mut E) -> u8 {
+pub fn misused<E: Write>(err: &mut E) -> u8
+    ensures { result ≡ MISUSED }
+{
     let _ = writeln!(err, "{USAGE}");
     MISUSED
 }

@@ -1,27 +1,15 @@
 //! Reading the words of a call.
+ghost use Rattle.std.specs.Prelude.{◌↔◌, IsSome};
+ghost use Rattle.cronrun_command.specs.Call.{NamesMoment};
 
-use crate::count::read_count;
 use crate::moment::read_datetime;
-use croner::time::{CivilDateTime, Direction};
-use jiff::tz::TimeZone;
+use croner::time::CivilDateTime;
 
 /// A call of the program, its words read.
 #[derive(Drop)]
 pub enum Request<'w> {
     /// Whether the pattern names a date and time.
-    Match {
-        pattern: &'w str,
-        at: CivilDateTime,
-    },
-    /// The runs nearest to a start.
-    Runs {
-        pattern: &'w str,
-        start: CivilDateTime,
-        count: u32,
-        direction: Direction,
-        /// The zone in which the start is read; none for civil time.
-        zone: Option<TimeZone<'static>>,
-    },
+    Match { pattern: &'w str, at: CivilDateTime },
 }
 
 impl<'w> Request<'w> {
@@ -30,38 +18,18 @@ impl<'w> Request<'w> {
     pub fn read(words: &'w [String]) -> Option<Request<'w>> {
         let (command, rest) = words.split_first()?;
         match command.as_str() {
-            "match" => read_match(rest),
-            "next" => read_runs(rest, Direction::Forward),
-            "prev" => read_runs(rest, Direction::Backward),
+            "match" => match rest {
+                [pattern, at] => read_match(pattern.as_str(), at.as_str()),
+                _ => None,
+            },
             _ => None,
         }
     }
 }
 
-fn read_match(words: &[String]) -> Option<Request<'_>> {
-    let [pattern, at] = words else {
-        return None;
-    };
-    Some(Request::Match {
-        pattern: pattern.as_str(),
-        at: read_datetime(at.as_str())?,
-    })
-}
-
-fn read_runs(words: &[String], direction: Direction) -> Option<Request<'_>> {
-    let (pattern, start, count, zone) = match words {
-        [pattern, start, count] => (pattern, start, count, None),
-        [pattern, start, count, rule] => {
-            let zone = TimeZone::posix(rule.as_str()).ok()?;
-            (pattern, start, count, Some(zone))
-        }
-        _ => return None,
-    };
-    Some(Request::Runs {
-        pattern: pattern.as_str(),
-        start: read_datetime(start.as_str())?,
-        count: read_count(count.as_str())?,
-        direction,
-        zone,
-    })
+fn read_match<'w>(pattern: &'w str, at: &str) -> Option<Request<'w>>
+    ensures { IsSome result ↔ NamesMoment at.now }
+{
+    let at = read_datetime(at)?;
+    Some(Request::Match { pattern, at })
 }

@@ -1,8 +1,7 @@
 //! Why a call stops before its answer is whole.
 
 use croner::errors::CronError;
-use std::fmt;
-use std::io;
+use std::{fmt, io};
 
 /// Why a call stops before its answer is whole.
 #[derive(Debug, Drop)]

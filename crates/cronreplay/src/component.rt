@@ -1,0 +1,211 @@
+//! Fields: what they hold, and calls of one field after another.
+
+use crate::fault::Fault;
+use crate::member::{items, list, member, number};
+use crate::shown;
+use croner::component::{
+    ALL_BIT, CLOSEST_WEEKDAY_BIT, CronComponent, LAST_BIT, NTH_1ST_BIT, NTH_2ND_BIT, NTH_3RD_BIT,
+    NTH_4TH_BIT, NTH_5TH_BIT,
+};
+use croner::errors::CronError;
+use serde_json::{Map, Value, put};
+use std::alloc::Global;
+
+const MODIFIERS: [(&str, u8); 8] = [
+    ("plain", ALL_BIT),
+    ("nth1", NTH_1ST_BIT),
+    ("nth2", NTH_2ND_BIT),
+    ("nth3", NTH_3RD_BIT),
+    ("nth4", NTH_4TH_BIT),
+    ("nth5", NTH_5TH_BIT),
+    ("last", LAST_BIT),
+    ("nearest", CLOSEST_WEEKDAY_BIT),
+];
+
+/// What a field holds.
+pub fn field(alloc: Global, component: &CronComponent) -> Result<Value, Fault> {
+    let mut field = Map::new(alloc);
+    put(&mut field, alloc, "marks", marks(alloc, component)?)?;
+    put(
+        &mut field,
+        alloc,
+        "enabled",
+        Value::from(enabled(component)),
+    )?;
+    put(&mut field, alloc, "step", Value::from(component.step()))?;
+    put(
+        &mut field,
+        alloc,
+        "wildcard",
+        Value::Bool(component.from_wildcard()),
+    )?;
+    Ok(Value::Object(field))
+}
+
+// The values of each modifier that has any.
+fn marks(alloc: Global, component: &CronComponent) -> Result<Value, Fault> {
+    let mut marks = Map::new(alloc);
+    for (name, bit) in MODIFIERS {
+        let values = component.get_set_values(bit)?;
+        if !values.is_empty() {
+            put(
+                &mut marks,
+                alloc,
+                name,
+                shown::runs(alloc, values.as_slice())?,
+            )?;
+        }
+    }
+    Ok(Value::Object(marks))
+}
+
+// The sum of the bits that are enabled.
+fn enabled(component: &CronComponent) -> u8 {
+    let mut enabled = 0;
+    for (_, bit) in MODIFIERS {
+        if component.is_feature_enabled(bit) {
+            enabled |= bit;
+        }
+    }
+    enabled
+}
+
+/// The answers of calls of one field, and what it holds afterwards.
+pub fn component(alloc: Global, question: &Value) -> Result<Value, Fault> {
+    let mut component = made(alloc, member(question, "new")?)?;
+    let mut results = Vec::new(alloc);
+    for call in list(question, "calls")? {
+        results.push(result(alloc, &mut component, items(call)?)?)?;
+    }
+    let mut answer = Map::new(alloc);
+    put(&mut answer, alloc, "results", Value::Array(results))?;
+    put(&mut answer, alloc, "after", field(alloc, &component)?)?;
+    Ok(Value::Object(answer))
+}
+
+// A new field of `[min, max, features, offset]`, or the empty one.
+fn made(alloc: Global, new: &Value) -> Result<CronComponent, Fault> {
+    if new.as_str() == Some("default") {
+        return Ok(CronComponent::default(alloc));
+    }
+    let [min, max, features, offset] = items(new)? else {
+        return Err(Fault::Malformed);
+    };
+    let (min, max): (u16, u16) = (number(min)?, number(max)?);
+    let (features, offset): (u8, u16) = (number(features)?, number(offset)?);
+    if min > max || max > u16::MAX - offset {
+        return Err(Fault::Malformed);
+    }
+    Ok(CronComponent::new(alloc, min, max, features, offset)?)
+}
+
+// The result of one call: its answer, or the refusal.
+fn result(alloc: Global, component: &mut CronComponent, call: &[Value]) -> Result<Value, Fault> {
+    let (name, arguments) = call.split_first().ok_or(Fault::Malformed)?;
+    let name = name.as_str().ok_or(Fault::Malformed)?;
+    let answered = match arguments {
+        [] => asked(alloc, component, name),
+        [argument] => called(alloc, component, name, argument),
+        [position, bit] => marked(alloc, component, name, position, bit),
+        _ => Err(Fault::Malformed),
+    };
+    match answered {
+        Err(Fault::Refused(error)) => Ok(shown::refusal(alloc, &error)?),
+        answered => answered,
+    }
+}
+
+// A question without an argument.
+fn asked(alloc: Global, component: &CronComponent, name: &str) -> Result<Value, Fault> {
+    match name {
+        "values" => shown::values(alloc, component.values()?.as_slice()),
+        "has_modifiers" => Ok(Value::Bool(component.has_modifiers())),
+        _ => Err(Fault::Malformed),
+    }
+}
+
+// A call with one argument.
+fn called(
+    alloc: Global,
+    component: &mut CronComponent,
+    name: &str,
+    argument: &Value,
+) -> Result<Value, Fault> {
+    match name {
+        "parse" | "handle_stepping" => {
+            let text = argument.as_str().ok_or(Fault::Malformed)?;
+            done(alloc, read(component, name, text))
+        }
+        "set_sloppy_ranges" => {
+            component.set_sloppy_ranges(argument.as_bool().ok_or(Fault::Malformed)?);
+            done(alloc, Ok(()))
+        }
+        _ => of_bit(alloc, component, name, number(argument)?),
+    }
+}
+
+fn read(component: &mut CronComponent, name: &str, text: &str) -> Result<(), CronError> {
+    if name == "parse" {
+        component.parse(text)
+    } else {
+        component.handle_stepping(text)
+    }
+}
+
+// A call whose one argument is a bit.
+fn of_bit(
+    alloc: Global,
+    component: &mut CronComponent,
+    name: &str,
+    bit: u8,
+) -> Result<Value, Fault> {
+    match name {
+        "enable_feature" => done(alloc, component.enable_feature(bit)),
+        "is_feature_allowed" => Ok(Value::Bool(component.is_feature_allowed(bit))),
+        "is_feature_enabled" => Ok(Value::Bool(component.is_feature_enabled(bit))),
+        "count_set_values" => Ok(Value::from(component.count_set_values(bit))),
+        "get_set_values" => shown::values(alloc, component.get_set_values(bit)?.as_slice()),
+        _ => Err(Fault::Malformed),
+    }
+}
+
+// A call of a value and a bit.
+fn marked(
+    alloc: Global,
+    component: &mut CronComponent,
+    name: &str,
+    position: &Value,
+    bit: &Value,
+) -> Result<Value, Fault> {
+    let (position, bit) = (number(position)?, number(bit)?);
+    match name {
+        "set_bit" => done(alloc, component.set_bit(position, bit)),
+        "unset_bit" => done(alloc, component.unset_bit(position, bit)),
+        "is_bit_set" => Ok(Value::Bool(component.is_bit_set(position, bit)?)),
+        _ => Err(Fault::Malformed),
+    }
+}
+
+// A call without an answer.
+fn done(alloc: Global, outcome: Result<(), CronError>) -> Result<Value, Fault> {
+    outcome?;
+    shown::text(alloc, "ok")
+}
+
+/// The order of two fields, each made new and parsed; a refused parse keeps its marks.
+pub fn component_compare(alloc: Global, question: &Value) -> Result<Value, Fault> {
+    let a = parsed(alloc, list(question, "a")?)?;
+    let b = parsed(alloc, list(question, "b")?)?;
+    shown::ordering(alloc, a.cmp(&b))
+}
+
+fn parsed(alloc: Global, side: &[Value]) -> Result<CronComponent, Fault> {
+    let [new, text] = side else {
+        return Err(Fault::Malformed);
+    };
+    let mut component = made(alloc, new)?;
+    match component.parse(text.as_str().ok_or(Fault::Malformed)?) {
+        Err(CronError::OutOfMemory) => Err(Fault::OutOfMemory),
+        Ok(()) | Err(_) => Ok(component),
+    }
+}

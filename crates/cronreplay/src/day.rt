@@ -1,0 +1,68 @@
+//! Questions of one pattern that have no start: days, single values, and whether a time is named.
+
+use crate::fault::Fault;
+use crate::member::{civil, list, number, number_at, text, weekday};
+use crate::pattern::cron;
+use crate::zone::civil_value;
+use croner::time::{Direction, TimeComponent};
+use serde_json::Value;
+use std::alloc::Global;
+
+/// Whether the pattern names a civil date and time.
+pub fn matching(alloc: Global, question: &Value) -> Result<Value, Fault> {
+    let at = civil_value(civil(question, "at")?)?;
+    Ok(Value::Bool(cron(alloc, question)?.is_time_matching(&at)?))
+}
+
+/// The nearest value of a field in a direction.
+pub fn find(alloc: Global, question: &Value) -> Result<Value, Fault> {
+    let (value, part) = (number_at(question, "value")?, time_component(question)?);
+    let direction = direction(question)?;
+    let cron = cron(alloc, question)?;
+    let found = cron
+        .pattern
+        .find_match_in_component(value, part, direction)?;
+    Ok(Value::from(found))
+}
+
+/// Whether a date of a given weekday matches.
+pub fn day_match(alloc: Global, question: &Value) -> Result<Value, Fault> {
+    let [year, month, day] = list(question, "date")? else {
+        return Err(Fault::Malformed);
+    };
+    let (year, month, day) = (number(year)?, number(month)?, number(day)?);
+    let weekday = weekday(question, "weekday")?;
+    let cron = cron(alloc, question)?;
+    Ok(Value::Bool(cron.pattern.day_match(year, month, day, weekday)?))
+}
+
+/// Whether a day is the nearest weekday of one that the pattern names.
+pub fn closest_weekday(alloc: Global, question: &Value) -> Result<Value, Fault> {
+    let (length, day): (u32, u32) = (number_at(question, "length")?, number_at(question, "day")?);
+    let weekday = weekday(question, "weekday")?;
+    if length < 28 || length > 31 || day < 1 || day > length {
+        return Err(Fault::Malformed);
+    }
+    let cron = cron(alloc, question)?;
+    Ok(Value::Bool(cron.pattern.closest_weekday(length, day, weekday)?))
+}
+
+fn time_component(question: &Value) -> Result<TimeComponent, Fault> {
+    match text(question, "component")? {
+        "second" => Ok(TimeComponent::Second),
+        "minute" => Ok(TimeComponent::Minute),
+        "hour" => Ok(TimeComponent::Hour),
+        "day" => Ok(TimeComponent::Day),
+        "month" => Ok(TimeComponent::Month),
+        "year" => Ok(TimeComponent::Year),
+        _ => Err(Fault::Malformed),
+    }
+}
+
+fn direction(question: &Value) -> Result<Direction, Fault> {
+    match text(question, "direction")? {
+        "forward" => Ok(Direction::Forward),
+        "backward" => Ok(Direction::Backward),
+        _ => Err(Fault::Malformed),
+    }
+}

@@ -1,0 +1,29 @@
+//! The operations by their names.
+
+use crate::component::{component, component_compare};
+use crate::day::{closest_weekday, day_match, find, matching};
+use crate::fault::Fault;
+use crate::member::text;
+use crate::pattern::parse;
+use crate::time::{Ask, answer_from_start};
+use crate::zone::clock_table;
+use serde_json::Value;
+use std::alloc::Global;
+
+/// The answer of a question.
+pub fn answer(alloc: Global, question: &Value) -> Result<Value, Fault> {
+    match text(question, "op")? {
+        "parse" => parse(alloc, question),
+        "component" => component(alloc, question),
+        "component_compare" => component_compare(alloc, question),
+        "match" => matching(alloc, question),
+        "find" => find(alloc, question),
+        "day_match" => day_match(alloc, question),
+        "closest_weekday" => closest_weekday(alloc, question),
+        "resolve" => answer_from_start(alloc, question, Ask::Resolve),
+        "reading" => answer_from_start(alloc, question, Ask::Reading),
+        "add" => answer_from_start(alloc, question, Ask::Add),
+        "clock_table" => clock_table(alloc, question),
+        _ => Err(Fault::Unsupported),
+    }
+}

@@ -1,0 +1,94 @@
+//! Questions of a clock: what it shows, and which instants show a second.
+
+use crate::fault::Fault;
+use crate::member::{civil, number_at};
+use crate::shown;
+use crate::shown::Shown;
+use crate::zone::{Zone, civil_value, zone_of};
+use croner::time::Resolution;
+use croner::time::table::TableTime;
+use jiff::civil::DateTime;
+use jiff::{Timestamp, Zoned};
+use serde_json::Value;
+use std::alloc::Global;
+
+/// What is asked of a start.
+#[derive(Clone, Copy, PartialEq, Eq)]
+pub enum Ask {
+    Resolve,
+    Reading,
+    Add,
+}
+
+/// Answers a question on the clock that it names.
+pub fn answer_from_start(alloc: Global, question: &Value, ask: Ask) -> Result<Value, Fault> {
+    match zone_of(alloc, question)? {
+        Zone::Civil => answer_at(alloc, question, ask, civil_start(question, ask)?),
+        Zone::Table(table) => {
+            let start = TableTime::new(&table, start_second(question, ask)?)?;
+            answer_at(alloc, question, ask, start)
+        }
+        Zone::Rule(zone) => match Timestamp::from_second(start_second(question, ask)?) {
+            Ok(instant) => answer_at(alloc, question, ask, Zoned::new(instant, zone)),
+            Err(_) => Err(Fault::Malformed),
+        },
+    }
+}
+
+// The start in civil time. A resolution has none, and any value of the clock will do.
+fn civil_start(question: &Value, ask: Ask) -> Result<DateTime, Fault> {
+    match ask {
+        Ask::Resolve => Ok(DateTime::MIN),
+        _ => civil_value(civil(question, "start")?),
+    }
+}
+
+fn start_second(question: &Value, ask: Ask) -> Result<i64, Fault> {
+    match ask {
+        Ask::Resolve => Ok(0),
+        _ => number_at(question, "start"),
+    }
+}
+
+fn answer_at<T: Shown>(
+    alloc: Global,
+    question: &Value,
+    ask: Ask,
+    start: T,
+) -> Result<Value, Fault> {
+    match ask {
+        Ask::Resolve => resolve(alloc, question, &start),
+        Ask::Reading => reading(alloc, &start),
+        Ask::Add => add(alloc, question, &start),
+    }
+}
+
+// The instants that a date and time names, ascending.
+fn resolve<T: Shown>(alloc: Global, question: &Value, clock: &T) -> Result<Value, Fault> {
+    let mut instants = Vec::new(alloc);
+    match clock.resolve_civil(alloc, civil(question, "at")?)? {
+        Resolution::Gap => {}
+        Resolution::Single(instant) => instants.push(instant.shown(alloc)?)?,
+        Resolution::Ambiguous(earlier, later) => {
+            instants.push(earlier.shown(alloc)?)?;
+            instants.push(later.shown(alloc)?)?;
+        }
+    }
+    Ok(Value::Array(instants))
+}
+
+// What the clock shows, and the weekday from Sunday.
+fn reading<T: Shown>(alloc: Global, start: &T) -> Result<Value, Fault> {
+    let mut shown = Vec::new(alloc);
+    shown.push(shown::civil(alloc, start.to_civil())?)?;
+    shown.push(Value::from(start.civil_weekday().num_days_from_sunday()))?;
+    Ok(Value::Array(shown))
+}
+
+// The instant so many seconds on, or null.
+fn add<T: Shown>(alloc: Global, question: &Value, start: &T) -> Result<Value, Fault> {
+    match start.checked_add_seconds(alloc, number_at(question, "seconds")?)? {
+        Some(sum) => sum.shown(alloc),
+        None => Ok(Value::Null),
+    }
+}
