@@ -3,9 +3,10 @@ use crate::time::{CivilDate, CivilTime};
 use std::test::Fail;
 
 // So many changes, three days apart, by one second forward and back in turn.
-fn alternating(alloc: Global, count: i64) -> Result<Vec<(i64, i32)>, CronError> {
+fn alternating(alloc: Global, count: u32) -> Result<Vec<(i64, i32)>, CronError> {
     let mut changes = Vec::with_capacity(alloc, count as usize)?;
     for index in 0..count {
+        let index = i64::from(index);
         changes.push((-50_000_000_000 + index * 259_200, (1 - index % 2) as i32))?;
     }
     Ok(changes)
