@@ -215,6 +215,7 @@ impl CronComponent {
     ///
     /// `ComponentError` where the value is out of bounds, a bit isn't supported or the maximum is 0; `OutOfMemory`
     /// where its message finds no memory.
+    #[inline]
     pub fn is_bit_set(&self, value: u16, bit: u8) -> Result<bool, CronError>
         ensures answer { SucceedsIff (can_ask self.now.shape value bit) result }
         ensures ok { IfOk result (λ yes. yes ≡ is_marked bit self.now value) }
@@ -239,6 +240,7 @@ impl CronComponent {
     }
 
     /// Whether each of the features is supported.
+    #[inline]
     pub fn is_feature_allowed(&self, feature: u8) -> bool
         ensures { result ≡ has_all self.now.shape.supported feature }
     {
@@ -324,6 +326,7 @@ impl CronComponent {
         Ok(value)
     }
 
+    #[inline(always)]
     fn check_value(&self, value: u16, bit: u8) -> Result<(), CronError>
         ensures { SucceedsIff (can_ask self.now.shape value bit) result }
     {
