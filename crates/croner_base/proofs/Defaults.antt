@@ -11,10 +11,10 @@ use Rattle.croner_base.specs.Part.{marked, all_marked, enabled, contains_byte, p
 use Rattle.croner_base.specs.Reading.{Reading, nothing, ◌then◌, wants, with, did, marks, steps, stars}
 use Rattle.croner_base.proofs.MarkSets.{zero-mark}
 
-no_any : (bits : ℕ) → has_any 0 bits ≡ false
+pub no_any : (bits : ℕ) → has_any 0 bits ≡ false
 no_any bits = ap (λ n. not (eqb n 0)) (and_zero_l bits)
 
-none_kept : (p : ℕ → Bool) → p 0 ≡ false → filter p (0 ∷ []) ≡ []
+pub none_kept : (p : ℕ → Bool) → p 0 ≡ false → filter p (0 ∷ []) ≡ []
 none_kept p h = rw h refl
 
 both_empty : (test : Bool) (xs : List ℕ) → xs ≡ [] → (if test then xs else []) ≡ []

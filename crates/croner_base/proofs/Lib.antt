@@ -29,3 +29,4 @@ pub mod Steps
 pub mod Texts
 pub mod ExamplesTable
 mod Defaults
+mod Counts
