@@ -1,12 +1,12 @@
 -- What a default component holds and takes: nothing.
-use Rattle.std.proofs.Common.{◌≡◌, ℕ, nat_lt, zero, suc, ◌+◌, ◌-◌, ◌*◌, ◌/◌, Bool, true, false, cond, not, ◌||◌, ◌&&◌, eqb, ◌==◌, leb, List, [], ◌∷◌, length, Option, Some, None, refl, ap, sym, ◌∙◌, arith, subst, inl, inr, bit_and, codes, if◌then◌else◌}
+use Rattle.std.proofs.Common.{◌≡◌, ℕ, nat_lt, zero, suc, ◌+◌, ◌-◌, ◌*◌, ◌/◌, Bool, true, false, not, ◌||◌, ◌&&◌, eqb, ◌==◌, leb, List, [], ◌∷◌, length, Option, Some, None, refl, ap, sym, ◌∙◌, arith, subst, inl, inr, bit_and, codes, if◌then◌else◌}
 use Rattle.std.specs.Int.Bits.{and_zero_l}
 use Rattle.std.specs.List.{All, range_with_len, filter, before_first}
 use Rattle.std.specs.Str.{trim, bytes_eq}
 use Rattle.std.proofs.lemmas.Bool.{cases_Bool, eqb-true, leb-true, false≢true}
 use Rattle.std.proofs.Math.Bool.{and-false}
 use Rattle.std.proofs.lemmas.List.Elements.{All-cons}
-use Rattle.croner_base.specs.Field.{Shape, Field, default_field, has_any, has_all, can_mark, is_in_bounds, is_marked, marked_values, values_between}
+use Rattle.croner_base.specs.Field.{Shape, default_field, has_any, has_all, is_in_bounds, is_marked, marked_values, values_between}
 use Rattle.croner_base.specs.Part.{marked, all_marked, enabled, contains_byte, pieces_at, ends_in_l, head_of, tag_of, number_of, two_of, is_letter_l, is_starred, step_bounds, stepped, stepped_marks, stepping, ranged, nearest_weekday, single, one_number, part_of, parts_of, field_of}
 use Rattle.croner_base.specs.Reading.{Reading, nothing, ◌then◌, wants, with, did, marks, steps, stars}
 use Rattle.croner_base.proofs.MarkSets.{zero-mark}
