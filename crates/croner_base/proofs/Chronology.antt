@@ -6,7 +6,7 @@ use mathlib.Core.HLevel.{is_prop→PathP}
 use Rattle.std.specs.declared.cmp.Ordering.{Ordering}
 use Rattle.std.specs.declared.cmp.Ordering.TheVariants.{Less, Equal, Greater}
 use Rattle.std.specs.Ordering.{MatchOrdering, ordering_then}
-use Rattle.std.specs.Cmp.{int_ranks, ranks, int_cmp_is}
+use Rattle.std.specs.Cmp.{int_ranks, ranks, int_cmp_is, nat_cmp_is}
 use Rattle.jiff_core.proofs.CalendarLemmas.{days_of_months-zero}
 use Rattle.jiff_core.proofs.SignedLemmas.{signed_arith}
 use Rattle.croner_base.specs.declared.time.civil.CivilDate.{CivilDate}
@@ -75,6 +75,9 @@ time_ranks a b =
     (λ lt. omega (arith, e, f, lt)) (λ same. omega (arith, e, f, same)) (λ gt. omega (arith, e, f, gt)))
     (λ gt. omega (arith, e, gt, b.second_in)))
     (λ gt. omega (arith, gt, b.minute_in, b.second_in))
+
+pub time_cmp-chronological : (a b : CivilTime) → ordering_then (nat_cmp a.hour b.hour) (ordering_then (nat_cmp a.minute b.minute) (nat_cmp a.second b.second)) ≡ nat_cmp (seconds_of_time a) (seconds_of_time b)
+time_cmp-chronological a b = nat_cmp_is (seconds_of_time a) (seconds_of_time b) _ (time_ranks a b)
 
 -- the order of the parts
 abbrev pub parts_cmp : CivilDateTime → CivilDateTime → Ordering

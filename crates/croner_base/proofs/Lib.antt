@@ -28,3 +28,5 @@ pub mod Stepping
 pub mod Steps
 pub mod Texts
 pub mod ExamplesTable
+mod Defaults
+mod Counts

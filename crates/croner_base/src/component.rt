@@ -4,8 +4,9 @@
 //! whose nearest weekday is meant. Each modifier is one bit, so that the bits of several are asked for at once.
 
 ghost use Rattle.std.specs.Prelude.{◌≡◌, ◌+◌, ◌-◌, ◌≤◌, length, OnOk, OnErr, IfOk, IfErr};
+ghost use Rattle.std.specs.List.{filter};
 ghost use Rattle.croner_base.specs.Answers.{SucceedsIff};
-ghost use Rattle.croner_base.specs.Field.{with_mark, without_mark, with_sloppy, is_marked, can_mark, can_ask, default_field, empty_field, new_shape, has_all, has_modifiers, marked_values};
+ghost use Rattle.croner_base.specs.Field.{with_mark, without_mark, with_sloppy, is_marked, can_mark, can_ask, default_field, empty_field, new_shape, has_all, has_any, has_modifiers, marked_values};
 ghost use Rattle.croner_base.specs.Marks.{IsWhole};
 ghost use Rattle.croner_base.specs.Part.{enabled};
 ghost use Rattle.croner_base.specs.Reading.{Reads};
@@ -215,6 +216,7 @@ impl CronComponent {
     ///
     /// `ComponentError` where the value is out of bounds, a bit isn't supported or the maximum is 0; `OutOfMemory`
     /// where its message finds no memory.
+    #[inline]
     pub fn is_bit_set(&self, value: u16, bit: u8) -> Result<bool, CronError>
         ensures answer { SucceedsIff (can_ask self.now.shape value bit) result }
         ensures ok { IfOk result (λ yes. yes ≡ is_marked bit self.now value) }
@@ -239,6 +241,7 @@ impl CronComponent {
     }
 
     /// Whether each of the features is supported.
+    #[inline]
     pub fn is_feature_allowed(&self, feature: u8) -> bool
         ensures { result ≡ has_all self.now.shape.supported feature }
     {
@@ -291,16 +294,10 @@ impl CronComponent {
     pub fn count_set_values(&self, bit: u8) -> usize
         ensures { result ≡ length (marked_values bit self.now) }
     {
-        let mut count = 0;
         if !self.is_feature_allowed(bit) {
-            return count;
+            return 0;
         }
-        for value in self.min..=self.max {
-            if self.has_mark(value, bit) {
-                count += 1;
-            }
-        }
-        count
+        count_marked(&self.marks[usize::from(self.min)..], bit)
     }
 
     fn has_mark(&self, value: u16, bit: u8) -> bool
@@ -324,6 +321,7 @@ impl CronComponent {
         Ok(value)
     }
 
+    #[inline(always)]
     fn check_value(&self, value: u16, bit: u8) -> Result<(), CronError>
         ensures { SucceedsIff (can_ask self.now.shape value bit) result }
     {
@@ -335,6 +333,19 @@ impl CronComponent {
         }
         Ok(())
     }
+}
+
+// How many of the sums of bits have any bit of `bit`.
+fn count_marked(marks: &[u8], bit: u8) -> usize
+    ensures { result ≡ length (filter (λ sum. has_any sum bit) marks.now) }
+{
+    let mut count = 0;
+    for mark in marks {
+        if *mark & bit != NONE_BIT {
+            count += 1;
+        }
+    }
+    count
 }
 
 impl Clone for CronComponent {

@@ -7,6 +7,8 @@ use crate::errors::CronError;
 use std::alloc::AllocError;
 
 impl CronComponent {
+    #[cold]
+    #[inline(never)]
     pub(super) fn below_offset(&self, number: u16) -> CronError
         ensures { IsFieldError result }
     {
@@ -16,6 +18,8 @@ impl CronComponent {
         ))
     }
 
+    #[cold]
+    #[inline(never)]
     pub(super) fn out_of_bounds(&self, value: u16) -> CronError
         ensures { IsFieldError result }
     {
@@ -30,6 +34,8 @@ impl CronComponent {
         ))
     }
 
+    #[cold]
+    #[inline(never)]
     pub(super) fn unsupported_modifier(&self, value: u16, bit: u8) -> CronError
         ensures { IsFieldError result }
     {
@@ -40,6 +46,8 @@ impl CronComponent {
         ))
     }
 
+    #[cold]
+    #[inline(never)]
     pub(super) fn unsupported_feature(&self, feature: u8) -> CronError
         ensures { IsFieldError result }
     {
@@ -50,6 +58,8 @@ impl CronComponent {
         ))
     }
 
+    #[cold]
+    #[inline(never)]
     pub(super) fn no_number(&self, text: &str, part: &str) -> CronError
         ensures { IsFieldError result }
     {
@@ -58,6 +68,8 @@ impl CronComponent {
         ))
     }
 
+    #[cold]
+    #[inline(never)]
     pub(super) fn number_out_of_bounds(&self, number: u16, part: &str) -> CronError
         ensures { IsFieldError result }
     {
@@ -67,6 +79,8 @@ impl CronComponent {
         ))
     }
 
+    #[cold]
+    #[inline(never)]
     pub(super) fn range_out_of_bounds(&self, start: u16, end: u16, part: &str) -> CronError
         ensures { IsFieldError result }
     {
@@ -76,6 +90,8 @@ impl CronComponent {
         ))
     }
 
+    #[cold]
+    #[inline(never)]
     pub(super) fn not_once(&self, sign: char, part: &str) -> CronError
         ensures { IsFieldError result }
     {
@@ -84,6 +100,8 @@ impl CronComponent {
         ))
     }
 
+    #[cold]
+    #[inline(never)]
     pub(super) fn step_of_zero(&self, part: &str) -> CronError
         ensures { IsFieldError result }
     {
@@ -92,6 +110,8 @@ impl CronComponent {
         ))
     }
 
+    #[cold]
+    #[inline(never)]
     pub(super) fn no_range_to_step(&self, left: &str, part: &str) -> CronError
         ensures { IsFieldError result }
     {
@@ -100,6 +120,8 @@ impl CronComponent {
         ))
     }
 
+    #[cold]
+    #[inline(never)]
     pub(super) fn step_too_long(&self, step: u16, part: &str) -> CronError
         ensures { IsFieldError result }
     {
@@ -108,6 +130,8 @@ impl CronComponent {
         ))
     }
 
+    #[cold]
+    #[inline(never)]
     pub(super) fn wrong_nth(&self, nth: &str, part: &str) -> CronError
         ensures { IsFieldError result }
     {
@@ -116,6 +140,8 @@ impl CronComponent {
         ))
     }
 
+    #[cold]
+    #[inline(never)]
     pub(super) fn no_nth_here(&self, part: &str) -> CronError
         ensures { IsFieldError result }
     {

@@ -1,13 +1,13 @@
 //! The calendar's laws: day numbers count the real dates, weekdays follow them, and civil date-times go in the order
 //! of their wall seconds.
 ghost use Rattle.std.specs.Prelude.{◌≡◌, ◌↔◌, ℕ, ◌+◌, ◌%◌, ◌≤◌, ℤ, pos, ◌+ℤ◌, ◌*ℤ◌, ◌≤ℤ◌};
-ghost use Rattle.std.specs.Ordering.{int_cmp};
+ghost use Rattle.std.specs.Ordering.{int_cmp, nat_cmp};
 ghost use Rattle.jiff_core.specs.Calendar.{days_in_month, IsBetween, IsWithin};
 ghost use Rattle.croner_base.specs.Calendar.{day_number, weekday_of_day};
 ghost use Rattle.croner_base.specs.Calm.{IsSearched, IsInReach, IsStart};
-ghost use Rattle.croner_base.specs.Civil.{wall_second, day_of_date, weekday_index};
+ghost use Rattle.croner_base.specs.Civil.{wall_second, day_of_date, seconds_of_time, weekday_index};
 
-use crate::time::{CivilDate, CivilDateTime, Weekday};
+use crate::time::{CivilDate, CivilDateTime, CivilTime, Weekday};
 use std::cmp::Ordering;
 
 /// The day number of a date is the count of real dates from 1970-01-01, negative before it: that date is day 0, the
@@ -37,11 +37,26 @@ pub fn weekday_of_its_number(weekday: Weekday) -> Weekday
     Weekday::from_days_from_sunday(weekday.num_days_from_sunday())
 }
 
+/// A day begins with second 0 at midnight, and its last second is number 86,399.
+pub fn first_and_last_time_of_a_day() -> (CivilTime, CivilTime)
+    ensures first { seconds_of_time result.0 ≡ 0 }
+    ensures last { seconds_of_time result.1 ≡ 86_399 }
+{
+    (CivilTime::MIDNIGHT, CivilTime::END_OF_DAY)
+}
+
 /// Dates compare as their day numbers do.
 pub fn date_order_is_chronological(date: CivilDate, other: CivilDate) -> Ordering
     ensures { result ≡ int_cmp (day_of_date date) (day_of_date other) }
 {
     date.cmp(&other)
+}
+
+/// Times of day compare as their seconds since midnight do.
+pub fn time_order_is_chronological(time: CivilTime, other: CivilTime) -> Ordering
+    ensures { result ≡ nat_cmp (seconds_of_time time) (seconds_of_time other) }
+{
+    time.cmp(&other)
 }
 
 /// Civil date-times compare as their wall seconds do.

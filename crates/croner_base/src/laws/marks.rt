@@ -1,8 +1,11 @@
 //! The marks of a component are sets of values, one for each modifier: what each change adds to them or takes from
 //! them, and what a text names.
-ghost use Rattle.std.specs.Prelude.{◌≡◌, ℕ, ◌<◌, ◌≤◌, ◌||◌, true, false, List, bit_or};
-ghost use Rattle.croner_base.specs.Field.{Shape, Field, can_ask, can_mark, is_marked};
+ghost use Rattle.std.specs.Prelude.{◌≡◌, ℕ, ◌<◌, ◌≤◌, ◌||◌, true, false, List, [], length, bit_or};
+ghost use Rattle.std.specs.List.{All};
+ghost use Rattle.std.specs.Str.{trim};
+ghost use Rattle.croner_base.specs.Field.{Shape, Field, can_ask, can_mark, default_field, has_all, has_modifiers, is_marked, marked_values};
 ghost use Rattle.croner_base.specs.Marks.{IsWhole, AddsOne, TakesOne, AddsNamed, NamesRange, NamesSteps, NamesUnion, ListsSet};
+ghost use Rattle.croner_base.specs.Part.{field_of, pieces_at};
 ghost use Rattle.croner_base.specs.Reading.{Reading};
 
 /// A mark adds its value to the sets of its modifiers, and changes nothing else: no other value, no other modifier, and
@@ -50,4 +53,16 @@ pub fn several_modifiers_ask_for_any()
 pub fn a_maximum_of_zero_holds_nothing()
     ensures asks { (shape : Shape) (value bits : ℕ) → shape.max ≡ 0 → can_ask shape value bits ≡ false }
     ensures marks { (shape : Shape) (value bits : ℕ) → shape.max ≡ 0 → can_mark shape value bits ≡ false }
+{}
+
+/// A default component has nothing and takes nothing: no value is listed for any modifiers, each set, unset and
+/// question is refused, and so is each feature, and each text but a list of empty parts.
+pub fn a_default_component_holds_nothing()
+    ensures lists { (bits : ℕ) → marked_values bits default_field ≡ [] }
+    ensures modifiers { has_modifiers default_field ≡ false }
+    ensures asks { (value bits : ℕ) → can_ask default_field.shape value bits ≡ false }
+    ensures marks { (pos bits : ℕ) → can_mark default_field.shape pos bits ≡ false }
+    ensures features { (bits : ℕ) → has_all default_field.shape.supported bits ≡ true → bits ≡ 0 }
+    ensures reads { (text : List ℕ) → (field_of default_field.shape text).accepted ≡ true
+        → All (λ part. length (trim part) ≡ 0) (pieces_at 44 text) }
 {}

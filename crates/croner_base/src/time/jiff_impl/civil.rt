@@ -1,7 +1,9 @@
 //! Civil date-times of `jiff` as time values: on their clock each second from year -9999 to 9999 stands once.
-ghost use Rattle.std.specs.Prelude.{false};
+ghost use Rattle.std.specs.Prelude.{◌≡◌, ◌↔◌, false, IsOk, IfOk, IfErr};
 ghost use Rattle.std.proofs.Common.{ap};
+ghost use Rattle.jiff_core.specs.Calendar.{IsYear};
 ghost use Rattle.croner_base.specs.CivilZone.{civil_moment};
+ghost use Rattle.croner_base.specs.Zone.{IsResolved, IsUnheld};
 
 use crate::errors::CronError;
 use crate::time::jiff_impl::{to_civil, to_jiff, to_weekday};
@@ -28,7 +30,12 @@ impl CronDateTime for DateTime {
         &self,
         _alloc: Global,
         civil: CivilDateTime,
-    ) -> Result<Resolution<DateTime>, CronError> {
+    ) -> Result<Resolution<DateTime>, CronError>
+        ensures held { IsOk result ↔ IsYear civil.date.year }
+        ensures value { IfOk result (IsResolved civil_moment (civil_moment self.now).zone civil) }
+        ensures err { IfErr result (IsUnheld false (civil_moment self.now).zone civil) }
+        ensures date { IfErr result (λ e. e ≡ CronError.InvalidDate) }
+    {
         match to_jiff(civil) {
             Ok(datetime) => Ok(Resolution::Single(datetime)),
             Err(refused) => Err(refused),
