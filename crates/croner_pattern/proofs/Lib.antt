@@ -5,3 +5,4 @@ pub mod Turns
 pub mod Sides
 pub mod Known
 pub mod Firsts
+pub mod Masks

@@ -1,6 +1,7 @@
 -- Which dates and times a pattern names.
-use Rattle.std.specs.Prelude.{◌≡◌, ℕ, ◌^◌, Bool, true, not, ◌&&◌, ◌||◌, ◌==◌, length, ℤ, pos, int_le, unsigned_abs, if◌then◌else◌}
+use Rattle.std.specs.Prelude.{◌≡◌, ℕ, ◌+◌, ◌^◌, nat_lt, Bool, true, not, ◌&&◌, ◌||◌, ◌==◌, length, ℤ, pos, int_le, unsigned_abs, if◌then◌else◌}
 use Rattle.std.specs.List.{list_any}
+use Rattle.std.specs.Int.{bit_at}
 use Rattle.jiff_core.specs.Calendar.{days_in_month}
 use Rattle.croner_base.specs.declared.time.civil.CivilDate.{CivilDate}
 use Rattle.croner_base.specs.declared.time.civil.CivilDateTime.{CivilDateTime}
@@ -58,6 +59,12 @@ are_joined star_day star_weekday and day weekday =
 abbrev pub is_day_matching : Meaning → ℕ → ℕ → ℕ → Bool
 is_day_matching m len first day =
     are_joined m.star_day m.star_weekday m.and (is_day_side m.days len first day) (is_weekday_side m.days_of_week len first day)
+
+-- the days of a month that fit, one bit a day, from the lowest bit for the 1st: a bit is 1 where the month has the day and
+-- the day fits, and 0 elsewhere
+abbrev pub IsDayMask : Meaning → ℕ → ℕ → ℕ → Type 0
+IsDayMask m len first mask =
+    (place : ℕ) → bit_at mask place ≡ (if nat_lt place len && is_day_matching m len first (place + 1) then 1 else 0)
 
 -- the years that a pattern can name
 abbrev pub is_year_matching : Meaning → ℤ → Bool

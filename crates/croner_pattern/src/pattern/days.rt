@@ -94,7 +94,7 @@ impl CronPattern {
         self.fits(length, first, day).unwrap_or(false)
     }
 
-    fn fits(&self, length: u32, first: u32, day: u32) -> Result<bool, CronError>
+    pub(super) fn fits(&self, length: u32, first: u32, day: u32) -> Result<bool, CronError>
         requires length { IsInRange 28 31 length }
         requires first { first < 7 }
         requires day { IsInRange 1 length day }
