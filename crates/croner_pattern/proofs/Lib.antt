@@ -6,3 +6,4 @@ pub mod Sides
 pub mod Known
 pub mod Firsts
 pub mod Masks
+pub mod Once

@@ -9,7 +9,7 @@ use Rattle.croner_base.specs.declared.time.TimeComponent.TheVariants.{Second, Mi
 use Rattle.croner_base.specs.Field.{Field, can_ask, is_marked, values_between}
 use Rattle.croner_pattern.specs.Days.{days_of, weekday_of, occurrence, is_last_weekday, is_last_day, is_last_working, is_nearest}
 use Rattle.croner_pattern.specs.Meaning.{Meaning}
-use Rattle.croner_pattern.specs.Schedule.{is_plain, names_last_day, names_last_working_day, nth_bit, are_joined}
+use Rattle.croner_pattern.specs.Schedule.{is_plain, names_last_day, names_last_working_day, bit_of_nth, are_joined}
 
 -- whether the value is marked with one of the bits, where the field can be asked
 abbrev pub asked : ℕ → Field → ℕ → Option Bool
@@ -63,7 +63,7 @@ last_answer weekdays len first day = and_test (is_last_weekday len first day) (a
 -- the weekday side: the nth, then the last, then plain
 abbrev pub weekday_answer : Field → ℕ → ℕ → ℕ → Option Bool
 weekday_answer weekdays len first day =
-    first_yes (asked (nth_bit (occurrence first day)) weekdays (weekday_of first day)
+    first_yes (asked (bit_of_nth (occurrence first day)) weekdays (weekday_of first day)
     ∷ last_answer weekdays len first day
     ∷ asked 1 weekdays (weekday_of first day) ∷ [])
 

@@ -39,13 +39,17 @@ is_day_side days len first day =
     || ((names_last_working_day days && is_last_working len first day) || is_near_target days len first day))
 
 -- the bit of the nth weekday of a month: NTH_1ST_BIT is 2, NTH_5TH_BIT is 32
-abbrev pub nth_bit : ℕ → ℕ
-nth_bit n = 2 ^ n
+abbrev pub bit_of_nth : ℕ → ℕ
+bit_of_nth n = 2 ^ n
+
+-- LAST_BIT, or nothing
+abbrev pub last_bit : Bool → ℕ
+last_bit last = if last then 64 else 0
 
 -- the weekday fits: plain, as the nth of the month, or as its last
 abbrev pub is_weekday_side : Field → ℕ → ℕ → ℕ → Bool
 is_weekday_side weekdays len first day =
-    is_plain weekdays (weekday_of first day) || (is_named (nth_bit (occurrence first day)) weekdays (weekday_of first day)
+    is_plain weekdays (weekday_of first day) || (is_named (bit_of_nth (occurrence first day)) weekdays (weekday_of first day)
     || (is_named 64 weekdays (weekday_of first day) && is_last_weekday len first day))
 
 -- with one star field the other side decides. With none it takes both sides where the AND flag is set, and else either.
