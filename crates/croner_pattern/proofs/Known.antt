@@ -1,18 +1,17 @@
 -- With the shapes of a pattern each question about a day is answered, and the answer is the schedule's.
-use Rattle.std.proofs.Common.{◌≡◌, ℕ, zero, suc, ◌+◌, ◌*◌, ◌-◌, ◌%◌, ◌/◌, ◌^◌, ◌<◌, ◌≤◌, Bool, true, false, List, [], ◌∷◌, map, Option, Some, None, Result, Ok, Err, IfOk, refl, ap, sym, ◌∙◌, arith, subst}
+use Rattle.std.proofs.Common.{◌≡◌, ℕ, zero, suc, ◌+◌, ◌-◌, ◌/◌, ◌^◌, ◌<◌, ◌≤◌, Bool, true, false, List, [], ◌∷◌, map, Option, Some, None, Result, Ok, Err, IfOk, refl, ap, sym, ◌∙◌, arith, subst}
 use Rattle.std.specs.List.{range_with_len}
-use Rattle.std.proofs.lemmas.Bool.Decides.{nat_tests}
 use Rattle.croner_base.specs.declared.errors.CronError.{CronError}
 use Rattle.croner_base.specs.Answers.{Finds}
 use Rattle.croner_base.specs.Field.{Field, can_ask, is_marked, has_all}
 use Rattle.croner_pattern.specs.Days.{weekday_of, occurrence, is_last_weekday, is_nearest}
 use Rattle.croner_pattern.specs.Meaning.{Meaning}
 use Rattle.croner_pattern.specs.Questions.{asked, and_test, first_yes, first_target, last_target, near_answer, near_answers, is_named_last, last_answer, day_answer, weekday_answer, both_answers, date_answer}
-use Rattle.croner_pattern.specs.Schedule.{nth_bit, is_near_target, are_joined, is_day_matching}
+use Rattle.croner_pattern.specs.Schedule.{bit_of_nth, is_near_target, is_day_side, are_joined, is_day_matching}
 use Rattle.croner_pattern.specs.Shapes.{has_field_shapes, day_shape, weekday_shape}
 use Rattle.croner_pattern.proofs.DayTable.{occurrence_is}
 use Rattle.croner_pattern.proofs.Shaped.{Alike, Shaped, shaped, asks_day, asks_weekday}
-use Rattle.croner_pattern.proofs.Sides.{Kind, near_is, date_is, first_low, last_high}
+use Rattle.croner_pattern.proofs.Sides.{Kind, near_is, day_is, date_is, first_low, last_high}
 
 -- the question has an answer
 pub record Known (q : Option Bool) : Type 0 where
@@ -63,14 +62,14 @@ nth_supported (suc (suc (suc zero))) h = refl
 nth_supported (suc (suc (suc (suc zero)))) h = refl
 nth_supported (suc (suc (suc (suc (suc n))))) h = absurd (omega arith)
 
-nth_of_day : (first day : ℕ) → first < 7 → 1 ≤ day → day ≤ 31 → has_all 127 (nth_bit (occurrence first day)) ≡ true
+pub nth_of_day : (first day : ℕ) → first < 7 → 1 ≤ day → day ≤ 31 → has_all 127 (bit_of_nth (occurrence first day)) ≡ true
 nth_of_day first day a b c = rw (sym (occurrence_is first day a b c)) (nth_supported ((day - 1) / 7) (omega arith))
 
 known-weekday : (weekdays : Field) (len first day : ℕ) → Alike weekdays.shape (weekday_shape 0) → Kind len first day → Known (weekday_answer weekdays len first day)
 known-weekday weekdays len first day s k =
     let w = weekday_of first day in
     let small : w ≤ 7 = omega arith in
-    let nth = nth_bit (occurrence first day) in
+    let nth = bit_of_nth (occurrence first day) in
     known-next (asked nth weekdays w) _ (known-asked nth weekdays w (asks_weekday weekdays.shape w nth s (nth_of_day first day k.weekday k.low (omega (arith, k.high, k.longest))) small))
     (known-next (last_answer weekdays len first day) _ (known-tested (is_last_weekday len first day) (asked 64 weekdays w) (known-asked 64 weekdays w (asks_weekday weekdays.shape w 64 s refl small)))
     (known-next (asked 1 weekdays w) [] (known-asked 1 weekdays w (asks_weekday weekdays.shape w 1 s refl small)) (record { value = false; is = refl })))
@@ -85,6 +84,12 @@ near_answered m len first day h k =
     let s = shaped m h in
     let a = known-near m.days len first day s.days k in
     a.is ∙ ap Some (near_is m.days len first day a.value k a.is)
+
+pub day_answered : (m : Meaning) (len first day : ℕ) → has_field_shapes m ≡ true → Kind len first day → day_answer m.days len first day ≡ Some (is_day_side m.days len first day)
+day_answered m len first day h k =
+    let s = shaped m h in
+    let a = known-day m.days len first day s.days k in
+    a.is ∙ ap Some (day_is m.days len first day a.value k a.is)
 
 pub date_answered : (m : Meaning) (len first day : ℕ) → has_field_shapes m ≡ true → Kind len first day → date_answer m len first day ≡ Some (is_day_matching m len first day)
 date_answered m len first day h k =

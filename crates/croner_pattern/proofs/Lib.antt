@@ -5,3 +5,5 @@ pub mod Turns
 pub mod Sides
 pub mod Known
 pub mod Firsts
+pub mod Masks
+pub mod Once

@@ -1,10 +1,10 @@
 -- Fields with the shape of their place answer each question about a value of the place.
-use Rattle.std.proofs.Common.{◌≡◌, ℕ, ◌+◌, ◌<◌, ◌≤◌, Bool, true, false, not, ◌&&◌, ◌||◌, nat_eq, nat_le, Option, Some, None, Result, Ok, Err, refl, ap, sym, ◌∙◌, arith, subst, inl, inr}
+use Rattle.std.proofs.Common.{◌≡◌, ℕ, ◌≤◌, true, false, ◌&&◌, ◌||◌, nat_eq, nat_le, Option, Some, None, Result, Ok, Err, refl, ap, sym, ◌∙◌, arith}
 use Rattle.std.proofs.lemmas.Bool.{and_parts, eqb-true}
 use Rattle.std.proofs.lemmas.Bool.Decides.{nat_tests}
 use Rattle.croner_base.specs.declared.errors.CronError.{CronError}
-use Rattle.croner_base.specs.Answers.{Finds, IsFieldError}
-use Rattle.croner_base.specs.Field.{Shape, Field, can_ask, is_marked, is_in_bounds, has_all}
+use Rattle.croner_base.specs.Answers.{Finds}
+use Rattle.croner_base.specs.Field.{Shape, Field, can_ask, has_all}
 use Rattle.croner_pattern.specs.Meaning.{Meaning}
 use Rattle.croner_pattern.specs.Schedule.{is_named}
 use Rattle.croner_pattern.specs.Questions.{asked}

@@ -1,13 +1,13 @@
 -- What the questions answer is what the schedule says, by counting.
-use Rattle.std.proofs.Common.{◌≡◌, ℕ, zero, suc, ◌+◌, ◌*◌, ◌-◌, ◌%◌, ◌<◌, ◌≤◌, ◌⊎◌, Bool, true, false, ◌&&◌, ◌||◌, eqb, nat_lt, nat_le, List, [], ◌∷◌, map, Option, Some, None, if◌then◌else◌, refl, ap, sym, ◌∙◌, arith, inl, inr, subst}
+use Rattle.std.proofs.Common.{◌≡◌, ℕ, zero, suc, ◌+◌, ◌-◌, ◌<◌, ◌≤◌, ◌⊎◌, Bool, true, false, ◌&&◌, ◌||◌, eqb, nat_lt, List, [], ◌∷◌, map, Option, Some, None, if◌then◌else◌, refl, ap, sym, ◌∙◌, arith, inl, inr}
 use Rattle.std.specs.List.{list_any, range_with_len}
-use Rattle.std.proofs.lemmas.Bool.{and_parts, false≢true}
+use Rattle.std.proofs.lemmas.Bool.{false≢true}
 use Rattle.std.proofs.lemmas.Bool.Decides.{nat_tests}
-use Rattle.croner_base.specs.Field.{Field, can_ask, is_marked, values_between}
-use Rattle.croner_pattern.specs.Days.{days_of, weekday_of, occurrence, is_last_weekday, is_last_day, is_last_working, is_nearest, resolved_day}
+use Rattle.croner_base.specs.Field.{Field, can_ask, is_marked}
+use Rattle.croner_pattern.specs.Days.{weekday_of, occurrence, is_last_weekday, is_last_day, is_last_working, is_nearest, resolved_day}
 use Rattle.croner_pattern.specs.Meaning.{Meaning}
 use Rattle.croner_pattern.specs.Questions.{asked, and_test, first_yes, first_target, last_target, near_answer, near_answers, is_named_last, last_answer, day_answer, weekday_answer, both_answers, date_answer}
-use Rattle.croner_pattern.specs.Schedule.{is_named, is_plain, names_last_day, names_last_working_day, nth_bit, is_near_target, is_day_side, is_weekday_side, are_joined, is_day_matching}
+use Rattle.croner_pattern.specs.Schedule.{is_named, is_plain, names_last_day, names_last_working_day, bit_of_nth, is_near_target, is_day_side, is_weekday_side, are_joined, is_day_matching}
 use Rattle.croner_pattern.proofs.DayTable.{nearest_is, resolved_near}
 use Rattle.croner_pattern.proofs.Shaped.{some-same, none-some}
 
@@ -182,7 +182,7 @@ day_is days len first day r k h =
 pub weekday_is : (weekdays : Field) (len first day : ℕ) (r : Bool) → weekday_answer weekdays len first day ≡ Some r → r ≡ is_weekday_side weekdays len first day
 weekday_is weekdays len first day r h =
     let w = weekday_of first day in
-    let nth = nth_bit (occurrence first day) in
+    let nth = bit_of_nth (occurrence first day) in
     three (asked nth weekdays w) (last_answer weekdays len first day) (asked 1 weekdays w) (is_named nth weekdays w) (is_named 64 weekdays w && is_last_weekday len first day) (is_plain weekdays w) r
     (λ v e. named-of nth weekdays w v e) (λ v e. tested-of 64 weekdays w (is_last_weekday len first day) v e) (λ v e. named-of 1 weekdays w v e) h
     ∙ or_swap (is_named nth weekdays w) (is_named 64 weekdays w && is_last_weekday len first day) (is_plain weekdays w)

@@ -1,5 +1,5 @@
 -- The days of a month, by counting. A month has a length, and its first day a weekday (Sunday 0).
-use Rattle.std.specs.Prelude.{ℕ, ◌+◌, ◌-◌, ◌%◌, Bool, not, ◌&&◌, ◌||◌, ◌==◌, nat_lt, nat_le, List, count_by, cond}
+use Rattle.std.specs.Prelude.{ℕ, ◌+◌, ◌-◌, ◌%◌, Bool, not, ◌&&◌, ◌||◌, ◌==◌, nat_lt, nat_le, List, count_by, if◌then◌else◌}
 use Rattle.std.specs.List.{list_all, range_with_len}
 
 abbrev pub days_of : ℕ → List ℕ
@@ -41,5 +41,5 @@ is_nearest len first target day =
 -- a Saturday goes to the Friday before or the Monday after, and a Sunday to the Monday after or the Friday before
 abbrev pub resolved_day : ℕ → ℕ → ℕ → ℕ
 resolved_day len w target =
-    cond (w == 6) (cond (nat_lt 1 target) (target - 1) (target + 2))
-    (cond (w == 0) (cond (nat_lt target len) (target + 1) (target - 2)) target)
+    if w == 6 then (if nat_lt 1 target then (target - 1) else (target + 2))
+    else (if w == 0 then (if nat_lt target len then (target + 1) else (target - 2)) else target)

@@ -1,3 +1,9 @@
+-- the words of lower crates that the public clauses cite
+pub use Rattle.croner_base.specs.Answers
+pub use Rattle.croner_base.specs.Calendar
+pub use Rattle.croner_base.specs.Civil
+pub use Rattle.croner_base.specs.Field
+pub use Rattle.jiff_core.specs.Calendar as Gregorian
 pub mod Meaning
 pub mod Shapes
 pub mod Days

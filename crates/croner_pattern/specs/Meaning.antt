@@ -1,5 +1,5 @@
 -- What a pattern means: its seven fields, its three flags and its text.
-use Rattle.std.specs.Prelude.{ℕ, Bool, false, List, string_bytes}
+use Rattle.std.specs.Prelude.{ℕ, Bool, List, string_bytes}
 use Rattle.croner_base.specs.Field.{Field}
 use Rattle.croner_pattern.specs.declared.pattern.CronPattern.{CronPattern}
 

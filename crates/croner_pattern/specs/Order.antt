@@ -25,7 +25,7 @@ meaning_cmp =
 abbrev pub pattern_cmp : CronPattern → CronPattern → Ordering
 pattern_cmp = on meaning_of meaning_cmp
 
--- it is a total order
+-- it is a total order. The proof stands here since the laws of an impl may cite this crate's specs alone.
 pub meaning_cmp_total : IsTotalOrder meaning_cmp
 meaning_cmp_total =
     then_total (then_total (then_total (then_total (then_total (then_total (then_total (then_total (then_total (on_total (λ (m : Meaning). m.seconds) field_cmp_total)

@@ -1,14 +1,15 @@
 -- What a pattern is asked of its fields, in which order, and where a field of another shape refuses. The values are those
 -- of the schedule: only which questions are asked is said here.
-use Rattle.std.specs.Prelude.{ℕ, ◌+◌, ◌*◌, ◌-◌, ◌%◌, Bool, true, false, ◌&&◌, ◌||◌, ◌≡◌, ◌≤◌, nat_lt, nat_le, List, [], ◌∷◌, map, Option, Some, None, if◌then◌else◌}
+use Rattle.std.specs.Prelude.{ℕ, ◌+◌, ◌*◌, ◌-◌, ◌%◌, Bool, true, false, ◌&&◌, ◌||◌, ◌≡◌, ◌≤◌, nat_lt, nat_le, List, [], ◌∷◌, map, Option, Some, None, is_some, if◌then◌else◌}
+use Rattle.std.specs.List.{list_all}
 use Rattle.croner_base.specs.declared.time.Direction.{Direction}
 use Rattle.croner_base.specs.declared.time.Direction.TheVariants.{Forward, Backward}
 use Rattle.croner_base.specs.declared.time.TimeComponent.{TimeComponent}
 use Rattle.croner_base.specs.declared.time.TimeComponent.TheVariants.{Second, Minute, Hour, Day, Month, Year}
 use Rattle.croner_base.specs.Field.{Field, can_ask, is_marked, values_between}
-use Rattle.croner_pattern.specs.Days.{weekday_of, occurrence, is_last_weekday, is_last_day, is_last_working, is_nearest}
+use Rattle.croner_pattern.specs.Days.{days_of, weekday_of, occurrence, is_last_weekday, is_last_day, is_last_working, is_nearest}
 use Rattle.croner_pattern.specs.Meaning.{Meaning}
-use Rattle.croner_pattern.specs.Schedule.{is_plain, names_last_day, names_last_working_day, nth_bit, are_joined}
+use Rattle.croner_pattern.specs.Schedule.{is_plain, names_last_day, names_last_working_day, bit_of_nth, are_joined}
 
 -- whether the value is marked with one of the bits, where the field can be asked
 abbrev pub asked : ℕ → Field → ℕ → Option Bool
@@ -62,7 +63,7 @@ last_answer weekdays len first day = and_test (is_last_weekday len first day) (a
 -- the weekday side: the nth, then the last, then plain
 abbrev pub weekday_answer : Field → ℕ → ℕ → ℕ → Option Bool
 weekday_answer weekdays len first day =
-    first_yes (asked (nth_bit (occurrence first day)) weekdays (weekday_of first day)
+    first_yes (asked (bit_of_nth (occurrence first day)) weekdays (weekday_of first day)
     ∷ last_answer weekdays len first day
     ∷ asked 1 weekdays (weekday_of first day) ∷ [])
 
@@ -75,6 +76,10 @@ both_answers join (Some day) (Some weekday) = Some (join day weekday)
 abbrev pub date_answer : Meaning → ℕ → ℕ → ℕ → Option Bool
 date_answer m len first day =
     both_answers (are_joined m.star_day m.star_weekday m.and) (day_answer m.days len first day) (weekday_answer m.days_of_week len first day)
+
+-- each day of the month is answered
+abbrev pub are_answered : Meaning → ℕ → ℕ → Bool
+are_answered m len first = list_all (λ day. is_some (date_answer m len first day)) (days_of len)
 
 -- a value lies at or ahead of another in the direction of a search
 abbrev pub IsAhead : Direction → ℕ → ℕ → Type 0

@@ -1,6 +1,7 @@
 -- Which dates and times a pattern names.
-use Rattle.std.specs.Prelude.{◌≡◌, ℕ, ◌^◌, Bool, true, not, ◌&&◌, ◌||◌, ◌==◌, length, ℤ, pos, int_le, unsigned_abs, if◌then◌else◌}
+use Rattle.std.specs.Prelude.{◌≡◌, ℕ, ◌+◌, ◌^◌, nat_lt, Bool, true, not, ◌&&◌, ◌||◌, ◌==◌, length, ℤ, pos, int_le, unsigned_abs, if◌then◌else◌}
 use Rattle.std.specs.List.{list_any}
+use Rattle.std.specs.Int.{bit_at}
 use Rattle.jiff_core.specs.Calendar.{days_in_month}
 use Rattle.croner_base.specs.declared.time.civil.CivilDate.{CivilDate}
 use Rattle.croner_base.specs.declared.time.civil.CivilDateTime.{CivilDateTime}
@@ -38,13 +39,17 @@ is_day_side days len first day =
     || ((names_last_working_day days && is_last_working len first day) || is_near_target days len first day))
 
 -- the bit of the nth weekday of a month: NTH_1ST_BIT is 2, NTH_5TH_BIT is 32
-abbrev pub nth_bit : ℕ → ℕ
-nth_bit n = 2 ^ n
+abbrev pub bit_of_nth : ℕ → ℕ
+bit_of_nth n = 2 ^ n
+
+-- LAST_BIT, or nothing
+abbrev pub last_bit : Bool → ℕ
+last_bit last = if last then 64 else 0
 
 -- the weekday fits: plain, as the nth of the month, or as its last
 abbrev pub is_weekday_side : Field → ℕ → ℕ → ℕ → Bool
 is_weekday_side weekdays len first day =
-    is_plain weekdays (weekday_of first day) || (is_named (nth_bit (occurrence first day)) weekdays (weekday_of first day)
+    is_plain weekdays (weekday_of first day) || (is_named (bit_of_nth (occurrence first day)) weekdays (weekday_of first day)
     || (is_named 64 weekdays (weekday_of first day) && is_last_weekday len first day))
 
 -- with one star field the other side decides. With none it takes both sides where the AND flag is set, and else either.
@@ -58,6 +63,12 @@ are_joined star_day star_weekday and day weekday =
 abbrev pub is_day_matching : Meaning → ℕ → ℕ → ℕ → Bool
 is_day_matching m len first day =
     are_joined m.star_day m.star_weekday m.and (is_day_side m.days len first day) (is_weekday_side m.days_of_week len first day)
+
+-- the days of a month that fit, one bit a day, from the lowest bit for the 1st: a bit is 1 where the month has the day and
+-- the day fits, and 0 elsewhere
+abbrev pub IsDayMask : Meaning → ℕ → ℕ → ℕ → Type 0
+IsDayMask m len first mask =
+    (place : ℕ) → bit_at mask place ≡ (if nat_lt place len && is_day_matching m len first (place + 1) then 1 else 0)
 
 -- the years that a pattern can name
 abbrev pub is_year_matching : Meaning → ℤ → Bool

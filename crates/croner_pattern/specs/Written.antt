@@ -1,4 +1,5 @@
--- What a pattern's hash is made of. Patterns that compare as equal write the same.
+-- What a pattern's hash is made of. Patterns that compare as equal write the same; the proof stands here since the laws of
+-- an impl may cite this crate's specs alone.
 use Rattle.std.specs.Prelude.{◌≡◌, ℕ, Bool, true, false, List, ◌++◌, refl}
 use Rattle.std.specs.declared.cmp.Ordering.{Ordering}
 use Rattle.std.specs.declared.cmp.Ordering.TheVariants.{Less, Equal, Greater}

@@ -11,6 +11,7 @@ ghost use Rattle.croner_pattern.specs.Shapes.{has_field_shapes, is_like, new_mea
 mod compare;
 mod days;
 mod flags;
+mod mask;
 mod matching;
 mod members;
 
@@ -245,3 +246,6 @@ impl fmt::Display for CronPattern {
         write!(f, "{text}")
     }
 }
+
+#[cfg(test)]
+mod tests;

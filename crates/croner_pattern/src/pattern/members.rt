@@ -1,6 +1,7 @@
 //! The plain values of a field: whether a value is one, and the nearest one in a direction.
 
 ghost use Rattle.std.specs.Prelude.{◌≡◌};
+ghost use Rattle.croner_base.specs.Field.{can_ask};
 ghost use Rattle.croner_base.specs.declared.time.Direction.TheVariants.{Forward, Backward};
 ghost use Rattle.croner_pattern.specs.Questions.{IsNearestMember};
 ghost use Rattle.croner_pattern.specs.Schedule.{is_plain};
@@ -8,14 +9,22 @@ ghost use Rattle.croner_pattern.specs.Schedule.{is_plain};
 use croner_base::component::{ALL_BIT, CronComponent};
 use croner_base::time::Direction;
 
-/// Whether a value is within the field's bounds and plain. A value that the field doesn't hold is none of its values.
+/// Whether a value is within the field's bounds and plain. A value that the field doesn't hold is none of its values. Takes
+/// no memory: a question that would be refused, with a message, isn't asked.
 pub fn has_plain(field: &CronComponent, value: u16) -> bool
     ensures { result ≡ is_plain field.now value }
 {
-    match field.is_bit_set(value, ALL_BIT) {
-        Ok(yes) => yes,
-        Err(_) => false,
-    }
+    holds(field, value) && matches!(field.is_bit_set(value, ALL_BIT), Ok(true))
+}
+
+/// Whether the field can be asked for a plain value.
+fn holds(field: &CronComponent, value: u16) -> bool
+    ensures { result ≡ can_ask field.now.shape value ALL_BIT }
+{
+    value >= field.min()
+        && value <= field.max()
+        && field.max() != 0
+        && field.is_feature_allowed(ALL_BIT)
 }
 
 /// The least plain value of a field from a value on (forward), or the greatest up to it (backward).

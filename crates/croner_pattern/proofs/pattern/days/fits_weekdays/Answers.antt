@@ -1,17 +1,17 @@
-use Rattle.std.proofs.Common.{◌≡◌, ℕ, Bool, true, false, List, [], ◌∷◌, Option, Some, None, refl, ap, sym, ◌∙◌}
+use Rattle.std.proofs.Common.{◌≡◌, ℕ, Bool, List, [], ◌∷◌, Option, Some, ap, sym, ◌∙◌}
 use Rattle.std.proofs.lemmas.Result.{err_from_is_err_and}
 use Rattle.croner_base.specs.Field.{Field}
 use Rattle.croner_pattern.specs.Days.{weekday_of, occurrence}
 use Rattle.croner_pattern.specs.Questions.{asked, first_yes, last_answer, weekday_answer}
-use Rattle.croner_pattern.specs.Schedule.{nth_bit}
-use Rattle.croner_pattern.proofs.Turns.{first_yes-none, first_yes-yes, first_yes-no, first_yes-one, Finds-err, Finds-same}
+use Rattle.croner_pattern.specs.Schedule.{bit_of_nth}
+use Rattle.croner_pattern.proofs.Turns.{first_yes-none, first_yes-yes, first_yes-no, first_yes-one, Finds-same}
 use Rattle.croner_pattern.proofs.pattern.days.fits_weekdays.Goals as goal
 
 -- the three questions, with the first one as it was asked
 abbrev rest : Field → ℕ → ℕ → ℕ → List (Option Bool)
 rest weekdays len first day = last_answer weekdays len first day ∷ asked 1 weekdays (weekday_of first day) ∷ []
 
-first_asked : (weekdays : Field) (len first day bit w : ℕ) → bit ≡ nth_bit (occurrence first day) → w ≡ weekday_of first day → weekday_answer weekdays len first day ≡ first_yes (asked bit weekdays w ∷ rest weekdays len first day)
+first_asked : (weekdays : Field) (len first day bit w : ℕ) → bit ≡ bit_of_nth (occurrence first day) → w ≡ weekday_of first day → weekday_answer weekdays len first day ≡ first_yes (asked bit weekdays w ∷ rest weekdays len first day)
 first_asked weekdays len first day bit w b e =
     ap (λ x. first_yes (asked x weekdays (weekday_of first day) ∷ rest weekdays len first day)) (sym b)
     ∙ ap (λ x. first_yes (asked bit weekdays x ∷ rest weekdays len first day)) (sym e)

@@ -1,5 +1,5 @@
-use Rattle.std.proofs.Common.{◌≡◌, ℕ, Bool, true, false, not, ◌&&◌, ◌||◌, eqb, refl, sym, ◌∙◌}
-use Rattle.croner_base.specs.Field.{Field, has_all}
+use Rattle.std.proofs.Common.{◌≡◌, Bool, true, false, not, ◌&&◌, ◌||◌, refl, sym, ◌∙◌}
+use Rattle.croner_base.specs.Field.{has_all}
 use Rattle.croner_pattern.specs.Days.{is_last_day, is_last_working}
 use Rattle.croner_pattern.proofs.DayTable.{last_day_is}
 use Rattle.croner_pattern.proofs.pattern.days.is_named_last.Goals as goal

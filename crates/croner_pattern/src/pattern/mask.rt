@@ -1,0 +1,37 @@
+//! Which days of a month fit the two day fields of a pattern, one bit a day.
+
+ghost use Rattle.std.specs.Prelude.{◌≡◌, true, IsOk, IfOk};
+ghost use Rattle.std.specs.Int.{IsInRange};
+ghost use Rattle.croner_base.specs.Answers.{SucceedsIff};
+ghost use Rattle.croner_base.specs.Civil.{weekday_index};
+ghost use Rattle.croner_pattern.specs.Meaning.{meaning_of};
+ghost use Rattle.croner_pattern.specs.Questions.{are_answered};
+ghost use Rattle.croner_pattern.specs.Schedule.{IsDayMask};
+ghost use Rattle.croner_pattern.specs.Shapes.{has_field_shapes};
+
+use super::CronPattern;
+use croner_base::errors::CronError;
+use croner_base::time::Weekday;
+
+impl CronPattern {
+    /// The days that fit in a month of `month_length` days whose 1st has the weekday `first`: bit `day - 1` is set exactly
+    /// where the day fits, and no bit above that of the last day is.
+    ///
+    /// A field of another shape refuses what it can't be asked about one of these days, as in
+    /// [`day_match`](Self::day_match): `ComponentError`, or `OutOfMemory` where the message finds no memory.
+    pub fn day_mask(&self, month_length: u32, first: Weekday) -> Result<u32, CronError>
+        requires { IsInRange 28 31 month_length }
+        ensures asked { SucceedsIff (are_answered (meaning_of self.now) month_length (weekday_index first)) result }
+        ensures value { IfOk result (IsDayMask (meaning_of self.now) month_length (weekday_index first)) }
+        ensures shaped { has_field_shapes (meaning_of self.now) ≡ true → IsOk result }
+    {
+        let first_index = first.num_days_from_sunday();
+        let mut mask = 0;
+        for place in 0..month_length {
+            if self.fits(month_length, first_index, place + 1)? {
+                mask |= 1 << place;
+            }
+        }
+        Ok(mask)
+    }
+}
