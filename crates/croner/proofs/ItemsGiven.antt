@@ -1,20 +1,23 @@
 -- What an iterator gave between two standings, call by call.
-use Rattle.std.proofs.Common.{◌≡◌, ℕ, ℤ, ◌⊎◌, inl, inr, refl, sym, subst, Bool, true, false, List, [], ◌∷◌, ◌++◌, None, ap, ◌∙◌, IsTrue}
+use Rattle.std.proofs.Common.{◌≡◌, ℕ, ℤ, ◌⊎◌, inl, inr, refl, sym, subst, Bool, true, false, List, [], ◌∷◌, ◌++◌, None, ap, ◌∙◌, IsTrue, length, ◌+◌, Option, Some, IfSome}
 use Rattle.croner_base.specs.Zone.{Zone, Moment, at_instant}
-use Rattle.croner_base.specs.Calm.{HoldsAround}
+use Rattle.croner_base.specs.declared.errors.CronError.{CronError}
+use Rattle.croner_base.specs.declared.errors.CronError.TheVariants.{OutOfMemory}
 use Rattle.croner_base.specs.declared.time.Direction.{Direction}
+use Rattle.std.specs.List.{All}
 use Rattle.croner_pattern.specs.Meaning.{Meaning}
 use Rattle.croner.specs.Runs.{Job, Counts, Precedes, Reaches, Nearest}
 use Rattle.croner.specs.Premises.{IsSearchable}
 use Rattle.croner.specs.PatternJob.{pattern_job}
 use Rattle.croner.specs.Limit.{InSpan, NoneInSpan}
 use Rattle.croner.specs.Listing.{Standing, standing_of, instants, Takes, IsLeft, BeginsRest, Gave, GaveAll, moved, counts_position, job_at, GivesItem, GivesNone}
+use Rattle.croner.specs.Neighbours.{IsWholeIn}
 use Rattle.croner.specs.declared.iterator.CronIterator.{CronIterator}
 use Rattle.std.proofs.lemmas.Bool.{false≢true}
-use Rattle.std.proofs.lemmas.List.{map_push}
-use Rattle.croner.proofs.HeldRuns.{holds_from}
+use Rattle.std.proofs.lemmas.List.{map_push, length_push}
+use Rattle.std.proofs.lemmas.List.Elements.{All-push}
 use Rattle.croner.proofs.Listings.{Splits, splits_none, splits_next, IsNext, is_next, is_run, begins}
-use Rattle.croner.proofs.SearchedYears.{searched_run}
+use Rattle.croner.proofs.ThereAndBack.{searchable_run}
 
 -- the invariant of repeated calls
 pub record Goes (old cur : Standing) (items : List ℤ) : Type 0 where
@@ -46,13 +49,8 @@ goes_on lack old cur new items g n =
 searchable_item : (cur : Standing) (item : Moment) → IsSearchable cur.position → item.zone ≡ cur.position.zone → item.fraction ≡ 0
     → Counts cur.direction (counts_position cur) (job_at cur) cur.position.instant item.instant → IsSearchable item
 searchable_item cur item p same_zone whole counts =
-    let searched = searched_run cur.pattern cur.position.zone item.instant
-    (is_run cur.direction (counts_position cur) (job_at cur) cur.position.instant item.instant counts) in
-    let held = holds_from cur.position p.calm p.held item.instant searched in
-    let in_zone : Zone → Moment = λ z. at_instant z item.instant in
-    let with_fraction : ℕ → Moment = λ f. record { zone = item.zone; instant = item.instant; fraction = f } in
-    let same : at_instant cur.position.zone item.instant ≡ item = ap in_zone (sym same_zone) ∙ ap with_fraction (sym whole) in
-    subst IsSearchable same (record { calm = p.calm; whole = refl; held = held })
+    searchable_run cur.pattern cur.position item p same_zone whole
+    (is_run cur.direction (counts_position cur) (job_at cur) cur.position.instant item.instant counts)
 
 next_of : (cur new : Standing) (item : Moment) → IsSearchable cur.position → GivesItem cur item new → IsNext cur.direction (IsLeft cur) (IsLeft (moved cur item)) item.instant
 next_of cur new item p g =
@@ -103,6 +101,28 @@ gave_all old cur items g over p = λ i left span.
       | inr rest ↦ absurd (over p i rest span)
     ]
 
+-- as many items as calls, or all of them
+pub counted_all : (old cur : Standing) (items : List ℤ) (n calls : ℕ) → Goes old cur items → (n ≡ calls) ⊎ IsOver old cur → IsSearchable old.position → (n ≡ calls) ⊎ GaveAll old items
+counted_all old cur items n calls g counted p =
+    elim counted [
+      | inl each ↦ inl each
+      | inr over ↦ inr (gave_all old cur items g over p)
+    ]
+
+-- what is over stays over
+still_over : (old cur new : Standing) (items : List ℤ) (item : Moment) → Goes old cur items → GivesItem cur item new → IsOver old cur → IsOver old new
+still_over old cur new items item g n over =
+    let P : Standing → Type 0 = λ s. IsOver old s in
+    subst P (sym n.stands) (λ p i left span. over p i ((next_of cur new item (g.searchable p) n).within i left) span)
+
+no_fault : (lack : Bool) (fault : Option CronError) → lack ≡ false → IfSome fault (λ e. (e ≡ OutOfMemory) × IsTrue lack) → fault ≡ None
+no_fault lack None memory h = refl
+no_fault lack (Some e) memory h = let t : IsTrue false = subst IsTrue memory h.1 in absurd (false≢true t)
+
+-- without want of memory a call without an item has no fault
+without_fault : (lack : Bool) (cur new : Standing) → GivesNone lack cur new → lack ≡ false → IsSearchable cur.position → new.fault ≡ None
+without_fault lack cur new n memory p = no_fault lack new.fault memory (n.lacks p)
+
 -- one call more
 module _ {T : Type 0} (moment : T → Moment) (lack : Bool) (old : Standing) (cur new : CronIterator T) (before after : List T) where
   pub goes_by_call : (b : Bool) → Goes old (standing_of moment cur) (instants moment before) → Takes moment lack cur new before after b → Goes old (standing_of moment new) (instants moment after)
@@ -122,3 +142,31 @@ module _ {T : Type 0} (moment : T → Moment) (lack : Bool) (old : Standing) (cu
   pub over_by_call : (b : Bool) → Goes old (standing_of moment cur) (instants moment before) → Takes moment lack cur new before after b → IsTrue b → IsOver old (standing_of moment new)
   over_by_call true g (none, without, e) h = is_over lack old (standing_of moment cur) (standing_of moment new) (instants moment before) g none without
   over_by_call false g takes h = absurd (false≢true h)
+
+  -- each item is a whole second of the zone
+  pub wholes_by_call : (b : Bool) → Goes old (standing_of moment cur) (instants moment before) → Takes moment lack cur new before after b
+      → All (λ t. IsWholeIn old.position.zone (moment t)) before → All (λ t. IsWholeIn old.position.zone (moment t)) after
+  wholes_by_call true g (none, without, e) wholes = subst (All (λ t. IsWholeIn old.position.zone (moment t))) (sym e) wholes
+  wholes_by_call false g takes wholes =
+      let P : List T → Type 0 = All (λ t. IsWholeIn old.position.zone (moment t)) in
+      elim takes [
+        | inl (none, e) ↦ subst P (sym e) wholes
+        | inr (t, item, e) ↦
+            subst P (sym e) (All-push (λ x. IsWholeIn old.position.zone (moment x)) before t wholes (record { zone = item.same_zone ∙ g.zone; whole = item.whole }))
+      ]
+
+  -- over a backend that cannot lack memory there is an item for each call, or nothing is left in the span
+  pub counted_by_call : (b : Bool) (calls : ℕ) → Goes old (standing_of moment cur) (instants moment before) → Takes moment lack cur new before after b
+      → lack ≡ false → (IsSearchable old.position → (length before ≡ calls) ⊎ IsOver old (standing_of moment cur))
+      → IsSearchable old.position → (length after ≡ calls + 1) ⊎ IsOver old (standing_of moment new)
+  counted_by_call true calls g (none, without, e) memory counted p = inr (is_over lack old (standing_of moment cur) (standing_of moment new) (instants moment before) g none without)
+  counted_by_call false calls g takes memory counted p =
+      elim takes [
+        | inl (none, e) ↦
+            inr (is_over lack old (standing_of moment cur) (standing_of moment new) (instants moment before) g none (without_fault lack (standing_of moment cur) (standing_of moment new) none memory (g.searchable p)))
+        | inr (t, item, e) ↦
+            elim (counted p) [
+              | inl each ↦ inl (ap length e ∙ length_push before t ∙ ap (λ (n : ℕ). n + 1) each)
+              | inr over ↦ inr (still_over old (standing_of moment cur) (standing_of moment new) (instants moment before) (moment t) g item over)
+            ]
+      ]

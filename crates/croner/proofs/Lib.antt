@@ -12,6 +12,7 @@ pub mod GapSides
 pub mod HalfEdges
 pub mod HeldRuns
 pub mod ItemsGiven
+pub mod InOrder
 pub mod Iterating
 pub mod Listings
 pub mod Matching
@@ -20,11 +21,13 @@ pub mod Names
 pub mod NoTexts
 pub mod RunsOfSeconds
 pub mod Scheduled
+pub mod SearchLaws
 pub mod SearchLimit
 pub mod SearchedYears
 pub mod ShapedTexts
 pub mod Singles
 pub mod Starred
+pub mod ThereAndBack
 pub mod Times
 pub mod TwoHalves
 pub mod Values

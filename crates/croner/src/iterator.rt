@@ -1,18 +1,20 @@
 //! Iterators over the runs of a pattern.
-ghost use Rattle.std.specs.Prelude.{◌≡◌, true, None};
+ghost use Rattle.std.specs.Prelude.{◌≡◌, true, None, IsTrue};
 ghost use Rattle.croner_base.specs.declared.time.Direction.{Direction};
 ghost use Rattle.croner_pattern.specs.Meaning.{meaning_of};
 ghost use Rattle.croner_pattern.specs.Shapes.{has_field_shapes};
+ghost use Rattle.croner.specs.Faults.{is_kept};
 
 use crate::Cron;
 use croner_base::errors::CronError;
 use croner_base::time::{CronDateTime, Direction};
+use std::alloc::AllocError;
 
 /// The runs of a pattern from a start, in one direction, each once.
 ///
 /// Each item is the position from which the next search starts. A call of `next` that gives no item leaves the iterator
 /// where it stands, so a later call can go on; `fault` says why it gave none where the end of the searched years is not the reason.
-#[derive(Drop)]
+#[derive(Debug, Drop)]
 pub struct CronIterator<T> {
     cron: Cron,
     position: T,
@@ -21,10 +23,11 @@ pub struct CronIterator<T> {
     direction: Direction,
     fault: Option<CronError>,
     ghost shaped: { has_field_shapes (meaning_of cron.pattern) ≡ true },
+    ghost kept: { IsTrue (is_kept fault) },
 }
 
 impl<T: CronDateTime> CronIterator<T> {
-    ghost use Rattle.std.specs.Prelude.{IfSome, IfNone, IsTrue, Some, option_map};
+    ghost use Rattle.std.specs.Prelude.{IfSome, IfNone, Some, option_map};
     ghost use Rattle.croner.specs.Listing.{standing_of, new_standing, counts_position, moved};
 
     /// An iterator from a start: it counts the start where it is inclusive and the start is a run.
@@ -77,6 +80,37 @@ impl<T: CronDateTime> CronIterator<T> {
                 None
             }
         }
+    }
+}
+
+// A copy of a fault, which has no message: it takes no memory.
+fn copied(fault: &Option<CronError>) -> Option<CronError>
+    requires { IsTrue (is_kept fault.now) }
+    ensures { result ≡ fault.now }
+{
+    match fault {
+        Some(CronError::InvalidDate) => Some(CronError::InvalidDate),
+        Some(CronError::InvalidTime) => Some(CronError::InvalidTime),
+        Some(CronError::OutOfMemory) => Some(CronError::OutOfMemory),
+        _ => None,
+    }
+}
+
+/// A copy stands where the original stands, and gives the same runs from there. The only error is want of memory.
+impl<T: CronDateTime> Clone for CronIterator<T> {
+    ghost use Rattle.croner.specs.Listing.{standing_of};
+
+    ghost is_clone = { λ original copy. standing_of T.moment copy ≡ standing_of T.moment original };
+
+    fn clone(&self) -> Result<CronIterator<T>, AllocError> {
+        Ok(CronIterator {
+            cron: self.cron.clone()?,
+            position: self.position.clone()?,
+            is_first: self.is_first,
+            inclusive: self.inclusive,
+            direction: self.direction,
+            fault: copied(&self.fault),
+        })
     }
 }
 

@@ -1,19 +1,29 @@
-//! Laws of iterators.
-ghost use Rattle.std.specs.Prelude.{◌≡◌, IfOk, IfErr, IsTrue};
+//! Laws of iterators, and of searches one after the other.
+ghost use Rattle.std.specs.Prelude.{◌≡◌, ◌⊎◌, true, false, IfOk, IfErr, IsTrue, length};
+ghost use Rattle.std.specs.List.{All, AllPairs};
+ghost use Rattle.croner_pattern.specs.Shapes.{has_field_shapes};
 ghost use Rattle.croner.specs.Listing.{standing_of, instants, BeginsRest, Gave, GaveAll, Takes};
+ghost use Rattle.croner.specs.Neighbours.{AreCompared, IsWholeIn, onward};
+ghost use Rattle.croner.specs.Runs.{Precedes};
 ghost use Rattle.croner.specs.Premises.{IsSearchable};
+ghost use Rattle.croner.specs.Refusal.{IsRefusal};
+ghost use Rattle.croner.specs.Searches.{IsFound, IsRefused, IsReturnable};
+ghost use Rattle.croner.specs.Views.{job_of};
 
+use crate::Cron;
 use crate::iterator::CronIterator;
 use croner_base::errors::CronError;
-use croner_base::time::CronDateTime;
-use std::alloc::Global;
+use croner_base::time::{CronDateTime, Direction};
+use std::alloc::{AllocError, Global};
+use std::cmp::Ordering;
 
 /// The items of up to so many calls of `next`, whatever calls without an item come between, and whether the last call said that
 /// nothing is left.
 ///
 /// In a calm zone the items begin the listing of what the iterator had yet to give, strictly in its direction, and the iterator
-/// goes on with the rest; where nothing is said to be left, they are all of it up to the end of the searched years. The only
-/// error is `OutOfMemory`, for the list of the items.
+/// goes on with the rest; where nothing is said to be left, they are all of it up to the end of the searched years. Over a
+/// backend that cannot lack memory there is an item for each call, or they are all of it too. In every zone an item is a whole
+/// second of the start's zone. The only error is `OutOfMemory`, for the list of the items.
 pub fn next_runs<T: CronDateTime>(
     alloc: Global,
     iterator: &mut CronIterator<T>,
@@ -25,14 +35,78 @@ pub fn next_runs<T: CronDateTime>(
         IfOk result (λ r. Gave (standing_of T.moment iterator.old) (standing_of T.moment iterator.new) (instants T.moment r.0.items)) }
     ensures all { IsSearchable (standing_of T.moment iterator.old).position →
         IfOk result (λ r. IsTrue r.1 → GaveAll (standing_of T.moment iterator.old) (instants T.moment r.0.items)) }
+    ensures counted { IsSearchable (standing_of T.moment iterator.old).position → T.can_lack_memory ≡ false →
+        IfOk result (λ r. (length r.0.items ≡ calls) ⊎ GaveAll (standing_of T.moment iterator.old) (instants T.moment r.0.items)) }
+    ensures whole { IfOk result (λ r. All (λ t. IsWholeIn (standing_of T.moment iterator.old).position.zone (T.moment t)) r.0.items) }
     ensures err { IfErr result (λ e. e ≡ CronError.OutOfMemory) }
 {
     let mut runs = Vec::new(alloc);
     let mut is_over = false;
-    for _ in 0..calls {
+    for _call in 0..calls {
         is_over = take_next(iterator, &mut runs)?;
     }
     Ok((runs, is_over))
+}
+
+/// The items of up to so many calls of `next`, and how each compares with the one before it, by `cmp_instant`.
+///
+/// In a calm zone the items of a forward iterator are strictly later one by one, and those of a backward one strictly earlier: as
+/// instants, and in the order of the values themselves. The only error is `OutOfMemory`, for the lists.
+pub fn items_in_order<T: CronDateTime>(
+    alloc: Global,
+    iterator: &mut CronIterator<T>,
+    calls: u32,
+) -> Result<(Vec<T>, Vec<Ordering>), CronError>
+    ensures given { IsSearchable (standing_of T.moment iterator.old).position →
+        IfOk result (λ r. Gave (standing_of T.moment iterator.old) (standing_of T.moment iterator.new) (instants T.moment r.0.items)) }
+    ensures ordered { IsSearchable (standing_of T.moment iterator.old).position → IfOk result (λ r.
+        AllPairs (Precedes (standing_of T.moment iterator.old).direction) (instants T.moment r.0.items)) }
+    ensures compared { IfOk result (λ r. AreCompared T.moment r.0.items r.1.items) }
+    ensures strict { IsSearchable (standing_of T.moment iterator.old).position → IfOk result (λ r.
+        All (λ o. o ≡ onward (standing_of T.moment iterator.old).direction) r.1.items) }
+    ensures err { IfErr result (λ e. e ≡ CronError.OutOfMemory) }
+{
+    match next_runs(alloc, iterator, calls) {
+        Ok((items, _)) => match compared(alloc, items.as_slice()) {
+            Ok(orders) => Ok((items, orders)),
+            Err(_) => Err(CronError::OutOfMemory),
+        },
+        Err(refused) => Err(refused),
+    }
+}
+
+// How each item compares with the one before it.
+fn compared<T: CronDateTime>(alloc: Global, items: &[T]) -> Result<Vec<Ordering>, AllocError>
+    ensures { IfOk result (λ orders. AreCompared T.moment items.now orders.items) }
+{
+    let mut orders = Vec::new(alloc);
+    for k in 1..items.len() {
+        orders.push(items[k].cmp_instant(&items[k - 1]))?;
+    }
+    Ok(orders)
+}
+
+/// A run, found again: the next run after it, and the previous run before that one.
+///
+/// In a calm zone, from a run of year 3 or later, the second is the first: the same instant of the same zone. The only errors are
+/// the limit, where no run is left before year 5000 after the one that was handed in, and `OutOfMemory`, only over a backend
+/// that can lack memory.
+pub fn there_and_back<T: CronDateTime>(job: &Cron, run: &T) -> Result<(T, T), CronError>
+    requires { has_field_shapes (job_of job.now) ≡ true }
+    ensures there { IfOk result (λ r. IsFound Direction.Forward false (job_of job.now) (T.moment run.now) (T.moment r.0)) }
+    ensures back { IfOk result (λ r. IsFound Direction.Backward false (job_of job.now) (T.moment r.0) (T.moment r.1)) }
+    ensures same { IsReturnable (job_of job.now) (T.moment run.now) → IfOk result (λ r. T.moment r.1 ≡ T.moment run.now) }
+    ensures refused { IsReturnable (job_of job.now) (T.moment run.now) →
+        IfErr result (IsRefused T.can_lack_memory Direction.Forward false (job_of job.now) (T.moment run.now)) }
+    ensures kinds { IfErr result (IsRefusal T.can_lack_memory) }
+{
+    match job.find_next_occurrence(run, false) {
+        Ok(next) => match job.find_previous_occurrence(&next, false) {
+            Ok(back) => Ok((next, back)),
+            Err(refused) => Err(refused),
+        },
+        Err(refused) => Err(refused),
+    }
 }
 
 // Puts the item of one call behind the others, or answers whether nothing is left.

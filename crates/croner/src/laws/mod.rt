@@ -3,3 +3,4 @@
 
 pub mod grammar;
 pub mod listing;
+pub mod searches;

@@ -1,30 +1,50 @@
+use Rattle.std.proofs.Common.{◌≡◌, ◌⊎◌, ℕ, length, subst, arith}
 use Rattle.croner.specs.Listing.{standing_of, instants}
-use Rattle.croner.proofs.ItemsGiven.{goes_by_call, over_by_call, begins_rest, gave, gave_all}
+use Rattle.croner.proofs.ItemsGiven.{IsOver, goes_by_call, over_by_call, wholes_by_call, counted_by_call, begins_rest, gave, gave_all, counted_all}
 use Rattle.croner.proofs.laws.listing.next_runs.Goals as goal
 
-pub loop-preserved : goal.loop-preserved
-loop-preserved g c =
+pub loop-call-preserved : goal.loop-call-preserved
+loop-call-preserved g c =
     let moment = g.T.CronDateTime.moment in
+    let lack = g.T.CronDateTime.can_lack_memory in
     let old = standing_of moment c.args.iterator.now in
+    let cur = c.loop-call.iterator' in
+    let new = c.take_next.new.iterator in
+    let before = c.loop-call.runs.items in
+    let after = c.take_next.new.runs.items in
+    let takes = c.in_ok-is_over.ensures.takes in
+    let held = c.loop-call.invariant in
     record {
-      goes = goes_by_call moment g.T.CronDateTime.can_lack_memory old c.loop.iterator' c.take_next.new.iterator c.loop.runs.items c.take_next.new.runs.items
-          c.in_ok-is_over.is_over c.loop.invariant.goes c.in_ok-is_over.ensures.takes;
-      over = over_by_call moment g.T.CronDateTime.can_lack_memory old c.loop.iterator' c.take_next.new.iterator c.loop.runs.items c.take_next.new.runs.items
-          c.in_ok-is_over.is_over c.loop.invariant.goes c.in_ok-is_over.ensures.takes;
+      goes = goes_by_call moment lack old cur new before after c.in_ok-is_over.is_over held.goes takes;
+      over = over_by_call moment lack old cur new before after c.in_ok-is_over.is_over held.goes takes;
+      wholes = wholes_by_call moment lack old cur new before after c.in_ok-is_over.is_over held.goes takes held.wholes;
+      counted = λ memory p. counted_by_call moment lack old cur new before after c.in_ok-is_over.is_over c.loop-call._call held.goes takes memory (held.counted memory) p;
     }
 
 pub returns-clause-listing : goal.returns-clause-listing
 returns-clause-listing g c p =
     let moment = g.T.CronDateTime.moment in
-    begins_rest (standing_of moment c.args.iterator.now) (standing_of moment c.loop.iterator') (instants moment c.loop.runs.items) c.loop.invariant.goes p
+    begins_rest (standing_of moment c.args.iterator.now) (standing_of moment c.loop-call.iterator') (instants moment c.loop-call.runs.items) c.loop-call.invariant.goes p
 
 pub returns-clause-rest : goal.returns-clause-rest
 returns-clause-rest g c p =
     let moment = g.T.CronDateTime.moment in
-    gave (standing_of moment c.args.iterator.now) (standing_of moment c.loop.iterator') (instants moment c.loop.runs.items) c.loop.invariant.goes p
+    gave (standing_of moment c.args.iterator.now) (standing_of moment c.loop-call.iterator') (instants moment c.loop-call.runs.items) c.loop-call.invariant.goes p
 
 pub returns-clause-all : goal.returns-clause-all
 returns-clause-all g c p over =
     let moment = g.T.CronDateTime.moment in
-    gave_all (standing_of moment c.args.iterator.now) (standing_of moment c.loop.iterator') (instants moment c.loop.runs.items) c.loop.invariant.goes
-    (c.loop.invariant.over over) p
+    gave_all (standing_of moment c.args.iterator.now) (standing_of moment c.loop-call.iterator') (instants moment c.loop-call.runs.items) c.loop-call.invariant.goes
+    (c.loop-call.invariant.over over) p
+
+pub returns-clause-counted : goal.returns-clause-counted
+returns-clause-counted g c p memory =
+    let moment = g.T.CronDateTime.moment in
+    let cur = standing_of moment c.loop-call.iterator' in
+    let old = standing_of moment c.args.iterator.now in
+    let each : c.loop-call._call ≡ c.args.calls = omega arith in
+    let counted = subst (λ (n : ℕ). (length c.loop-call.runs.items ≡ n) ⊎ IsOver old cur) each (c.loop-call.invariant.counted memory p) in
+    counted_all old cur (instants moment c.loop-call.runs.items) (length c.loop-call.runs.items) c.args.calls c.loop-call.invariant.goes counted p
+
+pub returns-clause-whole : goal.returns-clause-whole
+returns-clause-whole g c = c.loop-call.invariant.wholes

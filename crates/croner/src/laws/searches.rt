@@ -1,0 +1,89 @@
+//! Laws of searches in every zone: calm or not, and from each start, fractions of a second included.
+ghost use Rattle.std.specs.Prelude.{◌≡◌, ◌↔◌, true, false, IsTrue, IfOk, IfErr};
+ghost use Rattle.croner_base.specs.Civil.{wall_second};
+ghost use Rattle.croner_base.specs.Zone.{reading};
+ghost use Rattle.croner_pattern.specs.Schedule.{IsScheduled, is_fixed_time};
+ghost use Rattle.croner_pattern.specs.Shapes.{has_field_shapes};
+ghost use Rattle.croner.specs.Premises.{HasOneInstantEach};
+ghost use Rattle.croner.specs.Refusal.{IsRefusal};
+ghost use Rattle.croner.specs.Searches.{IsFound, IsRefused};
+ghost use Rattle.croner.specs.Views.{job_of};
+
+use crate::Cron;
+use croner_base::errors::CronError;
+use croner_base::time::{CivilDateTime, CronDateTime, Direction};
+
+/// What a search finds, and what `is_time_matching` answers of it.
+///
+/// The second value is the schedule of what the zone's clock shows at the first. It is true for an interval job, and for each
+/// job where the zone resolves each second that it holds to one instant. A fixed-time job's run that is carried over a gap is
+/// found where nothing is scheduled: there it is false.
+pub fn found_and_matching<T: CronDateTime>(
+    job: &Cron,
+    start: &T,
+    inclusive: bool,
+    direction: Direction,
+) -> Result<(T, bool), CronError>
+    requires { has_field_shapes (job_of job.now) ≡ true }
+    ensures found { IfOk result (λ r. IsFound direction inclusive (job_of job.now) (T.moment start.now) (T.moment r.0)) }
+    ensures matching { IfOk result (λ r. IsTrue r.1 ↔ IsScheduled (job_of job.now) (reading (T.moment r.0))) }
+    ensures interval { is_fixed_time (job_of job.now) ≡ false → IfOk result (λ r. IsTrue r.1) }
+    ensures single { HasOneInstantEach (T.moment start.now).zone → IfOk result (λ r. IsTrue r.1) }
+    ensures refused { IfErr result (IsRefused T.can_lack_memory direction inclusive (job_of job.now) (T.moment start.now)) }
+{
+    match job.find_occurrence(start, inclusive, direction) {
+        Ok(found) => match job.is_time_matching(&found) {
+            Ok(matching) => Ok((found, matching)),
+            Err(refused) => Err(refused),
+        },
+        Err(refused) => Err(refused),
+    }
+}
+
+/// What a search finds, and what its clock shows there.
+///
+/// The first value is a whole second of the start's zone, and the second is what that zone's clock shows at it: a scheduled
+/// second for an interval job, and for each job where the zone resolves each second that it holds to one instant. The job and
+/// the start are only read.
+pub fn found_and_shown<T: CronDateTime>(
+    job: &Cron,
+    start: &T,
+    inclusive: bool,
+    direction: Direction,
+) -> Result<(T, CivilDateTime), CronError>
+    requires { has_field_shapes (job_of job.now) ≡ true }
+    ensures found { IfOk result (λ r. IsFound direction inclusive (job_of job.now) (T.moment start.now) (T.moment r.0)) }
+    ensures zone { IfOk result (λ r. (T.moment r.0).zone ≡ (T.moment start.now).zone) }
+    ensures whole { IfOk result (λ r. (T.moment r.0).fraction ≡ 0) }
+    ensures shown { IfOk result (λ r. wall_second r.1 ≡ (T.moment start.now).zone.reads (T.moment r.0).instant) }
+    ensures interval { is_fixed_time (job_of job.now) ≡ false → IfOk result (λ r. IsScheduled (job_of job.now) (wall_second r.1)) }
+    ensures single { HasOneInstantEach (T.moment start.now).zone → IfOk result (λ r. IsScheduled (job_of job.now) (wall_second r.1)) }
+    ensures refused { IfErr result (IsRefused T.can_lack_memory direction inclusive (job_of job.now) (T.moment start.now)) }
+{
+    match job.find_occurrence(start, inclusive, direction) {
+        Ok(found) => {
+            let shown = found.to_civil();
+            Ok((found, shown))
+        }
+        Err(refused) => Err(refused),
+    }
+}
+
+/// What a search answers, for the kinds of its refusals.
+///
+/// It is refused by the limit, by `InvalidDate`, by `InvalidTime` or, only over a backend that can lack memory, by
+/// `OutOfMemory`. From a start that searches are promised for, by the limit, which says that no run is left, or by want of
+/// memory.
+pub fn found_or_refused<T: CronDateTime>(
+    job: &Cron,
+    start: &T,
+    inclusive: bool,
+    direction: Direction,
+) -> Result<T, CronError>
+    requires { has_field_shapes (job_of job.now) ≡ true }
+    ensures kinds { IfErr result (IsRefusal T.can_lack_memory) }
+    ensures refused { IfErr result (IsRefused T.can_lack_memory direction inclusive (job_of job.now) (T.moment start.now)) }
+    ensures found { IfOk result (λ t. IsFound direction inclusive (job_of job.now) (T.moment start.now) (T.moment t)) }
+{
+    job.find_occurrence(start, inclusive, direction)
+}
