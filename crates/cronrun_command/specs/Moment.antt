@@ -1,5 +1,5 @@
 -- The text of a date and time: ISO 8601 in its extended form, to the second, with four digits of a year.
-use Rattle.std.specs.Prelude.{◌≡◌, ℕ, ◌+◌, ◌*◌, ◌/◌, ◌%◌, ◌<◌, pos, List, [], ◌∷◌, ◌++◌, take, drop, slice_index}
+use Rattle.std.specs.Prelude.{◌≡◌, ℕ, ◌+◌, ◌/◌, ◌%◌, ◌<◌, pos, List, [], ◌∷◌, ◌++◌, take, drop, slice_index}
 use Rattle.croner_base.specs.declared.time.civil.CivilDate.{CivilDate}
 use Rattle.croner_base.specs.declared.time.civil.CivilTime.{CivilTime}
 use Rattle.croner_base.specs.declared.time.civil.CivilDateTime.{CivilDateTime}

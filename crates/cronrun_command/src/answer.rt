@@ -1,42 +1,55 @@
 //! Answering a call.
+ghost use Rattle.std.specs.Prelude.{◌≡◌, ◌↔◌, ℤ, Ok, IsTrue, IfOk, IfErr};
+ghost use Rattle.croner_base.specs.Civil.{wall_second};
+ghost use Rattle.croner_base.specs.CivilZone.{civil_zone};
+ghost use Rattle.croner_pattern.specs.Meaning.{Meaning};
+ghost use Rattle.croner_pattern.specs.Schedule.{IsScheduled};
+ghost use Rattle.croner.specs.Grammar.{outcome};
+ghost use Rattle.croner.specs.Settings.{default_settings};
+ghost use Rattle.cronrun_command.specs.Start.{first_instant};
+ghost use Rattle.cronrun_command.specs.Refused.{IsRefused};
 
 use crate::request::Request;
+use crate::runs::list;
+use crate::start::start_at;
 use crate::stop::Stop;
 use croner::Cron;
 use croner::errors::CronError;
 use croner::time::CivilDateTime;
 use jiff::civil::DateTime;
+use jiff::{Timestamp, Zoned};
 use std::alloc::Global;
 use std::io::Write;
+
+// A value of civil time. Any serves, to look a date and time up on its clock.
+const CIVIL_CLOCK: DateTime = DateTime::MIN;
 
 /// Writes the answer of a call.
 pub fn answer<W: Write>(alloc: Global, request: Request<'_>, out: &mut W) -> Result<(), Stop> {
     match request {
         Request::Match { pattern, at } => {
-            let cron = Cron::from_str(alloc, pattern)?;
-            let matching = cron.is_time_matching(&civil_value(at)?)?;
+            let matching = is_match(alloc, pattern, at)?;
             writeln!(out, "{matching}")?;
+            Ok(())
         }
+        Request::List(listing) => match listing.zone {
+            Some(zone) => {
+                let clock = Zoned::new(Timestamp::UNIX_EPOCH, zone);
+                list(alloc, &listing, &clock, out)
+            }
+            None => list(alloc, &listing, &CIVIL_CLOCK, out),
+        },
     }
-    Ok(())
 }
 
-// A date and time as a value of civil time, years -9999 to 9999.
-fn civil_value(at: CivilDateTime) -> Result<DateTime, CronError> {
-    let Ok(year) = i16::try_from(at.year()) else {
-        return Err(CronError::InvalidDate);
-    };
-    let value = DateTime::new(
-        year,
-        at.month() as i8,
-        at.day() as i8,
-        at.hour() as i8,
-        at.minute() as i8,
-        at.second() as i8,
-        0,
-    );
-    match value {
-        Ok(value) => Ok(value),
-        Err(_) => Err(CronError::InvalidDate),
-    }
+// Whether a pattern names a date and time.
+fn is_match(alloc: Global, pattern: &str, at: CivilDateTime) -> Result<bool, CronError>
+    ensures value { IfOk result (λ held. (m : Meaning) × (outcome default_settings pattern.now ≡ Ok m)
+        × (IsTrue held ↔ IsScheduled m (wall_second at))) }
+    ensures err { IfErr result
+        (IsRefused (outcome default_settings pattern.now) (first_instant (civil_zone.resolves at))) }
+{
+    let cron = Cron::from_str(alloc, pattern)?;
+    let start = start_at(alloc, &CIVIL_CLOCK, at)?;
+    cron.is_time_matching(&start)
 }

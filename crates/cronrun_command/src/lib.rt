@@ -1,12 +1,18 @@
 //! The command line of `cronrun` as a function: words in, text and a status out.
 #![tactic(auto)]
 
-ghost use Rattle.std.specs.Prelude.{◌≡◌, ◌≤◌};
+ghost use Rattle.std.specs.Prelude.{◌≡◌, ◌≤◌, map, string_bytes};
+ghost use Rattle.cronrun_command.specs.Call.{IsCall};
 
 mod answer;
+mod count;
+mod line;
 mod moment;
 mod request;
+mod runs;
+mod start;
 mod stop;
+mod zone;
 
 use request::Request;
 use std::alloc::Global;
@@ -29,15 +35,25 @@ const USAGE: &str =
 /// and gives the status of the process.
 ///
 /// The words are those behind the program's own name. `match PATTERN DATETIME` writes `true` or
-/// `false`; the other commands of the usage line are not there yet. The default parser reads
-/// PATTERN, and DATETIME is `YYYY-MM-DDTHH:MM:SS`.
+/// `false`. `next PATTERN DATETIME COUNT` writes the runs after the start, the nearest first and
+/// one a line, and `prev` in its place those before it. A word RULE behind the count names the
+/// zone of the start. Without it a line is what the clock shows; with it the second since
+/// 1970-01-01T00:00:00 UTC follows, behind a space. `describe` is not there yet.
+///
+/// The default parser reads PATTERN. DATETIME is `YYYY-MM-DDTHH:MM:SS`, COUNT is decimal digits
+/// that write a number from 1 to 1000, and RULE is a POSIX rule. A DATETIME that the zone's clock
+/// shows twice names the earlier instant.
 ///
 /// The status is [`MISUSED`] with the usage line on standard error where the words are no call;
-/// [`REFUSED`] with the error's text there where the pattern is refused; else [`ANSWERED`]. The
-/// words are looked at before the pattern is read. A failed write to standard output is [`REFUSED`]
-/// too, one to standard error changes no status.
+/// [`REFUSED`] with the error's text there where the pattern is refused, the zone's clock never
+/// shows DATETIME, or fewer than COUNT runs are found; else [`ANSWERED`]. The words are looked at
+/// first, then the pattern, then the start. The runs that were found are written before a refusal:
+/// it is then the fault of the iterator over them, or the limit of a search where there is none. A
+/// failed write to standard output is [`REFUSED`] too, one to standard error changes no status.
 pub fn run<O: Write, E: Write>(alloc: Global, words: &[String], out: &mut O, err: &mut E) -> u8
-    ensures { result ≤ MISUSED }
+    ensures known { result ≤ MISUSED }
+    ensures call { IsCall (map string_bytes words.now) → result ≤ REFUSED }
+    ensures misused { ¬ (IsCall (map string_bytes words.now)) → result ≡ MISUSED }
 {
     let Some(request) = Request::read(words) else {
         return misused(err);

@@ -1,0 +1,17 @@
+-- Where a listing stands before its first run.
+use Rattle.std.specs.Prelude.{◌≡◌, ℤ, false, Result, Ok, Some}
+use Rattle.croner_base.specs.declared.time.Direction.{Direction}
+use Rattle.croner_base.specs.declared.time.civil.CivilDateTime.{CivilDateTime}
+use Rattle.croner_base.specs.Zone.{Zone, at_instant}
+use Rattle.croner_pattern.specs.Meaning.{Meaning}
+use Rattle.croner.specs.Grammar.{Refusal}
+use Rattle.croner.specs.Listing.{Standing, new_standing}
+use Rattle.cronrun_command.specs.Start.{first_instant}
+
+-- the pattern is accepted, the date and time names an instant, and the listing goes from there in the direction, without it
+abbrev pub StandsAtStart : Result Meaning Refusal → Zone → CivilDateTime → Direction → Standing → Type 0
+StandsAtStart outcome zone at direction standing =
+    (pattern : Meaning) × (start : ℤ)
+    × (outcome ≡ Ok pattern)
+    × (first_instant (zone.resolves at) ≡ Some start)
+    × (standing ≡ new_standing pattern (at_instant zone start) false direction)

@@ -1,0 +1,13 @@
+-- Why a call is refused.
+use Rattle.std.specs.Prelude.{◌≡◌, ◌⊎◌, ℤ, Option, None, Result, Ok, Err}
+use Rattle.croner_base.specs.declared.errors.CronError.{CronError}
+use Rattle.croner_base.specs.declared.errors.CronError.TheVariants.{InvalidTime, OutOfMemory}
+use Rattle.croner_pattern.specs.Meaning.{Meaning}
+use Rattle.croner.specs.Gives.{Fails}
+use Rattle.croner.specs.Grammar.{Refusal}
+
+-- the pattern is refused, and the error is of its kind; or it is accepted, and the date and time names no instant; or memory
+-- ran out
+abbrev pub IsRefused : Result Meaning Refusal → Option ℤ → CronError → Type 0
+IsRefused (Err refusal) start e = Fails {Y = Meaning} e (Err refusal)
+IsRefused (Ok pattern) start e = ((e ≡ InvalidTime) × (start ≡ None)) ⊎ (e ≡ OutOfMemory)

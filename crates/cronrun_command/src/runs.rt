@@ -1,0 +1,76 @@
+//! Listing the runs of a pattern.
+ghost use Rattle.std.specs.Prelude.{◌≡◌, Ok, Some, false, IfOk, IfErr};
+ghost use Rattle.croner_base.specs.Zone.{at_instant};
+ghost use Rattle.croner.specs.Grammar.{outcome};
+ghost use Rattle.croner.specs.Listing.{standing_of};
+ghost use Rattle.croner.specs.Settings.{default_settings};
+ghost use Rattle.cronrun_command.specs.Start.{first_instant};
+ghost use Rattle.cronrun_command.specs.Refused.{IsRefused};
+ghost use Rattle.cronrun_command.specs.Opened.{StandsAtStart};
+
+use crate::line::{Line, Listed};
+use crate::request::Listing;
+use crate::start::start_at;
+use crate::stop::Stop;
+use croner::errors::CronError;
+use croner::time::CronDateTime;
+use croner::{Cron, CronIterator, Direction};
+use std::alloc::Global;
+use std::io::Write;
+
+/// Writes the runs of a listing, one a line, the nearest first. `clock` is any value of the clock
+/// that they are listed on.
+pub fn list<T: Listed, W: Write>(
+    alloc: Global,
+    listing: &Listing<'_>,
+    clock: &T,
+    out: &mut W,
+) -> Result<(), Stop> {
+    let mut runs = runs_from(alloc, listing, clock)?;
+    for _ in 0..listing.count {
+        write_next(&mut runs, out)?;
+    }
+    Ok(())
+}
+
+// The runs of a listing, from its start on. The pattern is read before the start is looked for.
+fn runs_from<T: CronDateTime>(
+    alloc: Global,
+    listing: &Listing<'_>,
+    clock: &T,
+) -> Result<CronIterator<T>, CronError>
+    ensures ok { IfOk result (λ runs. StandsAtStart (outcome default_settings listing.now.pattern.now)
+        (T.moment clock.now).zone listing.now.at listing.now.direction (standing_of T.moment runs)) }
+    ensures err { IfErr result (IsRefused (outcome default_settings listing.now.pattern.now)
+        (first_instant ((T.moment clock.now).zone.resolves listing.now.at))) }
+{
+    let cron = Cron::from_str(alloc, listing.pattern)?;
+    let start = start_at(alloc, clock, listing.at)?;
+    match listing.direction {
+        Direction::Forward => cron.iter_after(start),
+        Direction::Backward => cron.iter_before(start),
+    }
+}
+
+// Writes the line of the next run, or gives the reason why there is none.
+fn write_next<T: Listed, W: Write>(runs: &mut CronIterator<T>, out: &mut W) -> Result<(), Stop> {
+    match runs.next() {
+        Some(run) => {
+            let line = Line::of(&run);
+            writeln!(out, "{line}")?;
+            Ok(())
+        }
+        None => Err(Stop::Refused(reason(runs.fault()))),
+    }
+}
+
+// Why a listing ends early: the fault of its iterator, or the limit where there is none.
+fn reason(fault: Option<&CronError>) -> CronError {
+    match fault {
+        Some(fault) => match fault.clone() {
+            Ok(fault) => fault,
+            Err(_) => CronError::OutOfMemory,
+        },
+        None => CronError::TimeSearchLimitExceeded,
+    }
+}
