@@ -1,14 +1,13 @@
 -- What a call of an iterator's `next` does, from the search that it makes.
 use Rattle.std.specs.Prelude.{◌≡◌, IsTrue, Bool, Option, Some, None, IfSome, IfNone, refl}
-use Rattle.std.proofs.Common.{sym, subst, inl, inr, ap, ◌∙◌}
+use Rattle.std.proofs.Common.{sym, subst, inr, ap, ◌∙◌}
 use Rattle.std.proofs.lemmas.Option.{none-some}
 use Rattle.croner_base.specs.Zone.{Moment}
-use Rattle.croner_base.specs.declared.errors.CronError.{CronError}
 use Rattle.croner_base.specs.declared.errors.CronError.TheVariants.{OutOfMemory}
 use Rattle.croner.specs.Runs.{Nearest}
 use Rattle.croner.specs.Limit.{NoneInSpan}
 use Rattle.croner.specs.Premises.{IsSearchable, Shows}
-use Rattle.croner.specs.Listing.{Standing, standing_of, counts_position, job_at, moved, IsFault, GivesItem, GivesNone, Steps}
+use Rattle.croner.specs.Listing.{Standing, standing_of, counts_position, job_at, moved, GivesItem, GivesNone, Steps}
 use Rattle.croner.specs.declared.iterator.CronIterator.{CronIterator}
 
 -- want of memory for the copy of what was found
