@@ -1,15 +1,14 @@
 -- What an iterator gave between two standings, call by call.
 use Rattle.std.proofs.Common.{◌≡◌, ℕ, ℤ, ◌⊎◌, inl, inr, refl, sym, subst, Bool, true, false, List, [], ◌∷◌, ◌++◌, None, ap, ◌∙◌, IsTrue, length, ◌+◌, Option, Some, IfSome}
-use Rattle.croner_base.specs.Zone.{Zone, Moment, at_instant}
+use Rattle.croner_base.specs.Zone.{Zone, Moment}
 use Rattle.croner_base.specs.declared.errors.CronError.{CronError}
 use Rattle.croner_base.specs.declared.errors.CronError.TheVariants.{OutOfMemory}
 use Rattle.croner_base.specs.declared.time.Direction.{Direction}
 use Rattle.std.specs.List.{All}
-use Rattle.croner_pattern.specs.Meaning.{Meaning}
-use Rattle.croner.specs.Runs.{Job, Counts, Precedes, Reaches, Nearest}
+use Rattle.croner.specs.Runs.{Counts}
 use Rattle.croner.specs.Premises.{IsSearchable}
 use Rattle.croner.specs.PatternJob.{pattern_job}
-use Rattle.croner.specs.Limit.{InSpan, NoneInSpan}
+use Rattle.croner.specs.Limit.{InSpan}
 use Rattle.croner.specs.Listing.{Standing, standing_of, instants, Takes, IsLeft, BeginsRest, Gave, GaveAll, moved, counts_position, job_at, GivesItem, GivesNone}
 use Rattle.croner.specs.Neighbours.{IsWholeIn}
 use Rattle.croner.specs.declared.iterator.CronIterator.{CronIterator}

@@ -1,14 +1,13 @@
 -- What a call of an iterator's `next` does, from the search that it makes.
 use Rattle.std.specs.Prelude.{◌≡◌, IsTrue, Bool, Option, Some, None, IfSome, IfNone, refl}
-use Rattle.std.proofs.Common.{sym, subst, inl, inr, ap, ◌∙◌}
+use Rattle.std.proofs.Common.{sym, subst, inr, ap, ◌∙◌}
 use Rattle.std.proofs.lemmas.Option.{none-some}
 use Rattle.croner_base.specs.Zone.{Moment}
-use Rattle.croner_base.specs.declared.errors.CronError.{CronError}
 use Rattle.croner_base.specs.declared.errors.CronError.TheVariants.{OutOfMemory}
 use Rattle.croner.specs.Runs.{Nearest}
 use Rattle.croner.specs.Limit.{NoneInSpan}
-use Rattle.croner.specs.Premises.{IsSearchable}
-use Rattle.croner.specs.Listing.{Standing, standing_of, counts_position, job_at, moved, IsFault, GivesItem, GivesNone, Steps}
+use Rattle.croner.specs.Premises.{IsSearchable, Shows}
+use Rattle.croner.specs.Listing.{Standing, standing_of, counts_position, job_at, moved, GivesItem, GivesNone, Steps}
 use Rattle.croner.specs.declared.iterator.CronIterator.{CronIterator}
 
 -- want of memory for the copy of what was found
@@ -24,11 +23,13 @@ out_of_memory_steps lack old new e memory =
 
 -- the run that was found, given
 pub found_steps : (old new : Standing) (found item : Moment) → item ≡ found → new ≡ moved old item → found.zone ≡ old.position.zone → found.fraction ≡ 0
+    → Shows (job_at old) found.instant
     → (IsSearchable old.position → Nearest old.direction (counts_position old) (job_at old) old.position.instant found.instant) → GivesItem old item new
-found_steps old new found item e stands same_zone whole nearest = record {
+found_steps old new found item e stands same_zone whole shows nearest = record {
   stands = stands;
   same_zone = ap (λ m. m.zone) e ∙ same_zone;
   whole = ap (λ m. m.fraction) e ∙ whole;
+  shows = let Q : Moment → Type 0 = λ m. Shows (job_at old) m.instant in subst Q (sym e) shows;
   nearest = λ p.
       let P : Moment → Type 0 = λ m. Nearest old.direction (counts_position old) (job_at old) old.position.instant m.instant in
       subst P (sym e) (nearest p);
@@ -42,12 +43,13 @@ pub steps : {T : Type 0} (moment : T → Moment) (lack : Bool) (old new : CronIt
     → IfNone result (standing_of moment new ≡ record (standing_of moment old) { fault = Some OutOfMemory })
     → IfNone result (IsTrue lack)
     → (moment found).zone ≡ (moment old.position).zone → (moment found).fraction ≡ 0
+    → Shows (job_at (standing_of moment old)) (moment found).instant
     → (IsSearchable (moment old.position) → Nearest old.direction inclusive (job_at (standing_of moment old)) (moment old.position).instant (moment found).instant)
     → Steps moment lack old result new
-steps moment lack old new found None inclusive is item moved_to kept memory same_zone whole nearest =
+steps moment lack old new found None inclusive is item moved_to kept memory same_zone whole shows nearest =
     out_of_memory_steps lack (standing_of moment old) (standing_of moment new) kept memory
-steps moment lack old new found (Some x) inclusive is item moved_to kept memory same_zone whole nearest =
-    found_steps (standing_of moment old) (standing_of moment new) (moment found) (moment x) item moved_to same_zone whole
+steps moment lack old new found (Some x) inclusive is item moved_to kept memory same_zone whole shows nearest =
+    found_steps (standing_of moment old) (standing_of moment new) (moment found) (moment x) item moved_to same_zone whole shows
     (λ p. let P : Bool → Type 0 = λ b. Nearest old.direction b (job_at (standing_of moment old)) (moment old.position).instant (moment found).instant in
     subst P is (nearest p))
 

@@ -1,25 +1,23 @@
 -- The run before the run after a run: the run itself.
-use Rattle.std.proofs.Common.{◌≡◌, ℕ, ◌+◌, ◌≤◌, arith, refl, sym, ap, subst, ◌∙◌, ℤ, pos, neg_ℤ, ◌+ℤ◌, ◌-ℤ◌, ◌*ℤ◌, ◌<ℤ◌, ◌≤ℤ◌, Bool, false, ◌⊎◌, inl, inr}
+use Rattle.std.proofs.Common.{◌≡◌, ℕ, ◌+◌, ◌≤◌, arith, refl, sym, ap, subst, ◌∙◌, ℤ, pos, neg_ℤ, ◌+ℤ◌, ◌≤ℤ◌, Bool, false, inl, inr}
 use Rattle.std.proofs.lemmas.Bool.{false≢true}
 use Rattle.std.proofs.lemmas.Int.{ints}
 use Rattle.jiff_core.specs.Calendar.{days_of_months}
 use Rattle.croner_base.specs.declared.errors.CronError.{CronError}
-use Rattle.croner_base.specs.declared.errors.CronError.TheVariants.{TimeSearchLimitExceeded}
 use Rattle.croner_base.specs.declared.time.Direction.TheVariants.{Forward, Backward}
 use Rattle.croner_base.specs.declared.time.civil.CivilDateTime.{CivilDateTime}
 use Rattle.croner_base.specs.Calendar.{IsRealDate, day_number, year_start, days_since_zero, days_until_zero}
-use Rattle.croner_base.specs.Calm.{IsCalm, HoldsAround}
+use Rattle.croner_base.specs.Calm.{IsCalm}
 use Rattle.croner_base.specs.Civil.{wall_second}
-use Rattle.croner_base.specs.Zone.{Zone, Moment, at_instant, reading}
+use Rattle.croner_base.specs.Zone.{Zone, Moment, at_instant}
 use Rattle.croner_base.proofs.Days.{day_number-lt_year}
 use Rattle.croner_base.proofs.JiffSeconds.{wall_second-parts}
 use Rattle.croner_pattern.specs.Meaning.{Meaning}
 use Rattle.croner.specs.Limit.{InSpan, NoneInSpan, year_2}
 use Rattle.croner.specs.PatternJob.{pattern_job}
 use Rattle.croner.specs.Premises.{IsSearchable}
-use Rattle.croner.specs.Refusal.{IsRefusal, IsLimitOrMemory}
-use Rattle.croner.specs.Runs.{Job, Run, Counts, Nearest}
-use Rattle.croner.specs.Searches.{IsFound, IsRefused, IsFromYear, IsReturnable}
+use Rattle.croner.specs.Runs.{Run, Nearest}
+use Rattle.croner.specs.Searches.{IsFound, IsRefused, IsReturnable}
 use Rattle.croner.proofs.CalmZone.{calm_of}
 use Rattle.croner.proofs.HeldRuns.{holds_from}
 use Rattle.croner.proofs.Listings.{is_run, there_and_back}

@@ -9,7 +9,7 @@ use Rattle.croner_pattern.specs.Meaning.{Meaning, meaning_of}
 use Rattle.croner.specs.Runs.{Job, Precedes, Reaches, Counts, Nearest}
 use Rattle.croner.specs.Limit.{InSpan, NoneInSpan}
 use Rattle.croner.specs.PatternJob.{pattern_job}
-use Rattle.croner.specs.Premises.{IsSearchable}
+use Rattle.croner.specs.Premises.{IsSearchable, Shows}
 use Rattle.croner.specs.declared.iterator.CronIterator.{CronIterator}
 
 -- the items begin the listing from s: they go strictly in the direction, each counts from s, and each run that counts and
@@ -74,12 +74,14 @@ moved s item = record s { position = item; is_first = false; fault = None }
 abbrev pub IsFault : Bool → CronError → Type 0
 IsFault lack e = (e ≡ InvalidDate) ⊎ (e ≡ InvalidTime) ⊎ ((e ≡ OutOfMemory) × IsTrue lack)
 
--- a call that gave the item: the iterator stands there, in the same zone, at a whole second; and from a start that
--- searches are promised for, the item is the nearest of what was left
+-- a call that gave the item: the iterator stands there, in the same zone, at a whole second, which shows a scheduled
+-- second as each answer of a search does; and from a start that searches are promised for, the item is the nearest of what
+-- was left
 pub record GivesItem (old : Standing) (item : Moment) (new : Standing) : Type 0 where
   pub stands : new ≡ moved old item
   pub same_zone : item.zone ≡ old.position.zone
   pub whole : item.fraction ≡ 0
+  pub shows : Shows (job_at old) item.instant
   pub nearest : IsSearchable old.position → Nearest old.direction (counts_position old) (job_at old) old.position.instant item.instant
 
 -- a call that gave no item: position and first mark stand, and so does all else but the fault. With no fault nothing in the

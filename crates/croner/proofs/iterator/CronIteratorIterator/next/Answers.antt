@@ -6,7 +6,7 @@ pub returns-in-Ok-clause-steps : goal.returns-in-Ok-clause-steps
 returns-in-Ok-clause-steps g c =
     steps g.T.CronDateTime.moment g.T.CronDateTime.can_lack_memory c.args.self.now c.step_to.new.self c.in-Ok.found c.step_to.result c.counts_position-inclusive.result c.counts_position-inclusive.ensures
     c.step_to.ensures.item c.step_to.ensures.moved c.step_to.ensures.kept c.step_to.ensures.memory
-    c.in-Ok.ensures.same_zone c.in-Ok.ensures.whole c.in-Ok.ensures.nearest
+    c.in-Ok.ensures.same_zone c.in-Ok.ensures.whole c.in-Ok.ensures.reads c.in-Ok.ensures.nearest
 
 pub returns-in-Err-TimeSearchLimitExceeded-clause-steps : goal.returns-in-Err-TimeSearchLimitExceeded-clause-steps
 returns-in-Err-TimeSearchLimitExceeded-clause-steps g c =

@@ -1,4 +1,4 @@
-use Rattle.std.proofs.Common.{◌+◌, List, ◌++◌, ◌∷◌, [], subst, sym}
+use Rattle.std.proofs.Common.{◌+◌, List, subst, sym}
 use Rattle.std.specs.declared.cmp.Ordering.{Ordering}
 use Rattle.croner.proofs.InOrder.{ComparedBelow, compared_more, compared_all}
 use Rattle.croner.proofs.laws.listing.compared.Goals as goal

@@ -1,4 +1,3 @@
-use Rattle.croner.specs.Listing.{standing_of, instants}
 use Rattle.croner.proofs.InOrder.{strictly}
 use Rattle.croner.proofs.laws.listing.items_in_order.Goals as goal
 
