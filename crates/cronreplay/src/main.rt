@@ -3,15 +3,20 @@
 //! differs is printed, and a summary comes last.
 #![tactic(auto)]
 
+mod command;
+mod compare;
 mod component;
 mod day;
 mod fault;
+mod iterators;
 mod member;
 mod pattern;
 mod question;
 mod replay;
+mod searches;
 mod shown;
 mod time;
+mod wanted;
 mod zone;
 
 use replay::{Stop, replay};

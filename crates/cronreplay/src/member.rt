@@ -14,6 +14,11 @@ pub fn text<'v>(question: &'v Value, name: &str) -> Result<&'v str, Fault> {
     member(question, name)?.as_str().ok_or(Fault::Malformed)
 }
 
+/// A yes or no.
+pub fn flag(question: &Value, name: &str) -> Result<bool, Fault> {
+    member(question, name)?.as_bool().ok_or(Fault::Malformed)
+}
+
 /// A list.
 pub fn list<'v>(question: &'v Value, name: &str) -> Result<&'v [Value], Fault> {
     items(member(question, name)?)

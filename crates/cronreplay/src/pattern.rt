@@ -30,6 +30,9 @@ fn parser(question: &Value) -> Result<CronParser, Fault> {
     let Some(settings) = question.get("settings") else {
         return Ok(CronParser::new());
     };
+    if !settings.is_object() {
+        return Err(Fault::Malformed);
+    }
     let builder = CronParser::builder()
         .seconds(seconds(settings)?)
         .year(year(settings)?)
@@ -57,7 +60,8 @@ fn year(settings: &Value) -> Result<Year, Fault> {
     }
 }
 
-fn switch(settings: &Value, name: &str) -> Result<bool, Fault> {
+/// A yes or no that may be left out, which is no.
+pub fn switch(settings: &Value, name: &str) -> Result<bool, Fault> {
     match settings.get(name) {
         None => Ok(false),
         Some(switch) => switch.as_bool().ok_or(Fault::Malformed),

@@ -3,6 +3,7 @@
 use crate::fault::Fault;
 use crate::question::answer;
 use crate::shown::refusal;
+use crate::wanted::is_wanted;
 use serde_json::Value;
 use std::alloc::{AllocError, Global};
 use std::io::{BufRead, Write};
@@ -123,7 +124,7 @@ fn judged(alloc: Global, question: &Value) -> Result<Outcome, Stop> {
     let Some(want) = question.get("want") else {
         return Ok(Outcome::Malformed);
     };
-    if got == *want {
+    if is_wanted(&got, want) {
         return Ok(Outcome::Same);
     }
     let (got, want) = (got.to_string(alloc)?, want.to_string(alloc)?);

@@ -1,12 +1,14 @@
-//! Questions of a clock: what it shows, and which instants show a second.
+//! Questions of a clock: what it shows, which instants show a second, and which runs come from a start on.
 
 use crate::fault::Fault;
+use crate::iterators::items;
 use crate::member::{civil, number_at};
+use crate::searches::runs;
 use crate::shown;
 use crate::shown::Shown;
 use crate::zone::{Zone, civil_value, zone_of};
-use croner::time::Resolution;
 use croner::time::table::TableTime;
+use croner::time::{Direction, Resolution};
 use jiff::civil::DateTime;
 use jiff::{Timestamp, Zoned};
 use serde_json::Value;
@@ -15,6 +17,10 @@ use std::alloc::Global;
 /// What is asked of a start.
 #[derive(Clone, Copy, PartialEq, Eq)]
 pub enum Ask {
+    /// Searches in a direction.
+    Search(Direction),
+    /// The items of an iterator.
+    Items,
     Resolve,
     Reading,
     Add,
@@ -57,6 +63,8 @@ fn answer_at<T: Shown>(
     start: T,
 ) -> Result<Value, Fault> {
     match ask {
+        Ask::Search(direction) => runs(alloc, question, start, direction),
+        Ask::Items => items(alloc, question, start),
         Ask::Resolve => resolve(alloc, question, &start),
         Ask::Reading => reading(alloc, &start),
         Ask::Add => add(alloc, question, &start),
