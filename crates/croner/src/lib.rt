@@ -4,7 +4,7 @@
 mod cursor;
 mod fold;
 mod instant;
-pub mod iterator;
+mod iterator;
 mod job;
 pub mod laws;
 mod occurrence;

@@ -1,6 +1,7 @@
 //! `cronrun`: cron patterns and their runs from the command line.
 #![tactic(auto)]
 
+use croner::errors::CronError;
 use cronrun_command::{REFUSED, misused, run};
 use std::io::{BufWriter, ErrorKind};
 use std::process::ExitCode;
@@ -27,6 +28,10 @@ fn main(rt: HostRuntime) -> ExitCode {
     let status = match answer(&rt) {
         Ok(status) => status,
         Err(error) if error.kind() == ErrorKind::InvalidData => misused(&mut rt.stderr()),
+        Err(error) if error.kind() == ErrorKind::OutOfMemory => {
+            let _ = eprintln!(rt; "{}", CronError::OutOfMemory);
+            REFUSED
+        }
         Err(error) => {
             let _ = eprintln!(rt; "{error}");
             REFUSED

@@ -5,7 +5,7 @@ ghost use Rattle.croner_base.specs.declared.time.civil.CivilDate.{CivilDate};
 ghost use Rattle.croner_base.specs.declared.time.civil.CivilTime.{CivilTime};
 ghost use Rattle.croner_base.specs.declared.time.civil.CivilDateTime.{CivilDateTime};
 
-use croner_base::time::{CivilDate, CivilDateTime, CivilTime};
+use croner::time::{CivilDate, CivilDateTime, CivilTime};
 
 // The number that two ASCII digits write.
 fn two_digits(tens: u8, ones: u8) -> Option<u32>

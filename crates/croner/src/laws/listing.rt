@@ -1,8 +1,9 @@
 //! Laws of iterators, and of searches one after the other.
-ghost use Rattle.std.specs.Prelude.{◌≡◌, ◌⊎◌, true, false, IfOk, IfErr, IsTrue, length};
+ghost use Rattle.std.specs.Prelude.{◌≡◌, ◌↔◌, ◌⊎◌, ℤ, true, false, IfOk, IfErr, IsTrue, length};
 ghost use Rattle.std.specs.List.{All, AllPairs};
+ghost use Rattle.croner_pattern.specs.Meaning.{meaning_of};
 ghost use Rattle.croner_pattern.specs.Shapes.{has_field_shapes};
-ghost use Rattle.croner.specs.Listing.{standing_of, instants, BeginsRest, Gave, GaveAll, Takes};
+ghost use Rattle.croner.specs.Listing.{Standing, standing_of, new_standing, moved, instants, IsLeft, BeginsRest, Gave, GaveAll, Takes};
 ghost use Rattle.croner.specs.Neighbours.{AreCompared, IsWholeIn, onward};
 ghost use Rattle.croner.specs.Runs.{Precedes};
 ghost use Rattle.croner.specs.Premises.{IsSearchable};
@@ -46,6 +47,19 @@ pub fn next_runs<T: CronDateTime>(
         is_over = take_next(iterator, &mut runs)?;
     }
     Ok((runs, is_over))
+}
+
+/// An iterator that goes on from an item, which it does not give again.
+///
+/// Whatever iterator gave the item, for the same pattern and in the same direction: both have the same runs yet to give. So a
+/// listing can be taken up from any item that was kept.
+pub fn resumed<T: CronDateTime>(cron: Cron, item: T, direction: Direction) -> CronIterator<T>
+    requires { has_field_shapes (meaning_of cron.pattern) ≡ true }
+    ensures stands { standing_of T.moment result ≡ new_standing (meaning_of cron.pattern) (T.moment item) false direction }
+    ensures same_rest { (s : Standing) → s.pattern ≡ meaning_of cron.pattern → s.direction ≡ direction → (i : ℤ) →
+        IsLeft (moved s (T.moment item)) i ↔ IsLeft (new_standing (meaning_of cron.pattern) (T.moment item) false direction) i }
+{
+    CronIterator::new(cron, item, false, direction)
 }
 
 /// The items of up to so many calls of `next`, and how each compares with the one before it, by `cmp_instant`.

@@ -4,3 +4,5 @@
 pub mod grammar;
 pub mod listing;
 pub mod searches;
+
+pub use croner_base::laws::{calendar, clocks, marks, tables};

@@ -11,6 +11,7 @@ ghost use Rattle.croner.specs.Settings.{Settings};
 ghost use Rattle.croner.specs.Views.{texts_of};
 
 use super::fields::FieldTexts;
+use super::refusals::in_field;
 use croner_base::component::{
     ALL_BIT, CronComponent, LAST_BIT, NTH_1ST_BIT, NTH_2ND_BIT, NTH_3RD_BIT, NTH_4TH_BIT,
     NTH_5TH_BIT, NTH_ALL,
@@ -30,12 +31,21 @@ pub struct Mode {
 /// The place that Sunday has as 7.
 const SUNDAY_AS_SEVEN: u16 = 7;
 
-/// Reads the text of a field into it.
-pub fn read_field(field: &mut CronComponent, sloppy: bool, text: &str) -> Result<(), CronError>
+/// Reads the text of a field into it. A refusal's message begins with the field's name.
+pub fn read_field(
+    alloc: Global,
+    name: &str,
+    field: &mut CronComponent,
+    sloppy: bool,
+    text: &str,
+) -> Result<(), CronError>
     ensures { Reads (field_of (with_sloppy field.old sloppy).shape text.now) (with_sloppy field.old sloppy) field.new result }
 {
     field.set_sloppy_ranges(sloppy);
-    field.parse(text)
+    match field.parse(text) {
+        Ok(()) => Ok(()),
+        Err(refused) => Err(in_field(alloc, name, refused)),
+    }
 }
 
 /// Stores weekday 7 as 0, for every modifier; in Quartz mode it stays.
@@ -83,6 +93,7 @@ pub fn start_pattern(alloc: Global, text: &str, quartz: bool) -> Result<CronPatt
 
 /// Reads each field's text into the field, in order.
 pub fn read_fields(
+    alloc: Global,
     pattern: &mut CronPattern,
     fields: FieldTexts<'_>,
     sloppy: bool,
@@ -90,13 +101,31 @@ pub fn read_fields(
     ensures { (s : Settings) → s.sloppy ≡ sloppy → (text : List ℕ) → meaning_of pattern.old ≡ start_meaning s text
         → ReadsAll s text (texts_of fields.entry) (meaning_of pattern.new) result }
 {
-    read_field(&mut pattern.seconds, sloppy, fields.seconds)?;
-    read_field(&mut pattern.minutes, sloppy, fields.minutes)?;
-    read_field(&mut pattern.hours, sloppy, fields.hours)?;
-    read_field(&mut pattern.days, sloppy, fields.days)?;
-    read_field(&mut pattern.months, sloppy, fields.months)?;
-    read_field(&mut pattern.days_of_week, sloppy, fields.days_of_week)?;
-    read_field(&mut pattern.years, sloppy, fields.years)?;
+    read_field(
+        alloc,
+        "seconds",
+        &mut pattern.seconds,
+        sloppy,
+        fields.seconds,
+    )?;
+    read_field(
+        alloc,
+        "minutes",
+        &mut pattern.minutes,
+        sloppy,
+        fields.minutes,
+    )?;
+    read_field(alloc, "hours", &mut pattern.hours, sloppy, fields.hours)?;
+    read_field(alloc, "day of month", &mut pattern.days, sloppy, fields.days)?;
+    read_field(alloc, "month", &mut pattern.months, sloppy, fields.months)?;
+    read_field(
+        alloc,
+        "weekdays",
+        &mut pattern.days_of_week,
+        sloppy,
+        fields.days_of_week,
+    )?;
+    read_field(alloc, "year", &mut pattern.years, sloppy, fields.years)?;
     Ok(())
 }
 
@@ -112,7 +141,7 @@ pub fn read_pattern(
         → Gives meaning_of result (of_legal s text.now (texts_of fields.entry) mode.and) }
 {
     let mut pattern = start_pattern(alloc, text, mode.quartz)?;
-    read_fields(&mut pattern, fields, mode.sloppy)?;
+    read_fields(alloc, &mut pattern, fields, mode.sloppy)?;
     settle_weekdays(&mut pattern.days_of_week, mode.quartz)?;
     pattern.set_flags(is_star(fields.days), is_star(fields.days_of_week), mode.and);
     Ok(pattern)

@@ -1,6 +1,7 @@
 //! Why a text is refused, in words for a person at a crontab.
 
 ghost use Rattle.std.specs.Prelude.{◌≡◌, Err};
+ghost use Rattle.croner_base.specs.Answers.{IsFieldError};
 ghost use Rattle.croner_pattern.specs.Meaning.{Meaning};
 ghost use Rattle.croner.specs.Grammar.{Refusal, Invalid, Illegal};
 ghost use Rattle.croner.specs.Gives.{Fails};
@@ -52,5 +53,18 @@ pub fn illegal_character(alloc: Global, field: &str, legal: &str) -> CronError
     match format!(in alloc; "The field {field} may have {legal}, and has another character.") {
         Ok(message) => CronError::IllegalCharacters(message),
         Err(_) => CronError::OutOfMemory,
+    }
+}
+
+/// A field's refusal, with the field's name in front of its message.
+pub fn in_field(alloc: Global, name: &str, refused: CronError) -> CronError
+    ensures { IsFieldError refused → IsFieldError result }
+{
+    match refused {
+        CronError::ComponentError(fault) => match format!(in alloc; "In the field {name}: {fault}") {
+            Ok(message) => CronError::ComponentError(message),
+            Err(_) => CronError::OutOfMemory,
+        },
+        other => other,
     }
 }
