@@ -1,12 +1,15 @@
 -- Listings of runs, item by item: a list that begins what is left, and what is left behind its last item.
-use Rattle.std.proofs.Common.{◌≡◌, ℕ, ◌<◌, ℤ, ◌<ℤ◌, ◌≤ℤ◌, ◌⊎◌, arith, refl, sym, inl, inr, subst, Bool, true, false, List, [], ◌∷◌, ◌++◌, length, get_or, rules}
+use Rattle.std.proofs.Common.{◌≡◌, ◌↔◌, ℕ, ◌<◌, ℤ, ◌<ℤ◌, ◌≤ℤ◌, ◌⊎◌, arith, refl, sym, inl, inr, subst, Bool, true, false, List, [], ◌∷◌, ◌++◌, length, get_or, rules}
 use Rattle.std.proofs.lemmas.Bool.{false≢true}
 use Rattle.std.proofs.lemmas.Int.{ints, by_lt_z}
 use Rattle.std.proofs.lemmas.List.Elements.{All-push, All-contains, All-contains_itself, Contains-push, Contains-append_left, Contains-push_cases}
 use Rattle.std.proofs.lemmas.List.Quantifiers.{all_pairs_push}
 use Rattle.std.specs.List.{All, AllPairs, Contains}
 use Rattle.croner.specs.Runs.{Job, Run, OwnRun, Counts, StartCounts, Nearest, Precedes, Reaches}
-use Rattle.croner.specs.Listing.{Begins}
+use Rattle.croner_base.specs.Zone.{Moment}
+use Rattle.croner_pattern.specs.Meaning.{Meaning}
+use Rattle.croner.specs.Listing.{Begins, Standing, IsLeft, moved, new_standing}
+use Rattle.croner.specs.PatternJob.{pattern_job}
 use Rattle.croner_base.specs.declared.time.Direction.{Direction}
 use Rattle.croner_base.specs.declared.time.Direction.TheVariants.{Forward, Backward}
 
@@ -159,3 +162,10 @@ there_and_back job r n b run next back =
                 ]
           ]
     ]
+
+-- ---- taken up at an item
+
+-- what is left behind an item hangs on pattern, direction and item alone
+pub same_rest : (s : Standing) (m : Meaning) (d : Direction) (at : Moment) → s.pattern ≡ m → s.direction ≡ d → (i : ℤ)
+    → IsLeft (moved s at) i ↔ IsLeft (new_standing m at false d) i
+same_rest s m d at p q i = rw (p, q) (λ h. h, λ h. h)

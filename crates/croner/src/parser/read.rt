@@ -116,7 +116,13 @@ pub fn read_fields(
         fields.minutes,
     )?;
     read_field(alloc, "hours", &mut pattern.hours, sloppy, fields.hours)?;
-    read_field(alloc, "day of month", &mut pattern.days, sloppy, fields.days)?;
+    read_field(
+        alloc,
+        "day of month",
+        &mut pattern.days,
+        sloppy,
+        fields.days,
+    )?;
     read_field(alloc, "month", &mut pattern.months, sloppy, fields.months)?;
     read_field(
         alloc,

@@ -61,7 +61,9 @@ pub fn in_field(alloc: Global, name: &str, refused: CronError) -> CronError
     ensures { IsFieldError refused → IsFieldError result }
 {
     match refused {
-        CronError::ComponentError(fault) => match format!(in alloc; "In the field {name}: {fault}") {
+        CronError::ComponentError(fault) => match format!(in alloc;
+            "In the field {name}: {fault}"
+        ) {
             Ok(message) => CronError::ComponentError(message),
             Err(_) => CronError::OutOfMemory,
         },
