@@ -366,6 +366,3 @@ impl Clone for CronComponent {
         })
     }
 }
-
-#[cfg(test)]
-mod tests;

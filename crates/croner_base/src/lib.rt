@@ -4,6 +4,4 @@
 pub mod component;
 pub mod errors;
 pub mod laws;
-#[cfg(test)]
-mod tests;
 pub mod time;

@@ -246,6 +246,3 @@ impl fmt::Display for CronPattern {
         write!(f, "{text}")
     }
 }
-
-#[cfg(test)]
-mod tests;

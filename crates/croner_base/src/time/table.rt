@@ -251,6 +251,3 @@ impl<'t> CronDateTime for TableTime<'t> {
 
     ghost clone_memory = { λ a h. tt };
 }
-
-#[cfg(test)]
-mod tests;
