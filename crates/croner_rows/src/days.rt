@@ -215,21 +215,6 @@ fn finds_members(rt: HostRuntime) -> Result<(), Fail> {
 }
 
 #[test]
-fn asks_parts_one_by_one(rt: HostRuntime) -> Result<(), Fail> {
-    let pattern = job(rt.alloc(), "", "15 30 9 15W 7 * 2024")?.pattern;
-    assert!(rt; pattern.second_match(15)?, "second");
-    assert!(rt; pattern.minute_match(30)?, "minute");
-    assert!(rt; pattern.hour_match(9)?, "hour");
-    assert!(rt; pattern.month_match(7)?, "month");
-    assert!(rt; pattern.year_match(2024)?, "year");
-    assert!(rt;
-        pattern.closest_weekday(30, 14, Weekday::Friday)?,
-        "nearest weekday"
-    );
-    Ok(())
-}
-
-#[test]
 fn shifts_weekdays_and_prints_dates(rt: HostRuntime) -> Result<(), Fail> {
     assert!(rt; Weekday::Friday.shift(31) == Weekday::Monday, "31 days on");
     let date = CivilDate::from_ymd(-5, 1, 1)?;

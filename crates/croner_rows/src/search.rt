@@ -18,11 +18,16 @@ pub fn run_found<T: Shown>(
     search: &str,
     start: &T,
 ) -> Result<String, Fault> {
-    let job = job(alloc, "", text)?;
+    answered(alloc, &job(alloc, "", text)?, search, start)
+}
+
+fn answered<T: Shown>(alloc: Global, job: &Cron, search: &str, start: &T) -> Result<String, Fault>
+    requires { has_field_shapes (job_of job.now) ≡ true }
+{
     if search == "at" {
         return Ok(job.is_time_matching(start)?.to_string(alloc)?);
     }
-    searched(&job, search, start)?.shown(alloc)
+    searched(job, search, start)?.shown(alloc)
 }
 
 fn searched<T: CronDateTime>(job: &Cron, search: &str, start: &T) -> Result<T, Fault>
@@ -47,9 +52,18 @@ pub fn items<T: Shown>(
     start: T,
     count: u32,
 ) -> Result<String, Fault> {
-    let job = job(alloc, settings, text)?;
-    let mut runs = runs(&job, way, start)?;
+    let mut runs = runs_of(alloc, settings, text, way, start)?;
     listed(alloc, &mut runs, count)
+}
+
+fn runs_of<T: CronDateTime>(
+    alloc: Global,
+    settings: &str,
+    text: &str,
+    way: &str,
+    start: T,
+) -> Result<CronIterator<T>, Fault> {
+    runs(&job(alloc, settings, text)?, way, start)
 }
 
 fn runs<T: CronDateTime>(job: &Cron, way: &str, start: T) -> Result<CronIterator<T>, Fault>

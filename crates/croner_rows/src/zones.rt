@@ -1,6 +1,6 @@
 //! Searches where clocks change: over a rule, and over tables of offsets.
 
-use crate::clock::{PARIS_RULE, civil, clock, instants, sum, zoned};
+use crate::clock::{PARIS_RULE, clock, instants, zoned};
 use crate::fault::Fault;
 use crate::search::run_found;
 use crate::table::{Question, differing};
@@ -57,21 +57,6 @@ const NAMED: &str = "
 #[test]
 fn names_instants_by_the_rule_of_paris(rt: HostRuntime) -> Result<(), Fail> {
     assert_eq!(rt; differing(rt.alloc(), &NamedInParis, NAMED)?.as_str(), "");
-    Ok(())
-}
-
-#[test]
-fn names_and_adds_seconds_of_other_clocks(rt: HostRuntime) -> Result<(), Fail> {
-    let alloc = rt.alloc();
-    let leap_day = civil("2024-02-28T23:59:59")?;
-    assert_eq!(rt; sum(alloc, &leap_day, 1)?.as_str(), "2024-02-29T00:00:00");
-    let named = instants(alloc, &leap_day, "2024-03-31T02:30:00")?;
-    assert_eq!(rt; named.as_str(), "2024-03-31T02:30:00");
-    let paris = zoned(PARIS_RULE, "1711846799")?;
-    assert_eq!(rt;
-        sum(alloc, &paris, 1)?.as_str(),
-        "2024-03-31T03:00:00 1711846800"
-    );
     Ok(())
 }
 
