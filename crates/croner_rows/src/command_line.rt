@@ -98,6 +98,34 @@ fn tells_how_to_call(rt: HostRuntime) -> Result<(), Fail> {
     Ok(())
 }
 
+const LISTINGS: &str = r#"
+    next | 30 2 * * *            | 2024-03-30T12:00:00 | 3 | CET-1CEST,M3.5.0,M10.5.0/3 | 0 "2024-03-31T03:00:00 1711846800\n2024-04-01T02:30:00 1711931400\n2024-04-02T02:30:00 1712017800\n" ""
+    next | */30 * * * *          | 2024-10-27T02:30:00 | 3 | CET-1CEST,M3.5.0,M10.5.0/3 | 0 "2024-10-27T02:00:00 1729990800\n2024-10-27T02:30:00 1729992600\n2024-10-27T03:00:00 1729994400\n" ""
+    next | 0 12 * * *            | 2024-02-28T13:00:00 | 1 | IST-5:30 | 0 "2024-02-29T12:00:00 1709188200\n" ""
+    next | * * * * *             | 2024-03-31T02:30:00 | 1 | CET-1CEST,M3.5.0,M10.5.0/3 | 1 "" "CronScheduler encountered an invalid time.\n"
+    next | 60 * * * *            | 2024-03-31T02:30:00 | 1 | CET-1CEST,M3.5.0,M10.5.0/3 | 1 "" Component error
+    prev | */20 9 * * *          | 2024-03-01T09:20:00 | 3 | 0 "2024-03-01T09:00:00\n2024-02-29T09:40:00\n2024-02-29T09:20:00\n" ""
+    next | 0 0 0 1 1 * 2025-2026 | 2024-06-01T00:00:00 | 3 | 1 "2025-01-01T00:00:00\n2026-01-01T00:00:00\n" "CronScheduler time search limit exceeded.\n"
+    next | 0 0 31 2 *            | 2024-01-01T00:00:00 | 1 | 1 "" "CronScheduler time search limit exceeded.\n"
+    prev | * * * * *             | 0001-01-01T00:00:30 | 2 | 1 "0001-01-01T00:00:00\n" "CronScheduler time search limit exceeded.\n"
+    next | 0 0 1 1 *             | 2024-01-01T00:00:00 | 0001 | 0 "2025-01-01T00:00:00\n" ""
+
+    next | * * * * *  | 2024-01-01T00:00:00 | 0    | 2 "" usage
+    next | * * * * *  | 2024-01-01T00:00:00 | 1001 | 2 "" usage
+    next | * * * * *  | 2024-01-01T00:00:00 | +1   | 2 "" usage
+    next | * * * * *  | 2024-01-01T00:00:00 |      | 2 "" usage
+    next | * * * * *  | 2024-01-01T00:00:00 | 1 | , | 2 "" usage
+    next | 60 * * * * | 2024-02-30T00:00:00 | 1    | 2 "" usage
+    next | * * * * *  | 2024-01-01T00:00:00 | 2 "" usage
+    describe | * * * * * | 2 "" usage
+"#;
+
+#[test]
+fn answers_next_and_prev(rt: HostRuntime) -> Result<(), Fail> {
+    assert_eq!(rt; differing(rt.alloc(), &Program, LISTINGS)?.as_str(), "");
+    Ok(())
+}
+
 /// A writer that takes so many bytes and then fails.
 #[derive(Drop)]
 struct Full {

@@ -3,7 +3,7 @@
 use crate::clock::civil;
 use crate::fault::Fault;
 use crate::job::job;
-use crate::table::{Question, differing};
+use crate::table::{Question, Told, differing};
 use crate::words::number;
 use croner::CronPattern;
 use croner::time::{CivilDate, Direction, TimeComponent, Weekday};
@@ -77,12 +77,23 @@ fn names_days(rt: HostRuntime) -> Result<(), Fail> {
     Ok(())
 }
 
-// The days of 2024 that a pattern names.
-fn days_of_2024(alloc: Global, text: &str) -> Result<u32, Fault> {
-    let job = job(alloc, "", text)?;
+/// A text: how many days of 2024 it names.
+struct Year;
+
+impl Question for Year {
+    fn answer(&self, alloc: Global, cells: &[&str]) -> Result<String, Fault> {
+        let [text] = cells else {
+            return Err(Fault::Malformed);
+        };
+        let job = job(alloc, "", text)?;
+        Ok(days_of_2024(&job.pattern)?.to_string(alloc)?)
+    }
+}
+
+fn days_of_2024(pattern: &CronPattern) -> Result<u32, Fault> {
     let mut count = 0u32;
     for month in 1..=12u32 {
-        count = count.saturating_add(days_of_month(&job.pattern, month)?);
+        count = count.saturating_add(days_of_month(pattern, month)?);
     }
     Ok(count)
 }
@@ -103,16 +114,55 @@ fn names(pattern: &CronPattern, date: CivilDate) -> Result<bool, Fault> {
     Ok(pattern.day_match(date.year(), date.month(), date.day(), weekday)?)
 }
 
+const YEARS: &str = "
+    0 0 * * * | 366
+    0 0 * * L | 0
+    0 0 * * 1 | 53
+    0 0 L * * | 12
+";
+
 #[test]
 fn counts_days_of_a_year(rt: HostRuntime) -> Result<(), Fail> {
-    for (text, count) in [
-        ("0 0 * * *", 366),
-        ("0 0 * * L", 0),
-        ("0 0 * * 1", 53),
-        ("0 0 L * *", 12),
-    ] {
-        assert_eq!(rt; days_of_2024(rt.alloc(), text)?, count, "{text}");
+    assert_eq!(rt; differing(rt.alloc(), &Year, YEARS)?.as_str(), "");
+    Ok(())
+}
+
+/// A text, the length of a month and the weekday of its 1st: the days that are named, as the bits of a number.
+struct MonthMask;
+
+impl Question for MonthMask {
+    fn answer(&self, alloc: Global, cells: &[&str]) -> Result<String, Fault> {
+        let [text, length, first] = cells else {
+            return Err(Fault::Malformed);
+        };
+        let (length, first) = (number(length)?, weekday_of(first)?);
+        let job = job(alloc, "", text)?;
+        Ok(mask(&job.pattern, length, first)?.to_string(alloc)?)
     }
+}
+
+fn mask(pattern: &CronPattern, length: u32, first: Weekday) -> Result<u32, Fault> {
+    if length < 28 || length > 31 {
+        return Err(Fault::Malformed);
+    }
+    Ok(pattern.day_mask(length, first)?)
+}
+
+const MASKS: &str = "
+    0 0 * * *    | 31 | Sunday   | 2147483647
+    0 0 * * *    | 28 | Sunday   | 268435455
+    0 0 1W * *   | 30 | Saturday | 4
+    0 0 LW * *   | 30 | Friday   | 268435456
+    0 0 * * 1#5  | 31 | Monday   | 268435456
+    0 0 * * 1#5  | 28 | Monday   | 0
+    0 0 30W * *  | 28 | Sunday   | 0
+    0 0 L * +5#L | 30 | Thursday | 536870912
+    0 0 13 * 5   | 30 | Sunday   | 67637280
+";
+
+#[test]
+fn masks_months(rt: HostRuntime) -> Result<(), Fail> {
+    assert_eq!(rt; differing(rt.alloc(), &MonthMask, MASKS)?.as_str(), "");
     Ok(())
 }
 
@@ -214,10 +264,48 @@ fn finds_members(rt: HostRuntime) -> Result<(), Fail> {
     Ok(())
 }
 
+const MEMBER_REFUSALS: &str = "
+    0  | day  | forward | Component error: Only seconds, minutes and hours can be searched.
+    24 | hour | forward | Component error: The value to search from is above the field's maximum.
+";
+
 #[test]
-fn shifts_weekdays_and_prints_dates(rt: HostRuntime) -> Result<(), Fail> {
+fn tells_why_no_member_is_sought(rt: HostRuntime) -> Result<(), Fail> {
+    let question = Told {
+        question: Member { text: "* * * * *" },
+    };
+    assert_eq!(rt;
+        differing(rt.alloc(), &question, MEMBER_REFUSALS)?.as_str(),
+        ""
+    );
+    Ok(())
+}
+
+#[test]
+fn shifts_weekdays(rt: HostRuntime) -> Result<(), Fail> {
     assert!(rt; Weekday::Friday.shift(31) == Weekday::Monday, "31 days on");
-    let date = CivilDate::from_ymd(-5, 1, 1)?;
-    assert_eq!(rt; date.to_string(rt.alloc())?.as_str(), "-005-01-01");
+    Ok(())
+}
+
+/// A year and a day of it: the date of that January as a text.
+struct January;
+
+impl Question for January {
+    fn answer(&self, alloc: Global, cells: &[&str]) -> Result<String, Fault> {
+        let [year, day] = cells else {
+            return Err(Fault::Malformed);
+        };
+        let date = CivilDate::from_ymd(number(year)?, 1, number(day)?)?;
+        Ok(date.to_string(alloc)?)
+    }
+}
+
+const PRINTED: &str = "
+    -5 | 1 | -005-01-01
+";
+
+#[test]
+fn prints_dates(rt: HostRuntime) -> Result<(), Fail> {
+    assert_eq!(rt; differing(rt.alloc(), &January, PRINTED)?.as_str(), "");
     Ok(())
 }

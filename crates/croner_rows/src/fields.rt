@@ -1,7 +1,7 @@
 //! Direct calls of one field, and what stands in it afterwards.
 
 use crate::fault::{Fault, refusal};
-use crate::table::{Question, differing};
+use crate::table::{Question, Told, differing};
 use crate::words::number;
 use croner::component::{
     ALL_BIT, CLOSEST_WEEKDAY_BIT, CronComponent, LAST_BIT, NONE_BIT, NTH_1ST_BIT, NTH_2ND_BIT,
@@ -193,27 +193,65 @@ fn keeps_what_was_read(rt: HostRuntime) -> Result<(), Fail> {
     Ok(())
 }
 
+/// The same of a new field: whether the text is accepted. `mark` and `unmark` name one value, and `last` takes no text.
+#[derive(Drop)]
+struct Parse;
+
+impl Question for Parse {
+    fn answer(&self, alloc: Global, cells: &[&str]) -> Result<String, Fault> {
+        let [bounds, features, offset, call, text] = cells else {
+            return Err(Fault::Malformed);
+        };
+        let mut field = made(alloc, bounds, features, offset)?;
+        called(&mut field, call, text)?;
+        Ok(String::from_str(alloc, "accepted")?)
+    }
+}
+
+// A call that names one value, or one that reads a text.
+fn called(field: &mut CronComponent, call: &str, text: &str) -> Result<(), Fault> {
+    match call {
+        "mark" => Ok(field.set_bit(number(text)?, ALL_BIT)?),
+        "unmark" => Ok(field.unset_bit(number(text)?, ALL_BIT)?),
+        "last" => Ok(field.enable_feature(LAST_BIT)?),
+        _ => Ok(read(field, call, text)?),
+    }
+}
+
+const MESSAGES: &str = "
+    0 59 |     | 0 | parse | 5x        | Component error: Invalid number '5x' in the part '5x': expected one from 0 to 65535.
+    0 59 |     | 0 | parse | 60        | Component error: The number 60 in the part '60' is out of bounds: expected one from 0 to 59.
+    0 59 |     | 0 | parse | 5-3       | Component error: Invalid range 5 to 3 in the part '5-3': expected an ascending one from 0 to 59.
+    0 59 |     | 0 | parse | 1-2-3     | Component error: Invalid part '1-2-3': expected one '-', before any '#'.
+    0 59 |     | 0 | parse | 7,*/0     | Component error: Invalid step 0 in the part '*/0': expected one from 1 to 65535.
+    0 59 |     | 0 | parse | 5/10      | Component error: Invalid start '5' in the part '5/10': expected '*' or a range before the '/'.
+    0 59 |     | 0 | parse | 1-1/65535 | Component error: Invalid step 65535 in the part '1-1/65535': expected the value after the last one to be at most 65535.
+    0 59 |     | 0 | parse | 5#2       | Component error: Invalid part '5#2': expected a number without '#' and 'L', which this field doesn't take.
+    0 59 |     | 0 | parse | 5W        | Component error: The value 5 can't be a nearest weekday (W): expected bits among 0b01000001, found 0b10000000.
+    0 59 |     | 0 | parse | LW        | Component error: This field can't name a nearest weekday (W): expected bits among 0b01000001, found 0b10000000.
+    0 7  | nth | 1 | parse | 5#6       | Component error: Invalid nth '6' in the part '5#6': expected a number from 1 to 5 or 'L' after the '#'.
+    0 7  | nth | 1 | parse | 0         | Component error: The number 0 is too small: this field counts from 1.
+    0 0  |     | 0 | parse | *         | Component error: The value 0 is out of bounds: this field holds no value.
+    0 59 |     | 0 | mark  | 60        | Component error: The value 60 is out of bounds: expected one from 0 to 59.
+    0 59 |     | 0 | mark  | 59        | accepted
+    0 59 |     | 0 | unmark | 59       | accepted
+    0 7  | nth | 0 | last  |           | accepted
+";
+
 #[test]
-fn asks_for_supported_bits_alone(rt: HostRuntime) -> Result<(), Fail> {
-    let mut minutes = CronComponent::new(rt.alloc(), 0, 59, NONE_BIT, 0)?;
-    minutes.parse("5")?;
-    assert!(rt;
-        minutes.get_set_values(ALL_BIT | NTH_1ST_BIT)?.is_empty(),
-        "the first weekday isn't supported"
-    );
+fn tells_the_part_and_what_was_expected(rt: HostRuntime) -> Result<(), Fail> {
+    let question = Told { question: Parse };
+    assert_eq!(rt; differing(rt.alloc(), &question, MESSAGES)?.as_str(), "");
     Ok(())
 }
 
 #[test]
-fn marks_and_unmarks_values(rt: HostRuntime) -> Result<(), Fail> {
-    let mut weekdays = CronComponent::new(rt.alloc(), 0, 7, NTH_ALL, 1)?;
-    weekdays.set_bit(1, NTH_1ST_BIT)?;
-    weekdays.set_bit(7, NTH_1ST_BIT)?;
-    weekdays.unset_bit(7, NTH_1ST_BIT)?;
-    weekdays.enable_feature(LAST_BIT)?;
-    let shown = state(rt.alloc(), &Ok(()), &weekdays)?;
-    assert_eq!(rt; shown.as_str(), "ok, first [0], L");
-    assert!(rt; weekdays.is_bit_set(0, NTH_1ST_BIT)?, "Sunday");
+fn asks_for_supported_bits_alone(rt: HostRuntime) -> Result<(), Fail> {
+    let minutes = CronComponent::new(rt.alloc(), 0, 59, NONE_BIT, 0)?;
+    assert!(rt;
+        minutes.get_set_values(ALL_BIT | NTH_1ST_BIT)?.is_empty(),
+        "the first weekday isn't supported"
+    );
     Ok(())
 }
 

@@ -42,7 +42,7 @@ fn searched<T: CronDateTime>(job: &Cron, search: &str, start: &T) -> Result<T, F
     }
 }
 
-/// The answers of so many calls of an iterator over the runs of a text in one of these four ways, and its fault after
+/// The answers of so many calls of a copy of an iterator over the runs of a text in one of these four ways, and its fault after
 /// the last one.
 pub fn items<T: Shown>(
     alloc: Global,
@@ -52,8 +52,8 @@ pub fn items<T: Shown>(
     start: T,
     count: u32,
 ) -> Result<String, Fault> {
-    let mut runs = runs_of(alloc, settings, text, way, start)?;
-    listed(alloc, &mut runs, count)
+    let runs = runs_of(alloc, settings, text, way, start)?;
+    listed(alloc, &mut runs.clone()?, count)
 }
 
 fn runs_of<T: CronDateTime>(

@@ -13,6 +13,21 @@ pub trait Question {
     fn answer(&self, alloc: Global, cells: &[&str]) -> Result<String, Fault>;
 }
 
+/// The same question, where a refusal answers with its message.
+#[derive(Drop)]
+pub struct Told<Q> {
+    pub question: Q,
+}
+
+impl<Q: Question> Question for Told<Q> {
+    fn answer(&self, alloc: Global, cells: &[&str]) -> Result<String, Fault> {
+        match self.question.answer(alloc, cells) {
+            Err(Fault::Refused(error)) => Ok(error.to_string(alloc)?),
+            other => other,
+        }
+    }
+}
+
 /// The rows whose answer is not the one that is wanted, each with the answer that came. The text is empty where
 /// every row is right.
 pub fn differing<Q: Question>(
