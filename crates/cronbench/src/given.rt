@@ -1,8 +1,6 @@
 //! What the program is given: its word, and the patterns.
 
-use anyhow::Result;
 use std::alloc::Global;
-use std::io::{BufRead, BufReader};
 use std::{env, io};
 
 /// How many rounds, where the words do not say it.
@@ -31,9 +29,9 @@ pub fn rounds(words: &[String]) -> Option<u32> {
 }
 
 /// The patterns on standard input, one a line. Blank lines and lines that begin with `//` are no patterns.
-pub fn patterns(rt: &HostRuntime) -> Result<Vec<String>> {
+pub fn patterns(rt: &HostRuntime) -> io::Result<Vec<String>> {
     let mut patterns = Vec::new(rt.alloc());
-    for line in BufReader::new(rt.alloc(), rt.stdin())?.lines(rt.alloc()) {
+    for line in rt.lines(rt.alloc()) {
         let line = line?;
         if is_pattern(line.as_str()) {
             patterns.push(line)?;

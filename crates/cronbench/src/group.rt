@@ -44,19 +44,21 @@ impl Group {
     /// Makes each call of the group once.
     pub fn pass(self, alloc: Global, subjects: &Subjects<'_>) -> Result<Answers, CronError> {
         let jobs = subjects.jobs.as_slice();
+        let times = &subjects.times;
+        let never = &subjects.never;
         match self {
             Group::Parse => parse(alloc, subjects.patterns.as_slice()),
-            Group::MatchCivil => matching(jobs, subjects.civil.as_slice()),
-            Group::NextCivil => next(jobs, subjects.civil.as_slice()),
-            Group::PreviousCivil => previous(jobs, subjects.civil.as_slice()),
-            Group::NextTable => next(jobs, subjects.table.as_slice()),
-            Group::NextZoned => next(jobs, subjects.zoned.as_slice()),
-            Group::IterateCivil => iterate(jobs, subjects.civil.as_slice()),
-            Group::IterateTable => iterate(jobs, subjects.table.as_slice()),
+            Group::MatchCivil => matching(jobs, times.civil.as_slice()),
+            Group::NextCivil => next(jobs, times.civil.as_slice()),
+            Group::PreviousCivil => previous(jobs, times.civil.as_slice()),
+            Group::NextTable => next(jobs, times.table.as_slice()),
+            Group::NextZoned => next(jobs, times.zoned.as_slice()),
+            Group::IterateCivil => iterate(jobs, times.civil.as_slice()),
+            Group::IterateTable => iterate(jobs, times.table.as_slice()),
             Group::Compare => compare(jobs),
             Group::Copy => copy(jobs),
-            Group::NoDate => limit(&subjects.no_date, &subjects.first),
-            Group::NoMinute => limit(&subjects.no_minute, &subjects.first),
+            Group::NoDate => limit(&never.no_date, &never.first),
+            Group::NoMinute => limit(&never.no_minute, &never.first),
         }
     }
 }

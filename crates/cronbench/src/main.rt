@@ -41,22 +41,39 @@ fn show(rt: &HostRuntime, group: Group, measured: Measured) -> io::Result<()> {
     }
 }
 
-fn bench(rt: &HostRuntime, rounds: u32) -> Result<()> {
-    let (table, zone) = (paris::table(rt.alloc())?, paris::zone()?);
-    let subjects = Subjects::new(rt.alloc(), given::patterns(rt)?, &table, &zone)?;
-    for group in Group::ALL {
-        show(rt, group, measure(rt, group, &subjects, rounds)?)?;
+// Measures a group, and shows what it answered and took.
+fn bench_group(rt: &HostRuntime, group: Group, subjects: &Subjects<'_>, rounds: u32) -> Result<()> {
+    let measured = measure(rt, group, subjects, rounds)?;
+    show(rt, group, measured)?;
+    Ok(())
+}
+
+fn bench_all(rt: &HostRuntime, subjects: &Subjects<'_>, rounds: u32) -> Result<()> {
+    for group in &Group::ALL {
+        bench_group(rt, *group, subjects, rounds)?;
     }
     Ok(())
 }
 
+fn bench(rt: &HostRuntime, rounds: u32) -> Result<()> {
+    let table = paris::table(rt.alloc())?;
+    let zone = paris::zone()?;
+    let patterns = given::patterns(rt)?;
+    let subjects = Subjects::new(rt.alloc(), patterns, &table, &zone)?;
+    bench_all(rt, &subjects, rounds)
+}
+
+// The rounds that the words ask for. None where they are not of their form.
+fn rounds(rt: &HostRuntime) -> io::Result<Option<u32>> {
+    match given::words(rt) {
+        Ok(words) => Ok(given::rounds(words.as_slice())),
+        Err(error) if error.kind() == ErrorKind::InvalidData => Ok(None),
+        Err(error) => Err(error),
+    }
+}
+
 fn main(rt: HostRuntime) -> Result<ExitCode> {
-    let rounds = match given::words(&rt) {
-        Ok(words) => given::rounds(words.as_slice()),
-        Err(error) if error.kind() == ErrorKind::InvalidData => None,
-        Err(error) => return Err(error.into()),
-    };
-    let Some(rounds) = rounds else {
+    let Some(rounds) = rounds(&rt)? else {
         eprintln!(rt; "{USAGE}")?;
         return Ok(ExitCode::from(MISUSED));
     };

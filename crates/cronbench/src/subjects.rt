@@ -2,7 +2,8 @@
 
 use crate::job::Job;
 use crate::starts::{FIRST_SECOND, civil_at, seconds, table_at, zoned_at};
-use anyhow::{Context, Result};
+use anyhow::Result;
+use croner::errors::CronError;
 use croner::time::table::{ClockTable, TableTime};
 use jiff::Zoned;
 use jiff::civil::DateTime;
@@ -22,18 +23,10 @@ pub struct Subjects<'t> {
     pub patterns: Vec<String>,
     /// A job for each pattern.
     pub jobs: Vec<Job>,
-    /// A job that never runs: its date is in no year.
-    pub no_date: Job,
-    /// A job that never runs: its minutes name nothing.
-    pub no_minute: Job,
-    /// Where the searches of the two jobs that never run start.
-    pub first: DateTime,
-    /// The times in civil time.
-    pub civil: Vec<DateTime>,
-    /// The times on a table.
-    pub table: Vec<TableTime<'t>>,
-    /// The times in a time zone.
-    pub zoned: Vec<Zoned<'static>>,
+    /// The jobs that never run.
+    pub never: Never,
+    /// The times that searches start from.
+    pub times: Times<'t>,
 }
 
 impl<'t> Subjects<'t> {
@@ -45,19 +38,61 @@ impl<'t> Subjects<'t> {
         zone: &TimeZone<'static>,
     ) -> Result<Subjects<'t>> {
         let jobs = jobs(alloc, patterns.as_slice())?;
+        let never = Never::new(alloc)?;
+        let times = Times::new(alloc, table, zone)?;
+        Ok(Subjects {
+            patterns,
+            jobs,
+            never,
+            times,
+        })
+    }
+}
+
+/// Two jobs that never run, and where their searches start.
+#[derive(Drop)]
+pub struct Never {
+    /// Its date is in no year.
+    pub no_date: Job,
+    /// Its minutes name nothing.
+    pub no_minute: Job,
+    /// Where the searches start.
+    pub first: DateTime,
+}
+
+impl Never {
+    /// Reads the two patterns.
+    fn new(alloc: Global) -> Result<Never> {
+        let first = civil_at(FIRST_SECOND)?;
         let no_date = Job::read(alloc, NO_DATE)?;
         let no_minute = Job::read(alloc, NO_MINUTE)?;
-        let first = civil_at(FIRST_SECOND)?;
+        Ok(Never {
+            no_date,
+            no_minute,
+            first,
+        })
+    }
+}
+
+/// The times that searches start from, of each kind.
+#[derive(Drop)]
+pub struct Times<'t> {
+    /// The times in civil time.
+    pub civil: Vec<DateTime>,
+    /// The times on a table.
+    pub table: Vec<TableTime<'t>>,
+    /// The times in a time zone.
+    pub zoned: Vec<Zoned<'static>>,
+}
+
+impl<'t> Times<'t> {
+    /// Places the times on the table and in the zone.
+    fn new(alloc: Global, table: &'t ClockTable, zone: &TimeZone<'static>) -> Result<Times<'t>> {
         let seconds = seconds(alloc)?;
         let civil = civil_times(alloc, seconds.as_slice())?;
         let on_table = table_times(alloc, table, seconds.as_slice())?;
         let zoned = zoned_times(alloc, zone, seconds.as_slice())?;
-        Ok(Subjects {
-            patterns,
-            jobs,
-            no_date,
-            no_minute,
-            first,
+        Ok(Times {
             civil,
             table: on_table,
             zoned,
@@ -97,12 +132,10 @@ fn zoned_times(
     Ok(times)
 }
 
-fn jobs(alloc: Global, patterns: &[String]) -> Result<Vec<Job>> {
+fn jobs(alloc: Global, patterns: &[String]) -> Result<Vec<Job>, CronError> {
     let mut jobs = Vec::new(alloc);
     for pattern in patterns {
-        let job = Job::read(alloc, pattern.as_str()).context(format_args!(
-            "reading the pattern {pattern:?}"
-        ))?;
+        let job = Job::read(alloc, pattern.as_str())?;
         jobs.push(job)?;
     }
     Ok(jobs)
