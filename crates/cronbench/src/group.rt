@@ -1,0 +1,84 @@
+//! The groups of calls that are measured.
+
+use crate::answers::Answers;
+use crate::passes::{compare, copy, iterate, limit, matching, next, parse, previous};
+use crate::subjects::Subjects;
+use croner::errors::CronError;
+use std::alloc::Global;
+use std::fmt;
+
+/// A group of calls of one kind.
+#[derive(Clone, Copy)]
+pub enum Group {
+    Parse,
+    MatchCivil,
+    NextCivil,
+    PreviousCivil,
+    NextTable,
+    NextZoned,
+    IterateCivil,
+    IterateTable,
+    Compare,
+    Copy,
+    NoDate,
+    NoMinute,
+}
+
+impl Group {
+    /// Every group, in the order in which they are shown.
+    pub const ALL: [Group; 12] = [
+        Group::Parse,
+        Group::MatchCivil,
+        Group::NextCivil,
+        Group::PreviousCivil,
+        Group::NextTable,
+        Group::NextZoned,
+        Group::IterateCivil,
+        Group::IterateTable,
+        Group::Compare,
+        Group::Copy,
+        Group::NoDate,
+        Group::NoMinute,
+    ];
+
+    /// Makes each call of the group once.
+    pub fn pass(self, alloc: Global, subjects: &Subjects<'_>) -> Result<Answers, CronError> {
+        let jobs = subjects.jobs.as_slice();
+        let times = &subjects.times;
+        let never = &subjects.never;
+        match self {
+            Group::Parse => parse(alloc, subjects.patterns.as_slice()),
+            Group::MatchCivil => matching(jobs, times.civil.as_slice()),
+            Group::NextCivil => next(jobs, times.civil.as_slice()),
+            Group::PreviousCivil => previous(jobs, times.civil.as_slice()),
+            Group::NextTable => next(jobs, times.table.as_slice()),
+            Group::NextZoned => next(jobs, times.zoned.as_slice()),
+            Group::IterateCivil => iterate(jobs, times.civil.as_slice()),
+            Group::IterateTable => iterate(jobs, times.table.as_slice()),
+            Group::Compare => compare(jobs),
+            Group::Copy => copy(jobs),
+            Group::NoDate => limit(&never.no_date, &never.first),
+            Group::NoMinute => limit(&never.no_minute, &never.first),
+        }
+    }
+}
+
+impl fmt::Display for Group {
+    fn fmt<W: fmt::Write>(&self, f: &mut fmt::Formatter<W>) -> fmt::Result {
+        let name = match self {
+            Group::Parse => "parse",
+            Group::MatchCivil => "match, civil time",
+            Group::NextCivil => "next run, civil time",
+            Group::PreviousCivil => "previous run, civil time",
+            Group::NextTable => "next run, table",
+            Group::NextZoned => "next run, time zone",
+            Group::IterateCivil => "1,000 runs, civil time",
+            Group::IterateTable => "1,000 runs, table",
+            Group::Compare => "clone and compare",
+            Group::Copy => "clone",
+            Group::NoDate => "next run of 0 0 31 2 *",
+            Group::NoMinute => "next run of , * * * *",
+        };
+        write!(f, "{name}")
+    }
+}

@@ -1,0 +1,82 @@
+//! `cronbench`: how long the library's calls take, on the patterns of standard input.
+//!
+//! Its word is the number of rounds, one where there is none. Each group of calls is measured so often. Standard output
+//! has the answers' sum of each group, the same in every run; standard error has the nanoseconds of processor time of one
+//! call, in the fastest round.
+#![tactic(auto)]
+
+mod answers;
+mod given;
+mod group;
+mod job;
+mod measure;
+mod moment;
+mod paris;
+mod passes;
+mod starts;
+mod subjects;
+
+use anyhow::Result;
+use group::Group;
+use measure::{Measured, measure};
+use std::io;
+use std::io::ErrorKind;
+use std::process::ExitCode;
+use subjects::Subjects;
+
+/// The status where the words are not of their form.
+const MISUSED: u8 = 2;
+
+const USAGE: &str = "usage: cronbench [ROUNDS] < PATTERNS";
+
+fn show(rt: &HostRuntime, group: Group, measured: Measured) -> io::Result<()> {
+    let (count, sum) = (measured.answers.count(), measured.answers.sum());
+    println!(rt; "{group}: {count} answers, sum {sum}")?;
+    match measured.per_call() {
+        Some(time) => {
+            let nanoseconds = time.as_nanos();
+            eprintln!(rt; "{group}: {nanoseconds} ns")
+        }
+        None => eprintln!(rt; "{group}: no call"),
+    }
+}
+
+// Measures a group, and shows what it answered and took.
+fn bench_group(rt: &HostRuntime, group: Group, subjects: &Subjects<'_>, rounds: u32) -> Result<()> {
+    let measured = measure(rt, group, subjects, rounds)?;
+    show(rt, group, measured)?;
+    Ok(())
+}
+
+fn bench_all(rt: &HostRuntime, subjects: &Subjects<'_>, rounds: u32) -> Result<()> {
+    for group in &Group::ALL {
+        bench_group(rt, *group, subjects, rounds)?;
+    }
+    Ok(())
+}
+
+fn bench(rt: &HostRuntime, rounds: u32) -> Result<()> {
+    let table = paris::table(rt.alloc())?;
+    let zone = paris::zone()?;
+    let patterns = given::patterns(rt)?;
+    let subjects = Subjects::new(rt.alloc(), patterns, &table, &zone)?;
+    bench_all(rt, &subjects, rounds)
+}
+
+// The rounds that the words ask for. None where they are not of their form.
+fn rounds(rt: &HostRuntime) -> io::Result<Option<u32>> {
+    match given::words(rt) {
+        Ok(words) => Ok(given::rounds(words.as_slice())),
+        Err(error) if error.kind() == ErrorKind::InvalidData => Ok(None),
+        Err(error) => Err(error),
+    }
+}
+
+fn main(rt: HostRuntime) -> Result<ExitCode> {
+    let Some(rounds) = rounds(&rt)? else {
+        eprintln!(rt; "{USAGE}")?;
+        return Ok(ExitCode::from(MISUSED));
+    };
+    bench(&rt, rounds)?;
+    Ok(ExitCode::SUCCESS)
+}

@@ -1,0 +1,54 @@
+//! Measuring a group.
+
+use crate::answers::Answers;
+use crate::group::Group;
+use crate::subjects::Subjects;
+use anyhow::{Result, ensure};
+use std::rt::CpuClock;
+use std::time::Duration;
+
+/// The answers of a group's calls, and the processor time that they took together.
+#[derive(Clone, Copy)]
+pub struct Measured {
+    pub answers: Answers,
+    pub time: Duration,
+}
+
+impl Measured {
+    /// The processor time of one call. None where there was no call.
+    pub fn per_call(&self) -> Option<Duration> {
+        let count = self.answers.count();
+        if count == 0 {
+            None
+        } else {
+            Some(self.time / count)
+        }
+    }
+}
+
+/// Measures a group in so many passes, at least one: its answers, the same in each, and the least time.
+pub fn measure<R: CpuClock + AllocGlobal>(
+    rt: &R,
+    group: Group,
+    subjects: &Subjects<'_>,
+    passes: u32,
+) -> Result<Measured> {
+    let mut least = measure_pass(rt, group, subjects)?;
+    for _ in 1..passes {
+        let measured = measure_pass(rt, group, subjects)?;
+        ensure!(measured.answers == least.answers, "two answers of {group}");
+        least.time = least.time.min(measured.time);
+    }
+    Ok(least)
+}
+
+fn measure_pass<R: CpuClock + AllocGlobal>(
+    rt: &R,
+    group: Group,
+    subjects: &Subjects<'_>,
+) -> Result<Measured> {
+    let begin = rt.thread_cpu_time()?;
+    let answers = group.pass(rt.alloc(), subjects)?;
+    let time = rt.thread_cpu_time()?.saturating_sub(begin);
+    Ok(Measured { answers, time })
+}

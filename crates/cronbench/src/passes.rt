@@ -1,0 +1,116 @@
+//! One pass of each kind of call: over all patterns, and where it has a start, from all starts.
+
+use crate::answers::Answers;
+use crate::job::Job;
+use crate::moment::Moment;
+use croner::errors::CronError;
+use croner::time::Direction;
+use croner::{Cron, CronIterator};
+use std::alloc::Global;
+
+/// How many runs an iterator is asked for.
+const RUNS: u32 = 1000;
+
+/// Reads each pattern. An answer is the text that the job keeps.
+pub fn parse(alloc: Global, patterns: &[String]) -> Result<Answers, CronError> {
+    let mut answers = Answers::default();
+    for pattern in patterns {
+        let cron = Cron::from_str(alloc, pattern.as_str())?;
+        answers.add_text(cron.as_str());
+    }
+    Ok(answers)
+}
+
+/// Asks whether a time matches. An answer is 1 where it does, else 0.
+pub fn matching<T: Moment>(jobs: &[Job], starts: &[T]) -> Result<Answers, CronError> {
+    let mut answers = Answers::default();
+    for job in jobs {
+        for start in starts {
+            answers.add(i64::from(job.cron.is_time_matching(start)?));
+        }
+    }
+    Ok(answers)
+}
+
+/// Seeks the next run, the start left out. An answer is the run.
+pub fn next<T: Moment>(jobs: &[Job], starts: &[T]) -> Result<Answers, CronError> {
+    let mut answers = Answers::default();
+    for job in jobs {
+        for start in starts {
+            answers.add(job.cron.find_next_occurrence(start, false)?.second());
+        }
+    }
+    Ok(answers)
+}
+
+/// Seeks the previous run, the start left out. An answer is the run.
+pub fn previous<T: Moment>(jobs: &[Job], starts: &[T]) -> Result<Answers, CronError> {
+    let mut answers = Answers::default();
+    for job in jobs {
+        for start in starts {
+            answers.add(job.cron.find_previous_occurrence(start, false)?.second());
+        }
+    }
+    Ok(answers)
+}
+
+/// Goes over the first runs from the first start on, itself included. An answer is a run.
+pub fn iterate<T: Moment>(jobs: &[Job], starts: &[T]) -> Result<Answers, CronError> {
+    let mut answers = Answers::default();
+    if let Some(start) = starts.first() {
+        for job in jobs {
+            let mut runs = job.cron.iter_from(start.clone()?, Direction::Forward)?;
+            add_runs(&mut answers, &mut runs);
+        }
+    }
+    Ok(answers)
+}
+
+fn add_runs<T: Moment>(answers: &mut Answers, runs: &mut CronIterator<T>) {
+    for _ in 0..RUNS {
+        if !add_run(answers, runs) {
+            return;
+        }
+    }
+}
+
+// Adds the next run; whether there was one.
+fn add_run<T: Moment>(answers: &mut Answers, runs: &mut CronIterator<T>) -> bool {
+    match runs.next() {
+        Some(run) => {
+            answers.add(run.second());
+            true
+        }
+        None => false,
+    }
+}
+
+/// Compares each job with its clone. An answer is 1 where they are equal, else 0; the time of the clone is in it.
+pub fn compare(jobs: &[Job]) -> Result<Answers, CronError> {
+    let mut answers = Answers::default();
+    for job in jobs {
+        let copy = job.cron.clone()?;
+        answers.add(i64::from(job.cron.cmp(&copy).is_eq()));
+    }
+    Ok(answers)
+}
+
+/// Clones each job. An answer is the text that the clone keeps.
+pub fn copy(jobs: &[Job]) -> Result<Answers, CronError> {
+    let mut answers = Answers::default();
+    for job in jobs {
+        answers.add_text(job.cron.clone()?.as_str());
+    }
+    Ok(answers)
+}
+
+/// Seeks the next run of a job. The answer is the run, or -1 where the search comes to the limit.
+pub fn limit<T: Moment>(job: &Job, start: &T) -> Result<Answers, CronError> {
+    let mut answers = Answers::default();
+    match job.cron.find_next_occurrence(start, false) {
+        Ok(run) => answers.add(run.second()),
+        Err(CronError::TimeSearchLimitExceeded) => answers.add(-1),
+        Err(error) => return Err(error),
+    }
+    Ok(answers)
+}

@@ -1,0 +1,142 @@
+//! What is measured on: the jobs, and the times that searches start from.
+
+use crate::job::Job;
+use crate::starts::{FIRST_SECOND, civil_at, seconds, table_at, zoned_at};
+use anyhow::Result;
+use croner::errors::CronError;
+use croner::time::table::{ClockTable, TableTime};
+use jiff::Zoned;
+use jiff::civil::DateTime;
+use jiff::tz::TimeZone;
+use std::alloc::Global;
+
+/// A pattern whose date is in no year.
+const NO_DATE: &str = "0 0 31 2 *";
+
+/// A pattern whose minutes name nothing.
+const NO_MINUTE: &str = ", * * * *";
+
+/// The jobs, and the times that searches start from.
+#[derive(Drop)]
+pub struct Subjects<'t> {
+    /// The patterns as they are written.
+    pub patterns: Vec<String>,
+    /// A job for each pattern.
+    pub jobs: Vec<Job>,
+    /// The jobs that never run.
+    pub never: Never,
+    /// The times that searches start from.
+    pub times: Times<'t>,
+}
+
+impl<'t> Subjects<'t> {
+    /// Reads the patterns, and places the times on the table and in the zone.
+    pub fn new(
+        alloc: Global,
+        patterns: Vec<String>,
+        table: &'t ClockTable,
+        zone: &TimeZone<'static>,
+    ) -> Result<Subjects<'t>> {
+        let jobs = jobs(alloc, patterns.as_slice())?;
+        let never = Never::new(alloc)?;
+        let times = Times::new(alloc, table, zone)?;
+        Ok(Subjects {
+            patterns,
+            jobs,
+            never,
+            times,
+        })
+    }
+}
+
+/// Two jobs that never run, and where their searches start.
+#[derive(Drop)]
+pub struct Never {
+    /// Its date is in no year.
+    pub no_date: Job,
+    /// Its minutes name nothing.
+    pub no_minute: Job,
+    /// Where the searches start.
+    pub first: DateTime,
+}
+
+impl Never {
+    /// Reads the two patterns.
+    fn new(alloc: Global) -> Result<Never> {
+        let first = civil_at(FIRST_SECOND)?;
+        let no_date = Job::read(alloc, NO_DATE)?;
+        let no_minute = Job::read(alloc, NO_MINUTE)?;
+        Ok(Never {
+            no_date,
+            no_minute,
+            first,
+        })
+    }
+}
+
+/// The times that searches start from, of each kind.
+#[derive(Drop)]
+pub struct Times<'t> {
+    /// The times in civil time.
+    pub civil: Vec<DateTime>,
+    /// The times on a table.
+    pub table: Vec<TableTime<'t>>,
+    /// The times in a time zone.
+    pub zoned: Vec<Zoned<'static>>,
+}
+
+impl<'t> Times<'t> {
+    /// Places the times on the table and in the zone.
+    fn new(alloc: Global, table: &'t ClockTable, zone: &TimeZone<'static>) -> Result<Times<'t>> {
+        let seconds = seconds(alloc)?;
+        let civil = civil_times(alloc, seconds.as_slice())?;
+        let on_table = table_times(alloc, table, seconds.as_slice())?;
+        let zoned = zoned_times(alloc, zone, seconds.as_slice())?;
+        Ok(Times {
+            civil,
+            table: on_table,
+            zoned,
+        })
+    }
+}
+
+fn civil_times(alloc: Global, seconds: &[i64]) -> Result<Vec<DateTime>> {
+    let mut times = Vec::new(alloc);
+    for second in seconds {
+        times.push(civil_at(*second)?)?;
+    }
+    Ok(times)
+}
+
+fn table_times<'t>(
+    alloc: Global,
+    table: &'t ClockTable,
+    seconds: &[i64],
+) -> Result<Vec<TableTime<'t>>> {
+    let mut times = Vec::new(alloc);
+    for second in seconds {
+        times.push(table_at(table, *second)?)?;
+    }
+    Ok(times)
+}
+
+fn zoned_times(
+    alloc: Global,
+    zone: &TimeZone<'static>,
+    seconds: &[i64],
+) -> Result<Vec<Zoned<'static>>> {
+    let mut times = Vec::new(alloc);
+    for second in seconds {
+        times.push(zoned_at(zone, *second)?)?;
+    }
+    Ok(times)
+}
+
+fn jobs(alloc: Global, patterns: &[String]) -> Result<Vec<Job>, CronError> {
+    let mut jobs = Vec::new(alloc);
+    for pattern in patterns {
+        let job = Job::read(alloc, pattern.as_str())?;
+        jobs.push(job)?;
+    }
+    Ok(jobs)
+}
