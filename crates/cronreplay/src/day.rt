@@ -47,6 +47,17 @@ pub fn closest_weekday(alloc: Global, question: &Value) -> Result<Value, Fault> 
     Ok(Value::Bool(cron.pattern.closest_weekday(length, day, weekday)?))
 }
 
+/// The days of a month that match, as bits.
+pub fn day_mask(alloc: Global, question: &Value) -> Result<Value, Fault> {
+    let length: u32 = number_at(question, "length")?;
+    let first = weekday(question, "first")?;
+    if length < 28 || length > 31 {
+        return Err(Fault::Malformed);
+    }
+    let cron = cron(alloc, question)?;
+    Ok(Value::from(cron.pattern.day_mask(length, first)?))
+}
+
 fn time_component(question: &Value) -> Result<TimeComponent, Fault> {
     match text(question, "component")? {
         "second" => Ok(TimeComponent::Second),

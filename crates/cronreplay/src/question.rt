@@ -3,7 +3,7 @@
 use crate::command::cronrun;
 use crate::compare::compare;
 use crate::component::{component, component_compare};
-use crate::day::{closest_weekday, day_match, find, matching};
+use crate::day::{closest_weekday, day_mask, day_match, find, matching};
 use crate::fault::Fault;
 use crate::member::text;
 use crate::pattern::parse;
@@ -24,6 +24,7 @@ pub fn answer(alloc: Global, question: &Value) -> Result<Value, Fault> {
         "find" => find(alloc, question),
         "day_match" => day_match(alloc, question),
         "closest_weekday" => closest_weekday(alloc, question),
+        "day_mask" => day_mask(alloc, question),
         "next" => answer_from_start(alloc, question, Ask::Search(Direction::Forward)),
         "prev" => answer_from_start(alloc, question, Ask::Search(Direction::Backward)),
         "iter" => answer_from_start(alloc, question, Ask::Items),
