@@ -1,3 +1,4 @@
 mod Calls
 mod CountTexts
+mod Listed
 mod Words

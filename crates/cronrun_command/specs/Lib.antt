@@ -1,3 +1,4 @@
+pub mod Answer
 pub mod Call
 pub mod Command
 pub mod Count
@@ -6,3 +7,4 @@ pub mod Moment
 pub mod Opened
 pub mod Refused
 pub mod Start
+pub mod Written

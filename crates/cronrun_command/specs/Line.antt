@@ -23,6 +23,12 @@ line_text civil second = civil_text civil ++ second_text second
 abbrev pub named_second : Bool → Moment → Option ℤ
 named_second in_zone m = if in_zone then Some m.instant else None
 
--- the text is the line of a run
+-- the text is the line of a run, without its end
 abbrev pub IsLine : Bool → Moment → List ℕ → Type 0
 IsLine in_zone m text = (c : CivilDateTime) × (wall_second c ≡ reading m) × (text ≡ line_text c (named_second in_zone m))
+
+-- the text is the lines of these runs, each with its end
+abbrev pub AreLines : Bool → List Moment → List ℕ → Type 0
+AreLines in_zone [] text = text ≡ []
+AreLines in_zone (m ∷ runs) text =
+    (line : List ℕ) × (rest : List ℕ) × IsLine in_zone m line × AreLines in_zone runs rest × (text ≡ line ++ 10 ∷ rest)

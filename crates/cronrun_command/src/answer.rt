@@ -1,11 +1,12 @@
 //! Answering a call.
-ghost use Rattle.std.specs.Prelude.{◌≡◌, ◌↔◌, ℤ, Ok, IsTrue, IfOk, IfErr};
+ghost use Rattle.std.specs.Prelude.{◌≡◌, ◌↔◌, ℤ, Ok, IsTrue, IfOk, IfErr, OnOk};
 ghost use Rattle.croner_base.specs.Civil.{wall_second};
 ghost use Rattle.croner_base.specs.CivilZone.{civil_zone};
 ghost use Rattle.croner_pattern.specs.Meaning.{Meaning};
 ghost use Rattle.croner_pattern.specs.Schedule.{IsScheduled};
 ghost use Rattle.croner.specs.Grammar.{outcome};
 ghost use Rattle.croner.specs.Settings.{default_settings};
+ghost use Rattle.cronrun_command.specs.Answer.{Answers};
 ghost use Rattle.cronrun_command.specs.Start.{first_instant};
 ghost use Rattle.cronrun_command.specs.Refused.{IsRefused};
 
@@ -25,7 +26,9 @@ use std::io::Write;
 const CIVIL_CLOCK: DateTime = DateTime::MIN;
 
 /// Writes the answer of a call.
-pub fn answer<W: Write>(alloc: Global, request: Request<'_>, out: &mut W) -> Result<(), Stop> {
+pub fn answer<W: Write>(alloc: Global, request: Request<'_>, out: &mut W) -> Result<(), Stop>
+    ensures { OnOk result (Answers request.entry (W.contents out.old) (W.contents out.new)) }
+{
     match request {
         Request::Match { pattern, at } => {
             let matching = is_match(alloc, pattern, at)?;

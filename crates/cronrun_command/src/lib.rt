@@ -2,6 +2,8 @@
 #![tactic(auto)]
 
 ghost use Rattle.std.specs.Prelude.{◌≡◌, ◌≤◌, map, string_bytes};
+ghost use Rattle.std.specs.Io.KnownBytes.{Keeps};
+ghost use Rattle.cronrun_command.specs.Answer.{AnswersWords};
 ghost use Rattle.cronrun_command.specs.Call.{IsCall};
 
 mod answer;
@@ -53,7 +55,9 @@ const USAGE: &str =
 pub fn run<O: Write, E: Write>(alloc: Global, words: &[String], out: &mut O, err: &mut E) -> u8
     ensures known { result ≤ MISUSED }
     ensures call { IsCall (map string_bytes words.now) → result ≤ REFUSED }
+    ensures answered { result ≡ ANSWERED → AnswersWords (map string_bytes words.now) (O.contents out.old) (O.contents out.new) }
     ensures misused { ¬ (IsCall (map string_bytes words.now)) → result ≡ MISUSED }
+    ensures silent { result ≡ MISUSED → Keeps (O.contents out.old) (O.contents out.new) }
 {
     let Some(request) = Request::read(words) else {
         return misused(err);

@@ -1,12 +1,15 @@
 //! Listing the runs of a pattern.
-ghost use Rattle.std.specs.Prelude.{◌≡◌, Ok, Some, false, IfOk, IfErr};
+ghost use Rattle.std.specs.Prelude.{◌≡◌, Ok, Some, false, is_some, IfOk, IfErr, OnOk};
 ghost use Rattle.croner_base.specs.Zone.{at_instant};
 ghost use Rattle.croner.specs.Grammar.{outcome};
 ghost use Rattle.croner.specs.Listing.{standing_of};
 ghost use Rattle.croner.specs.Settings.{default_settings};
+ghost use Rattle.cronrun_command.specs.Answer.{Answers, zone_of};
 ghost use Rattle.cronrun_command.specs.Start.{first_instant};
 ghost use Rattle.cronrun_command.specs.Refused.{IsRefused};
 ghost use Rattle.cronrun_command.specs.Opened.{StandsAtStart};
+ghost use Rattle.cronrun_command.specs.Written.{WritesNext};
+ghost use Rattle.cronrun_command.specs.declared.request.Request.TheVariants.{List};
 
 use crate::line::{Line, Listed};
 use crate::request::Listing;
@@ -25,9 +28,12 @@ pub fn list<T: Listed, W: Write>(
     listing: &Listing<'_>,
     clock: &T,
     out: &mut W,
-) -> Result<(), Stop> {
+) -> Result<(), Stop>
+    ensures { (T.moment clock.now).zone ≡ zone_of listing.now.zone → T.in_zone ≡ is_some listing.now.zone →
+        OnOk result (Answers (List listing.now) (W.contents out.old) (W.contents out.new)) }
+{
     let mut runs = runs_from(alloc, listing, clock)?;
-    for _ in 0..listing.count {
+    for _run in 0..listing.count {
         write_next(&mut runs, out)?;
     }
     Ok(())
@@ -53,7 +59,10 @@ fn runs_from<T: CronDateTime>(
 }
 
 // Writes the line of the next run, or gives the reason why there is none.
-fn write_next<T: Listed, W: Write>(runs: &mut CronIterator<T>, out: &mut W) -> Result<(), Stop> {
+fn write_next<T: Listed, W: Write>(runs: &mut CronIterator<T>, out: &mut W) -> Result<(), Stop>
+    ensures { OnOk result (WritesNext T.in_zone (standing_of T.moment runs.old) (standing_of T.moment runs.new)
+        (W.contents out.old) (W.contents out.new)) }
+{
     match runs.next() {
         Some(run) => {
             let line = Line::of(&run);

@@ -1,5 +1,5 @@
 //! Laws of iterators, and of searches one after the other.
-ghost use Rattle.std.specs.Prelude.{◌≡◌, ◌↔◌, ◌⊎◌, ℤ, true, false, IfOk, IfErr, IsTrue, length};
+ghost use Rattle.std.specs.Prelude.{◌≡◌, ◌≤◌, ◌<◌, ◌+◌, ◌↔◌, ◌⊎◌, ℤ, true, false, [], IfOk, IfErr, IsTrue, length, vec_len, vec_capacity};
 ghost use Rattle.std.specs.List.{All, AllPairs};
 ghost use Rattle.croner_pattern.specs.Meaning.{meaning_of};
 ghost use Rattle.croner_pattern.specs.Shapes.{has_field_shapes};
@@ -15,7 +15,7 @@ use crate::Cron;
 use crate::iterator::CronIterator;
 use croner_base::errors::CronError;
 use croner_base::time::{CronDateTime, Direction};
-use std::alloc::{AllocError, Global};
+use std::alloc::Global;
 use std::cmp::Ordering;
 
 /// The items of up to so many calls of `next`, whatever calls without an item come between, and whether the last call said that
@@ -24,7 +24,8 @@ use std::cmp::Ordering;
 /// In a calm zone the items begin the listing of what the iterator had yet to give, strictly in its direction, and the iterator
 /// goes on with the rest; where nothing is said to be left, they are all of it up to the end of the searched years. Over a
 /// backend that cannot lack memory there is an item for each call, or they are all of it too. In every zone an item is a whole
-/// second of the start's zone. The only error is `OutOfMemory`, for the list of the items.
+/// second of the start's zone. The only error is `OutOfMemory`, for the room of as many items as there are calls, which is taken
+/// first: the iterator then stands where it stood.
 pub fn next_runs<T: CronDateTime>(
     alloc: Global,
     iterator: &mut CronIterator<T>,
@@ -39,12 +40,16 @@ pub fn next_runs<T: CronDateTime>(
     ensures counted { IsSearchable (standing_of T.moment iterator.old).position → T.can_lack_memory ≡ false →
         IfOk result (λ r. (length r.0.items ≡ calls) ⊎ GaveAll (standing_of T.moment iterator.old) (instants T.moment r.0.items)) }
     ensures whole { IfOk result (λ r. All (λ t. IsWholeIn (standing_of T.moment iterator.old).position.zone (T.moment t)) r.0.items) }
+    ensures most { IfOk result (λ r. length r.0.items ≤ calls) }
+    ensures kept { IfErr result (λ e. standing_of T.moment iterator.new ≡ standing_of T.moment iterator.old) }
     ensures err { IfErr result (λ e. e ≡ CronError.OutOfMemory) }
 {
-    let mut runs = Vec::new(alloc);
+    let Ok(mut runs) = Vec::with_capacity(alloc, calls as usize) else {
+        return Err(CronError::OutOfMemory);
+    };
     let mut is_over = false;
     for _call in 0..calls {
-        is_over = take_next(iterator, &mut runs)?;
+        is_over = take_next(iterator, &mut runs);
     }
     Ok((runs, is_over))
 }
@@ -65,7 +70,8 @@ pub fn resumed<T: CronDateTime>(cron: Cron, item: T, direction: Direction) -> Cr
 /// The items of up to so many calls of `next`, and how each compares with the one before it, by `cmp_instant`.
 ///
 /// In a calm zone the items of a forward iterator are strictly later one by one, and those of a backward one strictly earlier: as
-/// instants, and in the order of the values themselves. The only error is `OutOfMemory`, for the lists.
+/// instants, and in the order of the values themselves. The only error is `OutOfMemory`, for the room of both lists, which is
+/// taken first: the iterator then stands where it stood.
 pub fn items_in_order<T: CronDateTime>(
     alloc: Global,
     iterator: &mut CronIterator<T>,
@@ -78,26 +84,30 @@ pub fn items_in_order<T: CronDateTime>(
     ensures compared { IfOk result (λ r. AreCompared T.moment r.0.items r.1.items) }
     ensures strict { IsSearchable (standing_of T.moment iterator.old).position → IfOk result (λ r.
         All (λ o. o ≡ onward (standing_of T.moment iterator.old).direction) r.1.items) }
+    ensures kept { IfErr result (λ e. standing_of T.moment iterator.new ≡ standing_of T.moment iterator.old) }
     ensures err { IfErr result (λ e. e ≡ CronError.OutOfMemory) }
 {
+    let Ok(mut orders) = Vec::with_capacity(alloc, calls as usize) else {
+        return Err(CronError::OutOfMemory);
+    };
     match next_runs(alloc, iterator, calls) {
-        Ok((items, _)) => match compared(alloc, items.as_slice()) {
-            Ok(orders) => Ok((items, orders)),
-            Err(_) => Err(CronError::OutOfMemory),
-        },
+        Ok((items, _)) => {
+            compare(items.as_slice(), &mut orders);
+            Ok((items, orders))
+        }
         Err(refused) => Err(refused),
     }
 }
 
 // How each item compares with the one before it.
-fn compared<T: CronDateTime>(alloc: Global, items: &[T]) -> Result<Vec<Ordering>, AllocError>
-    ensures { IfOk result (λ orders. AreCompared T.moment items.now orders.items) }
+fn compare<T: CronDateTime>(items: &[T], orders: &mut Vec<Ordering>)
+    requires empty { orders.old.items ≡ [] }
+    requires room { length items.now ≤ vec_capacity orders.old }
+    ensures { AreCompared T.moment items.now orders.new.items }
 {
-    let mut orders = Vec::new(alloc);
     for k in 1..items.len() {
-        orders.push(items[k].cmp_instant(&items[k - 1]))?;
+        orders.push_reserved(items[k].cmp_instant(&items[k - 1]));
     }
-    Ok(orders)
 }
 
 /// A run, found again: the next run after it, and the previous run before that one.
@@ -124,18 +134,17 @@ pub fn there_and_back<T: CronDateTime>(job: &Cron, run: &T) -> Result<(T, T), Cr
 }
 
 // Puts the item of one call behind the others, or answers whether nothing is left.
-fn take_next<T: CronDateTime>(
-    iterator: &mut CronIterator<T>,
-    runs: &mut Vec<T>,
-) -> Result<bool, CronError>
-    ensures takes { IfOk result (Takes T.moment T.can_lack_memory iterator.old iterator.new runs.old.items runs.new.items) }
-    ensures err { IfErr result (λ e. e ≡ CronError.OutOfMemory) }
+fn take_next<T: CronDateTime>(iterator: &mut CronIterator<T>, runs: &mut Vec<T>) -> bool
+    requires room { vec_len runs.old < vec_capacity runs.old }
+    ensures takes { Takes T.moment T.can_lack_memory iterator.old iterator.new runs.old.items runs.new.items result }
+    ensures longer { vec_len runs.new ≤ vec_len runs.old + 1 }
+    ensures room { vec_capacity runs.new ≡ vec_capacity runs.old }
 {
     match iterator.next() {
         Some(run) => {
-            runs.push(run)?;
-            Ok(false)
+            runs.push_reserved(run);
+            false
         }
-        None => Ok(iterator.fault().is_none()),
+        None => iterator.fault().is_none(),
     }
 }

@@ -8,6 +8,21 @@ ghost use Rattle.croner.specs.Views.{texts_of};
 
 use std::alloc::{AllocError, Global};
 
+/// The names of the fields, as messages give them.
+pub const SECONDS: &str = "seconds";
+
+pub const MINUTES: &str = "minutes";
+
+pub const HOURS: &str = "hours";
+
+pub const DAY_OF_MONTH: &str = "day of month";
+
+pub const MONTH: &str = "month";
+
+pub const WEEKDAY: &str = "weekday";
+
+pub const YEAR: &str = "year";
+
 /// The text of each field.
 #[derive(Clone, Copy)]
 pub struct FieldTexts<'t> {
@@ -157,22 +172,22 @@ pub fn illegal_field(texts: FieldTexts<'_>) -> Option<(&'static str, &'static st
 {
     let plain = "digits and * / , -";
     if !all_plain(texts.seconds) {
-        Some(("seconds", plain))
+        Some((SECONDS, plain))
     } else if !all_plain(texts.minutes) {
-        Some(("minutes", plain))
+        Some((MINUTES, plain))
     } else if !all_plain(texts.hours) {
-        Some(("hours", plain))
+        Some((HOURS, plain))
     } else if !all_for_days(texts.days) {
-        Some(("day of month", "digits and * / , - ? L W"))
+        Some((DAY_OF_MONTH, "digits and * / , - ? L W"))
     } else if !all_plain(texts.months) {
-        Some(("month", "digits, names and * / , -"))
+        Some((MONTH, "digits, names and * / , -"))
     } else if !all_for_weekdays(texts.days_of_week) {
         Some((
-            "weekday",
+            WEEKDAY,
             "digits, names and * / , - ? # L, and one + in front",
         ))
     } else if !all_plain(texts.years) {
-        Some(("year", plain))
+        Some((YEAR, plain))
     } else {
         None
     }

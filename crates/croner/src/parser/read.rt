@@ -10,7 +10,7 @@ ghost use Rattle.croner.specs.Grammar.{TakesSunday, sunday_moved, with_sunday, w
 ghost use Rattle.croner.specs.Settings.{Settings};
 ghost use Rattle.croner.specs.Views.{texts_of};
 
-use super::fields::FieldTexts;
+use super::fields::{DAY_OF_MONTH, FieldTexts, HOURS, MINUTES, MONTH, SECONDS, WEEKDAY, YEAR};
 use super::refusals::in_field;
 use croner_base::component::{
     ALL_BIT, CronComponent, LAST_BIT, NTH_1ST_BIT, NTH_2ND_BIT, NTH_3RD_BIT, NTH_4TH_BIT,
@@ -31,20 +31,23 @@ pub struct Mode {
 /// The place that Sunday has as 7.
 const SUNDAY_AS_SEVEN: u16 = 7;
 
-/// Reads the text of a field into it. A refusal's message begins with the field's name.
-pub fn read_field(
+/// What reads each field alike: whether its ranges may leave out their first number, and where messages are made.
+#[derive(Clone, Copy)]
+struct FieldReader {
     alloc: Global,
-    name: &str,
-    field: &mut CronComponent,
     sloppy: bool,
-    text: &str,
-) -> Result<(), CronError>
-    ensures { Reads (field_of (with_sloppy field.old sloppy).shape text.now) (with_sloppy field.old sloppy) field.new result }
-{
-    field.set_sloppy_ranges(sloppy);
-    match field.parse(text) {
-        Ok(()) => Ok(()),
-        Err(refused) => Err(in_field(alloc, name, refused)),
+}
+
+impl FieldReader {
+    /// Reads the text of a field into it. A refusal's message begins with the field's name.
+    fn read_field(self, name: &str, field: &mut CronComponent, text: &str) -> Result<(), CronError>
+        ensures { Reads (field_of (with_sloppy field.old self.sloppy).shape text.now) (with_sloppy field.old self.sloppy) field.new result }
+    {
+        field.set_sloppy_ranges(self.sloppy);
+        match field.parse(text) {
+            Ok(()) => Ok(()),
+            Err(refused) => Err(in_field(self.alloc, name, refused)),
+        }
     }
 }
 
@@ -101,37 +104,14 @@ pub fn read_fields(
     ensures { (s : Settings) → s.sloppy ≡ sloppy → (text : List ℕ) → meaning_of pattern.old ≡ start_meaning s text
         → ReadsAll s text (texts_of fields.entry) (meaning_of pattern.new) result }
 {
-    read_field(
-        alloc,
-        "seconds",
-        &mut pattern.seconds,
-        sloppy,
-        fields.seconds,
-    )?;
-    read_field(
-        alloc,
-        "minutes",
-        &mut pattern.minutes,
-        sloppy,
-        fields.minutes,
-    )?;
-    read_field(alloc, "hours", &mut pattern.hours, sloppy, fields.hours)?;
-    read_field(
-        alloc,
-        "day of month",
-        &mut pattern.days,
-        sloppy,
-        fields.days,
-    )?;
-    read_field(alloc, "month", &mut pattern.months, sloppy, fields.months)?;
-    read_field(
-        alloc,
-        "weekdays",
-        &mut pattern.days_of_week,
-        sloppy,
-        fields.days_of_week,
-    )?;
-    read_field(alloc, "year", &mut pattern.years, sloppy, fields.years)?;
+    let reader = FieldReader { alloc, sloppy };
+    reader.read_field(SECONDS, &mut pattern.seconds, fields.seconds)?;
+    reader.read_field(MINUTES, &mut pattern.minutes, fields.minutes)?;
+    reader.read_field(HOURS, &mut pattern.hours, fields.hours)?;
+    reader.read_field(DAY_OF_MONTH, &mut pattern.days, fields.days)?;
+    reader.read_field(MONTH, &mut pattern.months, fields.months)?;
+    reader.read_field(WEEKDAY, &mut pattern.days_of_week, fields.days_of_week)?;
+    reader.read_field(YEAR, &mut pattern.years, fields.years)?;
     Ok(())
 }
 

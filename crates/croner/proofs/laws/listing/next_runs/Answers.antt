@@ -9,16 +9,18 @@ loop-call-preserved g c =
     let lack = g.T.CronDateTime.can_lack_memory in
     let old = standing_of moment c.args.iterator.now in
     let cur = c.loop-call.iterator' in
-    let new = c.take_next.new.iterator in
+    let new = c.take_next-is_over.new.iterator in
     let before = c.loop-call.runs.items in
-    let after = c.take_next.new.runs.items in
-    let takes = c.in_ok-is_over.ensures.takes in
+    let after = c.take_next-is_over.new.runs.items in
+    let takes = c.take_next-is_over.ensures.takes in
     let held = c.loop-call.invariant in
     record {
-      goes = goes_by_call moment lack old cur new before after c.in_ok-is_over.is_over held.goes takes;
-      over = over_by_call moment lack old cur new before after c.in_ok-is_over.is_over held.goes takes;
-      wholes = wholes_by_call moment lack old cur new before after c.in_ok-is_over.is_over held.goes takes held.wholes;
-      counted = λ memory p. counted_by_call moment lack old cur new before after c.in_ok-is_over.is_over c.loop-call._call held.goes takes memory (held.counted memory) p;
+      goes = goes_by_call moment lack old cur new before after c.take_next-is_over.result held.goes takes;
+      over = over_by_call moment lack old cur new before after c.take_next-is_over.result held.goes takes;
+      wholes = wholes_by_call moment lack old cur new before after c.take_next-is_over.result held.goes takes held.wholes;
+      counted = λ memory p. counted_by_call moment lack old cur new before after c.take_next-is_over.result c.loop-call._call held.goes takes memory (held.counted memory) p;
+      most = omega (arith, c.take_next-is_over.ensures.longer, held.most);
+      room = omega (arith, c.take_next-is_over.ensures.room, held.room);
     }
 
 pub returns-clause-listing : goal.returns-clause-listing

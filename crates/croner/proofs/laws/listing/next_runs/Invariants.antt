@@ -1,4 +1,5 @@
-use Rattle.std.proofs.Common.{◌≡◌, ◌⊎◌, IsTrue, false, length}
+use Rattle.std.proofs.Common.{◌≡◌, ◌≤◌, ◌⊎◌, IsTrue, false, length}
+use Rattle.std.specs.Prelude.{vec_len, vec_capacity}
 use Rattle.std.specs.List.{All}
 use Rattle.croner.specs.Listing.{standing_of, instants}
 use Rattle.croner.specs.Neighbours.{IsWholeIn}
@@ -13,4 +14,6 @@ invariant-loop-call g l = record {
   wholes : All (λ t. IsWholeIn (standing_of g.T.CronDateTime.moment l.initial.iterator').position.zone (g.T.CronDateTime.moment t)) l.runs.items;
   counted : g.T.CronDateTime.can_lack_memory ≡ false → IsSearchable (standing_of g.T.CronDateTime.moment l.initial.iterator').position
       → (length l.runs.items ≡ l._call) ⊎ IsOver (standing_of g.T.CronDateTime.moment l.initial.iterator') (standing_of g.T.CronDateTime.moment l.iterator');
+  most : vec_len l.runs ≤ l._call;
+  room : l.calls ≤ vec_capacity l.runs;
 }

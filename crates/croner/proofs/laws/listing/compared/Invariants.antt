@@ -1,5 +1,0 @@
-use Rattle.croner.proofs.InOrder.{ComparedBelow}
-use Rattle.croner.proofs.laws.listing.compared.Given as goal
-
-abbrev pub invariant-loop-k : goal.invariant-loop-k
-invariant-loop-k g l = record { below : ComparedBelow g.T.CronDateTime.moment l.items l.orders.items l.k }

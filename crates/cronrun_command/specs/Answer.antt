@@ -1,0 +1,71 @@
+-- What a call writes to standard output.
+use Rattle.std.specs.Prelude.{◌≡◌, ◌↔◌, ◌++◌, ◌∷◌, [], ⊤, ℕ, Bool, true, false, IsTrue, List, Option, None, Some, Ok, codes, is_some, length}
+use Rattle.std.specs.Io.KnownBytes.{Appends}
+use Rattle.jiff.specs.ZoneView.{plain_zone}
+use Rattle.jiff.specs.declared.tz.timezone.TimeZone.{TimeZone}
+use Rattle.croner_base.specs.Civil.{wall_second}
+use Rattle.croner_base.specs.CivilZone.{civil_zone}
+use Rattle.croner_base.specs.Zone.{Zone, Moment}
+use Rattle.croner_base.specs.ZonedZone.{zoned_zone}
+use Rattle.croner_base.specs.declared.time.civil.CivilDateTime.{CivilDateTime}
+use Rattle.croner_pattern.specs.Meaning.{Meaning}
+use Rattle.croner_pattern.specs.Schedule.{IsScheduled}
+use Rattle.croner.specs.Grammar.{outcome}
+use Rattle.croner.specs.Listing.{Standing, GivesItem, moved}
+use Rattle.croner.specs.Settings.{default_settings}
+use Rattle.cronrun_command.specs.Call.{Ask}
+use Rattle.cronrun_command.specs.Line.{AreLines}
+use Rattle.cronrun_command.specs.Opened.{StandsAtStart}
+use Rattle.cronrun_command.specs.declared.request.Listing.{Listing}
+use Rattle.cronrun_command.specs.declared.request.Request.{Request}
+use Rattle.cronrun_command.specs.declared.request.Request.TheVariants as requests
+
+-- the word for a truth
+abbrev pub truth : Bool → List ℕ
+truth true = codes "true"
+truth false = codes "false"
+
+-- the pattern is accepted, and the line says whether it schedules the date and time
+pub record IsMatchText (pattern : List ℕ) (at : CivilDateTime) (text : List ℕ) : Type 0 where
+  pub meaning : Meaning
+  pub accepted : outcome default_settings pattern ≡ Ok meaning
+  pub held : Bool
+  pub scheduled : IsTrue held ↔ IsScheduled meaning (wall_second at)
+  pub line : text ≡ truth held ++ 10 ∷ []
+
+-- where a listing stands after these runs
+abbrev pub after : Standing → List Moment → Standing
+after s [] = s
+after s (run ∷ runs) = after (moved s run) runs
+
+-- the listing gives these runs one after the other, each the nearest of those left
+abbrev pub AreGiven : Standing → List Moment → Type 0
+AreGiven s [] = ⊤
+AreGiven s (run ∷ runs) = GivesItem s run (moved s run) × AreGiven (moved s run) runs
+
+-- the zone that a listing names: civil time where it names none
+abbrev pub zone_of : Option TimeZone → Zone
+zone_of None = civil_zone
+zone_of (Some zone) = zoned_zone (plain_zone zone)
+
+-- the pattern is accepted, the date and time names an instant, and the lines are those of so many runs from there
+pub record IsListText (l : Listing) (text : List ℕ) : Type 0 where
+  pub start : Standing
+  pub stands : StandsAtStart (outcome default_settings l.pattern.now) (zone_of l.zone) l.at l.direction start
+  pub runs : List Moment
+  pub given : AreGiven start runs
+  pub counted : length runs ≡ l.count
+  pub lines : AreLines (is_some l.zone) runs text
+
+-- the text is the answer of a call
+abbrev pub IsAnswer : Request → List ℕ → Type 0
+IsAnswer (requests.Match pattern at) text = IsMatchText pattern.now at text
+IsAnswer (requests.List l) text = IsListText l text
+
+-- the answer of a call is what a writer got between these contents
+abbrev pub Answers : Request → Option (List ℕ) → Option (List ℕ) → Type 0
+Answers request before after = (text : List ℕ) × IsAnswer request text × Appends before after text
+
+-- the words are a call, and its answer is what a writer got between these contents
+abbrev pub AnswersWords : List (List ℕ) → Option (List ℕ) → Option (List ℕ) → Type 0
+AnswersWords words before after = (request : Request) × Ask words request × Answers request before after
