@@ -1,5 +1,5 @@
 -- What a call writes to standard output.
-use Rattle.std.specs.Prelude.{◌≡◌, ◌↔◌, ◌++◌, ◌∷◌, [], ⊤, ℕ, Bool, true, false, IsTrue, List, Option, None, Some, Ok, codes, is_some, length}
+use Rattle.std.specs.Prelude.{◌≡◌, ◌↔◌, ◌++◌, ◌∷◌, [], ⊤, ℕ, Bool, IsTrue, if◌then◌else◌, List, Option, None, Some, Ok, codes, is_some, length}
 use Rattle.std.specs.Io.KnownBytes.{Appends}
 use Rattle.jiff.specs.ZoneView.{plain_zone}
 use Rattle.jiff.specs.declared.tz.timezone.TimeZone.{TimeZone}
@@ -22,8 +22,7 @@ use Rattle.cronrun_command.specs.declared.request.Request.TheVariants as request
 
 -- the word for a truth
 abbrev pub truth : Bool → List ℕ
-truth true = codes "true"
-truth false = codes "false"
+truth held = if held then codes "true" else codes "false"
 
 -- the pattern is accepted, and the line says whether it schedules the date and time
 pub record IsMatchText (pattern : List ℕ) (at : CivilDateTime) (text : List ℕ) : Type 0 where
