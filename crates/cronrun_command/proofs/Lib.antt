@@ -1,4 +1,5 @@
 mod Calls
 mod CountTexts
+mod Examples
 mod Listed
 mod Words

@@ -1,5 +1,5 @@
 -- What is written of one run.
-use Rattle.std.specs.Prelude.{◌≡◌, ◌++◌, ◌∷◌, [], ℕ, Bool, List, Option}
+use Rattle.std.specs.Prelude.{◌++◌, ◌∷◌, [], ℕ, Bool, List, Option}
 use Rattle.std.specs.Io.KnownBytes.{Appends}
 use Rattle.croner_base.specs.Zone.{Moment}
 use Rattle.croner.specs.Listing.{Standing, GivesItem}

@@ -1,4 +1,4 @@
-use Rattle.std.proofs.Common.{◌≡◌, map, string_bytes, Result, Ok, Err, OnOk, sym, ◌∙◌}
+use Rattle.std.proofs.Common.{◌≡◌, Result, Ok, Err, OnOk, sym, ◌∙◌}
 use Rattle.std.specs.Result.{result_and}
 use Rattle.std.proofs.KnownBytes.{Appends-kept}
 use Rattle.cronrun_command.proofs.run.Goals as goal

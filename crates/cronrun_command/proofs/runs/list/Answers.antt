@@ -1,4 +1,4 @@
-use Rattle.std.proofs.Common.{◌≡◌, ℕ, ◌∙◌, Bool, List, subst, arith}
+use Rattle.std.proofs.Common.{◌≡◌, ◌∙◌, Bool, subst, arith}
 use Rattle.croner_base.specs.Zone.{Zone}
 use Rattle.croner.specs.Grammar.{outcome}
 use Rattle.croner.specs.Listing.{standing_of}
