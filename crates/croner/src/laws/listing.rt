@@ -70,7 +70,7 @@ pub fn resumed<T: CronDateTime>(cron: Cron, item: T, direction: Direction) -> Cr
 /// The items of up to so many calls of `next`, and how each compares with the one before it, by `cmp_instant`.
 ///
 /// In a calm zone the items of a forward iterator are strictly later one by one, and those of a backward one strictly earlier: as
-/// instants, and in the order of the values themselves. The only error is `OutOfMemory`, for the room of both lists, which is
+/// instants, and in the order of the values themselves. There are as many as in [`next_runs`]. The only error is `OutOfMemory`, for the room of both lists, which is
 /// taken first: the iterator then stands where it stood.
 pub fn items_in_order<T: CronDateTime>(
     alloc: Global,
@@ -79,6 +79,8 @@ pub fn items_in_order<T: CronDateTime>(
 ) -> Result<(Vec<T>, Vec<Ordering>), CronError>
     ensures given { IsSearchable (standing_of T.moment iterator.old).position →
         IfOk result (λ r. Gave (standing_of T.moment iterator.old) (standing_of T.moment iterator.new) (instants T.moment r.0.items)) }
+    ensures counted { IsSearchable (standing_of T.moment iterator.old).position → T.can_lack_memory ≡ false →
+        IfOk result (λ r. (length r.0.items ≡ calls) ⊎ GaveAll (standing_of T.moment iterator.old) (instants T.moment r.0.items)) }
     ensures ordered { IsSearchable (standing_of T.moment iterator.old).position → IfOk result (λ r.
         AllPairs (Precedes (standing_of T.moment iterator.old).direction) (instants T.moment r.0.items)) }
     ensures compared { IfOk result (λ r. AreCompared T.moment r.0.items r.1.items) }
