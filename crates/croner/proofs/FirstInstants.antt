@@ -1,8 +1,7 @@
 -- The first instant that shows a wall second or more, and instants that show the same.
-use Rattle.std.proofs.Common.{◌≡◌, ℕ, zero, suc, ◌+◌, ◌*◌, ◌≤◌, ◌<◌, ℤ, pos, negsuc, ◌+ℤ◌, ◌-ℤ◌, ◌<ℤ◌, ◌≤ℤ◌, ◌⊎◌, arith, refl, sym, ◌∙◌, inl, inr, ap, subst, Bool, true, false}
+use Rattle.std.proofs.Common.{◌≡◌, ℤ, pos, ◌+ℤ◌, ◌-ℤ◌, ◌<ℤ◌, ◌≤ℤ◌, arith, refl, inl, inr}
 use Rattle.std.proofs.lemmas.Int.{ints}
-use Rattle.croner.proofs.ZoneOrder.{cases_lt_z, order, Turned, before_break, after_break}
-use Rattle.croner.specs.Halves.{Break}
+use Rattle.croner.proofs.ZoneOrder.{cases_lt_z, order, before_break, after_break}
 use Rattle.croner.proofs.ZoneOrder.{Calm}
 use Rattle.croner.specs.Walk.{First}
 

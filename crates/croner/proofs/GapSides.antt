@@ -1,5 +1,5 @@
 -- The search for the two sides of a gap.
-use Rattle.std.proofs.Common.{◌≡◌, ℕ, zero, suc, ◌+◌, ◌*◌, ◌≤◌, ◌<◌, ℤ, pos, neg_ℤ, ◌+ℤ◌, ◌-ℤ◌, ◌<ℤ◌, ◌≤ℤ◌, ◌⊎◌, arith, refl, sym, ◌∙◌, inl, inr, ap, subst, Bool, Some, None, IsSome}
+use Rattle.std.proofs.Common.{◌≡◌, ℕ, zero, suc, ◌*◌, ◌≤◌, ◌<◌, ℤ, pos, ◌+ℤ◌, ◌-ℤ◌, ◌<ℤ◌, ◌≤ℤ◌, arith, refl, sym, ◌∙◌, inl, inr, ap, subst, Bool, Some, IsSome}
 use Rattle.std.proofs.lemmas.Int.{ints}
 use borrow.Author.Differences.{up}
 use Rattle.croner_base.specs.declared.time.Direction.TheVariants.{Forward, Backward}
@@ -12,7 +12,7 @@ use Rattle.croner_base.specs.Calm.{IsCalm, IsSearched, IsInReach}
 use Rattle.croner.specs.Premises.{HoldsYears, HasOneInstantEach}
 use Rattle.croner.specs.Refusal.{IsBackendError}
 use Rattle.croner.specs.Wall.{IsLastYear}
-use Rattle.croner.specs.Walk.{First, GapEnd, Unread, InGapUpTo, InGapDownTo, one_on}
+use Rattle.croner.specs.Walk.{GapEnd, Unread, InGapUpTo, InGapDownTo, one_on}
 use Rattle.croner.proofs.CalmZone.{Exactly, calm_of, exact_of}
 use Rattle.croner.proofs.ZoneOrder.{Calm, cases_lt_z, distance, gains, read_or_skipped}
 use Rattle.croner.proofs.WalkArms.{first_of_one, first_of_two}

@@ -1,15 +1,15 @@
 -- The edge between the two halves of a repeated range.
-use Rattle.std.proofs.Common.{◌≡◌, ℕ, ◌+◌, ◌≤◌, ◌<◌, ℤ, pos, negsuc, ◌+ℤ◌, ◌-ℤ◌, ◌<ℤ◌, ◌≤ℤ◌, ◌⊎◌, arith, refl, sym, ◌∙◌, inl, inr, ap, subst, Bool, true, false, IsTrue, ◌↔◌, Some, None, IsSome, not, ◌*ℤ◌}
+use Rattle.std.proofs.Common.{◌≡◌, ℕ, ◌+◌, ◌≤◌, ◌<◌, ℤ, pos, ◌+ℤ◌, ◌-ℤ◌, ◌<ℤ◌, ◌≤ℤ◌, arith, refl, sym, ◌∙◌, inl, inr, ap, subst, Bool, true, false, IsTrue, ◌↔◌, Some, not}
 use Rattle.std.proofs.lemmas.Int.{ints}
 use Rattle.croner_base.specs.declared.time.Direction.{Direction}
 use Rattle.croner_base.specs.declared.time.Direction.TheVariants.{Forward, Backward}
-use Rattle.croner.proofs.ZoneOrder.{cases_lt_z, order, Turned, before_break, after_break}
+use Rattle.croner.proofs.ZoneOrder.{cases_lt_z, order, before_break, after_break}
 use Rattle.croner.proofs.TwoHalves.{forward_found, backward_found, forward_before_edge, backward_before_edge, forward_first, forward_second, backward_first, backward_second}
 use Rattle.croner.proofs.RunsOfSeconds.{true_or_false}
 use Rattle.croner.proofs.WalkLoop.{never_true}
 use Rattle.croner_base.specs.Zone.{Zone, Moment, reading, nanos_of, IsUnheld}
 use Rattle.croner_base.specs.Calm.{IsCalm, HoldsAround, IsNear}
-use Rattle.croner.specs.Halves.{Break, EdgeAfter, EdgeBefore, HasTwin, EdgeOf, offset_from, CountsBoth, Bisected, moment_from, IsEdge}
+use Rattle.croner.specs.Halves.{Break, HasTwin, EdgeOf, offset_from, CountsBoth, Bisected, moment_from, IsEdge}
 use Rattle.croner.proofs.CalmZone.{Exactly, calm_of, exact_of}
 use Rattle.croner.proofs.ZoneOrder.{Calm, window}
 use Rattle.croner_base.specs.declared.time.civil.CivilDateTime.{CivilDateTime}
@@ -18,8 +18,8 @@ use Rattle.croner.specs.Premises.{IsCalmStart, HoldsSecond}
 use Rattle.croner.specs.Refusal.{IsBackendError}
 use Rattle.croner_base.specs.declared.errors.CronError.{CronError}
 use Rattle.croner_base.specs.declared.time.value.Resolution.TheVariants.{Single, Ambiguous, Gap}
-use Rattle.croner.specs.Runs.{Job, Nearest, Precedes, Reaches, job_in}
-use Rattle.croner.specs.Walk.{Walked, WalkedFrom, walk_start, one_on}
+use Rattle.croner.specs.Runs.{Job, Nearest, Precedes}
+use Rattle.croner.specs.Walk.{Walked, WalkedFrom}
 
 module _ (reads : ℤ → ℤ) (calm : Calm reads) where
   edge_after : (i : ℤ) → HasTwin Forward reads i → (HasTwin Forward reads (i +ℤ pos 1) → ⊥) → Break reads i

@@ -1,9 +1,8 @@
 -- What a search needs held stays held from each run on: a run shows a second of the years 1 to 5000.
-use Rattle.std.proofs.Common.{◌≡◌, ℤ, pos, ◌+ℤ◌, ◌-ℤ◌, ◌<ℤ◌, ◌≤ℤ◌, ◌⊎◌, arith, inl, inr}
+use Rattle.std.proofs.Common.{ℤ, pos, ◌+ℤ◌, ◌-ℤ◌, ◌≤ℤ◌, arith, inl, inr}
 use Rattle.std.proofs.lemmas.Int.{ints}
 use Rattle.croner_base.specs.Zone.{Zone, Moment, at_instant}
 use Rattle.croner_base.specs.Calm.{IsCalm, IsSearched, IsInReach, IsNear, HoldsAround}
-use Rattle.croner.specs.Premises.{IsSearchable}
 use Rattle.croner.proofs.ZoneOrder.{Calm, window, cases_lt_z}
 use Rattle.croner.proofs.CalmZone.{calm_of}
 

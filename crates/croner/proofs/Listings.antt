@@ -1,15 +1,14 @@
 -- Listings of runs, item by item: a list that begins what is left, and what is left behind its last item.
-use Rattle.std.proofs.Common.{◌≡◌, ◌↔◌, ℕ, ◌<◌, ℤ, ◌<ℤ◌, ◌≤ℤ◌, ◌⊎◌, arith, refl, sym, inl, inr, subst, Bool, true, false, List, [], ◌∷◌, ◌++◌, length, get_or, rules}
+use Rattle.std.proofs.Common.{◌≡◌, ◌↔◌, ℤ, ◌<ℤ◌, ◌≤ℤ◌, ◌⊎◌, arith, sym, inl, inr, subst, Bool, false, List, [], ◌∷◌, ◌++◌, get_or, rules}
 use Rattle.std.proofs.lemmas.Bool.{false≢true}
 use Rattle.std.proofs.lemmas.Int.{ints, by_lt_z}
-use Rattle.std.proofs.lemmas.List.Elements.{All-push, All-contains, All-contains_itself, Contains-push, Contains-append_left, Contains-push_cases}
+use Rattle.std.proofs.lemmas.List.Elements.{All-push, All-contains, Contains-push, Contains-append_left}
 use Rattle.std.proofs.lemmas.List.Quantifiers.{all_pairs_push}
 use Rattle.std.specs.List.{All, AllPairs, Contains}
-use Rattle.croner.specs.Runs.{Job, Run, OwnRun, Counts, StartCounts, Nearest, Precedes, Reaches}
+use Rattle.croner.specs.Runs.{Job, Run, Counts, Nearest, Precedes, Reaches}
 use Rattle.croner_base.specs.Zone.{Moment}
 use Rattle.croner_pattern.specs.Meaning.{Meaning}
 use Rattle.croner.specs.Listing.{Begins, Standing, IsLeft, moved, new_standing}
-use Rattle.croner.specs.PatternJob.{pattern_job}
 use Rattle.croner_base.specs.declared.time.Direction.{Direction}
 use Rattle.croner_base.specs.declared.time.Direction.TheVariants.{Forward, Backward}
 

@@ -1,14 +1,12 @@
 -- Each run is the run of a scheduled second, and each run of one is a run.
-use Rattle.std.proofs.Common.{◌≡◌, ℕ, ◌+◌, ◌≤◌, ◌<◌, ℤ, pos, negsuc, ◌+ℤ◌, ◌-ℤ◌, ◌<ℤ◌, ◌≤ℤ◌, ◌⊎◌, arith, refl, sym, ◌∙◌, inl, inr, ap, subst, Bool, true, false}
+use Rattle.std.proofs.Common.{◌≡◌, ℤ, pos, ◌+ℤ◌, ◌-ℤ◌, ◌<ℤ◌, ◌≤ℤ◌, ◌⊎◌, arith, refl, sym, ◌∙◌, inl, inr, ap, subst, Bool, true, false}
 use Rattle.std.proofs.lemmas.Int.{ints}
-use Rattle.croner_base.specs.declared.time.Direction.{Direction}
-use Rattle.croner_base.specs.declared.time.Direction.TheVariants.{Forward, Backward}
-use Rattle.croner.proofs.ZoneOrder.{cases_lt_z, order, Turned, before_break, after_break}
-use Rattle.croner.proofs.FirstInstants.{earlier_twin, later_twin, first_if_least, first_ordered, first_over_gap, last_is_ahead, first_is_behind, forward_order, backward_order}
+use Rattle.croner.proofs.ZoneOrder.{cases_lt_z, order}
+use Rattle.croner.proofs.FirstInstants.{first_if_least}
 use Rattle.croner.specs.Halves.{Break}
 use Rattle.croner.proofs.ZoneOrder.{Calm}
-use Rattle.croner.specs.Walk.{First, RunOf, Ahead, NoneOf, Walked, walk_start}
-use Rattle.croner.specs.Runs.{Job, Run, OwnRun, CarriedRun, Nearest, Counts, Precedes, Reaches}
+use Rattle.croner.specs.Walk.{First, RunOf}
+use Rattle.croner.specs.Runs.{Job, Run, OwnRun}
 
 pub true_or_false : (b : Bool) → (b ≡ true) ⊎ (b ≡ false)
 true_or_false true = inl refl

@@ -1,20 +1,18 @@
 -- What a search answers from its two walks, and what its limit means.
-use Rattle.std.proofs.Common.{◌≡◌, ℕ, ◌≤◌, ℤ, pos, ◌+ℤ◌, ◌-ℤ◌, ◌<ℤ◌, ◌≤ℤ◌, ◌⊎◌, arith, refl, sym, ◌∙◌, inl, inr, ap, subst, Bool, true, false, Some, None, IsTrue, ◌↔◌, ◌*ℤ◌}
+use Rattle.std.proofs.Common.{◌≡◌, ℕ, ◌≤◌, ℤ, pos, ◌+ℤ◌, ◌-ℤ◌, ◌≤ℤ◌, ◌⊎◌, arith, refl, sym, ◌∙◌, inl, inr, ap, subst, Bool, true, false, Some, IsTrue, ◌↔◌}
 use Rattle.std.proofs.lemmas.Int.{ints}
 use Rattle.croner_base.specs.declared.time.Direction.{Direction}
 use Rattle.croner_base.specs.declared.time.Direction.TheVariants.{Forward, Backward}
-use Rattle.croner_base.specs.declared.time.civil.CivilDateTime.{CivilDateTime}
 use Rattle.croner_base.specs.declared.errors.CronError.{CronError}
-use Rattle.croner_base.specs.declared.errors.CronError.TheVariants.{InvalidDate, InvalidTime, TimeSearchLimitExceeded, OutOfMemory}
-use Rattle.croner_base.specs.Civil.{wall_second}
+use Rattle.croner_base.specs.declared.errors.CronError.TheVariants.{TimeSearchLimitExceeded}
 use Rattle.croner_base.specs.Zone.{Zone, Moment, reading, nanos_of}
-use Rattle.croner_base.specs.Calm.{IsCalm, HoldsAround, IsNear}
+use Rattle.croner_base.specs.Calm.{IsCalm, IsNear}
 use Rattle.croner.specs.Runs.{Job, job_in, Nearest, Counts, Precedes, Reaches}
-use Rattle.croner.specs.Limit.{IsWithin, InSpan, NoneInSpan}
+use Rattle.croner.specs.Limit.{IsWithin, NoneInSpan}
 use Rattle.croner.specs.Schedule.{IsCovered, NoneScheduled}
-use Rattle.croner.specs.Premises.{IsSearchable, IsCalmStart, HoldsYears, HoldsSecond, Shows}
+use Rattle.croner.specs.Premises.{IsSearchable, IsCalmStart, HoldsYears, HoldsSecond}
 use Rattle.croner.specs.Refusal.{IsBackendError, IsSearchError, IsRefusal, IsLimitOrMemory}
-use Rattle.croner.specs.Walk.{First, RunOf, NoneOf, Walked, WalkedFrom, walk_start, one_on, OutFrom, IsWalked, HasWalked}
+use Rattle.croner.specs.Walk.{RunOf, NoneOf, Walked, WalkedFrom, walk_start, one_on, OutFrom, IsWalked}
 use Rattle.croner.specs.Halves.{EdgeOf, HasTwin, CountsBoth, IsFound, IsEdge, HasOtherHalf, opposite_way, offset_from, moment_from}
 use Rattle.croner.proofs.ZoneOrder.{Calm, cases_lt_z, before_break, after_break}
 use Rattle.croner.proofs.CalmZone.{calm_of}
@@ -22,7 +20,7 @@ use Rattle.croner.proofs.RunsOfSeconds.{true_or_false}
 use Rattle.croner.proofs.WalkSteps.{Seen}
 use Rattle.croner.proofs.WalkLoop.{never_true, backend_error}
 use Rattle.croner.proofs.TwoHalves.{forward_seen, backward_seen, forward_seen_twice, backward_seen_twice, walked_counts, edge_counts_forward, edge_counts_backward}
-use Rattle.croner.proofs.HalfEdges.{found_alone, found_one_half, found_before_edge, found_second, found_first, holds_there}
+use Rattle.croner.proofs.HalfEdges.{found_alone, found_one_half, found_before_edge, found_second, found_first}
 
 -- ---- a run in the span is of a second that is covered
 

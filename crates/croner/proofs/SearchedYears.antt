@@ -1,22 +1,20 @@
 -- The dates of the years 1 to 5000 are the wall seconds that patterns name, and each run shows one of these.
-use Rattle.std.proofs.Common.{◌≡◌, ℕ, ◌+◌, ◌*◌, ◌<◌, ◌≤◌, ℤ, pos, neg_ℤ, ◌+ℤ◌, ◌*ℤ◌, ◌<ℤ◌, ◌≤ℤ◌, ◌&&◌, int_le, unsigned_abs, arith, inl, inr, refl, subst, true}
+use Rattle.std.proofs.Common.{◌≡◌, ◌<◌, ℤ, pos, neg_ℤ, ◌≤ℤ◌, ◌&&◌, int_le, unsigned_abs, arith, inl, inr, refl, subst, true}
 use Rattle.std.proofs.lemmas.Bool.{and_parts}
 use Rattle.std.proofs.lemmas.Int.{ints}
 use Rattle.jiff_core.proofs.SignedLemmas.{signed_arith}
 use Rattle.croner_base.specs.declared.time.civil.CivilDateTime.{CivilDateTime}
-use Rattle.croner_base.specs.declared.time.Direction.{Direction}
-use Rattle.croner_base.specs.Calendar.{day_number, year_start, days_since_zero, days_until_zero, IsRealDate}
+use Rattle.croner_base.specs.Calendar.{day_number, year_start, days_since_zero, days_until_zero}
 use Rattle.jiff_core.specs.Calendar.{days_in_month, days_of_months}
-use Rattle.croner_base.specs.Civil.{wall_second, day_of_date, seconds_of_time}
+use Rattle.croner_base.specs.Civil.{wall_second, seconds_of_time}
 use Rattle.croner_base.specs.Calm.{IsSearched}
 use Rattle.croner_base.specs.Zone.{Zone}
 use Rattle.croner_base.proofs.Days.{day_number-lt_year}
 use Rattle.croner_base.proofs.JiffSeconds.{wall_second-parts}
 use Rattle.croner_pattern.specs.Meaning.{Meaning}
 use Rattle.croner_pattern.specs.Schedule.{IsScheduled, DateMatches, is_plain, is_year_matching, is_day_matching, is_date_matching, first_weekday}
-use Rattle.croner.specs.Runs.{Run, Counts}
+use Rattle.croner.specs.Runs.{Run}
 use Rattle.croner.specs.PatternJob.{pattern_job}
-use Rattle.croner.proofs.Listings.{is_run}
 
 day_before : day_number (pos 0) 12 31 ≡ neg_ℤ (pos 719_163)
 unfolding day_number year_start days_since_zero days_until_zero days_of_months

@@ -1,15 +1,15 @@
 -- What counts from a start is seen by a walk from it, or by one from the edge of the other half.
-use Rattle.std.proofs.Common.{◌≡◌, ℕ, ◌+◌, ◌≤◌, ◌<◌, ℤ, pos, negsuc, ◌+ℤ◌, ◌-ℤ◌, ◌<ℤ◌, ◌≤ℤ◌, ◌⊎◌, arith, refl, sym, ◌∙◌, inl, inr, ap, subst, Bool, true, false}
+use Rattle.std.proofs.Common.{◌≡◌, ℤ, pos, ◌+ℤ◌, ◌<ℤ◌, ◌≤ℤ◌, ◌⊎◌, arith, refl, sym, ◌∙◌, inl, inr, ap, subst, Bool, true, false}
 use Rattle.std.proofs.lemmas.Int.{ints}
 use Rattle.croner_base.specs.declared.time.Direction.{Direction}
 use Rattle.croner_base.specs.declared.time.Direction.TheVariants.{Forward, Backward}
-use Rattle.croner.proofs.ZoneOrder.{cases_lt_z, order, Turned, before_break, after_break}
-use Rattle.croner.proofs.FirstInstants.{earlier_twin, later_twin, first_if_least, first_ordered, first_over_gap, last_is_ahead, first_is_behind, forward_order, backward_order}
+use Rattle.croner.proofs.ZoneOrder.{cases_lt_z, order, before_break, after_break}
+use Rattle.croner.proofs.FirstInstants.{earlier_twin, later_twin, first_if_least}
 use Rattle.croner.proofs.RunsOfSeconds.{true_or_false, run_has_second, second_gives_run, own_of_first}
-use Rattle.croner.specs.Halves.{Break, EdgeAfter, EdgeBefore}
+use Rattle.croner.specs.Halves.{EdgeAfter, EdgeBefore}
 use Rattle.croner.proofs.ZoneOrder.{Calm}
-use Rattle.croner.specs.Walk.{First, RunOf, Ahead, NoneOf, Walked, walk_start}
-use Rattle.croner.specs.Runs.{Job, Run, OwnRun, CarriedRun, Nearest, Counts, Precedes, Reaches}
+use Rattle.croner.specs.Walk.{RunOf, Ahead, Walked, walk_start}
+use Rattle.croner.specs.Runs.{Job, Run, OwnRun, Nearest, Counts, Reaches}
 use Rattle.croner.proofs.WalkSteps.{Seen}
 
 past_start : (inclusive : Bool) (r w : ℤ) → r <ℤ w → Reaches Forward (walk_start Forward inclusive r) w

@@ -1,20 +1,18 @@
 -- What a walk does at a second that one instant shows, two, or none.
-use Rattle.std.proofs.Common.{◌≡◌, ℕ, ◌+◌, ◌≤◌, ◌<◌, ℤ, pos, negsuc, ◌+ℤ◌, ◌-ℤ◌, ◌<ℤ◌, ◌≤ℤ◌, ◌⊎◌, arith, refl, sym, ◌∙◌, inl, inr, ap, subst, Bool, true, false, Option, Some, None}
+use Rattle.std.proofs.Common.{◌≡◌, ℤ, pos, ◌+ℤ◌, ◌<ℤ◌, ◌≤ℤ◌, arith, sym, inl, inr, ap, subst, Bool, true, false, Some}
 use Rattle.std.proofs.lemmas.Int.{ints}
 use Rattle.croner_base.specs.declared.time.Direction.{Direction}
 use Rattle.croner_base.specs.declared.time.Direction.TheVariants.{Forward, Backward}
 use Rattle.croner.proofs.ZoneOrder.{cases_lt_z}
-use Rattle.croner.proofs.FirstInstants.{first_if_least, first_ordered, first_over_gap, last_is_ahead, first_is_behind, forward_order, backward_order}
+use Rattle.croner.proofs.FirstInstants.{first_if_least, first_ordered, first_over_gap, last_is_ahead, first_is_behind}
 use Rattle.croner.proofs.RunsOfSeconds.{true_or_false}
 use Rattle.croner.proofs.WalkSteps.{above_start, below_start, ahead_forward, ahead_backward, ahead_or_at, behind_or_at, each_reads, first_of_run, forward_each, backward_each, forward_first_of, backward_first_of, none_past}
-use Rattle.croner.specs.Halves.{Break}
 use Rattle.croner.proofs.CalmZone.{Exactly}
 use Rattle.croner.proofs.ZoneOrder.{Calm}
 use Rattle.croner_base.specs.declared.time.value.Resolution.TheVariants.{Single, Ambiguous, Gap}
-use Rattle.croner.specs.Schedule.{NextScheduled}
-use Rattle.croner.specs.Walk.{First, RunOf, Ahead, NoneOf, Walked, walk_start, one_on, Unread, NearerOf, ChosenOf}
+use Rattle.croner.specs.Walk.{First, RunOf, Ahead, NoneOf, Walked, walk_start, one_on, Unread, ChosenOf}
 use Rattle.croner_base.specs.Zone.{Moment}
-use Rattle.croner.specs.Runs.{Job, Run, OwnRun, Precedes, Reaches}
+use Rattle.croner.specs.Runs.{Job, Precedes, Reaches}
 
 first_is_one : (reads : ℤ → ℤ) (w i j : ℤ) → First reads w i → First reads w j → i ≡ j
 first_is_one reads w i j a b =

@@ -1,5 +1,5 @@
 -- How a walk goes on from pass to pass, and what it answers.
-use Rattle.std.proofs.Common.{◌≡◌, ℕ, ◌+◌, ◌≤◌, ◌<◌, ℤ, pos, negsuc, ◌+ℤ◌, ◌-ℤ◌, ◌<ℤ◌, ◌≤ℤ◌, ◌⊎◌, arith, refl, sym, ◌∙◌, inl, inr, ap, subst, Bool, true, false, Option, Some, None, IsTrue, ◌↔◌}
+use Rattle.std.proofs.Common.{◌≡◌, ℕ, ℤ, pos, ◌+ℤ◌, ◌-ℤ◌, ◌<ℤ◌, ◌≤ℤ◌, arith, refl, sym, ◌∙◌, inl, inr, ap, subst, Bool, true, false, Some, None}
 use Rattle.std.proofs.lemmas.Int.{ints}
 use Rattle.croner_base.specs.declared.time.Direction.{Direction}
 use Rattle.croner_base.specs.declared.time.Direction.TheVariants.{Forward, Backward}
@@ -14,9 +14,9 @@ use Rattle.croner.specs.Schedule.{NextScheduled, NoneScheduled}
 use Rattle.croner.specs.Premises.{IsCalmStart, HoldsYears, HasOneInstantEach, Shows}
 use Rattle.croner.specs.Refusal.{IsBackendError}
 use Rattle.croner.specs.Wall.{IsLastYear}
-use Rattle.croner.specs.Walk.{First, NoneOf, Walked, WalkedFrom, Walking, walk_start, one_on, NearerOf, ChosenOf, IsOneOf, GapEnd, Unread, Ahead, Onward, Paces, CannotMove, IsWalked, OutFrom, HasGapEnd, HasGapFront}
-use Rattle.croner.proofs.CalmZone.{Exactly, calm_of, exact_of}
-use Rattle.croner.proofs.ZoneOrder.{Calm, cases_lt_z}
+use Rattle.croner.specs.Walk.{NoneOf, WalkedFrom, Walking, walk_start, one_on, ChosenOf, IsOneOf, GapEnd, Unread, Ahead, Onward, Paces, CannotMove, IsWalked, OutFrom, HasGapEnd, HasGapFront}
+use Rattle.croner.proofs.CalmZone.{calm_of, exact_of}
+use Rattle.croner.proofs.ZoneOrder.{cases_lt_z}
 use Rattle.croner.proofs.RunsOfSeconds.{true_or_false}
 use Rattle.croner.proofs.WalkSteps.{none_at_start, reaches_itself, none_to_next, on_reaches, one_on_reaches}
 use Rattle.croner.proofs.WalkArms.{single_answer, two_each_answer, two_each_past, gap_each_past, two_fixed_answer, two_fixed_past, gap_answer, gap_fixed_past_forward, gap_fixed_past_backward}

@@ -1,18 +1,18 @@
 -- How many passes a walk can take: those in gaps, and those of one repeated range.
-use Rattle.std.proofs.Common.{◌≡◌, ℕ, zero, suc, ◌+◌, ◌*◌, ◌≤◌, ◌<◌, ℤ, pos, negsuc, neg_ℤ, ◌+ℤ◌, ◌-ℤ◌, ◌<ℤ◌, ◌≤ℤ◌, ◌⊎◌, arith, refl, sym, ◌∙◌, inl, inr, ap, subst, List, [], ◌∷◌, length, int_lt, if◌then◌else◌, unsigned_abs, true}
+use Rattle.std.proofs.Common.{◌≡◌, ℕ, zero, suc, ◌+◌, ◌≤◌, ◌<◌, ℤ, pos, negsuc, neg_ℤ, ◌+ℤ◌, ◌-ℤ◌, ◌<ℤ◌, ◌≤ℤ◌, ◌⊎◌, arith, inl, inr, ap, subst, List, [], ◌∷◌, int_lt, if◌then◌else◌, unsigned_abs, true}
 use Rattle.std.proofs.lemmas.Int.{ints}
 use Rattle.std.specs.List.{All}
 use Rattle.std.proofs.lemmas.List.Elements.{All-nil, All-cons, All-weaker}
-use borrow.Author.Differences.{up, down}
+use borrow.Author.Differences.{up}
 use Rattle.croner_base.specs.declared.time.Direction.{Direction}
 use Rattle.croner_base.specs.declared.time.Direction.TheVariants.{Forward, Backward}
 use Rattle.croner_base.specs.declared.time.value.Resolution.TheVariants.{Gap}
 use Rattle.croner_base.specs.Zone.{Zone}
-use Rattle.croner_base.specs.Calm.{IsCalm, IsSearched, IsChange, IsMet, Rises, gap_seconds, jump}
-use Rattle.croner.specs.Runs.{Job, Precedes, Reaches}
+use Rattle.croner_base.specs.Calm.{IsCalm, IsSearched, IsMet, Rises, gap_seconds, jump}
+use Rattle.croner.specs.Runs.{Precedes, Reaches}
 use Rattle.croner.specs.Halves.{Break}
 use Rattle.croner.specs.Walk.{one_on, Onward, Paces}
-use Rattle.croner.proofs.CalmZone.{Exactly, calm_of, change_of_break}
+use Rattle.croner.proofs.CalmZone.{Exactly, change_of_break}
 use Rattle.croner.proofs.ZoneOrder.{Calm, cases_lt_z, nonnegative, order}
 use Rattle.croner.proofs.GapSides.{unread_is_in_gap}
 

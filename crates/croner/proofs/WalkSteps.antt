@@ -1,15 +1,14 @@
 -- The seconds that a walk leaves behind, and its answers.
-use Rattle.std.proofs.Common.{◌≡◌, ℕ, ◌+◌, ◌≤◌, ◌<◌, ℤ, pos, negsuc, ◌+ℤ◌, ◌-ℤ◌, ◌<ℤ◌, ◌≤ℤ◌, ◌⊎◌, arith, refl, sym, ◌∙◌, inl, inr, ap, subst, Bool, true, false}
+use Rattle.std.proofs.Common.{◌≡◌, ℤ, ◌≤ℤ◌, ◌⊎◌, arith, refl, inl, inr, ap, subst, Bool, true, false}
 use Rattle.std.proofs.lemmas.Int.{ints}
 use Rattle.croner_base.specs.declared.time.Direction.{Direction}
 use Rattle.croner_base.specs.declared.time.Direction.TheVariants.{Forward, Backward}
 use Rattle.croner.proofs.ZoneOrder.{cases_lt_z}
-use Rattle.croner.proofs.FirstInstants.{first_if_least, first_ordered, first_over_gap, last_is_ahead, first_is_behind, forward_order, backward_order}
-use Rattle.croner.specs.Halves.{Break}
+use Rattle.croner.proofs.FirstInstants.{first_ordered, forward_order, backward_order}
 use Rattle.croner.proofs.ZoneOrder.{Calm}
 use Rattle.croner.specs.Schedule.{NextScheduled}
 use Rattle.croner.specs.Walk.{First, RunOf, Ahead, NoneOf, Walked, walk_start, one_on}
-use Rattle.croner.specs.Runs.{Job, Run, OwnRun, Precedes, Reaches}
+use Rattle.croner.specs.Runs.{Job, Reaches}
 
 -- i is a run ahead of s, of a scheduled second that a walk from a wall second visits
 abbrev pub Seen : Direction → Bool → Job → ℤ → ℤ → ℤ → Type 0

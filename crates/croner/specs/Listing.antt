@@ -1,9 +1,9 @@
 -- The listing of runs from a start: lists of instants that begin it, and what an iterator has yet to give.
 use Rattle.std.specs.Prelude.{◌≡◌, ◌&&◌, ℤ, ◌⊎◌, ◌++◌, Bool, true, false, IsTrue, List, [], ◌∷◌, Option, None, IfSome, MatchOption, map}
 use Rattle.std.specs.List.{All, AllPairs, Contains}
-use Rattle.croner_base.specs.Zone.{Zone, Moment}
+use Rattle.croner_base.specs.Zone.{Moment}
 use Rattle.croner_base.specs.declared.errors.CronError.{CronError}
-use Rattle.croner_base.specs.declared.errors.CronError.TheVariants.{InvalidDate, InvalidTime, TimeSearchLimitExceeded, OutOfMemory}
+use Rattle.croner_base.specs.declared.errors.CronError.TheVariants.{InvalidDate, InvalidTime, OutOfMemory}
 use Rattle.croner_base.specs.declared.time.Direction.{Direction}
 use Rattle.croner_pattern.specs.Meaning.{Meaning, meaning_of}
 use Rattle.croner.specs.Runs.{Job, Precedes, Reaches, Counts, Nearest}

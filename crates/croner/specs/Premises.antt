@@ -1,5 +1,5 @@
 -- What the promises of a search rest on.
-use Rattle.std.specs.Prelude.{◌≡◌, ◌⊎◌, ℕ, ℤ, Bool, true, false, Some, IsSome}
+use Rattle.std.specs.Prelude.{◌≡◌, ◌⊎◌, ℕ, ℤ, true, false, Some, IsSome}
 use Rattle.croner_base.specs.declared.time.civil.CivilDateTime.{CivilDateTime}
 use Rattle.croner_base.specs.declared.time.value.Resolution.TheVariants.{Single}
 use Rattle.croner_base.specs.Civil.{wall_second}

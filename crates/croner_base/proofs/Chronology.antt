@@ -1,5 +1,5 @@
 -- The order of civil date-times is that of their wall seconds, and a wall second has one date and time.
-use Rattle.std.proofs.Common.{◌≡◌, ◌↔◌, ◌==◌, if◌then◌else◌, ap, ℕ, ◌+◌, ◌*◌, ◌%◌, ◌<◌, ◌≤◌, refl, sym, subst, ◌∙◌, arith, ℤ, pos, neg_ℤ, ◌+ℤ◌, ◌*ℤ◌, ◌<ℤ◌, ◌≤ℤ◌, nat_cmp, int_cmp}
+use Rattle.std.proofs.Common.{◌≡◌, ◌↔◌, ◌==◌, if◌then◌else◌, ap, ℕ, ◌+◌, ◌%◌, ◌<◌, refl, sym, subst, ◌∙◌, arith, ℤ, pos, neg_ℤ, ◌+ℤ◌, ◌*ℤ◌, ◌<ℤ◌, ◌≤ℤ◌, nat_cmp, int_cmp}
 use Rattle.std.proofs.lemmas.Int.{by_lt_z}
 use Rattle.std.proofs.Props.{props}
 use mathlib.Core.HLevel.{is_prop→PathP}

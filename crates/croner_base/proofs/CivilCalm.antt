@@ -1,5 +1,5 @@
 -- The zone of civil date-times is calm, and holds what a search needs.
-use Rattle.std.proofs.Common.{rules, ◌≡◌, Bool, true, false, ◌≤◌, sym, ◌∙◌, arith, ℤ, pos, neg_ℤ, ◌≤ℤ◌, List, [], ◌∷◌, length, Some, None, IsSome, if◌then◌else◌}
+use Rattle.std.proofs.Common.{rules, ◌≡◌, Bool, true, false, ◌≤◌, sym, ◌∙◌, arith, ℤ, ◌≤ℤ◌, List, [], ◌∷◌, length, Some, None, IsSome, if◌then◌else◌}
 use Rattle.jiff_core.proofs.SignedLemmas.{signed_arith}
 use Rattle.std.specs.List.{All}
 use Rattle.croner_base.specs.declared.time.civil.CivilDateTime.{CivilDateTime}

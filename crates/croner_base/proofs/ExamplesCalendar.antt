@@ -1,9 +1,9 @@
 -- Day numbers, weekdays and wall seconds of dates that are known from elsewhere, and the years of the limits, all
 -- computed from the definitions.
-use Rattle.std.proofs.Common.{◌≡◌, refl, ℤ, pos, neg_ℤ, ◌+◌, ◌*◌, ◌+ℤ◌, ◌*ℤ◌, codes}
+use Rattle.std.proofs.Common.{◌≡◌, refl, pos, neg_ℤ, ◌+◌, ◌*◌, ◌+ℤ◌, ◌*ℤ◌, codes}
 use Rattle.jiff_core.specs.Calendar.{days_of_months, day_of_year}
 use Rattle.croner_base.specs.Calendar.{day_number, weekday_of_day, year_start, days_since_zero, days_until_zero}
-use Rattle.croner_base.specs.CivilText.{date_text, time_text, datetime_text}
+use Rattle.croner_base.specs.CivilText.{date_text, datetime_text}
 use Rattle.std.specs.Fmt.{digits}
 use Rattle.croner_base.specs.Limits.{first_searched, last_searched, first_needed, last_needed, first_start, last_start}
 

@@ -1,5 +1,5 @@
 -- The clock of a calm table is calm, and holds what a search needs.
-use Rattle.std.proofs.Common.{◌≡◌, ◌⊎◌, inl, inr, sym, ap, ◌∙◌, subst, Bool, true, false, refl, arith, ◌&&◌, ◌||◌, ℕ, zero, suc, ◌+◌, ◌<◌, ◌≤◌, ℤ, pos, neg_ℤ, ◌+ℤ◌, ◌-ℤ◌, ◌<ℤ◌, ◌≤ℤ◌, int_le, int_lt, unsigned_abs, if◌then◌else◌, List, [], ◌∷◌, length, Some, None, IsSome}
+use Rattle.std.proofs.Common.{◌≡◌, ◌⊎◌, inl, inr, sym, ap, ◌∙◌, subst, Bool, true, false, refl, arith, ◌||◌, zero, suc, ◌≤◌, ℤ, pos, neg_ℤ, ◌+ℤ◌, ◌-ℤ◌, ◌<ℤ◌, ◌≤ℤ◌, int_lt, unsigned_abs, if◌then◌else◌, List, [], ◌∷◌, length, Some, None, IsSome}
 use Rattle.std.proofs.lemmas.Int.{ints, by_lt_z}
 use Rattle.std.specs.List.{All}
 use Rattle.jiff_core.proofs.SignedLemmas.{signed_arith}
@@ -11,12 +11,12 @@ use Rattle.croner_base.specs.Civil.{wall_second}
 use Rattle.croner_base.specs.Zone.{Zone, reading}
 use Rattle.croner_base.specs.Calm.{IsChange, IsMet, IsSearched, IsCalm, NamesAll, Rises, HoldsAround, jump, gap_seconds}
 use Rattle.croner_base.specs.ZonedZone.{is_near_year}
-use Rattle.croner_base.specs.Table.{offset_at, is_table_second, is_searched, is_met, are_steps, is_step, met_at, gap_at, met_count, met_gaps, is_calm_table}
+use Rattle.croner_base.specs.Table.{offset_at, is_met, are_steps, is_step, met_at, gap_at, met_count, met_gaps, is_calm_table}
 use Rattle.croner_base.specs.TableZone.{clock, clock_reads, instants_of, table_zone, table_moment}
 use Rattle.croner_base.proofs.JiffSeconds.{wall_second-parts, year_of_near}
-use Rattle.croner_base.proofs.TableTests.{Step, both_parts, step_parts, searched_test, lt_test, instant_test, lt_of}
+use Rattle.croner_base.proofs.TableTests.{Step, both_parts, step_parts, searched_test, lt_test, instant_test}
 use Rattle.croner_base.proofs.TableCheck.{rules_from_calm}
-use Rattle.croner_base.proofs.TableOffsets.{IsAfter, IsSpread, int_le-true, int_le-false, offset_within, stays}
+use Rattle.croner_base.proofs.TableOffsets.{IsSpread, int_le-true, int_le-false, offset_within, stays}
 use Rattle.croner_base.proofs.TableReadings.{calm_spread, calm_offsets}
 use Rattle.croner_base.proofs.TableMoments.{names_instants, near_year-true}
 

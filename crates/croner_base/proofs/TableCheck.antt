@@ -1,9 +1,8 @@
 -- A table is calm exactly where each change can follow the ones before it.
-use Rattle.std.proofs.Common.{◌≡◌, ◌∙◌, sym, ◌↔◌, Bool, true, false, refl, arith, ◌&&◌, ℕ, ◌+◌, ◌<◌, ◌≤◌, nat_le, add_assoc, zero-add, ℤ, pos, ◌+ℤ◌, ◌-ℤ◌, ◌<ℤ◌, ◌≤ℤ◌, int_le, int_lt, IsTrue, List, [], ◌∷◌, length, get_or, drop, drop-cons, add-one}
-use Rattle.std.proofs.lemmas.Int.{ints}
+use Rattle.std.proofs.Common.{◌≡◌, ◌↔◌, true, refl, arith, ℕ, ◌+◌, ◌<◌, ◌≤◌, ℤ, pos, ◌+ℤ◌, ◌≤ℤ◌, List, [], ◌∷◌, length, get_or, drop, drop-cons, add-one}
 use Rattle.jiff_core.proofs.SignedLemmas.{signed_arith}
 use Rattle.croner_base.specs.Limits.{apart_limit, most_changes, most_gap_seconds}
-use Rattle.croner_base.specs.Table.{first_instant, last_instant, is_offset, is_table_second, is_step, is_apart, are_offsets, are_instants, are_steps, met_at, gap_at, met_count, met_gaps, is_calm_table}
+use Rattle.croner_base.specs.Table.{first_instant, is_offset, is_table_second, is_apart, are_offsets, are_instants, are_steps, met_at, gap_at, met_count, met_gaps, is_calm_table}
 use Rattle.croner_base.specs.TableSteps.{IsNext, HasTallied}
 use Rattle.croner_base.specs.declared.time.table.check.Tally.{Tally}
 use Rattle.croner_base.proofs.TableTests.{both_parts, lt_of, lt_test, nat_le_of, nat_le_test, instant_bounds, instant_test}

@@ -1,8 +1,6 @@
 -- What the seconds of a table do as moments.
-use Rattle.std.proofs.Common.{◌≡◌, ◌⊎◌, inl, inr, sym, ap, ◌∙◌, Bool, true, false, refl, arith, ℤ, pos, neg_ℤ, ◌+ℤ◌, ◌-ℤ◌, ◌<ℤ◌, ◌≤ℤ◌, int_le, if◌then◌else◌, List, Some, None, IsSome}
-use Rattle.std.proofs.lemmas.Int.{ints, by_lt_z}
+use Rattle.std.proofs.Common.{◌≡◌, inl, inr, ap, ◌∙◌, Bool, true, false, refl, arith, ℤ, pos, neg_ℤ, ◌+ℤ◌, ◌≤ℤ◌, List, Some, None}
 use Rattle.jiff_core.proofs.SignedLemmas.{signed_arith}
-use Rattle.croner_base.specs.declared.errors.CronError.{CronError}
 use Rattle.croner_base.specs.declared.errors.CronError.TheVariants.{InvalidDate}
 use Rattle.croner_base.specs.declared.time.civil.CivilDateTime.{CivilDateTime}
 use Rattle.croner_base.specs.declared.time.table.ClockTable.{ClockTable}
@@ -11,10 +9,10 @@ use Rattle.croner_base.specs.declared.time.value.Resolution.{Resolution}
 use Rattle.croner_base.specs.declared.time.value.Resolution.TheVariants.{Single, Ambiguous, Gap}
 use Rattle.croner_base.specs.Civil.{wall_second}
 use Rattle.croner_base.specs.Calm.{NamesAll}
-use Rattle.croner_base.specs.Zone.{Zone, Moment, Names, IsResolved, IsUnheld, IsMoved, at_instant, later}
+use Rattle.croner_base.specs.Zone.{Zone, Moment, Names, IsResolved, IsUnheld, IsMoved, at_instant}
 use Rattle.croner_base.specs.ZonedZone.{is_near_year}
 use Rattle.croner_base.specs.Table.{is_table_second, is_calm_table}
-use Rattle.croner_base.specs.TableZone.{clock, clock_reads, instants_of, table_zone, table_moment}
+use Rattle.croner_base.specs.TableZone.{clock, instants_of, table_zone, table_moment}
 use Rattle.croner_base.proofs.PickExact.{pick_exact}
 use Rattle.croner_base.proofs.TableTests.{le_test, le_of, both_parts, instant_test, instant_bounds}
 use Rattle.croner_base.proofs.TableOffsets.{candidates, offset_within}

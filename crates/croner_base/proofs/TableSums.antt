@@ -1,9 +1,7 @@
 -- The changes that a search can meet, and the seconds that the clock skips at them.
-use Rattle.std.proofs.Common.{◌≡◌, ◌∙◌, sym, Bool, true, false, refl, arith, ◌&&◌, ◌||◌, ℕ, ◌+◌, ◌≤◌, if◌then◌else◌, ℤ, pos, ◌+ℤ◌, ◌-ℤ◌, ◌<ℤ◌, ◌≤ℤ◌, int_le, int_lt, unsigned_abs}
-use Rattle.std.proofs.lemmas.Int.{ints}
-use Rattle.jiff_core.proofs.SignedLemmas.{signed_arith}
-use Rattle.croner_base.specs.Table.{is_searched, is_met, is_step, gap_at}
-use Rattle.croner_base.proofs.TableTests.{lt_test, step_parts}
+use Rattle.std.proofs.Common.{◌≡◌, ◌∙◌, sym, Bool, true, false, ℤ, pos, ◌+ℤ◌, ◌-ℤ◌, ◌<ℤ◌, unsigned_abs}
+use Rattle.croner_base.specs.Table.{is_searched, is_met, gap_at}
+use Rattle.croner_base.proofs.TableTests.{lt_test}
 
 -- of the two readings the second decides where the first does not
 pub second_decides : (before second after x y : ℤ) (a b : Bool) → a ≡ is_searched x → a ≡ false → b ≡ is_searched y → x ≡ second +ℤ after → y ≡ second -ℤ pos 1 +ℤ before → b ≡ is_met before (second, after)

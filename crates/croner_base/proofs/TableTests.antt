@@ -1,9 +1,8 @@
 -- What the tests of a table say.
-use Rattle.std.proofs.Common.{◌≡◌, ◌⊎◌, inl, inr, Bool, true, false, refl, arith, ◌&&◌, ◌||◌, not, ℕ, ◌≤◌, nat_le, ℤ, pos, neg_ℤ, ◌+ℤ◌, ◌-ℤ◌, ◌<ℤ◌, ◌≤ℤ◌, int_le, int_lt, int_eq, IsTrue}
+use Rattle.std.proofs.Common.{◌≡◌, Bool, true, false, refl, arith, ◌&&◌, not, ℕ, ◌≤◌, nat_le, ℤ, pos, neg_ℤ, ◌-ℤ◌, ◌<ℤ◌, ◌≤ℤ◌, int_le, int_lt, int_eq}
 use Rattle.std.proofs.lemmas.Int.{ints}
-use Rattle.jiff_core.proofs.SignedLemmas.{signed_arith}
 use Rattle.croner_base.specs.Limits.{gap_limit, fold_limit, first_searched, last_searched}
-use Rattle.croner_base.specs.Table.{first_instant, last_instant, offset_limit, is_offset, is_table_second, is_step, is_searched}
+use Rattle.croner_base.specs.Table.{first_instant, last_instant, is_offset, is_table_second, is_step, is_searched}
 
 pub both_parts : (a b : Bool) → (a && b) ≡ true → (a ≡ true) × (b ≡ true)
 both_parts true true h = (refl, refl)

@@ -1,7 +1,6 @@
 -- What a zone of jiff resolves a civil second to.
-use Rattle.std.proofs.Common.{◌≡◌, inl, inr, Bool, true, false, refl, sym, ap, ◌∙◌, arith, ℤ, pos, neg_ℤ, ◌-ℤ◌, ◌*ℤ◌, ◌<ℤ◌, ◌≤ℤ◌, Some, None, if◌then◌else◌, int_eq, int_lt}
-use Rattle.std.proofs.lemmas.Int.{ints, by_lt_z}
-use Rattle.std.specs.Int.{int_div_euclid}
+use Rattle.std.proofs.Common.{◌≡◌, inl, inr, Bool, true, false, refl, ap, ◌∙◌, arith, ℤ, pos, neg_ℤ, ◌-ℤ◌, ◌*ℤ◌, ◌<ℤ◌, ◌≤ℤ◌, Some, None, if◌then◌else◌, int_eq, int_lt}
+use Rattle.std.proofs.lemmas.Int.{ints}
 use Rattle.jiff_core.specs.DateTime.{civil_seconds, civil_nanos}
 use Rattle.jiff_core.specs.declared.offset.Offset.{Offset}
 use Rattle.jiff_core.specs.declared.civil.datetime.DateTime.{DateTime}
@@ -10,7 +9,6 @@ use Rattle.jiff_core.proofs.DateTimeLemmas.{civil_nanos-civil_seconds}
 use Rattle.jiff_core.specs.Timestamp.{IsTimestampNanos}
 use Rattle.croner_base.specs.CivilZone.{IsWhole}
 use Rattle.jiff_tz.specs.Ambiguous.{instant_of, earlier_offset, later_offset}
-use Rattle.jiff_core.specs.declared.timestamp.Timestamp.{Timestamp}
 use Rattle.jiff_tz.specs.Zone.{ambiguous_at}
 use Rattle.jiff_tz.specs.declared.ambiguous.AmbiguousOffset.{AmbiguousOffset}
 use Rattle.jiff_tz.specs.declared.timezone.TimeZone.{TimeZone}
@@ -19,7 +17,7 @@ use Rattle.jiff.specs.ZonedView.{plain_zoned, zoned_nanos}
 use Rattle.jiff.specs.declared.zoned.Zoned.{Zoned}
 use Rattle.croner_base.specs.declared.errors.CronError.TheVariants.{InvalidDate}
 use Rattle.croner_base.specs.declared.time.civil.CivilDateTime.{CivilDateTime}
-use Rattle.croner_base.specs.declared.time.value.Resolution.TheVariants.{Single, Ambiguous, Gap}
+use Rattle.croner_base.specs.declared.time.value.Resolution.TheVariants.{Single, Ambiguous}
 use Rattle.croner_base.specs.Civil.{wall_second}
 use Rattle.croner_base.specs.Zone.{Names, IsUnheld, IsResolved}
 use Rattle.croner_base.specs.ZonedZone.{zoned_zone, zone_reads, is_near_year, jiff_datetime, pick, pick_offsets, resolve_by}

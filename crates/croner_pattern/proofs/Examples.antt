@@ -1,5 +1,5 @@
 -- Worked days, computed from the definitions.
-use Rattle.std.proofs.Common.{◌≡◌, ℕ, zero, suc, ◌+◌, ◌*◌, ◌%◌, ◌-◌, Bool, true, false, List, [], ◌∷◌, refl, pos}
+use Rattle.std.proofs.Common.{◌≡◌, ℕ, Bool, true, false, List, [], ◌∷◌, refl, pos}
 use Rattle.std.specs.Prelude.{codes}
 use Rattle.std.specs.List.{filter, list_any}
 use Rattle.std.specs.Str.{trim_start, trim_end, chars}
@@ -10,7 +10,7 @@ use Rattle.croner_base.specs.Part.{field_of}
 use Rattle.croner_base.specs.Reading.{applied}
 use Rattle.croner_pattern.specs.Days.{days_of}
 use Rattle.croner_pattern.specs.Meaning.{Meaning}
-use Rattle.croner_pattern.specs.Shapes.{day_shape, weekday_shape, sixty_shape, has_field_shapes, new_meaning}
+use Rattle.croner_pattern.specs.Shapes.{day_shape, weekday_shape, sixty_shape}
 use Rattle.croner_pattern.specs.Schedule.{is_day_matching, first_weekday}
 
 -- a field read from its text

@@ -1,4 +1,4 @@
-use Rattle.std.proofs.Common.{inl, inr, refl, true, false}
+use Rattle.std.proofs.Common.{inl, inr, refl}
 use Rattle.croner.proofs.WalkLoop.{backend_error}
 use Rattle.croner.proofs.SearchLimit.{calm_start, holds_here, first_one_half, first_alone, at_edge, first_before, second_nearer, first_nearer, second_none, second_error}
 use Rattle.croner.proofs.search.nearer_half.Goals as goal

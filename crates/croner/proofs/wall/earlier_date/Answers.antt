@@ -1,4 +1,4 @@
-use Rattle.std.proofs.Common.{arith, ◌≡◌}
+use Rattle.std.proofs.Common.{arith}
 use Rattle.std.proofs.lemmas.Int.{ints}
 use Rattle.croner.proofs.WallSeconds.{day_before, month_before, year_before}
 use Rattle.croner.proofs.wall.earlier_date.Goals as goal

@@ -1,4 +1,4 @@
-use Rattle.std.proofs.Common.{arith, ◌≡◌}
+use Rattle.std.proofs.Common.{arith}
 use Rattle.std.proofs.lemmas.Int.{ints}
 use Rattle.croner.proofs.WallSeconds.{next_day, next_month, next_year}
 use Rattle.croner.proofs.wall.later_date.Goals as goal

@@ -1,4 +1,3 @@
-use Rattle.std.proofs.Common.{sym, ◌∙◌, refl}
 use Rattle.croner_base.specs.Civil.{wall_second}
 use Rattle.croner.proofs.WalkLoop.{chosen_walked, past_two, can_move, backend_error, searched_not_last}
 use Rattle.croner.proofs.search.walk.pass_two.Goals as goal

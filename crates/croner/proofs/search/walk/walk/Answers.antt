@@ -1,6 +1,6 @@
-use Rattle.std.proofs.Common.{sym, ◌∙◌, refl, ap, arith}
+use Rattle.std.proofs.Common.{◌∙◌, ap, arith}
 use Rattle.croner_base.specs.Civil.{wall_second}
-use Rattle.croner.specs.Runs.{Job, job_in}
+use Rattle.croner.specs.Runs.{job_in}
 use Rattle.croner.specs.Walk.{walk_start}
 use Rattle.croner.proofs.CalmZone.{calm_of}
 use Rattle.croner.proofs.WalkPace.{paced_start, paced_on, paced_ends}

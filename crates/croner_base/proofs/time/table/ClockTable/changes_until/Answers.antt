@@ -1,5 +1,4 @@
-use Rattle.std.proofs.Common.{rules, of_calls, int_le, ◌≡◌, sym, subst, true, get_or, pos, arith, List, ℤ, FitsSigned, w64}
-use Rattle.std.proofs.lemmas.Int.{ints, to_z-of_z}
+use Rattle.std.proofs.Common.{rules, of_calls, int_le, ◌≡◌, sym, subst, true, List, ℤ}
 use Rattle.std.proofs.lemmas.Fn.{always_returns_same}
 use Rattle.croner_base.specs.Table.{is_calm_table}
 use Rattle.croner_base.specs.TableSteps.{IsCountUntil}

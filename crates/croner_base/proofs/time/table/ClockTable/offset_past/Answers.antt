@@ -1,4 +1,4 @@
-use Rattle.std.proofs.Common.{rules, ◌≡◌, ◌≤◌, ◌<◌, ◌-◌, true, length, arith, FitsSigned, w32, w64}
+use Rattle.std.proofs.Common.{◌≡◌, ◌<◌, ◌-◌, true, length, arith, FitsSigned, w32, w64}
 use Rattle.std.proofs.lemmas.Int.{ints, to_z-of_z}
 use Rattle.croner_base.specs.Table.{is_offset}
 use Rattle.croner_base.proofs.TableTests.{offset_bounds}

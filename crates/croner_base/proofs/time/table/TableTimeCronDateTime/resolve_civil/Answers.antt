@@ -1,4 +1,4 @@
-use Rattle.std.proofs.Common.{◌≡◌, ◌↔◌, ◌∙◌, sym, refl, true, false, arith, ℤ, pos, neg_ℤ, ◌≤ℤ◌, inl, inr, FitsSigned, w64}
+use Rattle.std.proofs.Common.{◌∙◌, refl, arith, inl, inr, FitsSigned, w64}
 use Rattle.std.proofs.lemmas.Int.{ints, to_z-of_z}
 use Rattle.croner_base.specs.Civil.{wall_second}
 use Rattle.croner_base.proofs.JiffSeconds.{near_second}

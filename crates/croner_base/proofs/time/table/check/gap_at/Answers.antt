@@ -1,6 +1,5 @@
-use Rattle.std.proofs.Common.{rules, ◌≡◌, ◌∙◌, sym, arith, true, ℤ, pos, ◌<ℤ◌, ◌-ℤ◌, FitsSigned, w32, w64}
+use Rattle.std.proofs.Common.{◌∙◌, sym, arith, ◌<ℤ◌, ◌-ℤ◌, FitsSigned, w32, w64}
 use Rattle.std.proofs.lemmas.Int.{ints, to_z-of_z}
-use Rattle.croner_base.specs.Table.{is_met}
 use Rattle.croner_base.proofs.TableTests.{step_parts}
 use Rattle.croner_base.proofs.TableSums.{gap_is}
 use Rattle.croner_base.proofs.time.table.check.gap_at.Goals as goal

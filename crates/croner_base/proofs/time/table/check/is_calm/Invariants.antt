@@ -1,4 +1,4 @@
-use Rattle.std.proofs.Common.{◌≡◌, ◌↔◌, ◌≤◌, ◌≤ℤ◌, true, IsTrue, drop}
+use Rattle.std.proofs.Common.{◌↔◌, ◌≤◌, ◌≤ℤ◌, IsTrue, drop}
 use Rattle.croner_base.specs.Limits.{most_changes, most_gap_seconds}
 use Rattle.croner_base.specs.Table.{first_instant, is_offset, is_calm_table}
 use Rattle.croner_base.proofs.TableCheck.{Follow}

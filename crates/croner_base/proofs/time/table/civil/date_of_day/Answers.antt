@@ -1,6 +1,5 @@
-use Rattle.std.proofs.Common.{◌≡◌, ◌∙◌, sym, arith, pos, neg_ℤ}
+use Rattle.std.proofs.Common.{◌∙◌, arith, pos, neg_ℤ}
 use Rattle.std.proofs.lemmas.Int.{ints}
-use Rattle.jiff_core.proofs.SignedLemmas.{signed_arith}
 use Rattle.croner_base.proofs.JiffSeconds.{day_before, day_after}
 use Rattle.croner_base.proofs.TableCivil.{day_of_parts, same_day}
 use Rattle.croner_base.proofs.time.table.civil.date_of_day.Goals as goal

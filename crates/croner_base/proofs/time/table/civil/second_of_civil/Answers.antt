@@ -1,5 +1,5 @@
-use Rattle.std.proofs.Common.{rules, ◌≡◌, ◌∙◌, ap, sym, arith, pos, ◌*ℤ◌, ◌+ℤ◌, ℤ, FitsSigned, w32, w64}
-use Rattle.std.proofs.lemmas.Int.{ints, to_z-of_z}
+use Rattle.std.proofs.Common.{◌≡◌, ◌∙◌, ap, arith, pos, ◌*ℤ◌, ◌+ℤ◌}
+use Rattle.std.proofs.lemmas.Int.{ints}
 use Rattle.jiff_core.proofs.CalendarLemmas.{days_in_month_bounds}
 use Rattle.croner_base.specs.declared.time.civil.CivilTime.{CivilTime}
 use Rattle.croner_base.specs.Civil.{wall_second, seconds_of_time}

@@ -1,7 +1,5 @@
-use Rattle.std.proofs.Common.{rules, ◌≡◌, ◌∙◌, sym, ap, refl, arith, ◌+◌, true, ℤ, pos, ◌+ℤ◌, ◌≤ℤ◌, FitsSigned, w32, w64}
+use Rattle.std.proofs.Common.{rules, ◌∙◌, sym, ap, refl, arith, ◌+◌, FitsSigned, w32, w64}
 use Rattle.std.proofs.lemmas.Int.{ints, to_z-of_z}
-use Rattle.croner_base.specs.Table as Spec
-use Rattle.croner_base.specs.TableSteps.{IsNext, HasTallied}
 use Rattle.croner_base.proofs.time.table.check.Tally.with.Goals as goal
 
 pub invariant_of-result : goal.invariant_of-result
