@@ -25,6 +25,10 @@ impl Cron {
     /// `TimeSearchLimitExceeded` means that no run is left before year 5000; runs of year 5000 itself may be found or not.
     /// `InvalidDate` and `InvalidTime` come where the backend doesn't hold a moment that is needed, and `OutOfMemory` only over
     /// a backend that can lack memory. Nothing is changed by a search.
+    ///
+    /// In every zone and from every start, a fraction of a second included, an answer is a whole second of the start's zone, and an
+    /// interval job's answer shows a scheduled second. The fields of the pattern must have the shapes of their places, as those
+    /// of every parsed pattern have.
     pub fn find_next_occurrence<T: CronDateTime>(
         &self,
         start: &T,

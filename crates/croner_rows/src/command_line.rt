@@ -126,7 +126,7 @@ fn answers_next_and_prev(rt: HostRuntime) -> Result<(), Fail> {
     Ok(())
 }
 
-/// A writer that takes so many bytes and then fails.
+/// A writer that takes so many bytes. What is written past them fails, and so does a flush where no room is left.
 #[derive(Drop)]
 struct Full {
     room: usize,
@@ -142,6 +142,9 @@ impl Write for Full {
     }
 
     fn flush(&mut self) -> io::Result<()> {
+        if self.room == 0 {
+            return Err(io::Error::from(io::ErrorKind::StorageFull));
+        }
         Ok(())
     }
 }
@@ -167,7 +170,8 @@ fn writer(room: &str) -> Result<Full, Fault> {
 }
 
 const FAILED_WRITES: &str = "
-    5 | 0   | match | * * * * * | 2024-07-01T09:30:00 | 0
+    6 | 0   | match | * * * * * | 2024-07-01T09:30:00 | 0
+    5 | 200 | match | * * * * * | 2024-07-01T09:30:00 | 1
     0 | 200 | match | * * * * * | 2024-07-01T09:30:00 | 1
     0 | 0   | match | * * * * * | 2024-07-01T09:30:00 | 1
     9 | 0   | match |           | 2024-07-01T09:30:00 | 1

@@ -9,7 +9,7 @@ use croner::errors::CronError;
 use croner::parser::{CronParser, Seconds, Year};
 use croner::time::CronDateTime;
 use croner::time::table::TableTime;
-use croner::{Direction, JobType, TimeComponent, Weekday};
+use croner::{Cron, CronPattern, Direction, JobType, TimeComponent, Weekday};
 use std::alloc::Global;
 use std::fmt::Debug;
 use std::test::Fail;
@@ -96,10 +96,20 @@ fn long_value(alloc: Global, name: &str) -> Result<String, Fault> {
     match name {
         "parser" => shown(alloc, &CronParser::new()),
         "builder" => shown(alloc, &CronParser::builder()),
-        "job" => shown(alloc, &job(alloc, "", "5 4 * * *")?.clone()?),
-        "pattern" => shown(alloc, &job(alloc, "", "5 4 * * *")?.pattern.clone()?),
+        "job" => copied_job(&job(alloc, "", "5 4 * * *")?),
+        "pattern" => copied_pattern(&job(alloc, "", "5 4 * * *")?.pattern),
         _ => Err(Fault::Malformed),
     }
+}
+
+fn copied_job(job: &Cron) -> Result<String, Fault> {
+    let copy = job.clone()?;
+    shown(copy.pattern.allocator(), &copy)
+}
+
+fn copied_pattern(pattern: &CronPattern) -> Result<String, Fault> {
+    let copy = pattern.clone()?;
+    shown(copy.allocator(), &copy)
 }
 
 const SHOWN: &str = "

@@ -17,9 +17,14 @@ impl Question for Order {
             return Err(Fault::Malformed);
         };
         let left = job(alloc, left_settings, left)?;
-        let right = job(alloc, right_settings, right)?;
-        Ok(String::from_str(alloc, compared(&left, &right))?)
+        compared_jobs(alloc, &left, right_settings, right)
     }
+}
+
+// The order of a job and that of a text.
+fn compared_jobs(alloc: Global, left: &Cron, settings: &str, text: &str) -> Result<String, Fault> {
+    let right = job(alloc, settings, text)?;
+    Ok(String::from_str(alloc, compared(left, &right))?)
 }
 
 fn compared(left: &Cron, right: &Cron) -> &'static str {

@@ -6,7 +6,7 @@ use Rattle.std.specs.Fmt.{digits}
 use Rattle.croner_base.specs.CivilText.{datetime_text}
 use Rattle.croner_base.specs.declared.time.Direction.TheVariants.{Forward, Backward}
 use Rattle.croner_base.specs.declared.time.value.Resolution.TheVariants.{Single, Ambiguous, Gap}
-use Rattle.cronrun_command.specs.Answer.{truth}
+use Rattle.cronrun_command.specs.Answer.{bool_text}
 use Rattle.cronrun_command.specs.Command.{command_of}
 use Rattle.cronrun_command.specs.Count.{IsCountText}
 use Rattle.cronrun_command.specs.Line.{second_text}
@@ -20,10 +20,10 @@ next_lists_forward = refl
 prev_lists_backward : command_of Backward ≡ codes "prev"
 prev_lists_backward = refl
 
-a_truth : truth true ≡ codes "true"
+a_truth : bool_text true ≡ codes "true"
 a_truth = refl
 
-no_truth : truth false ≡ codes "false"
+no_truth : bool_text false ≡ codes "false"
 no_truth = refl
 
 seven_in_two_digits : two_digits 7 ≡ codes "07"

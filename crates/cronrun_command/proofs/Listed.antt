@@ -5,9 +5,14 @@ use Rattle.std.proofs.lemmas.List.{append_assoc, length_push}
 use Rattle.std.specs.Io.KnownBytes.{Appends}
 use Rattle.croner_base.specs.Zone.{Moment}
 use Rattle.croner.specs.Listing.{Standing, GivesItem, moved}
-use Rattle.cronrun_command.specs.Answer.{AreGiven, after}
+use Rattle.cronrun_command.specs.Answer.{AreGiven}
 use Rattle.cronrun_command.specs.Line.{IsLine, AreLines}
 use Rattle.cronrun_command.specs.Written.{WritesNext}
+
+-- where a listing stands after these runs
+abbrev pub after : Standing → List Moment → Standing
+after s [] = s
+after s (run ∷ runs) = after (moved s run) runs
 
 after_push : (s : Standing) (runs : List Moment) (run : Moment) → after s (runs ++ run ∷ []) ≡ moved (after s runs) run
 after_push s [] run = refl

@@ -1,6 +1,6 @@
--- What a call writes to standard output.
-use Rattle.std.specs.Prelude.{◌≡◌, ◌↔◌, ◌++◌, ◌∷◌, [], ⊤, ℕ, Bool, IsTrue, if◌then◌else◌, List, Option, None, Some, Ok, codes, is_some, length}
-use Rattle.std.specs.Io.KnownBytes.{Appends}
+-- What a call writes to standard output. Source: this crate's documentation of the command line.
+use Rattle.std.specs.Prelude.{◌≡◌, ◌↔◌, ◌⊎◌, ◌++◌, ◌∷◌, [], ⊤, ℕ, Bool, IsTrue, if◌then◌else◌, List, Option, None, Some, Ok, codes, is_some, length}
+use Rattle.std.specs.Io.KnownBytes.{Appends, Keeps}
 use Rattle.jiff.specs.ZoneView.{plain_zone}
 use Rattle.jiff.specs.declared.tz.timezone.TimeZone.{TimeZone}
 use Rattle.croner_base.specs.Civil.{wall_second}
@@ -15,14 +15,14 @@ use Rattle.croner.specs.Listing.{Standing, GivesItem, moved}
 use Rattle.croner.specs.Settings.{default_settings}
 use Rattle.cronrun_command.specs.Call.{Ask}
 use Rattle.cronrun_command.specs.Line.{AreLines}
-use Rattle.cronrun_command.specs.Opened.{StandsAtStart}
+use Rattle.cronrun_command.specs.Opened.{Opens, StandsAtStart}
 use Rattle.cronrun_command.specs.declared.request.Listing.{Listing}
 use Rattle.cronrun_command.specs.declared.request.Request.{Request}
 use Rattle.cronrun_command.specs.declared.request.Request.TheVariants as requests
 
--- the word for a truth
-abbrev pub truth : Bool → List ℕ
-truth held = if held then codes "true" else codes "false"
+-- the word for a boolean
+abbrev pub bool_text : Bool → List ℕ
+bool_text held = if held then codes "true" else codes "false"
 
 -- the pattern is accepted, and the line says whether it schedules the date and time
 pub record IsMatchText (pattern : List ℕ) (at : CivilDateTime) (text : List ℕ) : Type 0 where
@@ -30,14 +30,10 @@ pub record IsMatchText (pattern : List ℕ) (at : CivilDateTime) (text : List �
   pub accepted : outcome default_settings pattern ≡ Ok meaning
   pub held : Bool
   pub scheduled : IsTrue held ↔ IsScheduled meaning (wall_second at)
-  pub line : text ≡ truth held ++ 10 ∷ []
+  pub line : text ≡ bool_text held ++ 10 ∷ []
 
--- where a listing stands after these runs
-abbrev pub after : Standing → List Moment → Standing
-after s [] = s
-after s (run ∷ runs) = after (moved s run) runs
-
--- the listing gives these runs one after the other, each the nearest of those left
+-- the listing gives these runs one after the other, as the calls of an iterator do: where searches are promised each is the
+-- nearest of those left
 abbrev pub AreGiven : Standing → List Moment → Type 0
 AreGiven s [] = ⊤
 AreGiven s (run ∷ runs) = GivesItem s run (moved s run) × AreGiven (moved s run) runs
@@ -56,6 +52,11 @@ pub record IsListText (l : Listing) (text : List ℕ) : Type 0 where
   pub counted : length runs ≡ l.count
   pub lines : AreLines (is_some l.zone) runs text
 
+-- the pattern of a call is accepted, and its date and time names an instant
+abbrev pub IsOpened : Request → Type 0
+IsOpened (requests.Match pattern at) = Opens (outcome default_settings pattern.now) civil_zone at
+IsOpened (requests.List l) = Opens (outcome default_settings l.pattern.now) (zone_of l.zone) l.at
+
 -- the text is the answer of a call
 abbrev pub IsAnswer : Request → List ℕ → Type 0
 IsAnswer (requests.Match pattern at) text = IsMatchText pattern.now at text
@@ -68,3 +69,7 @@ Answers request before after = (text : List ℕ) × IsAnswer request text × App
 -- the words are a call, and its answer is what a writer got between these contents
 abbrev pub AnswersWords : List (List ℕ) → Option (List ℕ) → Option (List ℕ) → Type 0
 AnswersWords words before after = (request : Request) × Ask words request × Answers request before after
+
+-- the words are a call, and where it is not opened the writer got nothing between these contents
+abbrev pub OpensWords : List (List ℕ) → Option (List ℕ) → Option (List ℕ) → Type 0
+OpensWords words before after = (request : Request) × Ask words request × (IsOpened request ⊎ Keeps before after)

@@ -1,4 +1,4 @@
--- The line of a run.
+-- The line of a run. Source: this crate's documentation of the command line.
 use Rattle.std.specs.Prelude.{◌≡◌, ℕ, Bool, ℤ, List, [], ◌∷◌, ◌++◌, Option, Some, None, if◌then◌else◌}
 use Rattle.std.specs.Fmt.{signed_decimal}
 use Rattle.croner_base.specs.CivilText.{datetime_text}

@@ -8,6 +8,11 @@ use Rattle.croner.specs.Grammar.{Refusal}
 use Rattle.croner.specs.Listing.{Standing, new_standing}
 use Rattle.cronrun_command.specs.Start.{first_instant}
 
+-- the pattern is accepted, and the date and time names an instant
+abbrev pub Opens : Result Meaning Refusal → Zone → CivilDateTime → Type 0
+Opens outcome zone at =
+    (pattern : Meaning) × (start : ℤ) × (outcome ≡ Ok pattern) × (first_instant (zone.resolves at) ≡ Some start)
+
 -- the pattern is accepted, the date and time names an instant, and the listing goes from there in the direction, without it
 abbrev pub StandsAtStart : Result Meaning Refusal → Zone → CivilDateTime → Direction → Standing → Type 0
 StandsAtStart outcome zone at direction standing =

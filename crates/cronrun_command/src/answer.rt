@@ -1,12 +1,14 @@
 //! Answering a call.
-ghost use Rattle.std.specs.Prelude.{◌≡◌, ◌↔◌, ℤ, Ok, IsTrue, IfOk, IfErr, OnOk};
+ghost use Rattle.std.specs.Prelude.{◌≡◌, ◌↔◌, ◌⊎◌, ℤ, Ok, IsTrue, IfOk, IfErr, OnOk};
+ghost use Rattle.std.specs.Io.KnownBytes.{Keeps};
 ghost use Rattle.croner_base.specs.Civil.{wall_second};
 ghost use Rattle.croner_base.specs.CivilZone.{civil_zone};
 ghost use Rattle.croner_pattern.specs.Meaning.{Meaning};
 ghost use Rattle.croner_pattern.specs.Schedule.{IsScheduled};
 ghost use Rattle.croner.specs.Grammar.{outcome};
 ghost use Rattle.croner.specs.Settings.{default_settings};
-ghost use Rattle.cronrun_command.specs.Answer.{Answers};
+ghost use Rattle.cronrun_command.specs.Answer.{Answers, IsOpened};
+ghost use Rattle.cronrun_command.specs.Opened.{Opens};
 ghost use Rattle.cronrun_command.specs.Start.{first_instant};
 ghost use Rattle.cronrun_command.specs.Refused.{IsRefused};
 
@@ -27,7 +29,8 @@ const CIVIL_CLOCK: DateTime = DateTime::MIN;
 
 /// Writes the answer of a call.
 pub fn answer<W: Write>(alloc: Global, request: Request<'_>, out: &mut W) -> Result<(), Stop>
-    ensures { OnOk result (Answers request.entry (W.contents out.old) (W.contents out.new)) }
+    ensures answers { OnOk result (Answers request.entry (W.contents out.old) (W.contents out.new)) }
+    ensures opened { IsOpened request.entry ⊎ Keeps (W.contents out.old) (W.contents out.new) }
 {
     match request {
         Request::Match { pattern, at } => {
@@ -49,6 +52,7 @@ pub fn answer<W: Write>(alloc: Global, request: Request<'_>, out: &mut W) -> Res
 fn is_match(alloc: Global, pattern: &str, at: CivilDateTime) -> Result<bool, CronError>
     ensures value { IfOk result (λ held. (m : Meaning) × (outcome default_settings pattern.now ≡ Ok m)
         × (IsTrue held ↔ IsScheduled m (wall_second at))) }
+    ensures opened { OnOk result (Opens (outcome default_settings pattern.now) civil_zone at) }
     ensures err { IfErr result
         (IsRefused (outcome default_settings pattern.now) (first_instant (civil_zone.resolves at))) }
 {

@@ -3,7 +3,7 @@
 
 ghost use Rattle.std.specs.Prelude.{◌≡◌, ◌≤◌, map, string_bytes};
 ghost use Rattle.std.specs.Io.KnownBytes.{Keeps};
-ghost use Rattle.cronrun_command.specs.Answer.{AnswersWords};
+ghost use Rattle.cronrun_command.specs.Answer.{AnswersWords, OpensWords};
 ghost use Rattle.cronrun_command.specs.Call.{IsCall};
 
 mod answer;
@@ -48,14 +48,17 @@ const USAGE: &str =
 ///
 /// The status is [`MISUSED`] with the usage line on standard error where the words are no call;
 /// [`REFUSED`] with the error's text there where the pattern is refused, the zone's clock never
-/// shows DATETIME, or fewer than COUNT runs are found; else [`ANSWERED`]. The words are looked at
-/// first, then the pattern, then the start. The runs that were found are written before a refusal:
-/// it is then the fault of the iterator over them, or the limit of a search where there is none. A
-/// failed write to standard output is [`REFUSED`] too, one to standard error changes no status.
+/// shows DATETIME or doesn't reach it, fewer than COUNT runs are found, or memory is lacking; else
+/// [`ANSWERED`]. The words are looked at first, then the pattern, then the start. The runs that
+/// were found are written before a refusal: it is then the fault of the iterator over them, or the
+/// limit of a search where there is none. A failed write to standard output is [`REFUSED`] too, one
+/// to standard error changes no status.
 pub fn run<O: Write, E: Write>(alloc: Global, words: &[String], out: &mut O, err: &mut E) -> u8
     ensures known { result ≤ MISUSED }
     ensures call { IsCall (map string_bytes words.now) → result ≤ REFUSED }
     ensures answered { result ≡ ANSWERED → AnswersWords (map string_bytes words.now) (O.contents out.old) (O.contents out.new) }
+    ensures quiet { result ≡ ANSWERED → Keeps (E.contents err.old) (E.contents err.new) }
+    ensures opened { result ≤ REFUSED → OpensWords (map string_bytes words.now) (O.contents out.old) (O.contents out.new) }
     ensures misused { ¬ (IsCall (map string_bytes words.now)) → result ≡ MISUSED }
     ensures silent { result ≡ MISUSED → Keeps (O.contents out.old) (O.contents out.new) }
 {

@@ -1,10 +1,11 @@
 //! Listing the runs of a pattern.
-ghost use Rattle.std.specs.Prelude.{◌≡◌, Ok, Some, false, is_some, IfOk, IfErr, OnOk};
+ghost use Rattle.std.specs.Prelude.{◌≡◌, ◌⊎◌, Ok, Some, false, is_some, IfOk, IfErr, OnOk};
+ghost use Rattle.std.specs.Io.KnownBytes.{Keeps};
 ghost use Rattle.croner_base.specs.Zone.{at_instant};
 ghost use Rattle.croner.specs.Grammar.{outcome};
 ghost use Rattle.croner.specs.Listing.{standing_of};
 ghost use Rattle.croner.specs.Settings.{default_settings};
-ghost use Rattle.cronrun_command.specs.Answer.{Answers, zone_of};
+ghost use Rattle.cronrun_command.specs.Answer.{Answers, IsOpened, zone_of};
 ghost use Rattle.cronrun_command.specs.Start.{first_instant};
 ghost use Rattle.cronrun_command.specs.Refused.{IsRefused};
 ghost use Rattle.cronrun_command.specs.Opened.{StandsAtStart};
@@ -29,8 +30,10 @@ pub fn list<T: Listed, W: Write>(
     clock: &T,
     out: &mut W,
 ) -> Result<(), Stop>
-    ensures { (T.moment clock.now).zone ≡ zone_of listing.now.zone → T.in_zone ≡ is_some listing.now.zone →
+    ensures answers { (T.moment clock.now).zone ≡ zone_of listing.now.zone → T.in_zone ≡ is_some listing.now.zone →
         OnOk result (Answers (List listing.now) (W.contents out.old) (W.contents out.new)) }
+    ensures opened { (T.moment clock.now).zone ≡ zone_of listing.now.zone →
+        IsOpened (List listing.now) ⊎ Keeps (W.contents out.old) (W.contents out.new) }
 {
     let mut runs = runs_from(alloc, listing, clock)?;
     for _run in 0..listing.count {

@@ -1,13 +1,13 @@
 use Rattle.std.proofs.Common.{◌++◌, ◌∷◌, [], ℕ, List, refl, sym, subst}
-use Rattle.cronrun_command.specs.Answer.{IsAnswer, truth}
+use Rattle.cronrun_command.specs.Answer.{IsAnswer, bool_text}
 use Rattle.cronrun_command.specs.declared.request.Request.{Request}
 use Rattle.cronrun_command.proofs.answer.answer.Goals as goal
 
-pub returns-in_ok-writeln-in-Match : goal.returns-in_ok-writeln-in-Match
-returns-in_ok-writeln-in-Match g c =
+pub returns-in_ok-writeln-in-Match-clause-answers : goal.returns-in_ok-writeln-in-Match-clause-answers
+returns-in_ok-writeln-in-Match-clause-answers g c =
     let held = c.in_ok-matching-in-Match.matching in
     let value = c.in_ok-matching-in-Match.ensures.value in
-    let text : List ℕ = truth held ++ 10 ∷ [] in
+    let text : List ℕ = bool_text held ++ 10 ∷ [] in
     let P : Request → Type 0 = λ r. IsAnswer r text in (
       text,
       subst P (sym c.in-Match.is) (record {

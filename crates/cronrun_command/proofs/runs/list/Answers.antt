@@ -17,8 +17,8 @@ loop-run-preserved g c =
           c.loop-run._run (contents c.args.out.now) (contents c.loop-run.out) (contents c.write_next.new.out) c.loop-run.invariant.wrote c.in_ok-write_next.ensures;
     }
 
-pub returns : goal.returns
-returns g c zone in_zone =
+pub returns-clause-answers : goal.returns-clause-answers
+returns-clause-answers g c zone in_zone =
     let w = c.loop-run.invariant.wrote in
     let l = c.args.listing.now in
     let start = standing_of g.T.CronDateTime.moment c.in_ok-runs.runs in
