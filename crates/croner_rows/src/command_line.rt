@@ -1,7 +1,7 @@
 //! Calls of the program: the status, and what is written.
 
 use crate::fault::Fault;
-use crate::table::{Question, differing};
+use crate::table::{Question, add_differing};
 use crate::words::number;
 use cronrun_command::run;
 use std::alloc::{AllocError, Global};
@@ -63,12 +63,6 @@ const MATCHES: &str = r#"
     match |               | 2024-07-01T09:30:00 | 1 "" "CronPattern cannot be an empty string.\n"
 "#;
 
-#[test]
-fn answers_match(rt: HostRuntime) -> Result<(), Fail> {
-    assert_eq!(rt; differing(rt.alloc(), &Program, MATCHES)?.as_str(), "");
-    Ok(())
-}
-
 const MISUSES: &str = r#"
     2 "" usage
           | 2 "" usage
@@ -92,12 +86,6 @@ const MISUSES: &str = r#"
     match | * * * * *  |                          | 2 "" usage
 "#;
 
-#[test]
-fn tells_how_to_call(rt: HostRuntime) -> Result<(), Fail> {
-    assert_eq!(rt; differing(rt.alloc(), &Program, MISUSES)?.as_str(), "");
-    Ok(())
-}
-
 const LISTINGS: &str = r#"
     next | 30 2 * * *            | 2024-03-30T12:00:00 | 3 | CET-1CEST,M3.5.0,M10.5.0/3 | 0 "2024-03-31T03:00:00 1711846800\n2024-04-01T02:30:00 1711931400\n2024-04-02T02:30:00 1712017800\n" ""
     next | */30 * * * *          | 2024-10-27T02:30:00 | 3 | CET-1CEST,M3.5.0,M10.5.0/3 | 0 "2024-10-27T02:00:00 1729990800\n2024-10-27T02:30:00 1729992600\n2024-10-27T03:00:00 1729994400\n" ""
@@ -119,12 +107,6 @@ const LISTINGS: &str = r#"
     next | * * * * *  | 2024-01-01T00:00:00 | 2 "" usage
     describe | * * * * * | 2 "" usage
 "#;
-
-#[test]
-fn answers_next_and_prev(rt: HostRuntime) -> Result<(), Fail> {
-    assert_eq!(rt; differing(rt.alloc(), &Program, LISTINGS)?.as_str(), "");
-    Ok(())
-}
 
 /// A writer that takes so many bytes. What is written past them fails, and so does a flush where no room is left.
 #[derive(Drop)]
@@ -178,11 +160,18 @@ const FAILED_WRITES: &str = "
     9 | 0   | match | 2
 ";
 
+// The rows that differ, of all tables here.
+fn differing_rows(alloc: Global) -> Result<String, AllocError> {
+    let mut rows = String::new(alloc);
+    add_differing(alloc, &Program, MATCHES, &mut rows)?;
+    add_differing(alloc, &Program, MISUSES, &mut rows)?;
+    add_differing(alloc, &Program, LISTINGS, &mut rows)?;
+    add_differing(alloc, &FullWriters, FAILED_WRITES, &mut rows)?;
+    Ok(rows)
+}
+
 #[test]
-fn tells_a_failed_write(rt: HostRuntime) -> Result<(), Fail> {
-    assert_eq!(rt;
-        differing(rt.alloc(), &FullWriters, FAILED_WRITES)?.as_str(),
-        ""
-    );
+fn answers_calls(rt: HostRuntime) -> Result<(), Fail> {
+    assert_eq!(rt; differing_rows(rt.alloc())?.as_str(), "");
     Ok(())
 }

@@ -36,12 +36,23 @@ pub fn differing<Q: Question>(
     table: &str,
 ) -> Result<String, AllocError> {
     let mut differing = String::new(alloc);
+    add_differing(alloc, question, table, &mut differing)?;
+    Ok(differing)
+}
+
+/// Puts these rows behind others.
+pub fn add_differing<Q: Question>(
+    alloc: Global,
+    question: &Q,
+    table: &str,
+    differing: &mut String,
+) -> Result<(), AllocError> {
     for line in table.lines() {
         if !line.trim().is_empty() {
-            ask(alloc, question, line, &mut differing)?;
+            ask(alloc, question, line, differing)?;
         }
     }
-    Ok(differing)
+    Ok(())
 }
 
 // Asks one row, and keeps it where it differs.
