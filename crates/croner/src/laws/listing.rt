@@ -70,8 +70,8 @@ pub fn resumed<T: CronDateTime>(cron: Cron, item: T, direction: Direction) -> Cr
 /// The items of up to so many calls of `next`, and how each compares with the one before it, by `cmp_instant`.
 ///
 /// In a calm zone the items of a forward iterator are strictly later one by one, and those of a backward one strictly earlier: as
-/// instants, and in the order of the values themselves. There are as many as in [`next_runs`]. The only error is `OutOfMemory`, for the room of both lists, which is
-/// taken first: the iterator then stands where it stood.
+/// instants, and in the order of the values themselves. There are as many as in [`next_runs`]. The only error is `OutOfMemory`,
+/// for the room of both lists, which is taken first: the iterator then stands where it stood.
 pub fn items_in_order<T: CronDateTime>(
     alloc: Global,
     iterator: &mut CronIterator<T>,

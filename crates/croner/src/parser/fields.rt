@@ -8,7 +8,7 @@ ghost use Rattle.croner.specs.Views.{texts_of};
 
 use std::alloc::{AllocError, Global};
 
-/// The names of the fields, as messages give them.
+// The names of the fields, as messages give them.
 pub const SECONDS: &str = "seconds";
 
 pub const MINUTES: &str = "minutes";

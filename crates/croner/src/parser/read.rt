@@ -31,7 +31,7 @@ pub struct Mode {
 /// The place that Sunday has as 7.
 const SUNDAY_AS_SEVEN: u16 = 7;
 
-/// What reads each field alike: whether its ranges may leave out their first number, and where messages are made.
+/// What reads each field alike: the memory for messages, and whether a step may begin at a number or at nothing.
 #[derive(Clone, Copy)]
 struct FieldReader {
     alloc: Global,
