@@ -28,5 +28,6 @@ pub mod Stepping
 pub mod Steps
 pub mod Texts
 pub mod ExamplesTable
+pub mod Excerpts
 mod Defaults
 mod Counts

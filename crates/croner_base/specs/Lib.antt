@@ -11,6 +11,7 @@ pub mod Table
 pub mod TableSteps
 pub mod TableZone
 pub mod Answers
+pub mod Excerpt
 pub mod Field
 pub mod Marks
 pub mod Order

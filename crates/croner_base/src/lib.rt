@@ -3,5 +3,6 @@
 
 pub mod component;
 pub mod errors;
+pub mod excerpt;
 pub mod laws;
 pub mod time;

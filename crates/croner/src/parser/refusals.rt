@@ -8,6 +8,7 @@ ghost use Rattle.croner.specs.Gives.{Fails};
 
 use super::{Seconds, Year};
 use croner_base::errors::CronError;
+use croner_base::excerpt::Excerpt;
 use std::alloc::Global;
 
 /// A text with a count of fields that the settings don't accept.
@@ -38,8 +39,9 @@ fn expected_counts(seconds: Seconds, year: Year) -> &'static str {
 pub fn lost_letter(alloc: Global, text: &str) -> CronError
     ensures { Fails {Y = Meaning} result (Err Illegal) }
 {
+    let text = Excerpt::of(text);
     match format!(in alloc;
-        "The pattern `{text}` has a letter that is neither L nor W, and in no name of a month or a weekday."
+        "The pattern {text} has a letter that is neither L nor W, and in no name of a month or a weekday."
     ) {
         Ok(message) => CronError::IllegalCharacters(message),
         Err(_) => CronError::OutOfMemory,

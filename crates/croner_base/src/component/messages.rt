@@ -1,9 +1,11 @@
-//! The refusals of a component. Each names what was wrong in the text and what was expected in its place.
+//! The refusals of a component. Each names what was wrong in the text and what was expected in its place, and repeats no
+//! more of the text than an excerpt.
 
 ghost use Rattle.croner_base.specs.Answers.{IsFieldError};
 
 use super::{CLOSEST_WEEKDAY_BIT, CronComponent, LAST_BIT, NTH_ALL};
 use crate::errors::CronError;
+use crate::excerpt::Excerpt;
 use std::alloc::AllocError;
 
 impl CronComponent {
@@ -63,8 +65,9 @@ impl CronComponent {
     pub(super) fn no_number(&self, text: &str, part: &str) -> CronError
         ensures { IsFieldError result }
     {
+        let (text, part) = (Excerpt::of(text), Excerpt::of(part));
         refusal(format!(in self.alloc;
-            "Invalid number '{text}' in the part '{part}': expected one from 0 to 65535."
+            "Invalid number {text} in the part {part}: expected one from 0 to 65535."
         ))
     }
 
@@ -73,9 +76,10 @@ impl CronComponent {
     pub(super) fn number_out_of_bounds(&self, number: u16, part: &str) -> CronError
         ensures { IsFieldError result }
     {
+        let part = Excerpt::of(part);
         let (least, greatest) = (self.min + self.input_offset, self.max);
         refusal(format!(in self.alloc;
-            "The number {number} in the part '{part}' is out of bounds: expected one from {least} to {greatest}."
+            "The number {number} in the part {part} is out of bounds: expected one from {least} to {greatest}."
         ))
     }
 
@@ -84,9 +88,10 @@ impl CronComponent {
     pub(super) fn range_out_of_bounds(&self, start: u16, end: u16, part: &str) -> CronError
         ensures { IsFieldError result }
     {
+        let part = Excerpt::of(part);
         let (least, greatest) = (self.min + self.input_offset, self.max);
         refusal(format!(in self.alloc;
-            "Invalid range {start} to {end} in the part '{part}': expected an ascending one from {least} to {greatest}."
+            "Invalid range {start} to {end} in the part {part}: expected an ascending one from {least} to {greatest}."
         ))
     }
 
@@ -95,8 +100,9 @@ impl CronComponent {
     pub(super) fn not_once(&self, sign: char, part: &str) -> CronError
         ensures { IsFieldError result }
     {
+        let part = Excerpt::of(part);
         refusal(format!(in self.alloc;
-            "Invalid part '{part}': expected one '{sign}', before any '#'."
+            "Invalid part {part}: expected one '{sign}', before any '#'."
         ))
     }
 
@@ -105,8 +111,9 @@ impl CronComponent {
     pub(super) fn step_of_zero(&self, part: &str) -> CronError
         ensures { IsFieldError result }
     {
+        let part = Excerpt::of(part);
         refusal(format!(in self.alloc;
-            "Invalid step 0 in the part '{part}': expected one from 1 to 65535."
+            "Invalid step 0 in the part {part}: expected one from 1 to 65535."
         ))
     }
 
@@ -115,8 +122,9 @@ impl CronComponent {
     pub(super) fn no_range_to_step(&self, left: &str, part: &str) -> CronError
         ensures { IsFieldError result }
     {
+        let (left, part) = (Excerpt::of(left), Excerpt::of(part));
         refusal(format!(in self.alloc;
-            "Invalid start '{left}' in the part '{part}': expected '*' or a range before the '/'."
+            "Invalid start {left} in the part {part}: expected '*' or a range before the '/'."
         ))
     }
 
@@ -125,8 +133,9 @@ impl CronComponent {
     pub(super) fn step_too_long(&self, step: u16, part: &str) -> CronError
         ensures { IsFieldError result }
     {
+        let part = Excerpt::of(part);
         refusal(format!(in self.alloc;
-            "Invalid step {step} in the part '{part}': expected the value after the last one to be at most 65535."
+            "Invalid step {step} in the part {part}: expected the value after the last one to be at most 65535."
         ))
     }
 
@@ -135,8 +144,9 @@ impl CronComponent {
     pub(super) fn wrong_nth(&self, nth: &str, part: &str) -> CronError
         ensures { IsFieldError result }
     {
+        let (nth, part) = (Excerpt::of(nth), Excerpt::of(part));
         refusal(format!(in self.alloc;
-            "Invalid nth '{nth}' in the part '{part}': expected a number from 1 to 5 or 'L' after the '#'."
+            "Invalid nth {nth} in the part {part}: expected a number from 1 to 5 or 'L' after the '#'."
         ))
     }
 
@@ -145,8 +155,9 @@ impl CronComponent {
     pub(super) fn no_nth_here(&self, part: &str) -> CronError
         ensures { IsFieldError result }
     {
+        let part = Excerpt::of(part);
         refusal(format!(in self.alloc;
-            "Invalid part '{part}': expected a number without '#' and 'L', which this field doesn't take."
+            "Invalid part {part}: expected a number without '#' and 'L', which this field doesn't take."
         ))
     }
 }
