@@ -1,11 +1,10 @@
 -- Reading the parts of a list, from the front.
-use Rattle.std.proofs.Common.{◌≡◌, ℕ, ◌+◌, ◌<◌, true, false, cond, eqb, List, length, drop, get_or, Result, Ok, Err, ap, sym, ◌∙◌, arith, subst}
+use Rattle.std.proofs.Common.{◌≡◌, ℕ, ◌+◌, ◌<◌, true, false, cond, eqb, List, length, drop, get_or, Ok, Err, ap, sym, ◌∙◌, arith, subst}
 use Rattle.std.proofs.lemmas.List.{at_drop_more, at_drop_all}
-use Rattle.std.specs.Str.{trim, bytes_eq}
-use Rattle.std.specs.Prelude.{codes}
+use Rattle.std.specs.Str.{trim}
 use Rattle.croner_base.specs.declared.errors.CronError.{CronError}
 use Rattle.croner_base.specs.Field.{Shape, Field}
-use Rattle.croner_base.specs.Part.{part_of, parts_of, field_of, pieces_at}
+use Rattle.croner_base.specs.Part.{part_of, parts_of}
 use Rattle.croner_base.specs.Reading.{Reading, nothing, ◌then◌, Reads}
 use Rattle.croner_base.proofs.Readings.{Completes, Completes-next, Reads-fault, shape-Reads, Reads-end}
 
@@ -42,7 +41,3 @@ parts-fault shape pieces n p t h e some same one c =
 pub parts-end : (shape : Shape) (pieces : List (List ℕ)) (n : ℕ) {whole : Reading} {here start : Field} → n ≡ length pieces → Completes (parts_of shape (drop n pieces)) here whole start → Reads {X = Unit {0}} whole start here (Ok tt)
 parts-end shape pieces n {whole} {here} {start} e c =
     Reads-end (subst (λ x. Completes x here whole start) (at_drop_all (parts_of shape) pieces n (omega arith)) c)
-
--- a field that is no lone star is a list
-pub Reads-list : (shape : Shape) (field : List ℕ) {old new : Field} {answer : Result (Unit {0}) CronError} → bytes_eq field (codes "*") ≡ false → Reads (parts_of shape (pieces_at 44 field)) old new answer → Reads (field_of shape field) old new answer
-Reads-list shape field {old} {new} {answer} e h = rw e h

@@ -3,7 +3,7 @@
 ghost use Rattle.std.specs.Prelude.{◌≡◌, ◌≤◌, ◌<◌, ◌+◌, ◌&&◌, nat_le, map, bit_or};
 ghost use Rattle.croner_base.specs.Answers.{Finds};
 ghost use Rattle.croner_base.specs.Field.{values_between};
-ghost use Rattle.croner_base.specs.Part.{all_marked, field_of, part_of, nearest_weekday, single, one_number, tag_of, two_of, pieces_at, number_of, ranged, stepping, step_bounds, stepped_marks, is_starred};
+ghost use Rattle.croner_base.specs.Part.{all_marked, field_of, parts_of, part_of, nearest_weekday, single, one_number, tag_of, two_of, pieces_at, number_of, ranged, stepping, step_bounds, stepped_marks, is_starred};
 ghost use Rattle.croner_base.specs.Reading.{Reads};
 
 use super::text::{after, before, ends_in_l, has, number};
@@ -32,13 +32,7 @@ impl CronComponent {
             let last = self.max + self.input_offset;
             return self.mark_all(first, last, ALL_BIT);
         }
-        for part in field.split(',') {
-            let part = part.trim();
-            if !part.is_empty() {
-                self.parse_part(part)?;
-            }
-        }
-        Ok(())
+        self.parse_list(field)
     }
 
     /// Adds the marks of one part with a `/`, which isn't trimmed: `*/n`, `a-b/n`, and where ranges are sloppy also
@@ -65,6 +59,18 @@ impl CronComponent {
             return Err(self.range_out_of_bounds(start, end, part));
         }
         self.mark_stepped(start, end, step, bit, part)
+    }
+
+    fn parse_list(&mut self, list: &str) -> Result<(), CronError>
+        ensures { Reads (parts_of self.old.shape (pieces_at 44 list.now)) self.old self.new result }
+    {
+        for part in list.split(',') {
+            let part = part.trim();
+            if !part.is_empty() {
+                self.parse_part(part)?;
+            }
+        }
+        Ok(())
     }
 
     fn parse_part(&mut self, part: &str) -> Result<(), CronError>
