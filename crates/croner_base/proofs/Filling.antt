@@ -1,39 +1,21 @@
 -- Marking a range of values at once.
-use Rattle.std.proofs.Common.{◌≡◌, ℕ, zero, suc, ◌+◌, ◌-◌, ◌<◌, ◌≤◌, true, false, List, [], ◌∷◌, ◌++◌, length, get_or, set, take, drop, map, bit_or, Ok, Err, refl, ap, sym, ◌∙◌, arith, subst, append_assoc, length-set, add-zero}
+use Rattle.std.proofs.Common.{◌≡◌, ℕ, zero, suc, ◌+◌, ◌-◌, ◌<◌, ◌≤◌, true, false, List, length, get_or, set, bit_or, Ok, Err, refl, ap, sym, ◌∙◌, arith, subst, inl, inr, length-set, get_or-set_same, get_or-set_other}
 use Rattle.std.specs.List.{range_with_len}
 use Rattle.std.proofs.lemmas.Bool.Decides.{nat_tests}
-use Rattle.std.proofs.lemmas.List.{take-append-drop, drop-set-lt, drop_more, take_more_set, drop-drop}
+use Rattle.std.proofs.lemmas.Bool.{cases_eq, cases_lt}
+use Rattle.std.proofs.lemmas.List.{ext_get_or}
 use Rattle.croner_base.specs.declared.errors.CronError.{CronError}
 use Rattle.croner_base.specs.Answers.{IsFieldError}
 use Rattle.croner_base.specs.Field.{Shape, Field, with_mark, can_mark, room, values_between}
 use Rattle.croner_base.specs.Part.{all_marked}
 use Rattle.croner_base.specs.Reading.{Reading, applied, Reads}
+use Rattle.croner_base.specs.Words.Marked.{Marked, GainsRange}
 use Rattle.croner_base.proofs.Readings.{Completes-all, all_marked-fault}
 
 -- n sums from place a on, each with the bits
 abbrev filled : List ℕ → ℕ → ℕ → ℕ → List ℕ
 filled xs a zero bits = xs
 filled xs a (suc n) bits = filled (set xs a (bit_or (get_or xs a 0) bits)) (a + 1) n bits
-
-filled-is : (xs : List ℕ) (a n bits : ℕ) → a + n ≤ length xs → filled xs a n bits ≡ take a xs ++ (map (λ sum. bit_or sum bits) (take n (drop a xs)) ++ drop (a + n) xs)
-filled-is xs a zero bits h = sym (take-append-drop a xs) ∙ ap (λ k. take a xs ++ drop k xs) (sym (add-zero a))
-filled-is xs a (suc n) bits h =
-    let y : ℕ = bit_or (get_or xs a 0) bits in
-    let within : a < length xs = omega arith in
-    let there : (a + 1) + n ≤ length (set xs a (bit_or (get_or xs a 0) bits)) = omega (arith, length-set xs a (bit_or (get_or xs a 0) bits)) in
-    let rest = filled-is (set xs a (bit_or (get_or xs a 0) bits)) (a + 1) n bits there in
-    let front = take_more_set xs a (bit_or (get_or xs a 0) bits) within in
-    let behind = drop-set-lt (a + 1) xs a (bit_or (get_or xs a 0) bits) (omega arith) in
-    let end = drop-set-lt ((a + 1) + n) xs a (bit_or (get_or xs a 0) bits) (omega arith) in
-    let first = drop_more xs a 0 within in
-    let same : (a + 1) + n ≡ a + suc n = omega arith in
-    rest
-    ∙ ap (λ f. f ++ (map (λ sum. bit_or sum bits) (take n (drop (a + 1) (set xs a (bit_or (get_or xs a 0) bits)))) ++ drop ((a + 1) + n) (set xs a (bit_or (get_or xs a 0) bits)))) front
-    ∙ ap (λ d. (take a xs ++ (bit_or (get_or xs a 0) bits) ∷ []) ++ (map (λ sum. bit_or sum bits) (take n d) ++ drop ((a + 1) + n) (set xs a (bit_or (get_or xs a 0) bits)))) behind
-    ∙ ap (λ d. (take a xs ++ (bit_or (get_or xs a 0) bits) ∷ []) ++ (map (λ sum. bit_or sum bits) (take n (drop (a + 1) xs)) ++ d)) end
-    ∙ append_assoc (take a xs) ((bit_or (get_or xs a 0) bits) ∷ []) _
-    ∙ ap (λ d. take a xs ++ (map (λ sum. bit_or sum bits) (take (suc n) d) ++ drop ((a + 1) + n) xs)) (sym first)
-    ∙ ap (λ k. take a xs ++ (map (λ sum. bit_or sum bits) (take (suc n) (drop a xs)) ++ drop k xs)) same
 
 length-filled : (xs : List ℕ) (a n bits : ℕ) → length (filled xs a n bits) ≡ length xs
 length-filled xs a zero bits = refl
@@ -81,24 +63,46 @@ Reads-filled f bits first last h o m =
     let all = all_marked-filled f bits first ((last + 1) - first) (λ w a b. can_mark-between f.shape first w bits h a (omega arith)) in
     record { answer = all.accepted; state = sym all.state }
 
--- the same as code does it: the part of the sums from place a to b is mapped
-abbrev pub with_part : List ℕ → ℕ → ℕ → List ℕ → List ℕ
-with_part xs a n part = take a xs ++ (part ++ drop n (drop a xs))
+-- what a filled list has, outside its part and inside
+filled-before : (xs : List ℕ) (a n bits v : ℕ) → v < a → get_or (filled xs a n bits) v 0 ≡ get_or xs v 0
+filled-before xs a zero bits v h = refl
+filled-before xs a (suc n) bits v h =
+    filled-before (set xs a (bit_or (get_or xs a 0) bits)) (a + 1) n bits v (omega arith) ∙ get_or-set_other xs a v _ 0 (λ e. absurd (omega arith))
 
-pub Reads-part : (f : Field) (bits first last a b : ℕ) (xs part : List ℕ) → can_mark f.shape first bits ≡ true → first ≤ last → last ≤ f.shape.max + f.shape.offset → length f.marks ≡ room f.shape.max → xs ≡ f.marks → a ≡ first - f.shape.offset → b ≡ last - f.shape.offset → part ≡ map (λ sum. bit_or sum bits) (take (b + 1 - a) (drop a xs)) → (length (with_part xs a (b + 1 - a) part) ≡ length xs) × Reads {X = Unit {0}} (all_marked f.shape bits (values_between first last)) f (record f { marks = with_part xs a (b + 1 - a) part }) (Ok tt)
-Reads-part f bits first last a b xs part h o m held is at to e =
+filled-behind : (xs : List ℕ) (a n bits v : ℕ) → a + n ≤ v → get_or (filled xs a n bits) v 0 ≡ get_or xs v 0
+filled-behind xs a zero bits v h = refl
+filled-behind xs a (suc n) bits v h =
+    filled-behind (set xs a (bit_or (get_or xs a 0) bits)) (a + 1) n bits v (omega arith) ∙ get_or-set_other xs a v _ 0 (λ e. absurd (omega arith))
+
+filled-inside : (xs : List ℕ) (a n bits v : ℕ) → a ≤ v → v < a + n → v < length xs → get_or (filled xs a n bits) v 0 ≡ bit_or (get_or xs v 0) bits
+filled-inside xs a zero bits v h i l = absurd (omega arith)
+filled-inside xs a (suc n) bits v h i l = elim (cases_eq v a) [
+  | inl e ↦
+      filled-before (set xs a (bit_or (get_or xs a 0) bits)) (a + 1) n bits v (omega arith)
+      ∙ subst (λ u. get_or (set xs a (bit_or (get_or xs a 0) bits)) u 0 ≡ bit_or (get_or xs u 0) bits) (sym e) (get_or-set_same xs a (bit_or (get_or xs a 0) bits) 0 (omega arith))
+  | inr ne ↦
+      filled-inside (set xs a (bit_or (get_or xs a 0) bits)) (a + 1) n bits v (omega arith) (omega arith) (omega (arith, length-set xs a (bit_or (get_or xs a 0) bits)))
+      ∙ ap (λ x. bit_or x bits) (get_or-set_other xs a v (bit_or (get_or xs a 0) bits) 0 ne)
+]
+
+-- the same as code does it: the values of the range gain the bits
+gained-filled : (f : Field) (old new : Marked) (bits a n b : ℕ) → old.marks ≡ f.marks → GainsRange old new bits a b → b + 1 ≡ a + n → b < length f.marks → filled f.marks a n bits ≡ new.marks
+gained-filled f old new bits a n b is g end here = ext_get_or 0 _ _ (length-filled f.marks a n bits ∙ sym (g.length ∙ ap length is)) (λ v lt. elim (cases_lt v a) [
+  | inl low ↦ filled-before f.marks a n bits v low ∙ sym (g.below v low ∙ ap (λ xs. get_or xs v 0) is)
+  | inr from ↦ elim (cases_lt b v) [
+    | inl high ↦ filled-behind f.marks a n bits v (omega arith) ∙ sym (g.above v high ∙ ap (λ xs. get_or xs v 0) is)
+    | inr to ↦ filled-inside f.marks a n bits v (omega arith) (omega arith) (omega arith) ∙ sym (g.inside v (omega arith) (omega arith) ∙ ap (λ xs. bit_or (get_or xs v 0) bits) is)
+  ]
+])
+
+pub Reads-gained : (f : Field) (bits first last a b : ℕ) (old new : Marked) → can_mark f.shape first bits ≡ true → first ≤ last → last ≤ f.shape.max + f.shape.offset → length f.marks ≡ room f.shape.max → old.marks ≡ f.marks → a ≡ first - f.shape.offset → b ≡ last - f.shape.offset → GainsRange old new bits a b → Reads {X = Unit {0}} (all_marked f.shape bits (values_between first last)) f (record f { marks = new.marks }) (Ok tt)
+Reads-gained f bits first last a b old new h o m held is at to g =
     let low : f.shape.offset ≤ first = can_mark-offset f.shape first bits h in
-    let count : b + 1 - a ≡ (last + 1) - first = omega arith in
-    let end : a + (b + 1 - a) ≡ (last + 1) - f.shape.offset = omega arith in
-    let within = can_mark-within f.shape first last bits (a + (b + 1 - a)) (length f.marks) h o m held end in
-    let here : a + (b + 1 - a) ≤ length xs = omega (arith, ap length is) in
-    let list : filled xs a (b + 1 - a) bits ≡ with_part xs a (b + 1 - a) part =
-    filled-is xs a (b + 1 - a) bits here ∙ ap (λ d. take a xs ++ (map (λ sum. bit_or sum bits) (take (b + 1 - a) (drop a xs)) ++ d)) (sym (drop-drop (b + 1 - a) a xs)) ∙ ap (λ p. with_part xs a (b + 1 - a) p) (sym e) in
-    let same : filled f.marks (first - f.shape.offset) ((last + 1) - first) bits ≡ with_part xs a (b + 1 - a) part =
-    ap (λ k. filled f.marks k ((last + 1) - first) bits) (sym at) ∙ ap (λ k. filled f.marks a k bits) (sym count) ∙ ap (λ ys. filled ys a (b + 1 - a) bits) (sym is) ∙ list in (
-      ap length (sym list) ∙ length-filled xs a (b + 1 - a) bits,
-      subst (λ ys. Reads {X = Unit {0}} (all_marked f.shape bits (values_between first last)) f (record f { marks = ys }) (Ok tt)) same (Reads-filled f bits first last h o m),
-    )
+    let end : b + 1 ≡ a + ((last + 1) - first) = omega arith in
+    let within = can_mark-within f.shape first last bits (b + 1) (length f.marks) h o m held (omega arith) in
+    let same : filled f.marks (first - f.shape.offset) ((last + 1) - first) bits ≡ new.marks =
+    ap (λ k. filled f.marks k ((last + 1) - first) bits) (sym at) ∙ gained-filled f old new bits a ((last + 1) - first) b is g end (omega (arith, within)) in
+    subst (λ ys. Reads {X = Unit {0}} (all_marked f.shape bits (values_between first last)) f (record f { marks = ys }) (Ok tt)) same (Reads-filled f bits first last h o m)
 
 -- or nothing of it, where its first value can't be marked
 pub Reads-unfilled : (f : Field) (bits first last : ℕ) (e : CronError) → first ≤ last → (can_mark f.shape first bits ≡ false) × IsFieldError e → Reads {X = Unit {0}} (all_marked f.shape bits (values_between first last)) f f (Err e)

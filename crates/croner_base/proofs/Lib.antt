@@ -31,3 +31,4 @@ pub mod ExamplesTable
 pub mod Excerpts
 mod Defaults
 mod Counts
+pub mod Words

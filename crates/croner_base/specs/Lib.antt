@@ -19,3 +19,4 @@ pub mod Part
 pub mod Reading
 pub mod Refusal
 pub mod Written
+pub mod Words

@@ -3,7 +3,7 @@ use Rattle.std.specs.Prelude.{◌≡◌, ℕ, ◌+◌, ◌*◌, ◌^◌, ◌<◌
 use Rattle.std.specs.List.{list_any}
 use Rattle.std.specs.List.Sorted.{IsStrictlyIncreasing}
 use Rattle.std.specs.Str.{trim}
-use Rattle.croner_base.specs.Field.{Shape, Field, has_any, has_all, is_in_bounds, is_marked, with_mark, without_mark, marked_values, room, values_between}
+use Rattle.croner_base.specs.Field.{Shape, Field, has_any, has_all, is_in_bounds, can_ask, is_marked, with_mark, without_mark, marked_values, room, values_between}
 use Rattle.croner_base.specs.Part.{all_marked, stepped_marks, part_of, parts_of}
 use Rattle.croner_base.specs.Reading.{Effect, marks, enables, steps, stars, Reading, applied}
 
@@ -87,3 +87,27 @@ NamesUnion shape parts =
 pub record ListsSet (bits : ℕ) (f : Field) : Type 0 where
   pub ascending : IsStrictlyIncreasing (marked_values bits f)
   pub members : (w : ℕ) → is_among w (marked_values bits f) ≡ (has_all f.shape.supported bits && (is_in_bounds f.shape w && is_marked bits f w))
+
+-- the field holds the value, supports plain values, and the value is marked plain
+abbrev pub is_plain_value : Field → ℕ → Bool
+is_plain_value f value = can_ask f.shape value 1 && is_marked 1 f value
+
+-- from the value on there is no plain one
+abbrev pub HasNoPlainFrom : Field → ℕ → Type 0
+HasNoPlainFrom f from = (value : ℕ) → from ≤ value → is_plain_value f value ≡ false
+
+-- the least plain value from the given one on
+pub record IsLeastPlainValue (f : Field) (from least : ℕ) : Type 0 where
+  pub above : from ≤ least
+  pub plain : is_plain_value f least ≡ true
+  pub first : (value : ℕ) → from ≤ value → is_plain_value f value ≡ true → least ≤ value
+
+-- up to the value there is no plain one
+abbrev pub HasNoPlainTo : Field → ℕ → Type 0
+HasNoPlainTo f to = (value : ℕ) → value ≤ to → is_plain_value f value ≡ false
+
+-- the greatest plain value up to the given one
+pub record IsGreatestPlainValue (f : Field) (to greatest : ℕ) : Type 0 where
+  pub below : greatest ≤ to
+  pub plain : is_plain_value f greatest ≡ true
+  pub last : (value : ℕ) → value ≤ to → is_plain_value f value ≡ true → value ≤ greatest

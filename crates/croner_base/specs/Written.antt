@@ -1,5 +1,8 @@
--- What a field's hash is made of. Fields that compare as equal write the same.
-use Rattle.std.specs.Prelude.{◌≡◌, ℕ, Bool, true, false, List, [], ◌∷◌, ◌++◌, refl}
+-- What a field's hash is made of: the sets of its supported modifiers, as binary numbers of 64 digits, and then the other
+-- parts of the order's key. Fields that compare as equal write the same.
+use Rattle.std.specs.Prelude.{◌≡◌, ℕ, zero, suc, ◌+◌, ◌*◌, ◌/◌, ◌^◌, ◌==◌, Bool, true, false, List, [], ◌∷◌, ◌++◌, slice_index, refl, if◌then◌else◌}
+use Rattle.std.specs.Int.{bit_at}
+use Rattle.std.specs.List.{flat_map, range_with_len}
 use Rattle.std.specs.declared.cmp.Ordering.{Ordering}
 use Rattle.std.specs.declared.cmp.Ordering.TheVariants.{Less, Equal, Greater}
 use Rattle.std.specs.Ordering.{nat_cmp, bool_cmp, is_eq, ordering_then, eq_by_cmp}
@@ -8,12 +11,25 @@ use Rattle.std.specs.Hash as fed
 use Rattle.std.proofs.Common.{arith}
 use Rattle.std.proofs.lemmas.Bool.{false≢true}
 use Rattle.std.proofs.lemmas.Bool.Decides.{nat_tests}
-use Rattle.croner_base.specs.Field.{Field}
+use Rattle.croner_base.specs.Field.{Field, room}
 use Rattle.croner_base.specs.Order.{field_cmp}
+
+-- the number whose first digits tell which of the values from a first one on have modifier k
+unfoldable pub digits_of : List ℕ → ℕ → ℕ → ℕ → ℕ
+digits_of marks k first zero = 0
+digits_of marks k first (suc n) = digits_of marks k first n + bit_at (slice_index marks (first + n)) k * 2 ^ n
+
+-- the values that have modifier k, 64 a number
+unfoldable pub set_writes : List ℕ → ℕ → ℕ → List (List ℕ)
+set_writes marks groups k = flat_map (λ i. fed.u64 (digits_of marks k (i * 64) 64)) (range_with_len 0 groups)
+
+-- the same for each supported modifier
+unfoldable pub sets_writes : List ℕ → ℕ → ℕ → List (List ℕ)
+sets_writes marks groups supported = flat_map (λ k. if bit_at supported k == 1 then set_writes marks groups k else []) (range_with_len 0 8)
 
 abbrev pub field_writes : Field → List (List ℕ)
 field_writes f =
-    fed.slice fed.u8 f.marks ++ fed.u16 f.shape.min ++ fed.u16 f.shape.max ++ fed.u16 f.step ++ fed.bool f.wildcard ++ fed.u8 f.shape.supported ++ fed.u8 f.enabled ++ fed.u16 f.shape.offset ++ fed.bool f.shape.sloppy
+    sets_writes f.marks ((room f.shape.max + 63) / 64) f.shape.supported ++ fed.u16 f.shape.min ++ fed.u16 f.shape.max ++ fed.u16 f.step ++ fed.bool f.wildcard ++ fed.u8 f.shape.supported ++ fed.u8 f.enabled ++ fed.u16 f.shape.offset ++ fed.bool f.shape.sloppy
 
 -- a tie of two orders is a tie of each
 tie : (a b : Ordering) → is_eq (ordering_then a b) ≡ true → (is_eq a ≡ true) × (is_eq b ≡ true)

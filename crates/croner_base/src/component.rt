@@ -3,19 +3,21 @@
 //! A value can be marked plain, as one of the first five such weekdays of a month, as the last one, or as the day
 //! whose nearest weekday is meant. Each modifier is one bit, so that the bits of several are asked for at once.
 
-ghost use Rattle.std.specs.Prelude.{◌≡◌, ◌+◌, ◌-◌, ◌≤◌, length, OnOk, OnErr, IfOk, IfErr};
-ghost use Rattle.std.specs.List.{filter};
+ghost use Rattle.std.specs.Prelude.{◌≡◌, ◌+◌, ◌-◌, ◌≤◌, ◌<◌, ◌==◌, ℕ, length, OnOk, OnErr, IfOk, IfErr, MatchOption};
+ghost use Rattle.std.specs.Int.{bit_at};
 ghost use Rattle.croner_base.specs.Answers.{SucceedsIff};
 ghost use Rattle.croner_base.specs.Field.{with_mark, without_mark, with_sloppy, is_marked, can_mark, can_ask, default_field, empty_field, new_shape, has_all, has_any, has_modifiers, marked_values};
-ghost use Rattle.croner_base.specs.Marks.{IsWhole};
+ghost use Rattle.croner_base.specs.Marks.{IsWhole, HasNoPlainFrom, IsLeastPlainValue, HasNoPlainTo, IsGreatestPlainValue};
 ghost use Rattle.croner_base.specs.Part.{enabled};
 ghost use Rattle.croner_base.specs.Reading.{Reads};
 
 use crate::errors::CronError;
+use marks::Marks;
 use std::alloc::{AllocError, Global};
 use std::marker::Model;
 
 mod compare;
+mod marks;
 mod messages;
 mod parts;
 mod text;
@@ -58,12 +60,10 @@ pub const CLOSEST_WEEKDAY_BIT: u8 = 128;
 /// answer alone.
 #[derive(Debug, Drop)]
 pub struct CronComponent {
-    marks: Vec<u8>,
+    marks: Marks,
     min: u16,
-    max: u16,
     step: u16,
     from_wildcard: bool,
-    features: u8,
     enabled_features: u8,
     input_offset: u16,
     sloppy_ranges: bool,
@@ -76,9 +76,9 @@ impl Model for CronComponent {
 
     ghost Value = { Field };
 
-    ghost view = { λ c. record { shape = record { min = c.min; max = c.max; supported = c.features; offset = c.input_offset; sloppy = c.sloppy_ranges }; marks = c.marks.items; enabled = c.enabled_features; step = c.step; wildcard = c.from_wildcard } };
+    ghost view = { λ c. record { shape = record { min = c.min; max = c.marks.max; supported = c.marks.supported; offset = c.input_offset; sloppy = c.sloppy_ranges }; marks = c.marks.marks; enabled = c.enabled_features; step = c.step; wildcard = c.from_wildcard } };
 
-    ghost invariant = { λ c. (length c.marks.items ≡ room c.max) × (c.min ≤ c.max) × (c.max + c.input_offset < 2 ^ 16) };
+    ghost invariant = { λ c. (length c.marks.marks ≡ room c.marks.max) × (c.min ≤ c.marks.max) × (c.marks.max + c.input_offset < 2 ^ 16) };
 }
 
 impl CronComponent {
@@ -99,15 +99,12 @@ impl CronComponent {
         ensures ok { IfOk result (λ c. c ≡ empty_field (new_shape min max features input_offset)) }
         ensures err { IfErr result (λ e. e ≡ CronError.OutOfMemory) }
     {
-        let places = if max == 0 { 0 } else { usize::from(max) + 1 };
-        let marks = vec![in alloc; NONE_BIT; places]?;
+        let marks = Marks::new(alloc, max, features | ALL_BIT | LAST_BIT)?;
         Ok(CronComponent {
             marks,
             min,
-            max,
             step: 1,
             from_wildcard: false,
-            features: features | ALL_BIT | LAST_BIT,
             enabled_features: NONE_BIT,
             input_offset,
             sloppy_ranges: false,
@@ -120,12 +117,10 @@ impl CronComponent {
         ensures { result ≡ default_field }
     {
         CronComponent {
-            marks: Vec::new(alloc),
+            marks: Marks::none(alloc),
             min: 0,
-            max: 0,
             step: 0,
             from_wildcard: false,
-            features: NONE_BIT,
             enabled_features: NONE_BIT,
             input_offset: 0,
             sloppy_ranges: false,
@@ -145,7 +140,7 @@ impl CronComponent {
         ensures value { result ≡ self.now.shape.max }
         ensures whole { IsWhole self.now }
     {
-        self.max
+        self.marks.max()
     }
 
     /// The step of the last part with a `/` that was read, also of a refused one; 1 before any.
@@ -166,7 +161,7 @@ impl CronComponent {
     pub fn features(&self) -> u8
         ensures { result ≡ self.now.shape.supported }
     {
-        self.features
+        self.marks.supported()
     }
 
     /// What is taken off each number that a text names.
@@ -193,8 +188,7 @@ impl CronComponent {
         ensures err { OnErr result (self.new ≡ self.old) }
     {
         let value = self.value_at(pos, bit)?;
-        let mark = &mut self.marks[usize::from(value)];
-        *mark |= bit;
+        self.marks.set(value, bit);
         Ok(())
     }
 
@@ -207,8 +201,7 @@ impl CronComponent {
         ensures err { OnErr result (self.new ≡ self.old) }
     {
         let value = self.value_at(pos, bit)?;
-        let mark = &mut self.marks[usize::from(value)];
-        *mark &= !bit;
+        self.marks.unset(value, bit);
         Ok(())
     }
 
@@ -222,7 +215,7 @@ impl CronComponent {
         ensures ok { IfOk result (λ yes. yes ≡ is_marked bit self.now value) }
     {
         self.check_value(value, bit)?;
-        Ok(self.marks[usize::from(value)] & bit != NONE_BIT)
+        Ok(self.marks.is_set(value, bit))
     }
 
     /// Enables the features of `feature` for the whole field: `LAST_BIT` is the month's last day, and
@@ -245,7 +238,7 @@ impl CronComponent {
     pub fn is_feature_allowed(&self, feature: u8) -> bool
         ensures { result ≡ has_all self.now.shape.supported feature }
     {
-        self.features & feature == feature
+        self.features() & feature == feature
     }
 
     /// Whether each of the features is enabled.
@@ -260,8 +253,7 @@ impl CronComponent {
     pub fn has_modifiers(&self) -> bool
         ensures { result ≡ has_modifiers self.now }
     {
-        self.enabled_features != NONE_BIT
-            || self.marks.iter().any(|mark| mark & !ALL_BIT != NONE_BIT)
+        self.enabled_features != NONE_BIT || self.marks.count_from(0, !ALL_BIT) != 0
     }
 
     /// The plain values, in ascending order. The only error is `OutOfMemory`.
@@ -278,16 +270,10 @@ impl CronComponent {
         ensures ok { IfOk result (λ vs. vs.items ≡ marked_values bit self.now) }
         ensures err { IfErr result (λ e. e ≡ CronError.OutOfMemory) }
     {
-        let mut values = Vec::new(self.alloc);
         if !self.is_feature_allowed(bit) {
-            return Ok(values);
+            return Ok(Vec::new(self.alloc));
         }
-        for value in self.min..=self.max {
-            if self.has_mark(value, bit) {
-                values.push(value)?;
-            }
-        }
-        Ok(values)
+        Ok(self.marks.list_from(self.alloc, self.min, bit)?)
     }
 
     /// How many values [`get_set_values`](Self::get_set_values) lists.
@@ -297,16 +283,37 @@ impl CronComponent {
         if !self.is_feature_allowed(bit) {
             return 0;
         }
-        count_marked(&self.marks[usize::from(self.min)..], bit)
+        self.marks.count_from(self.min, bit)
     }
 
-    fn has_mark(&self, value: u16, bit: u8) -> bool
-        ensures { result ≡ is_marked bit self.now value }
+    /// The least plain value from the given one on; `None` where there is none. Refuses nothing and takes no memory.
+    pub fn least_from(&self, value: u16) -> Option<u16>
+        ensures { MatchOption result (HasNoPlainFrom self.now value) (λ least. IsLeastPlainValue self.now value least) }
     {
-        match self.marks.get(usize::from(value)) {
-            Some(mark) => *mark & bit != NONE_BIT,
-            None => false,
+        if !self.is_feature_allowed(ALL_BIT) {
+            return None;
         }
+        self.marks.least_from(value.max(self.min))
+    }
+
+    /// The greatest plain value up to the given one; `None` where there is none. Refuses nothing and takes no memory.
+    pub fn greatest_to(&self, value: u16) -> Option<u16>
+        ensures { MatchOption result (HasNoPlainTo self.now value) (λ greatest. IsGreatestPlainValue self.now value greatest) }
+    {
+        if !self.is_feature_allowed(ALL_BIT) {
+            return None;
+        }
+        match self.marks.greatest_to(value) {
+            Some(greatest) if greatest >= self.min => Some(greatest),
+            _ => None,
+        }
+    }
+
+    /// The values from 0 to 63 that have any of the modifiers of `bit`, as a word: bit v stands for the value v.
+    pub fn low_word(&self, bit: u8) -> u64
+        ensures { (value : ℕ) → value < 64 → (bit_at result value == 1) ≡ is_marked bit self.now value }
+    {
+        self.marks.low_word(bit)
     }
 
     fn value_at(&self, pos: u16, bit: u8) -> Result<u16, CronError>
@@ -325,7 +332,7 @@ impl CronComponent {
     fn check_value(&self, value: u16, bit: u8) -> Result<(), CronError>
         ensures { SucceedsIff (can_ask self.now.shape value bit) result }
     {
-        if value < self.min || value > self.max || self.max == 0 {
+        if value < self.min || value > self.marks.max() || self.marks.max() == 0 {
             return Err(self.out_of_bounds(value));
         }
         if !self.is_feature_allowed(bit) {
@@ -335,30 +342,15 @@ impl CronComponent {
     }
 }
 
-// How many of the sums of bits have any bit of `bit`.
-fn count_marked(marks: &[u8], bit: u8) -> usize
-    ensures { result ≡ length (filter (λ sum. has_any sum bit) marks.now) }
-{
-    let mut count = 0;
-    for mark in marks {
-        if *mark & bit != NONE_BIT {
-            count += 1;
-        }
-    }
-    count
-}
-
 impl Clone for CronComponent {
     ghost is_clone = { λ original copy. copy ≡ original };
 
     fn clone(&self) -> Result<CronComponent, AllocError> {
         Ok(CronComponent {
-            marks: Vec::from_slice(self.alloc, self.marks.as_slice())?,
+            marks: self.marks.copied(self.alloc)?,
             min: self.min,
-            max: self.max,
             step: self.step,
             from_wildcard: self.from_wildcard,
-            features: self.features,
             enabled_features: self.enabled_features,
             input_offset: self.input_offset,
             sloppy_ranges: self.sloppy_ranges,

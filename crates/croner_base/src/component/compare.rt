@@ -57,13 +57,12 @@ impl Ord for CronComponent {
 
     fn cmp(&self, other: &CronComponent) -> Ordering {
         self.marks
-            .as_slice()
-            .cmp(other.marks.as_slice())
+            .cmp_marks(&other.marks)
             .then(self.min.cmp(&other.min))
-            .then(self.max.cmp(&other.max))
+            .then(self.marks.max().cmp(&other.marks.max()))
             .then(self.step.cmp(&other.step))
             .then(self.from_wildcard.cmp(&other.from_wildcard))
-            .then(self.features.cmp(&other.features))
+            .then(self.marks.supported().cmp(&other.marks.supported()))
             .then(self.enabled_features.cmp(&other.enabled_features))
             .then(self.input_offset.cmp(&other.input_offset))
             .then(self.sloppy_ranges.cmp(&other.sloppy_ranges))
@@ -78,12 +77,12 @@ impl Hash for CronComponent {
     ghost respects_eq = { writes_alike };
 
     fn hash<H: Hasher>(&self, state: &mut H) {
-        self.marks.as_slice().hash(state);
+        self.marks.hash_sets(state);
         self.min.hash(state);
-        self.max.hash(state);
+        self.marks.max().hash(state);
         self.step.hash(state);
         self.from_wildcard.hash(state);
-        self.features.hash(state);
+        self.marks.supported().hash(state);
         self.enabled_features.hash(state);
         self.input_offset.hash(state);
         self.sloppy_ranges.hash(state);

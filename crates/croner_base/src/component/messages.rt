@@ -25,7 +25,7 @@ impl CronComponent {
     pub(super) fn out_of_bounds(&self, value: u16) -> CronError
         ensures { IsFieldError result }
     {
-        let (min, max) = (self.min, self.max);
+        let (min, max) = (self.min, self.marks.max());
         if max == 0 {
             return refusal(format!(in self.alloc;
                 "The value {value} is out of bounds: this field holds no value."
@@ -41,7 +41,7 @@ impl CronComponent {
     pub(super) fn unsupported_modifier(&self, value: u16, bit: u8) -> CronError
         ensures { IsFieldError result }
     {
-        let features = self.features;
+        let features = self.marks.supported();
         let modifier = modifier_words(bit);
         refusal(format!(in self.alloc;
             "The value {value} can't be {modifier}: expected bits among {features:#010b}, found {bit:#010b}."
@@ -53,7 +53,7 @@ impl CronComponent {
     pub(super) fn unsupported_feature(&self, feature: u8) -> CronError
         ensures { IsFieldError result }
     {
-        let features = self.features;
+        let features = self.marks.supported();
         let modifier = modifier_words(feature);
         refusal(format!(in self.alloc;
             "This field can't name {modifier}: expected bits among {features:#010b}, found {feature:#010b}."
@@ -77,7 +77,7 @@ impl CronComponent {
         ensures { IsFieldError result }
     {
         let part = Excerpt::of(part);
-        let (least, greatest) = (self.min + self.input_offset, self.max);
+        let (least, greatest) = (self.min + self.input_offset, self.marks.max());
         refusal(format!(in self.alloc;
             "The number {number} in the part {part} is out of bounds: expected one from {least} to {greatest}."
         ))
@@ -89,7 +89,7 @@ impl CronComponent {
         ensures { IsFieldError result }
     {
         let part = Excerpt::of(part);
-        let (least, greatest) = (self.min + self.input_offset, self.max);
+        let (least, greatest) = (self.min + self.input_offset, self.marks.max());
         refusal(format!(in self.alloc;
             "Invalid range {start} to {end} in the part {part}: expected an ascending one from {least} to {greatest}."
         ))

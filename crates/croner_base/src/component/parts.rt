@@ -1,6 +1,6 @@
 //! Reading the text of a field: a star or a list, and the forms that a part of a list can have.
 
-ghost use Rattle.std.specs.Prelude.{◌≡◌, ◌≤◌, ◌<◌, ◌+◌, ◌&&◌, nat_le, map, bit_or};
+ghost use Rattle.std.specs.Prelude.{◌≡◌, ◌≤◌, ◌<◌, ◌+◌, ◌&&◌, nat_le};
 ghost use Rattle.croner_base.specs.Answers.{Finds};
 ghost use Rattle.croner_base.specs.Field.{values_between};
 ghost use Rattle.croner_base.specs.Part.{all_marked, field_of, parts_of, part_of, nearest_weekday, single, one_number, tag_of, two_of, pieces_at, number_of, ranged, stepping, step_bounds, stepped_marks, is_starred};
@@ -29,7 +29,7 @@ impl CronComponent {
         if field == "*" {
             self.from_wildcard = true;
             let first = self.min + self.input_offset;
-            let last = self.max + self.input_offset;
+            let last = self.marks.max() + self.input_offset;
             return self.mark_all(first, last, ALL_BIT);
         }
         self.parse_list(field)
@@ -175,7 +175,7 @@ impl CronComponent {
         ensures { Finds (λ b. (b.0, b.1)) (step_bounds self.now.shape left.now) result }
     {
         if left == "*" {
-            Ok((self.min + self.input_offset, self.max))
+            Ok((self.min + self.input_offset, self.marks.max()))
         } else if has(left, '-') {
             let (start, end) = self.sides(left, '-', part)?;
             let start = self.number_in(start, part)?;
@@ -184,17 +184,17 @@ impl CronComponent {
         } else if !self.sloppy_ranges {
             Err(self.no_range_to_step(left, part))
         } else if left.is_empty() {
-            Ok((self.min + self.input_offset, self.max))
+            Ok((self.min + self.input_offset, self.marks.max()))
         } else {
             let start = self.number_in(left, part)?;
-            Ok((start, self.max))
+            Ok((start, self.marks.max()))
         }
     }
 
     fn has_range(&self, start: u16, end: u16) -> bool
         ensures { result ≡ ((nat_le self.now.shape.min start && nat_le end self.now.shape.max) && nat_le start end) }
     {
-        self.min <= start && end <= self.max && start <= end
+        self.min <= start && end <= self.marks.max() && start <= end
     }
 
     fn number_in(&self, text: &str, part: &str) -> Result<u16, CronError>
@@ -210,7 +210,7 @@ impl CronComponent {
         ensures { Reads (single self.old.shape bit text.now) self.old self.new result }
     {
         let number = self.number_in(text, part)?;
-        if number < self.min || number > self.max {
+        if number < self.min || number > self.marks.max() {
             return Err(self.number_out_of_bounds(number, part));
         }
         self.set_bit(number, bit)
@@ -221,9 +221,8 @@ impl CronComponent {
         requires within { last ≤ self.old.shape.max + self.old.shape.offset }
         ensures { Reads (all_marked self.old.shape bit (values_between first last)) self.old self.new result }
     {
-        let first = usize::from(self.value_at(first, bit)?);
-        let last = usize::from(last - self.input_offset);
-        add_bit(&mut self.marks[first..=last], bit);
+        let first = self.value_at(first, bit)?;
+        self.marks.set_range(first, last - self.input_offset, bit);
         Ok(())
     }
 
@@ -248,13 +247,5 @@ impl CronComponent {
             };
         }
         Ok(())
-    }
-}
-
-fn add_bit(marks: &mut [u8], bit: u8)
-    ensures { marks.new ≡ map (λ sum. bit_or sum bit) marks.old }
-{
-    for mark in marks {
-        *mark |= bit;
     }
 }

@@ -1,0 +1,11 @@
+use Rattle.std.proofs.Common.{◌≡◌, ◌≤◌, ◌+◌, ◌*◌, ◌-◌, min}
+use Rattle.croner_base.specs.Field.{room}
+use Rattle.croner_base.specs.Words.Marked.{is_set}
+use Rattle.croner_base.proofs.Words.Counting.{count_up}
+use Rattle.croner_base.proofs.component.marks.Marks.count_from.Given as goal
+
+abbrev pub invariant-loop-i : goal.invariant-loop-i
+invariant-loop-i l = record {
+  few : l.count ≤ l.i * 64;
+  counted : l.count ≡ count_up (is_set l.bits l.self) l.first (min (l.i * 64) (room l.self.max) - l.first);
+}

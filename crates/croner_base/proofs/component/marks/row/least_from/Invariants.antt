@@ -1,0 +1,10 @@
+use Rattle.std.proofs.Common.{◌*◌}
+use Rattle.croner_base.specs.Words.Masks.{MasksFrom}
+use Rattle.croner_base.proofs.Words.Search.{HasNone}
+use Rattle.croner_base.proofs.component.marks.row.least_from.Given as goal
+
+abbrev pub invariant-loop-i : goal.invariant-loop-i
+invariant-loop-i l = record {
+  masks : MasksFrom l.mask l.value l.i;
+  none : HasNone l.row l.value (l.i * 64);
+}

@@ -1,0 +1,5 @@
+use Rattle.croner_base.proofs.Words.Places.{count_all}
+use Rattle.croner_base.proofs.component.marks.rows.rows.Goals as goal
+
+pub returns : goal.returns
+returns c = count_all c.args.supported c.ranges.supported.fits

@@ -1,0 +1,5 @@
+use Rattle.croner_base.proofs.Words.Places.{count_below}
+use Rattle.croner_base.proofs.component.marks.rows.rows_below.Goals as goal
+
+pub returns : goal.returns
+returns c = count_below c.args.supported c.args.k c.requires

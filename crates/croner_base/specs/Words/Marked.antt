@@ -1,0 +1,32 @@
+-- Marks by value: for each value from 0 to the maximum the sum of the bits of its modifiers.
+use Rattle.std.specs.Prelude.{ℕ, ◌≡◌, ◌≤◌, length, ◌+◌, ◌-◌, Bool, ◌<◌, List, replicate, slice_index, slice_set, bit_and, bit_or}
+use Rattle.croner_base.specs.Field.{room, has_any}
+
+pub record Marked : Type 0 where
+  pub max : ℕ
+  pub supported : ℕ
+  pub marks : List ℕ
+
+-- the value is marked with one of the bits
+abbrev pub is_set : ℕ → Marked → ℕ → Bool
+is_set bits f value = has_any (slice_index f.marks value) bits
+
+-- the value has gained the bits, and lost them
+abbrev pub set_at : Marked → ℕ → ℕ → Marked
+set_at f value bits = record f { marks = slice_set f.marks value (bit_or (slice_index f.marks value) bits) }
+
+abbrev pub unset_at : Marked → ℕ → ℕ → Marked
+unset_at f value bits = record f { marks = slice_set f.marks value (bit_and (slice_index f.marks value) (255 - bits)) }
+
+-- no value is marked
+abbrev pub nothing_set : ℕ → ℕ → Marked
+nothing_set max supported = record { max = max; supported = supported; marks = replicate (room max) 0 }
+
+-- the values from first to last have gained the bits, and nothing else has changed
+pub record GainsRange (old new : Marked) (bits first last : ℕ) : Type 0 where
+  pub max : new.max ≡ old.max
+  pub supported : new.supported ≡ old.supported
+  pub length : length new.marks ≡ length old.marks
+  pub inside : (v : ℕ) → first ≤ v → v ≤ last → slice_index new.marks v ≡ bit_or (slice_index old.marks v) bits
+  pub below : (v : ℕ) → v < first → slice_index new.marks v ≡ slice_index old.marks v
+  pub above : (v : ℕ) → last < v → slice_index new.marks v ≡ slice_index old.marks v

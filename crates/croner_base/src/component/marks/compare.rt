@@ -1,0 +1,81 @@
+//! The order of marks by value: the least value at which two differ decides, by the sums there.
+
+ghost use Rattle.std.specs.Prelude.{◌≡◌, ℕ, ◌+◌, ◌*◌, ◌/◌, ◌<◌, ◌≤◌, length, slice_index, IsTrue, MatchOption};
+ghost use Rattle.std.specs.Cmp.Lexicographic.{slice_cmp};
+ghost use Rattle.std.specs.Int.{bit_at};
+ghost use Rattle.std.specs.Ordering.{nat_cmp};
+ghost use Rattle.croner_base.specs.Words.Differences.{SameSums, IsFirstDifference, ShowsDifferences};
+ghost use Rattle.croner_base.specs.Field.{room};
+ghost use Rattle.croner_base.specs.Words.Rows.{width};
+
+use super::{Marks, rows};
+use std::cmp::Ordering;
+
+impl Marks {
+    /// Compares the sums from value 0 on; where one ends first, it is the lesser.
+    pub fn cmp_marks(&self, other: &Marks) -> Ordering
+        ensures { result ≡ slice_cmp nat_cmp self.now.marks other.now.marks }
+    {
+        match self.first_difference(other) {
+            Some(value) => self.sum(value).cmp(&other.sum(value)),
+            None => self.len().cmp(&other.len()),
+        }
+    }
+
+    fn len(&self) -> usize
+        ensures room { result ≡ room self.now.max }
+        ensures marks { result ≡ length self.now.marks }
+    {
+        rows::room(self.max)
+    }
+
+    fn sum(&self, value: u16) -> u8
+        requires { value < room self.now.max }
+        ensures within { value < length self.now.marks }
+        ensures value { result ≡ slice_index self.now.marks value }
+    {
+        rows::sum(&self.words, self.max, self.supported, value)
+    }
+
+    fn first_difference(&self, other: &Marks) -> Option<u16>
+        ensures { MatchOption result (SameSums self.now other.now) (λ value. IsFirstDifference self.now other.now value) }
+    {
+        if self.is_same(other) {
+            return None;
+        }
+        let shared = rows::width(self.max).min(rows::width(other.max));
+        for i in 0..shared {
+            let found = self.differences(other, i);
+            if found != 0 {
+                let value = (i * 64 + found.trailing_zeros() as usize) as u16;
+                return if self.has(value) && other.has(value) {
+                    Some(value)
+                } else {
+                    None
+                };
+            }
+        }
+        None
+    }
+
+    // Whether both keep the same words for the same values and modifiers.
+    fn is_same(&self, other: &Marks) -> bool
+        ensures { IsTrue result → self.now ≡ other.now }
+    {
+        self.max == other.max
+            && self.supported == other.supported
+            && self.words.as_slice() == other.words.as_slice()
+    }
+
+    fn differences(&self, other: &Marks, i: usize) -> u64
+        requires here { i < width self.now.max }
+        requires there { i < width other.now.max }
+        ensures { ShowsDifferences self.now other.now i result }
+    {
+        let mut found = 0;
+        for k in 0..8 {
+            found |= self.word(k, i) ^ other.word(k, i);
+        }
+        found
+    }
+}

@@ -1,0 +1,81 @@
+//! Counting and listing marked values word by word.
+
+ghost use Rattle.std.specs.Prelude.{◌≡◌, ℕ, ◌+◌, ◌-◌, ◌*◌, ◌/◌, ◌<◌, ◌≤◌, ◌==◌, ◌++◌, length, IfOk, OnOk};
+ghost use Rattle.std.specs.Int.{bit_at};
+ghost use Rattle.croner_base.specs.Words.Counts.{ShowsMarked, ShowsFrom, marked_from, values_in};
+ghost use Rattle.croner_base.specs.Words.Marked.{is_set};
+ghost use Rattle.croner_base.specs.Words.Rows.{width};
+
+use super::Marks;
+use super::row::{mask_from, mask_to};
+use super::rows::width;
+use std::alloc::{AllocError, Global};
+
+impl Marks {
+    /// How many values from the given one on have one of the modifiers of `bits`.
+    pub fn count_from(&self, first: u16, bits: u8) -> usize
+        ensures { result ≡ length (marked_from first bits self.now) }
+    {
+        let mut count = 0;
+        for i in usize::from(first / 64)..width(self.max) {
+            count += self.marked(first, bits, i).count_ones() as usize;
+        }
+        count
+    }
+
+    /// The values from the given one on that have one of the modifiers of `bits`, in ascending order.
+    pub fn list_from(&self, alloc: Global, first: u16, bits: u8) -> Result<Vec<u16>, AllocError>
+        ensures { IfOk result (λ values. values.items ≡ marked_from first bits self.now) }
+    {
+        let mut values = Vec::with_capacity(alloc, self.count_from(first, bits))?;
+        for i in usize::from(first / 64)..width(self.max) {
+            push_values(&mut values, self.marked(first, bits, i), i)?;
+        }
+        Ok(values)
+    }
+
+    /// The first 64 values that have one of the modifiers of `bits`, as a word.
+    pub fn low_word(&self, bits: u8) -> u64
+        ensures { (v : ℕ) → v < 64 → (bit_at result v == 1) ≡ is_set bits self.now v }
+    {
+        if self.max() == 0 {
+            return 0;
+        }
+        self.marked(0, bits, 0)
+    }
+
+    // The values of word `i`, from the given one on, that have one of the modifiers of `bits`.
+    fn marked(&self, first: u16, bits: u8, i: usize) -> u64
+        requires here { i < width self.now.max }
+        requires from { first / 64 ≤ i }
+        ensures { ShowsFrom self.now bits first i result }
+    {
+        self.any(bits, i) & mask_from(first, i) & mask_to(self.max, i)
+    }
+
+    /// The values of word `i` that have one of the modifiers of `bits`. Bits past the maximum say nothing.
+    pub(super) fn any(&self, bits: u8, i: usize) -> u64
+        requires { i < width self.now.max }
+        ensures { ShowsMarked self.now bits i result }
+    {
+        let mut found = 0;
+        for k in 0..8 {
+            if bits >> k & 1 == 1 {
+                found |= self.word(k, i);
+            }
+        }
+        found
+    }
+}
+
+fn push_values(values: &mut Vec<u16>, word: u64, i: usize) -> Result<(), AllocError>
+    requires { i < 1024 }
+    ensures { OnOk result (values.new.items ≡ values.old.items ++ values_in word i) }
+{
+    for b in 0..64_u16 {
+        if word >> b & 1 == 1 {
+            values.push((i * 64) as u16 + b)?;
+        }
+    }
+    Ok(())
+}

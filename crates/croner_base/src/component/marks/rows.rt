@@ -1,0 +1,137 @@
+//! Rows of words one after another.
+
+ghost use Rattle.std.specs.Prelude.{◌≡◌, ℕ, ◌+◌, ◌*◌, ◌/◌, ◌%◌, ◌^◌, ◌<◌, ◌≤◌, ◌==◌, ◌-◌, length, slice_index, slice_set, bit_or, bit_and};
+ghost use Rattle.std.specs.Int.{bit_at};
+ghost use Rattle.croner_base.specs.Field.{room};
+ghost use Rattle.croner_base.specs.Words.Rows.{width, rows_below, mark_at, sum_below, sums_of};
+
+/// How many supported modifiers stand below modifier `k`.
+fn rows_below(supported: u8, k: u8) -> u8
+    requires { k < 8 }
+    ensures { result ≡ rows_below supported k }
+{
+    let below = supported & ((1 << k) - 1);
+    below.count_ones() as u8
+}
+
+/// How many rows there are.
+pub fn rows(supported: u8) -> u8
+    ensures { result ≡ rows_below supported 8 }
+{
+    supported.count_ones() as u8
+}
+
+/// How many values there are.
+pub fn room(max: u16) -> usize
+    ensures { result ≡ room max }
+{
+    if max == 0 { 0 } else { usize::from(max) + 1 }
+}
+
+/// How many words a row has.
+pub fn width(max: u16) -> usize
+    ensures { result ≡ width max }
+{
+    (room(max) + 63) / 64
+}
+
+/// Where the word of a modifier and a value stands.
+pub fn place(max: u16, supported: u8, k: u8, value: u16) -> usize
+    requires { k < 8 }
+    ensures { result ≡ rows_below supported k * width max + value / 64 }
+{
+    usize::from(rows_below(supported, k)) * width(max) + usize::from(value / 64)
+}
+
+/// Whether the value has the modifier.
+fn has(words: &[u64], max: u16, supported: u8, k: u8, value: u16) -> bool
+    requires modifier { k < 8 }
+    requires within { value < room max }
+    requires rows { length words.now ≡ rows_below supported 8 * width max }
+    ensures { result ≡ (mark_at words.now (width max) supported k value == 1) }
+{
+    supported >> k & 1 == 1 && words[place(max, supported, k, value)] >> (value % 64) & 1 == 1
+}
+
+/// Word `i` of the modifier's row, and 0 where it isn't supported.
+pub fn word(words: &[u64], max: u16, supported: u8, k: u8, i: usize) -> u64
+    requires modifier { k < 8 }
+    requires within { i < width max }
+    requires rows { length words.now ≡ rows_below supported 8 * width max }
+    ensures { (b : ℕ) → b < 64 → bit_at result b ≡ mark_at words.now (width max) supported k (i * 64 + b) }
+{
+    if supported >> k & 1 == 1 {
+        words[place(max, supported, k, 0) + i]
+    } else {
+        0
+    }
+}
+
+/// Marks the value with the modifier.
+pub fn mark(words: &mut [u64], max: u16, supported: u8, k: u8, value: u16)
+    requires modifier { k < 8 }
+    requires is_supported { bit_at supported k ≡ 1 }
+    requires within { value < room max }
+    requires rows { length words.old ≡ rows_below supported 8 * width max }
+    ensures rows { length words.new ≡ length words.old }
+    ensures marked { sums_of words.new max supported ≡ slice_set (sums_of words.old max supported) value (bit_or (slice_index (sums_of words.old max supported) value) (2 ^ k)) }
+{
+    words[place(max, supported, k, value)] |= 1 << (value % 64);
+}
+
+/// Takes the modifier off the value.
+pub fn unmark(words: &mut [u64], max: u16, supported: u8, k: u8, value: u16)
+    requires modifier { k < 8 }
+    requires is_supported { bit_at supported k ≡ 1 }
+    requires within { value < room max }
+    requires rows { length words.old ≡ rows_below supported 8 * width max }
+    ensures rows { length words.new ≡ length words.old }
+    ensures unmarked { sums_of words.new max supported ≡ slice_set (sums_of words.old max supported) value (bit_and (slice_index (sums_of words.old max supported) value) (255 - 2 ^ k)) }
+{
+    words[place(max, supported, k, value)] &= !(1 << (value % 64));
+}
+
+/// The sum of the bits of the value's modifiers.
+pub fn sum(words: &[u64], max: u16, supported: u8, value: u16) -> u8
+    requires within { value < room max }
+    requires rows { length words.now ≡ rows_below supported 8 * width max }
+    ensures { result ≡ slice_index (sums_of words.now max supported) value }
+{
+    let mut sum = 0;
+    for k in 0..8 {
+        if has(words, max, supported, k, value) {
+            sum += 1 << k;
+        }
+    }
+    sum
+}
+
+/// Marks the value with each modifier of `bits`.
+pub fn mark_each(words: &mut [u64], max: u16, supported: u8, bits: u8, value: u16)
+    requires are_supported { bit_and supported bits ≡ bits }
+    requires within { value < room max }
+    requires rows { length words.old ≡ rows_below supported 8 * width max }
+    ensures rows { length words.new ≡ length words.old }
+    ensures marked { sums_of words.new max supported ≡ slice_set (sums_of words.old max supported) value (bit_or (slice_index (sums_of words.old max supported) value) bits) }
+{
+    for k in 0..8 {
+        if bits >> k & 1 == 1 {
+            mark(words, max, supported, k, value);
+        }
+    }
+}
+
+/// Takes each modifier of `bits` off the value.
+pub fn unmark_each(words: &mut [u64], max: u16, supported: u8, bits: u8, value: u16)
+    requires are_supported { bit_and supported bits ≡ bits }
+    requires within { value < room max }
+    requires rows { length words.old ≡ rows_below supported 8 * width max }
+    ensures rows { length words.new ≡ length words.old }
+    ensures unmarked { sums_of words.new max supported ≡ slice_set (sums_of words.old max supported) value (bit_and (slice_index (sums_of words.old max supported) value) (255 - bits)) }
+{
+    for k in 0..8 {
+        if bits >> k & 1 == 1 {
+            unmark(words, max, supported, k, value);
+        }
+    }
+}
