@@ -25,11 +25,12 @@ set_writes marks groups k = flat_map (λ i. fed.u64 (digits_of marks k (i * 64) 
 
 -- the same for each supported modifier
 unfoldable pub sets_writes : List ℕ → ℕ → ℕ → List (List ℕ)
-sets_writes marks groups supported = flat_map (λ k. if bit_at supported k == 1 then set_writes marks groups k else []) (range_with_len 0 8)
+sets_writes marks max supported =
+    flat_map (λ k. if bit_at supported k == 1 then set_writes marks ((room max + 63) / 64) k else []) (range_with_len 0 8)
 
 abbrev pub field_writes : Field → List (List ℕ)
 field_writes f =
-    sets_writes f.marks ((room f.shape.max + 63) / 64) f.shape.supported ++ fed.u16 f.shape.min ++ fed.u16 f.shape.max ++ fed.u16 f.step ++ fed.bool f.wildcard ++ fed.u8 f.shape.supported ++ fed.u8 f.enabled ++ fed.u16 f.shape.offset ++ fed.bool f.shape.sloppy
+    sets_writes f.marks f.shape.max f.shape.supported ++ fed.u16 f.shape.min ++ fed.u16 f.shape.max ++ fed.u16 f.step ++ fed.bool f.wildcard ++ fed.u8 f.shape.supported ++ fed.u8 f.enabled ++ fed.u16 f.shape.offset ++ fed.bool f.shape.sloppy
 
 -- a tie of two orders is a tie of each
 tie : (a b : Ordering) → is_eq (ordering_then a b) ≡ true → (is_eq a ≡ true) × (is_eq b ≡ true)

@@ -4,7 +4,7 @@ ghost use Rattle.std.specs.Prelude.{◌≡◌, true, IfOk, IfErr};
 ghost use Rattle.croner_base.specs.Answers.{Finds, IsFieldError, SucceedsIff};
 ghost use Rattle.croner_base.specs.Field.{new_shape};
 ghost use Rattle.croner_pattern.specs.Meaning.{Meaning, meaning_of};
-ghost use Rattle.croner_pattern.specs.Questions.{asked, clock_field, can_find, FindsMember};
+ghost use Rattle.croner_pattern.specs.Questions.{asked, clock_field, can_find, FindsMember, IsNearestMember};
 ghost use Rattle.croner_pattern.specs.Schedule.{is_single, is_fixed_time};
 ghost use Rattle.croner_pattern.specs.Shapes.{has_field_shapes, is_like, new_meaning};
 
@@ -13,14 +13,12 @@ mod days;
 mod flags;
 mod mask;
 mod matching;
-mod members;
 
 use croner_base::component::{
     ALL_BIT, CLOSEST_WEEKDAY_BIT, CronComponent, LAST_BIT, NONE_BIT, NTH_ALL,
 };
 use croner_base::errors::CronError;
 use croner_base::time::{Direction, TimeComponent, YEAR_LOWER_LIMIT, YEAR_UPPER_LIMIT};
-pub use members::{has_plain, nearest_member};
 use std::alloc::{AllocError, Global};
 use std::fmt;
 
@@ -195,6 +193,16 @@ fn is_like(field: &CronComponent, min: u16, max: u16, features: u8, offset: u16)
         && field.max() == max
         && field.features() == features | ALL_BIT | LAST_BIT
         && field.input_offset() == offset
+}
+
+/// The least plain value of a field from a value on (forward), or the greatest up to it (backward).
+pub fn nearest_member(field: &CronComponent, value: u16, direction: Direction) -> Option<u16>
+    ensures { IsNearestMember direction field.now value result }
+{
+    match direction {
+        Direction::Forward => field.least_from(value),
+        Direction::Backward => field.greatest_to(value),
+    }
 }
 
 /// Whether a value has one of the modifiers, where the field can be asked.

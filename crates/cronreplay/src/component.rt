@@ -140,7 +140,21 @@ fn called(
             component.set_sloppy_ranges(argument.as_bool().ok_or(Fault::Malformed)?);
             done(alloc, Ok(()))
         }
+        "least_from" | "greatest_to" => Ok(nearest(component, name, number(argument)?)),
         _ => of_bit(alloc, component, name, number(argument)?),
+    }
+}
+
+// The nearest plain value, or null.
+fn nearest(component: &CronComponent, name: &str, value: u16) -> Value {
+    let found = if name == "least_from" {
+        component.least_from(value)
+    } else {
+        component.greatest_to(value)
+    };
+    match found {
+        Some(value) => Value::from(value),
+        None => Value::Null,
     }
 }
 

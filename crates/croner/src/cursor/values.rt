@@ -1,21 +1,19 @@
 //! The nearest value that a field names.
 ghost use Rattle.std.specs.Prelude.{◌≡◌, ◌<◌, ◌≤◌, ℕ, true, pos, negsuc, MatchOption};
 ghost use Rattle.croner_base.specs.declared.time.Direction.{Direction};
-ghost use Rattle.croner_base.specs.Field.{can_ask, new_shape};
 ghost use Rattle.croner_pattern.specs.Schedule.{is_plain};
-ghost use Rattle.croner_pattern.specs.Shapes.{is_like};
 ghost use Rattle.croner.specs.Cursor.{one_on, Finds, IsPlainWithin, IsOnTheWay, IsFirstValue};
 
-use croner_base::component::{ALL_BIT, CronComponent};
+use croner_base::component::CronComponent;
 use croner_base::time::Direction;
+use croner_pattern::pattern::nearest_member;
 
 // Whether the field names the value by itself.
 pub(crate) fn is_plain(field: &CronComponent, value: u32) -> bool
-    requires held { can_ask field.now.shape value 1 ≡ true }
-    requires small { value < 65536 }
+    requires { value < 65536 }
     ensures { result ≡ is_plain field.now value }
 {
-    matches!(field.is_bit_set(value as u16, ALL_BIT), Ok(true))
+    field.least_from(value as u16) == Some(value as u16)
 }
 
 // The next number in the direction.
@@ -31,7 +29,7 @@ pub(crate) fn neighbour(value: u32, direction: Direction) -> Option<u32>
     }
 }
 
-// The nearest plain value of a field of values from `min` to `max`, from a value on, itself included.
+// The nearest plain value between `min` and `max`, from a value on, itself included.
 pub(crate) fn nearest_value(
     field: &CronComponent,
     min: u32,
@@ -39,20 +37,16 @@ pub(crate) fn nearest_value(
     from: u32,
     direction: Direction,
 ) -> Option<u32>
-    requires shape { is_like field.now.shape (new_shape min max 0 0) ≡ true }
-    requires some { 0 < max }
     requires small { max < 6000 }
     requires from_in { IsOnTheWay direction min max from }
     ensures { Finds pos (IsPlainWithin field.now min max) direction (pos from) result }
 {
-    let mut value = from;
-    while value >= min && value <= max {
-        if is_plain(field, value) {
-            return Some(value);
-        }
-        value = neighbour(value, direction)?;
+    let found = u32::from(nearest_member(field, from as u16, direction)?);
+    if found >= min && found <= max {
+        Some(found)
+    } else {
+        None
     }
-    None
 }
 
 // The nearest plain value after a value, of a field of values from 0.
@@ -62,8 +56,6 @@ pub(crate) fn nearest_beyond(
     value: u32,
     direction: Direction,
 ) -> Option<u32>
-    requires shape { is_like field.now.shape (new_shape 0 max 0 0) ≡ true }
-    requires some { 0 < max }
     requires small { max < 6000 }
     requires within { value ≤ max }
     ensures { Finds pos (IsPlainWithin field.now 0 max) direction (one_on direction (pos value)) result }
@@ -74,9 +66,7 @@ pub(crate) fn nearest_beyond(
 
 // The first plain value in the direction, of a field of values from 0.
 pub(crate) fn first_value(field: &CronComponent, max: u32, direction: Direction) -> Option<u32>
-    requires shape { is_like field.now.shape (new_shape 0 max 0 0) ≡ true }
-    requires some { 0 < max }
-    requires small { max < 6000 }
+    requires { max < 6000 }
     ensures { MatchOption result
         ((v : ℕ) → v ≤ max → ¬ (is_plain field.now v ≡ true))
         (IsFirstValue field.now direction max) }

@@ -93,6 +93,6 @@ pub sets_below-no : (marks : List ℕ) (groups supported k : ℕ) → (bit_at su
 sets_below-no marks groups supported k off =
     sym (append-nil _) ∙ ap (λ b. sets_below marks groups supported k ++ cond b (set_writes marks groups k) []) (sym (ne_eqb _ 1 off)) ∙ sets_below-more marks groups supported k
 
-pub sets_below-all : (marks : List ℕ) (groups supported k : ℕ) → k ≡ 8 → sets_below marks groups supported k ≡ sets_writes marks groups supported
+pub sets_below-all : (marks : List ℕ) (max supported k : ℕ) → k ≡ 8 → sets_below marks (width max) supported k ≡ sets_writes marks max supported
 unfolding sets_below sets_writes
-sets_below-all marks groups supported k e = ap (λ n. flat_map (λ j. cond (eqb (bit_at supported j) 1) (set_writes marks groups j) []) (range_with_len 0 n)) e
+sets_below-all marks max supported k e = ap (λ n. flat_map (λ j. cond (eqb (bit_at supported j) 1) (set_writes marks (width max) j) []) (range_with_len 0 n)) e

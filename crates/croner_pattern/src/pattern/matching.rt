@@ -8,7 +8,7 @@ ghost use Rattle.croner_pattern.specs.Questions.{asked};
 ghost use Rattle.croner_pattern.specs.Schedule.{is_plain, is_year_matching};
 ghost use Rattle.croner_pattern.specs.Shapes.{has_field_shapes};
 
-use super::{CronPattern, LAST_HOUR, LAST_MONTH, LAST_SECOND, ask, has_plain};
+use super::{CronPattern, LAST_HOUR, LAST_MONTH, LAST_SECOND, ask};
 use croner_base::component::ALL_BIT;
 use croner_base::errors::CronError;
 use croner_base::time::{YEAR_LOWER_LIMIT, YEAR_UPPER_LIMIT};
@@ -92,13 +92,5 @@ impl CronPattern {
             return Err(CronError::InvalidTime);
         }
         ask(&self.seconds, second as u16, ALL_BIT)
-    }
-
-    /// Whether a year is named: [`year_match`](Self::year_match) without the refusal of a field of another shape, whose
-    /// values it hasn't.
-    pub fn is_year_named(&self, year: i32) -> bool
-        ensures { result ≡ is_year_matching (meaning_of self.now) year }
-    {
-        year >= YEAR_LOWER_LIMIT && year <= YEAR_UPPER_LIMIT && has_plain(&self.years, year as u16)
     }
 }

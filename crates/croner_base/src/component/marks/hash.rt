@@ -12,7 +12,7 @@ use std::hash::{Hash, Hasher};
 impl Marks {
     /// Feeds the set of each supported modifier.
     pub fn hash_sets<H: Hasher>(&self, state: &mut H)
-        ensures { state.new ≡ fold H.write state.old (sets_writes self.now.marks (width self.now.max) self.now.supported) }
+        ensures { state.new ≡ fold H.write state.old (sets_writes self.now.marks self.now.max self.now.supported) }
     {
         for k in 0..8 {
             if self.supported >> k & 1 == 1 {

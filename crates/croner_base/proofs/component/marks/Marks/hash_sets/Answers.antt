@@ -30,4 +30,4 @@ loop-k-preserved g c =
 pub returns : goal.returns
 returns g c =
     let end : c.loop-k.k ≡ 8 = omega arith in
-    c.loop-k.invariant ∙ ap (fold g.H.Hasher.write c.args.state.now) (sets_below-all c.args.self.now.marks (width c.args.self.now.max) c.args.self.now.supported c.loop-k.k end)
+    c.loop-k.invariant ∙ ap (fold g.H.Hasher.write c.args.state.now) (sets_below-all c.args.self.now.marks c.args.self.now.max c.args.self.now.supported c.loop-k.k end)
