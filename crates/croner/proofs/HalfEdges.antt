@@ -81,24 +81,24 @@ pub found_alone : (direction : Direction) (inclusive : Bool) (job : Job) → Cal
 found_alone Forward inclusive job calm s t none walked = forward_found job calm inclusive s t (inr (no_twin_last job.zone.reads s none)) walked
 found_alone Backward inclusive job calm s t none walked = backward_found job calm inclusive s t (no_twin_first job.zone.reads s none) walked
 
-pub found_one_half : (direction : Direction) (inclusive : Bool) (job : Job) → Calm job.zone.reads → (s t : ℤ) → (CountsBoth direction job.fixed_time → ⊥) → WalkedFrom direction inclusive job s t → Nearest direction inclusive job s t
+pub found_one_half : (direction : Direction) (inclusive : Bool) (job : Job) → Calm job.zone.reads → (s t : ℤ) → (CountsBoth direction job.timetable.fixed_time → ⊥) → WalkedFrom direction inclusive job s t → Nearest direction inclusive job s t
 found_one_half Forward inclusive job calm s t one_half walked =
-    let fixed : job.fixed_time ≡ true = elim (true_or_false job.fixed_time) [ inl fixed ↦ fixed | inr each ↦ absurd (one_half each) ] in
+    let fixed : job.timetable.fixed_time ≡ true = elim (true_or_false job.timetable.fixed_time) [ inl fixed ↦ fixed | inr each ↦ absurd (one_half each) ] in
     forward_found job calm inclusive s t (inl fixed) walked
 found_one_half Backward inclusive job calm s t one_half walked = absurd (one_half tt)
 
-pub found_before_edge : (direction : Direction) (inclusive : Bool) (job : Job) → Calm job.zone.reads → (s t e : ℤ) → CountsBoth direction job.fixed_time → EdgeOf direction job.zone.reads s e → WalkedFrom direction inclusive job s t → Precedes direction t e → Nearest direction inclusive job s t
+pub found_before_edge : (direction : Direction) (inclusive : Bool) (job : Job) → Calm job.zone.reads → (s t e : ℤ) → CountsBoth direction job.timetable.fixed_time → EdgeOf direction job.zone.reads s e → WalkedFrom direction inclusive job s t → Precedes direction t e → Nearest direction inclusive job s t
 found_before_edge Forward inclusive job calm s t e both (p, at, edge) walked h = forward_before_edge job calm inclusive s p t edge both walked (omega (arith, ints))
 found_before_edge Backward inclusive job calm s t e both edge walked h = backward_before_edge job calm inclusive e s t edge walked h
 
 edge_walked : (job : Job) (e p u : ℤ) → e ≡ p +ℤ pos 1 → WalkedFrom Forward true job e u → Walked Forward true job (p +ℤ pos 1) (job.zone.reads (p +ℤ pos 1)) u
 edge_walked job e p u at second = subst (λ (x : ℤ). WalkedFrom Forward true job x u) at second
 
-pub found_second : (direction : Direction) (inclusive : Bool) (job : Job) → Calm job.zone.reads → (s t e u : ℤ) → CountsBoth direction job.fixed_time → EdgeOf direction job.zone.reads s e → WalkedFrom direction inclusive job s t → WalkedFrom direction true job e u → Precedes direction u t → Nearest direction inclusive job s u
+pub found_second : (direction : Direction) (inclusive : Bool) (job : Job) → Calm job.zone.reads → (s t e u : ℤ) → CountsBoth direction job.timetable.fixed_time → EdgeOf direction job.zone.reads s e → WalkedFrom direction inclusive job s t → WalkedFrom direction true job e u → Precedes direction u t → Nearest direction inclusive job s u
 found_second Forward inclusive job calm s t e u both (p, at, edge) walked second h = forward_second job calm inclusive s p t u edge both walked (edge_walked job e p u at second) (omega (arith, ints))
 found_second Backward inclusive job calm s t e u both edge walked second h = backward_second job calm inclusive e s t u edge walked second (omega (arith, ints))
 
-pub found_first : (direction : Direction) (inclusive : Bool) (job : Job) → Calm job.zone.reads → (s t e u : ℤ) → CountsBoth direction job.fixed_time → EdgeOf direction job.zone.reads s e → WalkedFrom direction inclusive job s t → WalkedFrom direction true job e u → (Precedes direction u t → ⊥) → Nearest direction inclusive job s t
+pub found_first : (direction : Direction) (inclusive : Bool) (job : Job) → Calm job.zone.reads → (s t e u : ℤ) → CountsBoth direction job.timetable.fixed_time → EdgeOf direction job.zone.reads s e → WalkedFrom direction inclusive job s t → WalkedFrom direction true job e u → (Precedes direction u t → ⊥) → Nearest direction inclusive job s t
 found_first Forward inclusive job calm s t e u both (p, at, edge) walked second h = forward_first job calm inclusive s p t u edge both walked (edge_walked job e p u at second) (elim (cases_lt_z u t) [ inl lt ↦ absurd (h lt) | inr le ↦ le ])
 found_first Backward inclusive job calm s t e u both edge walked second h = backward_first job calm inclusive e s t u edge walked second (elim (cases_lt_z t u) [ inl lt ↦ absurd (h lt) | inr le ↦ le ])
 

@@ -1,12 +1,14 @@
 -- What an iterator gave between two standings, call by call.
-use Rattle.std.proofs.Common.{◌≡◌, ℕ, ℤ, ◌⊎◌, inl, inr, refl, sym, subst, Bool, true, false, List, [], ◌∷◌, ◌++◌, None, ap, ◌∙◌, IsTrue, length, ◌+◌, Option, Some, IfSome}
+use Rattle.std.proofs.Common.{◌≡◌, ℕ, ℤ, ◌⊎◌, inl, inr, refl, sym, subst, Bool, true, false, List, [], ◌∷◌, ◌++◌, None, ap, ◌∙◌, IsTrue, length, ◌+◌, Option}
+use Rattle.croner_base.specs.Calm.{IsCalm}
 use Rattle.croner_base.specs.Zone.{Zone, Moment}
 use Rattle.croner_base.specs.declared.errors.CronError.{CronError}
-use Rattle.croner_base.specs.declared.errors.CronError.TheVariants.{OutOfMemory}
+use Rattle.croner_base.specs.declared.errors.CronError.TheVariants.{TimeSearchLimitExceeded}
 use Rattle.croner_base.specs.declared.time.Direction.{Direction}
 use Rattle.std.specs.List.{All}
 use Rattle.croner.specs.Runs.{Counts}
-use Rattle.croner.specs.Premises.{IsSearchable}
+use Rattle.croner.specs.Faults.{fault_of}
+use Rattle.croner.specs.Premises.{IsSearchable, StartsCalm}
 use Rattle.croner.specs.PatternJob.{pattern_job}
 use Rattle.croner.specs.Limit.{InSpan}
 use Rattle.croner.specs.Listing.{Standing, standing_of, instants, Takes, IsLeft, BeginsRest, Gave, GaveAll, moved, counts_position, job_at, GivesItem, GivesNone}
@@ -16,13 +18,16 @@ use Rattle.std.proofs.lemmas.Bool.{false≢true}
 use Rattle.std.proofs.lemmas.List.{map_push, length_push}
 use Rattle.std.proofs.lemmas.List.Elements.{All-push}
 use Rattle.croner.proofs.Listings.{Splits, splits_none, splits_next, IsNext, is_next, is_run, begins}
+use Rattle.croner.proofs.Faults.{no_fault_is_limit}
+use Rattle.croner.proofs.SearchLimit.{calm_start}
 use Rattle.croner.proofs.ThereAndBack.{searchable_run}
 
 -- the invariant of repeated calls
 pub record Goes (old cur : Standing) (items : List ℤ) : Type 0 where
   pub direction : cur.direction ≡ old.direction
   pub zone : cur.position.zone ≡ old.position.zone
-  pub splits : IsSearchable old.position → Splits old.direction (IsLeft old) (IsLeft cur) items
+  pub splits : StartsCalm old.position → Splits old.direction (IsLeft old) (IsLeft cur) items
+  pub calm : StartsCalm old.position → StartsCalm cur.position
   pub searchable : IsSearchable old.position → IsSearchable cur.position
 
 pub goes_none : (s : Standing) → Goes s s []
@@ -30,6 +35,7 @@ goes_none s = record {
   direction = refl;
   zone = refl;
   splits = λ p. splits_none s.direction (IsLeft s);
+  calm = λ p. p;
   searchable = λ p. p;
 }
 
@@ -41,20 +47,25 @@ goes_on lack old cur new items g n =
       direction = g.direction;
       zone = g.zone;
       splits = g.splits;
+      calm = g.calm;
       searchable = g.searchable;
     })
 
--- the item is a run that searches are promised from
+-- what a search finds in a calm zone is a start in a calm zone
+calm_item : (cur : Standing) (item : Moment) → StartsCalm cur.position → item.zone ≡ cur.position.zone → item.fraction ≡ 0 → StartsCalm item
+calm_item cur item p same_zone whole = record { calm = subst IsCalm (sym same_zone) p.calm; whole = whole }
+
+-- and a run that searches are promised from, where the start was
 searchable_item : (cur : Standing) (item : Moment) → IsSearchable cur.position → item.zone ≡ cur.position.zone → item.fraction ≡ 0
     → Counts cur.direction (counts_position cur) (job_at cur) cur.position.instant item.instant → IsSearchable item
 searchable_item cur item p same_zone whole counts =
     searchable_run cur.pattern cur.position item p same_zone whole
     (is_run cur.direction (counts_position cur) (job_at cur) cur.position.instant item.instant counts)
 
-next_of : (cur new : Standing) (item : Moment) → IsSearchable cur.position → GivesItem cur item new → IsNext cur.direction (IsLeft cur) (IsLeft (moved cur item)) item.instant
+next_of : (cur new : Standing) (item : Moment) → StartsCalm cur.position → GivesItem cur item new → IsNext cur.direction (IsLeft cur) (IsLeft (moved cur item)) item.instant
 next_of cur new item p g =
     let P : Zone → Type 0 = λ z. IsNext cur.direction (IsLeft cur) (Counts cur.direction false (pattern_job cur.pattern z) item.instant) item.instant in
-    subst P (sym g.same_zone) (is_next cur.direction (counts_position cur) (job_at cur) cur.position.instant item.instant (g.nearest p))
+    subst P (sym g.found.zone) (is_next cur.direction (counts_position cur) (job_at cur) cur.position.instant item.instant (g.found.nearest p))
 
 -- a call with an item
 pub goes_to : (old cur new : Standing) (items : List ℤ) (item : Moment) → Goes old cur items → GivesItem cur item new → Goes old new (items ++ item.instant ∷ [])
@@ -62,27 +73,36 @@ goes_to old cur new items item g n =
     let P : Standing → Type 0 = λ s. Goes old s (items ++ item.instant ∷ []) in
     subst P (sym n.stands) (record {
       direction = g.direction;
-      zone = n.same_zone ∙ g.zone;
+      zone = n.found.zone ∙ g.zone;
       splits = λ p.
           let Q : Direction → Type 0 = λ d. IsNext d (IsLeft cur) (IsLeft (moved cur item)) item.instant in
           splits_next old.direction (IsLeft old) (IsLeft cur) (IsLeft (moved cur item)) items item.instant (g.splits p)
-          (subst Q g.direction (next_of cur new item (g.searchable p) n));
-      searchable = λ p. searchable_item cur item (g.searchable p) n.same_zone n.whole (n.nearest (g.searchable p)).counts;
+          (subst Q g.direction (next_of cur new item (g.calm p) n));
+      calm = λ p. calm_item cur item (g.calm p) n.found.zone n.found.whole;
+      searchable = λ p.
+          let here = g.searchable p in
+          searchable_item cur item here n.found.zone n.found.whole (n.found.nearest (calm_start cur.position here)).counts;
     })
 
 -- what the calls show
-pub gave : (old cur : Standing) (items : List ℤ) → Goes old cur items → IsSearchable old.position → Gave old cur items
+pub gave : (old cur : Standing) (items : List ℤ) → Goes old cur items → StartsCalm old.position → Gave old cur items
 gave old cur items g p =
     let s = g.splits p in
     record { ordered = s.ordered; counts = s.counts; either = s.either; behind = s.behind; within = s.within }
 
-pub begins_rest : (old cur : Standing) (items : List ℤ) → Goes old cur items → IsSearchable old.position → BeginsRest old items
+pub begins_rest : (old cur : Standing) (items : List ℤ) → Goes old cur items → StartsCalm old.position → BeginsRest old items
 begins_rest old cur items g p =
     begins old.direction (counts_position old) (job_at old) old.position.instant (IsLeft cur) items (g.splits p)
 
 -- nothing that is left lies in the span
 abbrev pub IsOver : Standing → Standing → Type 0
-IsOver old cur = IsSearchable old.position → (i : ℤ) → IsLeft cur i → InSpan old.direction old.position.zone.reads i → ⊥
+IsOver old cur = StartsCalm old.position → (i : ℤ) → IsLeft cur i → InSpan old.direction old.position.zone.reads i → ⊥
+
+-- without a fault it is the limit that refused the search
+limit_without : (lack : Bool) (cur new : Standing) (n : GivesNone lack cur new) → new.fault ≡ None → n.refusal ≡ TimeSearchLimitExceeded
+limit_without lack cur new n without =
+    let fault : Standing → Option CronError = λ s. s.fault in
+    no_fault_is_limit n.refusal (sym (ap fault n.stands) ∙ without)
 
 -- a call without an item and without a fault says so
 pub is_over : (lack : Bool) (old cur new : Standing) (items : List ℤ) → Goes old cur items → GivesNone lack cur new → new.fault ≡ None → IsOver old new
@@ -91,9 +111,9 @@ is_over lack old cur new items g n without =
     subst P (sym n.stands) (λ p i left span.
     let in_direction : InSpan cur.direction old.position.zone.reads i = let Q : Direction → Type 0 = λ d. InSpan d old.position.zone.reads i in subst Q (sym g.direction) span in
     let in_zone : InSpan cur.direction cur.position.zone.reads i = let R : Zone → Type 0 = λ z. InSpan cur.direction z.reads i in subst R (sym g.zone) in_direction in
-    n.ends (g.searchable p) without i in_zone left)
+    n.refused.limit (g.calm p) (limit_without lack cur new n without) i in_zone left)
 
-pub gave_all : (old cur : Standing) (items : List ℤ) → Goes old cur items → IsOver old cur → IsSearchable old.position → GaveAll old items
+pub gave_all : (old cur : Standing) (items : List ℤ) → Goes old cur items → IsOver old cur → StartsCalm old.position → GaveAll old items
 gave_all old cur items g over p = λ i left span.
     elim ((g.splits p).either i left) [
       | inl had ↦ had
@@ -105,22 +125,23 @@ pub counted_all : (old cur : Standing) (items : List ℤ) (n calls : ℕ) → Go
 counted_all old cur items n calls g counted p =
     elim counted [
       | inl each ↦ inl each
-      | inr over ↦ inr (gave_all old cur items g over p)
+      | inr over ↦ inr (gave_all old cur items g over (calm_start old.position p))
     ]
 
 -- what is over stays over
 still_over : (old cur new : Standing) (items : List ℤ) (item : Moment) → Goes old cur items → GivesItem cur item new → IsOver old cur → IsOver old new
 still_over old cur new items item g n over =
     let P : Standing → Type 0 = λ s. IsOver old s in
-    subst P (sym n.stands) (λ p i left span. over p i ((next_of cur new item (g.searchable p) n).within i left) span)
-
-no_fault : (lack : Bool) (fault : Option CronError) → lack ≡ false → IfSome fault (λ e. (e ≡ OutOfMemory) × IsTrue lack) → fault ≡ None
-no_fault lack None memory h = refl
-no_fault lack (Some e) memory h = let t : IsTrue false = subst IsTrue memory h.1 in absurd (false≢true t)
+    subst P (sym n.stands) (λ p i left span. over p i ((next_of cur new item (g.calm p) n).within i left) span)
 
 -- without want of memory a call without an item has no fault
 without_fault : (lack : Bool) (cur new : Standing) → GivesNone lack cur new → lack ≡ false → IsSearchable cur.position → new.fault ≡ None
-without_fault lack cur new n memory p = no_fault lack new.fault memory (n.lacks p)
+without_fault lack cur new n memory p =
+    let fault : Standing → Option CronError = λ s. s.fault in
+    elim (n.refused.promised p) [
+      | inl limit ↦ ap fault n.stands ∙ ap fault_of limit
+      | inr (wanting, can) ↦ let t : IsTrue false = subst IsTrue memory can in absurd (false≢true t)
+    ]
 
 -- one call more
 module _ {T : Type 0} (moment : T → Moment) (lack : Bool) (old : Standing) (cur new : CronIterator T) (before after : List T) where
@@ -151,7 +172,7 @@ module _ {T : Type 0} (moment : T → Moment) (lack : Bool) (old : Standing) (cu
       elim takes [
         | inl (none, e) ↦ subst P (sym e) wholes
         | inr (t, item, e) ↦
-            subst P (sym e) (All-push (λ x. IsWholeIn old.position.zone (moment x)) before t wholes (record { zone = item.same_zone ∙ g.zone; whole = item.whole }))
+            subst P (sym e) (All-push (λ x. IsWholeIn old.position.zone (moment x)) before t wholes (record { zone = item.found.zone ∙ g.zone; whole = item.found.whole }))
       ]
 
   -- over a backend that cannot lack memory there is an item for each call, or nothing is left in the span

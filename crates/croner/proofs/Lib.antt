@@ -6,6 +6,7 @@ pub mod Cuts
 pub mod Dates
 pub mod Examples
 pub mod ExamplesCursor
+pub mod Faults
 pub mod FieldReads
 pub mod FirstInstants
 pub mod GapSides

@@ -42,25 +42,25 @@ gap_end_is_first reads calm w i below above =
 
 module _ (job : Job) (calm : Calm job.zone.reads) where
   -- each run is the run of a scheduled second, and each run of one is a run
-  pub run_has_second : (i : ℤ) → Run job i → (w : ℤ) × job.scheduled w × RunOf job w i × (w ≤ℤ job.zone.reads i)
+  pub run_has_second : (i : ℤ) → Run job i → (w : ℤ) × job.timetable.scheduled w × RunOf job w i × (w ≤ℤ job.zone.reads i)
   run_has_second i run =
       elim run [
         | inl (own, least) ↦
-            elim (true_or_false job.fixed_time) [
+            elim (true_or_false job.timetable.fixed_time) [
               | inl fixed ↦ (job.zone.reads i, own, inr (fixed, first_if_least job.zone.reads calm (job.zone.reads i) i refl (least fixed), inl refl), omega (arith, ints))
               | inr each ↦ (job.zone.reads i, own, inl (each, refl), omega (arith, ints))
             ]
         | inr (fixed, (w, below, above, own), date) ↦ (w, own, inr (fixed, gap_end_is_first job.zone.reads calm w i below above, inr date), omega (arith, ints))
       ]
 
-pub own_of_first : (job : Job) (w i : ℤ) → job.scheduled w → First job.zone.reads w i → job.zone.reads i ≡ w → OwnRun job i
+pub own_of_first : (job : Job) (w i : ℤ) → job.timetable.scheduled w → First job.zone.reads w i → job.zone.reads i ≡ w → OwnRun job i
 own_of_first job w i own first e =
-    (subst job.scheduled (sym e) own, λ fixed j h same. let k = first.before j h in let never : ⊥ = omega (arith, ints) in never)
+    (subst job.timetable.scheduled (sym e) own, λ fixed j h same. let k = first.before j h in let never : ⊥ = omega (arith, ints) in never)
 
-pub second_gives_run : (job : Job) (w i : ℤ) → job.scheduled w → RunOf job w i → Run job i
+pub second_gives_run : (job : Job) (w i : ℤ) → job.timetable.scheduled w → RunOf job w i → Run job i
 second_gives_run job w i own run =
     elim run [
-      | inl (each, e) ↦ inl (subst job.scheduled (sym e) own, λ (fixed : job.fixed_time ≡ true). let never : true ≡ false = sym fixed ∙ each in absurd (cc))
+      | inl (each, e) ↦ inl (subst job.timetable.scheduled (sym e) own, λ (fixed : job.timetable.fixed_time ≡ true). let never : true ≡ false = sym fixed ∙ each in absurd (cc))
       | inr (fixed, first, inl e) ↦ inl (own_of_first job w i own first e)
       | inr (fixed, first, inr date) ↦
           elim (cases_lt_z w (job.zone.reads i)) [

@@ -7,13 +7,14 @@ use Rattle.croner_base.specs.declared.errors.CronError.{CronError}
 use Rattle.croner_base.specs.declared.errors.CronError.TheVariants.{TimeSearchLimitExceeded}
 use Rattle.croner_base.specs.Zone.{Zone, Moment, reading, nanos_of}
 use Rattle.croner_base.specs.Calm.{IsCalm, IsNear}
-use Rattle.croner.specs.Runs.{Job, job_in, Nearest, Counts, Precedes, Reaches}
-use Rattle.croner.specs.Limit.{IsWithin, NoneInSpan}
+use Rattle.croner.specs.Runs.{Timetable, Job, job_in, Nearest, Counts, Precedes, Reaches}
+use Rattle.croner.specs.Limit.{IsWithin, NoneInSpan, NoneAhead, IsPast}
 use Rattle.croner.specs.Schedule.{IsCovered, NoneScheduled}
-use Rattle.croner.specs.Premises.{IsSearchable, IsCalmStart, HoldsYears, HoldsSecond}
-use Rattle.croner.specs.Refusal.{IsBackendError, IsSearchError, IsRefusal, IsLimitOrMemory}
+use Rattle.croner.specs.Premises.{IsSearchable, IsCalmStart, StartsCalm, HoldsYears, HoldsSecond}
+use Rattle.croner.specs.Refusal.{IsBackendError, IsRefusal, IsLimitOrMemory}
 use Rattle.croner.specs.Walk.{RunOf, NoneOf, Walked, WalkedFrom, walk_start, one_on, OutFrom, IsWalked}
-use Rattle.croner.specs.Halves.{EdgeOf, HasTwin, CountsBoth, IsFound, IsEdge, HasOtherHalf, opposite_way, offset_from, moment_from}
+use Rattle.croner.specs.Searches.{IsFound, IsRefused}
+use Rattle.croner.specs.Halves.{EdgeOf, HasTwin, CountsBoth, IsEdge, HasOtherHalf, opposite_way, offset_from, moment_from}
 use Rattle.croner.proofs.ZoneOrder.{Calm, cases_lt_z, before_break, after_break}
 use Rattle.croner.proofs.CalmZone.{calm_of}
 use Rattle.croner.proofs.RunsOfSeconds.{true_or_false}
@@ -24,7 +25,7 @@ use Rattle.croner.proofs.HalfEdges.{found_alone, found_one_half, found_before_ed
 
 -- ---- a run in the span is of a second that is covered
 
-second_is_near : (job : Job) → Calm job.zone.reads → (w i : ℤ) → RunOf job w i → ((job.fixed_time ≡ false) × (job.zone.reads i ≡ w)) ⊎ ((job.fixed_time ≡ true) × (w ≤ℤ job.zone.reads i) × (job.zone.reads i ≤ℤ (w +ℤ pos 7200)))
+second_is_near : (job : Job) → Calm job.zone.reads → (w i : ℤ) → RunOf job w i → ((job.timetable.fixed_time ≡ false) × (job.zone.reads i ≡ w)) ⊎ ((job.timetable.fixed_time ≡ true) × (w ≤ℤ job.zone.reads i) × (job.zone.reads i ≤ℤ (w +ℤ pos 7200)))
 second_is_near job calm w i of =
     elim of [
       | inl (each, e) ↦ inl (each, e)
@@ -35,7 +36,7 @@ second_is_near job calm w i of =
           inr (fixed, first.reached, omega (arith, ints))
     ]
 
-run_is_covered : (direction : Direction) (job : Job) → Calm job.zone.reads → (w i : ℤ) → RunOf job w i → IsWithin direction (job.zone.reads i) → IsCovered direction job.fixed_time w
+run_is_covered : (direction : Direction) (job : Job) → Calm job.zone.reads → (w i : ℤ) → RunOf job w i → IsWithin direction (job.zone.reads i) → IsCovered direction job.timetable.fixed_time w
 run_is_covered Forward job calm w i of within =
     elim (second_is_near job calm w i of) [ inl (each, e) ↦ omega (arith, ints) | inr (fixed, low, high) ↦ omega (arith, ints) ]
 run_is_covered Backward job calm w i of within =
@@ -66,7 +67,7 @@ then_before Backward t i e a b = omega (arith, ints)
 
 module _ (direction : Direction) (inclusive : Bool) (job : Job) (calm : Calm job.zone.reads) where
   -- the instant that a walk does not see is no run of a second that it has passed, nor of one that is left
-  unseen : (s from cursor i : ℤ) → NoneOf direction inclusive job s from cursor → NoneScheduled direction job.fixed_time job.scheduled cursor → IsWithin direction (job.zone.reads i) → Seen direction inclusive job s from i → ⊥
+  unseen : (s from cursor i : ℤ) → NoneOf direction inclusive job s from cursor → NoneScheduled direction job.timetable.fixed_time job.timetable.scheduled cursor → IsWithin direction (job.zone.reads i) → Seen direction inclusive job s from i → ⊥
   unseen s from cursor i none out within (w, on, own, of, ahead) =
       elim (passed_or_not direction w cursor) [
         | inl lt ↦ none w i on lt own of ahead
@@ -77,11 +78,11 @@ module _ (direction : Direction) (inclusive : Bool) (job : Job) (calm : Calm job
   unseen_out s i (cursor, none, out) within seen = unseen s (walk_start direction inclusive (job.zone.reads s)) cursor i none out within seen
 
 -- what counts is seen by the walk, where the other half does not count or lies behind
-seen_alone : (direction : Direction) (inclusive : Bool) (job : Job) → Calm job.zone.reads → (s i : ℤ) → (CountsBoth direction job.fixed_time → ⊥) ⊎ (HasTwin direction job.zone.reads s → ⊥) → Counts direction inclusive job s i → Seen direction inclusive job s (walk_start direction inclusive (job.zone.reads s)) i
+seen_alone : (direction : Direction) (inclusive : Bool) (job : Job) → Calm job.zone.reads → (s i : ℤ) → (CountsBoth direction job.timetable.fixed_time → ⊥) ⊎ (HasTwin direction job.zone.reads s → ⊥) → Counts direction inclusive job s i → Seen direction inclusive job s (walk_start direction inclusive (job.zone.reads s)) i
 seen_alone Forward inclusive job calm s i alone counts =
     forward_seen job calm inclusive s i
     (elim alone [
-      | inl one_half ↦ inl (elim (true_or_false job.fixed_time) [ inl fixed ↦ fixed | inr each ↦ absurd (one_half each) ])
+      | inl one_half ↦ inl (elim (true_or_false job.timetable.fixed_time) [ inl fixed ↦ fixed | inr each ↦ absurd (one_half each) ])
       | inr single ↦ inr (λ x e. elim (cases_lt_z s x) [ inl lt ↦ absurd (single (x, e, lt)) | inr le ↦ le ])
     ])
     counts
@@ -91,7 +92,7 @@ seen_alone Backward inclusive job calm s i alone counts =
     counts
 
 -- what counts is seen by the walk from the start before the edge, or by the walk from the edge
-seen_twice : (direction : Direction) (inclusive : Bool) (job : Job) → Calm job.zone.reads → (s e i : ℤ) → CountsBoth direction job.fixed_time → EdgeOf direction job.zone.reads s e → Counts direction inclusive job s i → (Precedes direction i e × Seen direction inclusive job s (walk_start direction inclusive (job.zone.reads s)) i) ⊎ (Reaches direction e i × Seen direction true job e (walk_start direction true (job.zone.reads e)) i)
+seen_twice : (direction : Direction) (inclusive : Bool) (job : Job) → Calm job.zone.reads → (s e i : ℤ) → CountsBoth direction job.timetable.fixed_time → EdgeOf direction job.zone.reads s e → Counts direction inclusive job s i → (Precedes direction i e × Seen direction inclusive job s (walk_start direction inclusive (job.zone.reads s)) i) ⊎ (Reaches direction e i × Seen direction true job e (walk_start direction true (job.zone.reads e)) i)
 seen_twice Forward inclusive job calm s e i both (p, at, edge) counts =
     elim (forward_seen_twice job calm inclusive s p i edge both counts) [
       | inl (le, seen) ↦ inl (omega (arith, ints), seen)
@@ -128,11 +129,11 @@ edge_counts Backward inclusive job calm s e u edge second =
     edge_counts_backward job calm inclusive e s u edge (walked_counts Backward true job e u second)
 
 module _ (direction : Direction) (inclusive : Bool) (job : Job) (calm : Calm job.zone.reads) (s : ℤ) where
-  pub out_alone : (CountsBoth direction job.fixed_time → ⊥) ⊎ (HasTwin direction job.zone.reads s → ⊥) → OutFrom direction inclusive job s → NoneInSpan direction inclusive job s
+  pub out_alone : (CountsBoth direction job.timetable.fixed_time → ⊥) ⊎ (HasTwin direction job.zone.reads s → ⊥) → OutFrom direction inclusive job s → NoneInSpan direction inclusive job s
   out_alone alone out = λ i span counts. unseen_out direction inclusive job calm s i out (span i (itself direction i)) (seen_alone direction inclusive job calm s i alone counts)
 
   -- both walks are out
-  pub out_twice : (e : ℤ) → CountsBoth direction job.fixed_time → EdgeOf direction job.zone.reads s e → OutFrom direction inclusive job s → OutFrom direction true job e → NoneInSpan direction inclusive job s
+  pub out_twice : (e : ℤ) → CountsBoth direction job.timetable.fixed_time → EdgeOf direction job.zone.reads s e → OutFrom direction inclusive job s → OutFrom direction true job e → NoneInSpan direction inclusive job s
   out_twice e both edge out second =
       λ i span counts.
       elim (seen_twice direction inclusive job calm s e i both edge counts) [
@@ -141,7 +142,7 @@ module _ (direction : Direction) (inclusive : Bool) (job : Job) (calm : Calm job
       ]
 
   -- the first walk is out, and the own half reaches past the span
-  pub out_late : (e own : ℤ) → CountsBoth direction job.fixed_time → EdgeOf direction job.zone.reads s e → own ≡ one_on (opposite_way direction) e → (IsWithin direction (job.zone.reads own) → ⊥) → OutFrom direction inclusive job s → NoneInSpan direction inclusive job s
+  pub out_late : (e own : ℤ) → CountsBoth direction job.timetable.fixed_time → EdgeOf direction job.zone.reads s e → own ≡ one_on (opposite_way direction) e → (IsWithin direction (job.zone.reads own) → ⊥) → OutFrom direction inclusive job s → NoneInSpan direction inclusive job s
   out_late e own both edge is late out =
       λ i span counts.
       elim (seen_twice direction inclusive job calm s e i both edge counts) [
@@ -150,7 +151,7 @@ module _ (direction : Direction) (inclusive : Bool) (job : Job) (calm : Calm job
       ]
 
   -- the first walk is out, and the own half does not: the walk from the edge has the nearest run
-  pub second_alone : (e own u : ℤ) → CountsBoth direction job.fixed_time → EdgeOf direction job.zone.reads s e → own ≡ one_on (opposite_way direction) e → IsWithin direction (job.zone.reads own) → OutFrom direction inclusive job s → WalkedFrom direction true job e u → Nearest direction inclusive job s u
+  pub second_alone : (e own u : ℤ) → CountsBoth direction job.timetable.fixed_time → EdgeOf direction job.zone.reads s e → own ≡ one_on (opposite_way direction) e → IsWithin direction (job.zone.reads own) → OutFrom direction inclusive job s → WalkedFrom direction true job e u → Nearest direction inclusive job s u
   second_alone e own u both edge is within out second =
       record {
         counts = edge_counts direction inclusive job calm s e u edge second;
@@ -164,7 +165,7 @@ module _ (direction : Direction) (inclusive : Bool) (job : Job) (calm : Calm job
       }
 
   -- the first answer lies past the edge, and the walk from the edge is out
-  pub second_out : (e t : ℤ) → CountsBoth direction job.fixed_time → EdgeOf direction job.zone.reads s e → WalkedFrom direction inclusive job s t → (Precedes direction t e → ⊥) → OutFrom direction true job e → NoneInSpan direction inclusive job s
+  pub second_out : (e t : ℤ) → CountsBoth direction job.timetable.fixed_time → EdgeOf direction job.zone.reads s e → WalkedFrom direction inclusive job s t → (Precedes direction t e → ⊥) → OutFrom direction true job e → NoneInSpan direction inclusive job s
   second_out e t both edge walked past second =
       λ i span counts.
       elim (seen_twice direction inclusive job calm s e i both edge counts) [
@@ -194,127 +195,129 @@ precedes_not : (direction : Direction) (a b : Moment) (t : Bool) → t ≡ false
 precedes_not direction a b t e f g test h = never_true (sym e ∙ (precedes_whole direction a b t f g test).1 h)
 
 -- a walk from the edge in the start's own zone
-module _ {T : Type 0} (moment : T → Moment) (direction : Direction) (start edge : Moment) (scheduled date_matches : ℤ → Type 0) (fixed_time : Bool) where
-  pub walked_there : (t : T) → edge.zone ≡ start.zone → IsWalked moment direction true (job_in edge.zone scheduled date_matches fixed_time) edge t → IsWalked moment direction true (job_in start.zone scheduled date_matches fixed_time) edge t
-  walked_there t same walked = subst (λ (z : Zone). IsWalked moment direction true (job_in z scheduled date_matches fixed_time) edge t) same walked
+module _ {T : Type 0} (moment : T → Moment) (direction : Direction) (start edge : Moment) (timetable : Timetable) where
+  pub walked_there : (t : T) → edge.zone ≡ start.zone → IsWalked moment direction true (job_in edge.zone timetable) edge t → IsWalked moment direction true (job_in start.zone timetable) edge t
+  walked_there t same walked = subst (λ (z : Zone). IsWalked moment direction true (job_in z timetable) edge t) same walked
 
-  pub out_there : edge.zone ≡ start.zone → (IsCalmStart edge.zone edge.fraction → OutFrom direction true (job_in edge.zone scheduled date_matches fixed_time) edge.instant) → IsCalmStart start.zone edge.fraction → OutFrom direction true (job_in start.zone scheduled date_matches fixed_time) edge.instant
-  out_there same out = subst (λ (z : Zone). IsCalmStart z edge.fraction → OutFrom direction true (job_in z scheduled date_matches fixed_time) edge.instant) same out
+  pub out_there : edge.zone ≡ start.zone → (IsCalmStart edge.zone edge.fraction → OutFrom direction true (job_in edge.zone timetable) edge.instant) → IsCalmStart start.zone edge.fraction → OutFrom direction true (job_in start.zone timetable) edge.instant
+  out_there same out = subst (λ (z : Zone). IsCalmStart z edge.fraction → OutFrom direction true (job_in z timetable) edge.instant) same out
 
 pub second_error : (lack : Bool) (start : Moment) (z : Zone) (e : CronError) → z ≡ start.zone → IsBackendError lack (IsCalm z → HoldsYears z → ⊥) e → IsBackendError lack (IsSearchable start → ⊥) e
 second_error lack start z e same error =
     let here : IsBackendError lack (IsCalm start.zone → HoldsYears start.zone → ⊥) e = subst (λ (x : Zone). IsBackendError lack (IsCalm x → HoldsYears x → ⊥) e) same error in
     backend_error lack _ _ e (λ stuck h. stuck h.calm (years_held start h)) here
 
-module _ {T : Type 0} (moment : T → Moment) (direction : Direction) (inclusive : Bool) (start : Moment) (scheduled date_matches : ℤ → Type 0) (fixed_time : Bool) where
+module _ {T : Type 0} (moment : T → Moment) (direction : Direction) (inclusive : Bool) (start : Moment) (timetable : Timetable) where
   -- the first walk's answer, where it is the nearest
-  pub found_by : (t : T) → IsWalked moment direction inclusive (job_in start.zone scheduled date_matches fixed_time) start t → (IsSearchable start → WalkedFrom direction inclusive (job_in start.zone scheduled date_matches fixed_time) start.instant (moment t).instant → Nearest direction inclusive (job_in start.zone scheduled date_matches fixed_time) start.instant (moment t).instant) → IsFound moment direction inclusive (job_in start.zone scheduled date_matches fixed_time) start t
-  found_by t walked nearest =
-      record { zone_is = walked.zone_is; whole = walked.whole; shows = walked.shows; nearest = λ h. nearest h (walked.walked (calm_start start h)) }
+  pub found_by : (IsPast direction inclusive timetable.scheduled (reading start) → ⊥) → (t : T) → IsWalked moment direction inclusive (job_in start.zone timetable) start t → (StartsCalm start → WalkedFrom direction inclusive (job_in start.zone timetable) start.instant (moment t).instant → Nearest direction inclusive (job_in start.zone timetable) start.instant (moment t).instant) → IsFound direction inclusive timetable start (moment t)
+  found_by left t walked nearest =
+      record { nearest = λ h. nearest h (walked.walked h); zone = walked.zone_is; whole = walked.whole; shows = walked.shows; left = left }
 
-  pub first_one_half : (t : T) (b halves : Bool) → b ≡ fixed_time → halves ≡ false → (IsTrue halves ↔ CountsBoth direction b) → IsWalked moment direction inclusive (job_in start.zone scheduled date_matches fixed_time) start t → IsFound moment direction inclusive (job_in start.zone scheduled date_matches fixed_time) start t
-  first_one_half t b halves same e test walked =
-      found_by t walked
+  pub first_one_half : (IsPast direction inclusive timetable.scheduled (reading start) → ⊥) → (t : T) (b halves : Bool) → b ≡ timetable.fixed_time → halves ≡ false → (IsTrue halves ↔ CountsBoth direction b) → IsWalked moment direction inclusive (job_in start.zone timetable) start t → IsFound direction inclusive timetable start (moment t)
+  first_one_half left t b halves same e test walked =
+      found_by left t walked
       (λ h w.
-      found_one_half direction inclusive (job_in start.zone scheduled date_matches fixed_time) (calm_of start.zone h.calm) start.instant (moment t).instant
+      found_one_half direction inclusive (job_in start.zone timetable) (calm_of start.zone h.calm) start.instant (moment t).instant
       (λ both. never_true (sym e ∙ test.1 (subst (CountsBoth direction) (sym same) both))) w)
 
-  pub first_alone : (t : T) (b : Bool) → b ≡ false → (IsCalmStart start.zone start.fraction → IsTrue b ↔ HasTwin direction start.zone.reads start.instant) → IsWalked moment direction inclusive (job_in start.zone scheduled date_matches fixed_time) start t → IsFound moment direction inclusive (job_in start.zone scheduled date_matches fixed_time) start t
-  first_alone t b e test walked =
-      found_by t walked
+  pub first_alone : (IsPast direction inclusive timetable.scheduled (reading start) → ⊥) → (t : T) (b : Bool) → b ≡ false → (StartsCalm start → IsTrue b ↔ HasTwin direction start.zone.reads start.instant) → IsWalked moment direction inclusive (job_in start.zone timetable) start t → IsFound direction inclusive timetable start (moment t)
+  first_alone left t b e test walked =
+      found_by left t walked
       (λ h w.
-      found_alone direction inclusive (job_in start.zone scheduled date_matches fixed_time) (calm_of start.zone h.calm) start.instant (moment t).instant
-      (λ twin. never_true (sym e ∙ (test (calm_start start h)).1 twin)) w)
+      found_alone direction inclusive (job_in start.zone timetable) (calm_of start.zone h.calm) start.instant (moment t).instant
+      (λ twin. never_true (sym e ∙ (test h).1 twin)) w)
 
   -- what the code knows once it stands at the edge
   pub record AtEdge (edge : T) : Type 0 where
-    pub both : CountsBoth direction fixed_time
+    pub both : CountsBoth direction timetable.fixed_time
     pub zone_is : (moment edge).zone ≡ start.zone
     pub fraction_is : (moment edge).fraction ≡ start.fraction
-    pub edge_of : IsSearchable start → EdgeOf direction start.zone.reads start.instant (moment edge).instant
+    pub edge_of : StartsCalm start → EdgeOf direction start.zone.reads start.instant (moment edge).instant
 
-  pub at_edge : (edge : T) (fixed halves twin : Bool) → fixed ≡ fixed_time → halves ≡ true → (IsTrue halves ↔ CountsBoth direction fixed) → twin ≡ true → (IsCalmStart start.zone start.fraction → IsTrue twin ↔ HasTwin direction start.zone.reads start.instant) → IsEdge moment direction start (Some edge) → AtEdge edge
+  pub at_edge : (edge : T) (fixed halves twin : Bool) → fixed ≡ timetable.fixed_time → halves ≡ true → (IsTrue halves ↔ CountsBoth direction fixed) → twin ≡ true → (StartsCalm start → IsTrue twin ↔ HasTwin direction start.zone.reads start.instant) → IsEdge moment direction start (Some edge) → AtEdge edge
   at_edge edge fixed halves twin same e test is_twin twin_test (zone_is, fraction_is, edge_of, far) =
       record {
         both = subst (CountsBoth direction) same (test.0 e);
         zone_is = zone_is;
         fraction_is = fraction_is;
-        edge_of = λ h. edge_of (calm_start start h) ((twin_test (calm_start start h)).0 is_twin);
+        edge_of = λ h. edge_of h ((twin_test h).0 is_twin);
       }
 
-  edge_whole : (edge : T) → AtEdge edge → IsSearchable start → (moment edge).fraction ≡ 0
+  edge_whole : (edge : T) → AtEdge edge → StartsCalm start → (moment edge).fraction ≡ 0
   edge_whole edge at h = at.fraction_is ∙ h.whole
 
-  edge_calm : (edge : T) → AtEdge edge → IsSearchable start → IsCalmStart start.zone (moment edge).fraction
+  edge_calm : (edge : T) → AtEdge edge → StartsCalm start → IsCalmStart start.zone (moment edge).fraction
   edge_calm edge at h = record { calm = h.calm; whole = edge_whole edge at h }
 
-  pub first_before : (t edge : T) (b : Bool) → AtEdge edge → b ≡ true → (IsTrue b ↔ Precedes direction (nanos_of (moment t)) (nanos_of (moment edge))) → IsWalked moment direction inclusive (job_in start.zone scheduled date_matches fixed_time) start t → IsFound moment direction inclusive (job_in start.zone scheduled date_matches fixed_time) start t
-  first_before t edge b at e test walked =
-      found_by t walked
+  pub first_before : (IsPast direction inclusive timetable.scheduled (reading start) → ⊥) → (t edge : T) (b : Bool) → AtEdge edge → b ≡ true → (IsTrue b ↔ Precedes direction (nanos_of (moment t)) (nanos_of (moment edge))) → IsWalked moment direction inclusive (job_in start.zone timetable) start t → IsFound direction inclusive timetable start (moment t)
+  first_before left t edge b at e test walked =
+      found_by left t walked
       (λ h w.
-      found_before_edge direction inclusive (job_in start.zone scheduled date_matches fixed_time) (calm_of start.zone h.calm) start.instant (moment t).instant (moment edge).instant at.both (at.edge_of h) w
+      found_before_edge direction inclusive (job_in start.zone timetable) (calm_of start.zone h.calm) start.instant (moment t).instant (moment edge).instant at.both (at.edge_of h) w
       (precedes_so direction (moment t) (moment edge) b e walked.whole (edge_whole edge at h) test))
 
-  pub second_nearer : (t u edge : T) (b : Bool) → AtEdge edge → b ≡ true → (IsTrue b ↔ Precedes direction (nanos_of (moment u)) (nanos_of (moment t))) → IsWalked moment direction inclusive (job_in start.zone scheduled date_matches fixed_time) start t → IsWalked moment direction true (job_in (moment edge).zone scheduled date_matches fixed_time) (moment edge) u → IsFound moment direction inclusive (job_in start.zone scheduled date_matches fixed_time) start u
-  second_nearer t u edge b at e test walked there =
-      let second = walked_there moment direction start (moment edge) scheduled date_matches fixed_time u at.zone_is there in
+  pub second_nearer : (IsPast direction inclusive timetable.scheduled (reading start) → ⊥) → (t u edge : T) (b : Bool) → AtEdge edge → b ≡ true → (IsTrue b ↔ Precedes direction (nanos_of (moment u)) (nanos_of (moment t))) → IsWalked moment direction inclusive (job_in start.zone timetable) start t → IsWalked moment direction true (job_in (moment edge).zone timetable) (moment edge) u → IsFound direction inclusive timetable start (moment u)
+  second_nearer left t u edge b at e test walked there =
+      let second = walked_there moment direction start (moment edge) timetable u at.zone_is there in
       record {
-        zone_is = second.zone_is;
+        zone = second.zone_is;
         whole = second.whole;
         shows = second.shows;
+        left = left;
         nearest = λ h.
-            found_second direction inclusive (job_in start.zone scheduled date_matches fixed_time) (calm_of start.zone h.calm) start.instant (moment t).instant (moment edge).instant (moment u).instant at.both (at.edge_of h) (walked.walked (calm_start start h))
+            found_second direction inclusive (job_in start.zone timetable) (calm_of start.zone h.calm) start.instant (moment t).instant (moment edge).instant (moment u).instant at.both (at.edge_of h) (walked.walked h)
             (second.walked (edge_calm edge at h)) (precedes_so direction (moment u) (moment t) b e second.whole walked.whole test);
       }
 
-  pub first_nearer : (t u edge : T) (b : Bool) → AtEdge edge → b ≡ false → (IsTrue b ↔ Precedes direction (nanos_of (moment u)) (nanos_of (moment t))) → IsWalked moment direction inclusive (job_in start.zone scheduled date_matches fixed_time) start t → IsWalked moment direction true (job_in (moment edge).zone scheduled date_matches fixed_time) (moment edge) u → IsFound moment direction inclusive (job_in start.zone scheduled date_matches fixed_time) start t
-  first_nearer t u edge b at e test walked there =
-      let second = walked_there moment direction start (moment edge) scheduled date_matches fixed_time u at.zone_is there in
-      found_by t walked
+  pub first_nearer : (IsPast direction inclusive timetable.scheduled (reading start) → ⊥) → (t u edge : T) (b : Bool) → AtEdge edge → b ≡ false → (IsTrue b ↔ Precedes direction (nanos_of (moment u)) (nanos_of (moment t))) → IsWalked moment direction inclusive (job_in start.zone timetable) start t → IsWalked moment direction true (job_in (moment edge).zone timetable) (moment edge) u → IsFound direction inclusive timetable start (moment t)
+  first_nearer left t u edge b at e test walked there =
+      let second = walked_there moment direction start (moment edge) timetable u at.zone_is there in
+      found_by left t walked
       (λ h w.
-      found_first direction inclusive (job_in start.zone scheduled date_matches fixed_time) (calm_of start.zone h.calm) start.instant (moment t).instant (moment edge).instant (moment u).instant at.both (at.edge_of h) w
+      found_first direction inclusive (job_in start.zone timetable) (calm_of start.zone h.calm) start.instant (moment t).instant (moment edge).instant (moment u).instant at.both (at.edge_of h) w
       (second.walked (edge_calm edge at h)) (precedes_not direction (moment u) (moment t) b e second.whole walked.whole test))
 
-  pub second_none : (t edge : T) (b : Bool) → AtEdge edge → b ≡ false → (IsTrue b ↔ Precedes direction (nanos_of (moment t)) (nanos_of (moment edge))) → IsWalked moment direction inclusive (job_in start.zone scheduled date_matches fixed_time) start t → (IsCalmStart (moment edge).zone (moment edge).fraction → OutFrom direction true (job_in (moment edge).zone scheduled date_matches fixed_time) (moment edge).instant) → IsSearchable start → NoneInSpan direction inclusive (job_in start.zone scheduled date_matches fixed_time) start.instant
+  pub second_none : (t edge : T) (b : Bool) → AtEdge edge → b ≡ false → (IsTrue b ↔ Precedes direction (nanos_of (moment t)) (nanos_of (moment edge))) → IsWalked moment direction inclusive (job_in start.zone timetable) start t → (IsCalmStart (moment edge).zone (moment edge).fraction → OutFrom direction true (job_in (moment edge).zone timetable) (moment edge).instant) → StartsCalm start → NoneInSpan direction inclusive (job_in start.zone timetable) start.instant
   second_none t edge b at e test walked out h =
-      second_out direction inclusive (job_in start.zone scheduled date_matches fixed_time) (calm_of start.zone h.calm) start.instant (moment edge).instant (moment t).instant at.both (at.edge_of h) (walked.walked (calm_start start h))
+      second_out direction inclusive (job_in start.zone timetable) (calm_of start.zone h.calm) start.instant (moment edge).instant (moment t).instant at.both (at.edge_of h) (walked.walked h)
       (precedes_not direction (moment t) (moment edge) b e walked.whole (edge_whole edge at h) test)
-      (out_there moment direction start (moment edge) scheduled date_matches fixed_time at.zone_is out (edge_calm edge at h))
+      (out_there moment direction start (moment edge) timetable at.zone_is out (edge_calm edge at h))
 
   -- ---- after the first walk's limit
 
-  pub limit_one_half : (b halves : Bool) → b ≡ fixed_time → halves ≡ false → (IsTrue halves ↔ CountsBoth direction b) → (IsCalmStart start.zone start.fraction → OutFrom direction inclusive (job_in start.zone scheduled date_matches fixed_time) start.instant) → IsSearchable start → NoneInSpan direction inclusive (job_in start.zone scheduled date_matches fixed_time) start.instant
+  pub limit_one_half : (b halves : Bool) → b ≡ timetable.fixed_time → halves ≡ false → (IsTrue halves ↔ CountsBoth direction b) → (StartsCalm start → OutFrom direction inclusive (job_in start.zone timetable) start.instant) → StartsCalm start → NoneInSpan direction inclusive (job_in start.zone timetable) start.instant
   limit_one_half b halves same e test out h =
-      out_alone direction inclusive (job_in start.zone scheduled date_matches fixed_time) (calm_of start.zone h.calm) start.instant
-      (inl (λ both. never_true (sym e ∙ test.1 (subst (CountsBoth direction) (sym same) both)))) (out (calm_start start h))
+      out_alone direction inclusive (job_in start.zone timetable) (calm_of start.zone h.calm) start.instant
+      (inl (λ both. never_true (sym e ∙ test.1 (subst (CountsBoth direction) (sym same) both)))) (out h)
 
-  pub limit_alone : (IsSearchable start → HasTwin direction start.zone.reads start.instant → ⊥) → (IsCalmStart start.zone start.fraction → OutFrom direction inclusive (job_in start.zone scheduled date_matches fixed_time) start.instant) → IsSearchable start → NoneInSpan direction inclusive (job_in start.zone scheduled date_matches fixed_time) start.instant
+  pub limit_alone : (StartsCalm start → HasTwin direction start.zone.reads start.instant → ⊥) → (StartsCalm start → OutFrom direction inclusive (job_in start.zone timetable) start.instant) → StartsCalm start → NoneInSpan direction inclusive (job_in start.zone timetable) start.instant
   limit_alone single out h =
-      out_alone direction inclusive (job_in start.zone scheduled date_matches fixed_time) (calm_of start.zone h.calm) start.instant (inr (single h)) (out (calm_start start h))
+      out_alone direction inclusive (job_in start.zone timetable) (calm_of start.zone h.calm) start.instant (inr (single h)) (out h)
 
-  pub limit_late : (edge own : T) (b : Bool) (shown : ℤ) → CountsBoth direction fixed_time → HasOtherHalf moment direction start (Some (edge, own)) → b ≡ false → shown ≡ reading (moment own) → (IsTrue b ↔ IsWithin direction shown) → (IsCalmStart start.zone start.fraction → OutFrom direction inclusive (job_in start.zone scheduled date_matches fixed_time) start.instant) → IsSearchable start → NoneInSpan direction inclusive (job_in start.zone scheduled date_matches fixed_time) start.instant
+  pub limit_late : (edge own : T) (b : Bool) (shown : ℤ) → CountsBoth direction timetable.fixed_time → HasOtherHalf moment direction start (Some (edge, own)) → b ≡ false → shown ≡ reading (moment own) → (IsTrue b ↔ IsWithin direction shown) → (StartsCalm start → OutFrom direction inclusive (job_in start.zone timetable) start.instant) → StartsCalm start → NoneInSpan direction inclusive (job_in start.zone timetable) start.instant
   limit_late edge own b shown both (zone_is, fraction_is, own_zone, own_is, edge_of) e at test out h =
       let here : shown ≡ start.zone.reads (moment own).instant = at ∙ ap (λ (z : Zone). z.reads (moment own).instant) own_zone in
-      out_late direction inclusive (job_in start.zone scheduled date_matches fixed_time) (calm_of start.zone h.calm) start.instant (moment edge).instant (moment own).instant both (edge_of h) own_is
-      (λ within. never_true (sym e ∙ test.1 (subst (IsWithin direction) (sym here) within))) (out (calm_start start h))
+      out_late direction inclusive (job_in start.zone timetable) (calm_of start.zone h.calm) start.instant (moment edge).instant (moment own).instant both (edge_of h) own_is
+      (λ within. never_true (sym e ∙ test.1 (subst (IsWithin direction) (sym here) within))) (out h)
 
-  pub second_found : (edge own u : T) (b : Bool) (shown : ℤ) → CountsBoth direction fixed_time → HasOtherHalf moment direction start (Some (edge, own)) → b ≡ true → shown ≡ reading (moment own) → (IsTrue b ↔ IsWithin direction shown) → (IsCalmStart start.zone start.fraction → OutFrom direction inclusive (job_in start.zone scheduled date_matches fixed_time) start.instant) → IsWalked moment direction true (job_in (moment edge).zone scheduled date_matches fixed_time) (moment edge) u → IsFound moment direction inclusive (job_in start.zone scheduled date_matches fixed_time) start u
-  second_found edge own u b shown both (zone_is, fraction_is, own_zone, own_is, edge_of) e at test out there =
-      let second = walked_there moment direction start (moment edge) scheduled date_matches fixed_time u zone_is there in
+  pub second_found : (IsPast direction inclusive timetable.scheduled (reading start) → ⊥) → (edge own u : T) (b : Bool) (shown : ℤ) → CountsBoth direction timetable.fixed_time → HasOtherHalf moment direction start (Some (edge, own)) → b ≡ true → shown ≡ reading (moment own) → (IsTrue b ↔ IsWithin direction shown) → (StartsCalm start → OutFrom direction inclusive (job_in start.zone timetable) start.instant) → IsWalked moment direction true (job_in (moment edge).zone timetable) (moment edge) u → IsFound direction inclusive timetable start (moment u)
+  second_found left edge own u b shown both (zone_is, fraction_is, own_zone, own_is, edge_of) e at test out there =
+      let second = walked_there moment direction start (moment edge) timetable u zone_is there in
       let here : shown ≡ start.zone.reads (moment own).instant = at ∙ ap (λ (z : Zone). z.reads (moment own).instant) own_zone in
       record {
-        zone_is = second.zone_is;
+        zone = second.zone_is;
         whole = second.whole;
         shows = second.shows;
+        left = left;
         nearest = λ h.
-            second_alone direction inclusive (job_in start.zone scheduled date_matches fixed_time) (calm_of start.zone h.calm) start.instant (moment edge).instant (moment own).instant (moment u).instant both (edge_of h) own_is
-            (subst (IsWithin direction) here (test.0 e)) (out (calm_start start h)) (second.walked (record { calm = h.calm; whole = fraction_is ∙ h.whole }));
+            second_alone direction inclusive (job_in start.zone timetable) (calm_of start.zone h.calm) start.instant (moment edge).instant (moment own).instant (moment u).instant both (edge_of h) own_is
+            (subst (IsWithin direction) here (test.0 e)) (out h) (second.walked (record { calm = h.calm; whole = fraction_is ∙ h.whole }));
       }
 
-  pub limit_twice : (edge own : T) → CountsBoth direction fixed_time → HasOtherHalf moment direction start (Some (edge, own)) → (IsCalmStart start.zone start.fraction → OutFrom direction inclusive (job_in start.zone scheduled date_matches fixed_time) start.instant) → (IsCalmStart (moment edge).zone (moment edge).fraction → OutFrom direction true (job_in (moment edge).zone scheduled date_matches fixed_time) (moment edge).instant) → IsSearchable start → NoneInSpan direction inclusive (job_in start.zone scheduled date_matches fixed_time) start.instant
+  pub limit_twice : (edge own : T) → CountsBoth direction timetable.fixed_time → HasOtherHalf moment direction start (Some (edge, own)) → (StartsCalm start → OutFrom direction inclusive (job_in start.zone timetable) start.instant) → (IsCalmStart (moment edge).zone (moment edge).fraction → OutFrom direction true (job_in (moment edge).zone timetable) (moment edge).instant) → StartsCalm start → NoneInSpan direction inclusive (job_in start.zone timetable) start.instant
   limit_twice edge own both (zone_is, fraction_is, own_zone, own_is, edge_of) out second h =
-      out_twice direction inclusive (job_in start.zone scheduled date_matches fixed_time) (calm_of start.zone h.calm) start.instant (moment edge).instant both (edge_of h) (out (calm_start start h))
-      (out_there moment direction start (moment edge) scheduled date_matches fixed_time zone_is second (record { calm = h.calm; whole = fraction_is ∙ h.whole }))
+      out_twice direction inclusive (job_in start.zone timetable) (calm_of start.zone h.calm) start.instant (moment edge).instant both (edge_of h) (out h)
+      (out_there moment direction start (moment edge) timetable zone_is second (record { calm = h.calm; whole = fraction_is ∙ h.whole }))
 
 -- the other half, from the edge and the instant before it
 opposite_one : (direction : Direction) (i : ℤ) → offset_from (opposite_way direction) i 1 ≡ one_on (opposite_way direction) i
@@ -327,7 +330,7 @@ halves_found moment direction start edge own twin is_twin test (zone_is, fractio
   fraction_is,
   ap (λ (x : Moment). x.zone) at ∙ zone_is,
   ap (λ (x : Moment). x.instant) at ∙ opposite_one direction (moment edge).instant,
-  λ h. edge_of (calm_start start h) ((test (calm_start start h)).0 is_twin),
+  λ h. edge_of h ((test h).0 is_twin),
 )
 
 one_back_near : (direction : Direction) (s e : ℤ) (n : ℕ) → n ≤ 86400 → e ≡ offset_from direction s n → IsNear s (offset_from (opposite_way direction) e 1)
@@ -340,31 +343,52 @@ own_held moment direction start edge (zone_is, fraction_is, edge_of, (n, le, at)
     let here : start.zone.holds (offset_from (opposite_way direction) (moment edge).instant 1) ≡ false = subst (λ (z : Zone). z.holds (offset_from (opposite_way direction) (moment edge).instant 1) ≡ false) zone_is stuck in
     never_true (sym here ∙ there)
 
--- ---- the public clauses
+-- ---- why a search is refused
 
-pub kinds_of : (lack : Bool) (P Q : Type 0) (e : CronError) → IsSearchError lack P Q e → IsRefusal lack e
-kinds_of lack P Q e error =
-    elim error [
-      | inl (limit, p) ↦ inl limit
-      | inr (inl (memory, can)) ↦ inr (inr (inr (memory, can)))
-      | inr (inr (inl date, q)) ↦ inr (inl date)
-      | inr (inr (inr time, q)) ↦ inr (inr (inl time))
-    ]
+-- a start that lies outside the span: no instant from there on lies in it
+pub none_outside : (direction : Direction) (inclusive : Bool) (job : Job) (s : ℤ) → (IsWithin direction (job.zone.reads s) → ⊥) → NoneInSpan direction inclusive job s
+none_outside direction inclusive job s outside = λ i span counts. outside (span s (counts_reaches direction inclusive job s i counts))
 
-pub refuses_of : (lack : Bool) (P Q : Type 0) (e : CronError) → Q → IsSearchError lack P (Q → ⊥) e → IsLimitOrMemory lack e
-refuses_of lack P Q e premise error =
-    elim error [ inl (limit, p) ↦ inl limit | inr (inl memory) ↦ inr memory | inr (inr (kind, refusal)) ↦ absurd (refusal premise) ]
+-- within the span a start is not past the years
+pub not_past : (direction : Direction) (inclusive : Bool) (scheduled : ℤ → Type 0) (w : ℤ) → IsWithin direction w → IsPast direction inclusive scheduled w → ⊥
+not_past direction inclusive scheduled w within past = past.0 within
 
-pub limit_of : (lack : Bool) (P Q : Type 0) (e : CronError) → Q → e ≡ TimeSearchLimitExceeded → IsSearchError lack (Q → P) (Q → ⊥) e → P
-limit_of lack P Q e premise is error =
-    elim error [
-      | inl (limit, p) ↦ p premise
-      | inr (inl (memory, can)) ↦ absurd (cc)
-      | inr (inr (kind, refusal)) ↦ absurd (refusal premise)
-    ]
+-- what the code's test says of the start
+pub start_within : (direction : Direction) (start : Moment) (b : Bool) (shown : ℤ) → b ≡ true → shown ≡ reading start → (IsTrue b ↔ IsWithin direction shown) → IsWithin direction (reading start)
+start_within direction start b shown e at test = subst (IsWithin direction) at (test.0 e)
 
-pub walk_error : (lack : Bool) (P : Type 0) (start : Moment) (e : CronError) → IsBackendError lack (IsCalm start.zone → HoldsYears start.zone → ⊥) e → IsSearchError lack P (IsSearchable start → ⊥) e
-walk_error lack P start e error = inr (second_error lack start start.zone e refl error)
+pub start_outside : (direction : Direction) (start : Moment) (b : Bool) (shown : ℤ) → b ≡ false → shown ≡ reading start → (IsTrue b ↔ IsWithin direction shown) → IsWithin direction (reading start) → ⊥
+start_outside direction start b shown e at test within = never_true (sym e ∙ test.1 (subst (IsWithin direction) (sym at) within))
+
+module _ (lack : Bool) (direction : Direction) (inclusive : Bool) (timetable : Timetable) (start : Moment) where
+  -- the limit, with what it says
+  pub refused_limit : (StartsCalm start → NoneInSpan direction inclusive (job_in start.zone timetable) start.instant) → IsRefused lack direction inclusive timetable start TimeSearchLimitExceeded
+  refused_limit none = record { limit = λ h e. none h; promised = λ h. inl refl; kind = inl refl; past = λ p. refl }
+
+  no_limit : (e : CronError) → IsBackendError lack (IsSearchable start → ⊥) e → e ≡ TimeSearchLimitExceeded → ⊥
+  no_limit e error is =
+      elim error [ inl (memory, can) ↦ absurd (cc) | inr (inl date, stuck) ↦ absurd (cc) | inr (inr time, stuck) ↦ absurd (cc) ]
+
+  backend_kind : (e : CronError) → IsBackendError lack (IsSearchable start → ⊥) e → IsRefusal lack e
+  backend_kind e error =
+      elim error [
+        | inl (memory, can) ↦ inr (inr (inr (memory, can)))
+        | inr (inl date, stuck) ↦ inr (inl date)
+        | inr (inr time, stuck) ↦ inr (inr (inl time))
+      ]
+
+  -- the backend's error, from a start that is not past the years
+  pub refused_backend : (e : CronError) → (IsPast direction inclusive timetable.scheduled (reading start) → ⊥) → IsBackendError lack (IsSearchable start → ⊥) e → IsRefused lack direction inclusive timetable start e
+  refused_backend e left error = record {
+    limit = λ h is. absurd (no_limit e error is);
+    promised = λ h. elim error [ inl memory ↦ inr memory | inr (kind, stuck) ↦ absurd (stuck h) ];
+    kind = backend_kind e error;
+    past = λ p. absurd (left p);
+  }
+
+  -- the error of the first walk
+  pub refused_walk : (e : CronError) → (NoneAhead direction inclusive timetable.scheduled (reading start) → ⊥) → IsBackendError lack (IsCalm start.zone → HoldsYears start.zone → ⊥) e → IsRefused lack direction inclusive timetable start e
+  refused_walk e ahead error = refused_backend e (λ p. ahead p.1) (second_error lack start start.zone e refl error)
 
 pub own_error : {T : Type 0} (moment : T → Moment) (direction way : Direction) (start : Moment) (edge : T) (lack : Bool) (e : CronError) → way ≡ opposite_way direction → IsEdge moment direction start (Some edge) → IsBackendError lack ((moment edge).zone.holds (offset_from way (moment edge).instant 1) ≡ false) e → IsBackendError lack (IsSearchable start → ⊥) e
 own_error moment direction way start edge lack e same at error =

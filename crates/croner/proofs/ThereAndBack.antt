@@ -14,8 +14,8 @@ use Rattle.croner_base.proofs.Days.{day_number-lt_year}
 use Rattle.croner_base.proofs.JiffSeconds.{wall_second-parts}
 use Rattle.croner_pattern.specs.Meaning.{Meaning}
 use Rattle.croner.specs.Limit.{InSpan, NoneInSpan, year_2}
-use Rattle.croner.specs.PatternJob.{pattern_job}
-use Rattle.croner.specs.Premises.{IsSearchable}
+use Rattle.croner.specs.PatternJob.{timetable_of, pattern_job}
+use Rattle.croner.specs.Premises.{IsSearchable, StartsCalm}
 use Rattle.croner.specs.Runs.{Run, Nearest}
 use Rattle.croner.specs.Searches.{IsFound, IsRefused, IsReturnable}
 use Rattle.croner.proofs.CalmZone.{calm_of}
@@ -48,7 +48,7 @@ stays_late z calm i j low le =
 in_span : (m : Meaning) (start : Moment) → IsReturnable m start → InSpan Backward start.zone.reads start.instant
 in_span m start r j le =
     let low : (year_2 +ℤ pos 7_200) ≤ℤ start.zone.reads start.instant = subst (λ (w : ℤ). (year_2 +ℤ pos 7_200) ≤ℤ w) r.from.shows (late r.from.shown r.from.from) in
-    stays_late start.zone r.searchable.calm start.instant j low le
+    stays_late start.zone r.calm.calm start.instant j low le
 
 -- what a search finds is searched from as well
 pub searchable_run : (m : Meaning) (start found : Moment) → IsSearchable start → found.zone ≡ start.zone → found.fraction ≡ 0
@@ -60,20 +60,23 @@ searchable_run m start found p same_zone whole run =
     let same : at_instant start.zone found.instant ≡ found = ap in_zone (sym same_zone) ∙ ap with_fraction (sym whole) in
     subst IsSearchable same (record { calm = p.calm; whole = refl; held = held })
 
-module _ (m : Meaning) (start next : Moment) (r : IsReturnable m start) (there : IsFound Forward false m start next) where
+module _ (m : Meaning) (start next : Moment) (r : IsReturnable m start) (there : IsFound Forward false (timetable_of m) start next) where
   near : Nearest Forward false (pattern_job m start.zone) start.instant next.instant
-  near = there.nearest r.searchable
+  near = there.nearest r.calm
 
-  searchable_next : IsSearchable next
-  searchable_next = searchable_run m start next r.searchable there.zone there.whole (is_run Forward false (pattern_job m start.zone) start.instant next.instant near.counts)
+  calm_next : StartsCalm next
+  calm_next = record { calm = subst IsCalm (sym there.zone) r.calm.calm; whole = there.whole }
+
+  searchable_next : IsSearchable start → IsSearchable next
+  searchable_next p = searchable_run m start next p there.zone there.whole (is_run Forward false (pattern_job m start.zone) start.instant next.instant near.counts)
 
   -- the search back finds the run
-  pub returns_to : (back : Moment) → IsFound Backward false m next back → back ≡ start
+  pub returns_to : (back : Moment) → IsFound Backward false (timetable_of m) next back → back ≡ start
   returns_to back found =
       let P : Zone → Type 0 = λ z. Nearest Backward false (pattern_job m z) next.instant back.instant in
-      let near_back = subst P there.zone (found.nearest searchable_next) in
+      let near_back = subst P there.zone (found.nearest calm_next) in
       let instant = there_and_back (pattern_job m start.zone) start.instant next.instant back.instant r.run near near_back in
-      let whole : back.fraction ≡ start.fraction = found.whole ∙ sym r.searchable.whole in
+      let whole : back.fraction ≡ start.fraction = found.whole ∙ sym r.calm.whole in
       let in_zone : Zone → Moment = λ z. record { zone = z; instant = back.instant; fraction = back.fraction } in
       let at : ℤ → Moment = λ i. record { zone = start.zone; instant = i; fraction = back.fraction } in
       let with_fraction : ℕ → Moment = λ f. record { zone = start.zone; instant = start.instant; fraction = f } in
@@ -88,10 +91,11 @@ module _ (m : Meaning) (start next : Moment) (r : IsReturnable m start) (there :
         | inr (is, e, own) ↦ absurd (false≢true is)
       ]
 
-  -- so it is refused for want of memory alone
-  pub refused_back : (lack : Bool) (e : CronError) → IsRefused lack Backward false m next e → IsRefused lack Forward false m start e
+  -- so it is refused by something else, and the pair of searches for the same reason
+  pub refused_back : (lack : Bool) (e : CronError) → IsRefused lack Backward false (timetable_of m) next e → IsRefused lack Forward false (timetable_of m) start e
   refused_back lack e refused = record {
+    limit = λ h is. absurd (no_limit (refused.limit calm_next is));
+    promised = λ p. refused.promised (searchable_next p);
     kind = refused.kind;
-    promised = λ p. refused.promised searchable_next;
-    limit = λ p limit. absurd (no_limit (refused.limit searchable_next limit));
+    past = λ p. absurd (there.left p);
   }

@@ -8,8 +8,8 @@ use Rattle.croner.proofs.FirstInstants.{earlier_twin, later_twin, first_if_least
 use Rattle.croner.proofs.RunsOfSeconds.{true_or_false, run_has_second, second_gives_run, own_of_first}
 use Rattle.croner.specs.Halves.{EdgeAfter, EdgeBefore}
 use Rattle.croner.proofs.ZoneOrder.{Calm}
-use Rattle.croner.specs.Walk.{RunOf, Ahead, Walked, walk_start}
-use Rattle.croner.specs.Runs.{Job, Run, OwnRun, Nearest, Counts, Reaches}
+use Rattle.croner.specs.Walk.{RunOf, Walked, walk_start}
+use Rattle.croner.specs.Runs.{Job, Run, OwnRun, Nearest, Counts, Reaches, Ahead}
 use Rattle.croner.proofs.WalkSteps.{Seen}
 
 past_start : (inclusive : Bool) (r w : ℤ) → r <ℤ w → Reaches Forward (walk_start Forward inclusive r) w
@@ -43,7 +43,7 @@ walked_counts Forward inclusive job s t walked =
       | inr (is, e) ↦
           let own : OwnRun job t =
           elim walked.run [
-            | inl (each, same) ↦ (subst job.scheduled (sym same) walked.scheduled, λ (fixed : job.fixed_time ≡ true). let never : true ≡ false = sym fixed ∙ each in absurd (cc))
+            | inl (each, same) ↦ (subst job.timetable.scheduled (sym same) walked.scheduled, λ (fixed : job.timetable.fixed_time ≡ true). let never : true ≡ false = sym fixed ∙ each in absurd (cc))
             | inr (fixed, first, date) ↦
                 let low = reached_start inclusive (job.zone.reads s) walked.second is walked.visited in
                 let high = first.reached in
@@ -59,7 +59,7 @@ walked_counts Backward inclusive job s t walked =
 module _ (job : Job) (calm : Calm job.zone.reads) (inclusive : Bool) where
   -- ---- what counts is seen by the first walk, where nothing ahead reads what the start reads
 
-  pub forward_seen : (s i : ℤ) → ((job.fixed_time ≡ true) ⊎ ((x : ℤ) → job.zone.reads x ≡ job.zone.reads s → x ≤ℤ s)) → Counts Forward inclusive job s i → Seen Forward inclusive job s (walk_start Forward inclusive (job.zone.reads s)) i
+  pub forward_seen : (s i : ℤ) → ((job.timetable.fixed_time ≡ true) ⊎ ((x : ℤ) → job.zone.reads x ≡ job.zone.reads s → x ≤ℤ s)) → Counts Forward inclusive job s i → Seen Forward inclusive job s (walk_start Forward inclusive (job.zone.reads s)) i
   forward_seen s i last counts =
       elim counts [
         | inl (past, run) ↦
@@ -83,7 +83,7 @@ module _ (job : Job) (calm : Calm job.zone.reads) (inclusive : Bool) where
             (w, past_start inclusive (job.zone.reads s) w above, own, of, inl past)
         | inr (is, e, own) ↦
             let of : RunOf job (job.zone.reads s) s =
-            elim (true_or_false job.fixed_time) [
+            elim (true_or_false job.timetable.fixed_time) [
               | inl fixed ↦ inr (fixed, first_if_least job.zone.reads calm (job.zone.reads s) s refl (own.1 fixed), inl refl)
               | inr each ↦ inl (each, refl)
             ] in
@@ -111,7 +111,7 @@ module _ (job : Job) (calm : Calm job.zone.reads) (inclusive : Bool) where
 
   -- ---- past the change: a run is seen by the first walk, or by one from the change on
 
-  pub forward_seen_twice : (s p i : ℤ) → EdgeAfter job.zone.reads s p → job.fixed_time ≡ false → Counts Forward inclusive job s i → ((i ≤ℤ p) × Seen Forward inclusive job s (walk_start Forward inclusive (job.zone.reads s)) i) ⊎ ((p <ℤ i) × Seen Forward true job (p +ℤ pos 1) (job.zone.reads (p +ℤ pos 1)) i)
+  pub forward_seen_twice : (s p i : ℤ) → EdgeAfter job.zone.reads s p → job.timetable.fixed_time ≡ false → Counts Forward inclusive job s i → ((i ≤ℤ p) × Seen Forward inclusive job s (walk_start Forward inclusive (job.zone.reads s)) i) ⊎ ((p <ℤ i) × Seen Forward true job (p +ℤ pos 1) (job.zone.reads (p +ℤ pos 1)) i)
   forward_seen_twice s p i edge each counts =
       let from = edge.from in
       let near = edge.near in
@@ -183,7 +183,7 @@ module _ (job : Job) (calm : Calm job.zone.reads) (inclusive : Bool) where
 
   -- ---- what a search answers
 
-  pub forward_found : (s t : ℤ) → ((job.fixed_time ≡ true) ⊎ ((x : ℤ) → job.zone.reads x ≡ job.zone.reads s → x ≤ℤ s)) → Walked Forward inclusive job s (walk_start Forward inclusive (job.zone.reads s)) t → Nearest Forward inclusive job s t
+  pub forward_found : (s t : ℤ) → ((job.timetable.fixed_time ≡ true) ⊎ ((x : ℤ) → job.zone.reads x ≡ job.zone.reads s → x ≤ℤ s)) → Walked Forward inclusive job s (walk_start Forward inclusive (job.zone.reads s)) t → Nearest Forward inclusive job s t
   forward_found s t last walked =
       record {
         counts = walked_counts Forward inclusive job s t walked;
@@ -198,7 +198,7 @@ module _ (job : Job) (calm : Calm job.zone.reads) (inclusive : Bool) where
       }
 
   -- before the edge the first answer stands
-  pub forward_before_edge : (s p t : ℤ) → EdgeAfter job.zone.reads s p → job.fixed_time ≡ false → Walked Forward inclusive job s (walk_start Forward inclusive (job.zone.reads s)) t → t ≤ℤ p → Nearest Forward inclusive job s t
+  pub forward_before_edge : (s p t : ℤ) → EdgeAfter job.zone.reads s p → job.timetable.fixed_time ≡ false → Walked Forward inclusive job s (walk_start Forward inclusive (job.zone.reads s)) t → t ≤ℤ p → Nearest Forward inclusive job s t
   forward_before_edge s p t edge each walked h =
       record {
         counts = walked_counts Forward inclusive job s t walked;
@@ -238,7 +238,7 @@ module _ (job : Job) (calm : Calm job.zone.reads) (inclusive : Bool) where
       ]
 
   -- of two answers the nearer is the nearest run
-  pub forward_second : (s p t u : ℤ) → EdgeAfter job.zone.reads s p → job.fixed_time ≡ false → Walked Forward inclusive job s (walk_start Forward inclusive (job.zone.reads s)) t → Walked Forward true job (p +ℤ pos 1) (job.zone.reads (p +ℤ pos 1)) u → u ≤ℤ t → Nearest Forward inclusive job s u
+  pub forward_second : (s p t u : ℤ) → EdgeAfter job.zone.reads s p → job.timetable.fixed_time ≡ false → Walked Forward inclusive job s (walk_start Forward inclusive (job.zone.reads s)) t → Walked Forward true job (p +ℤ pos 1) (job.zone.reads (p +ℤ pos 1)) u → u ≤ℤ t → Nearest Forward inclusive job s u
   forward_second s p t u edge each walked second h =
       record {
         counts = edge_counts_forward s p u edge (walked_counts Forward true job (p +ℤ pos 1) u second);
@@ -249,7 +249,7 @@ module _ (job : Job) (calm : Calm job.zone.reads) (inclusive : Bool) where
             ];
       }
 
-  pub forward_first : (s p t u : ℤ) → EdgeAfter job.zone.reads s p → job.fixed_time ≡ false → Walked Forward inclusive job s (walk_start Forward inclusive (job.zone.reads s)) t → Walked Forward true job (p +ℤ pos 1) (job.zone.reads (p +ℤ pos 1)) u → t ≤ℤ u → Nearest Forward inclusive job s t
+  pub forward_first : (s p t u : ℤ) → EdgeAfter job.zone.reads s p → job.timetable.fixed_time ≡ false → Walked Forward inclusive job s (walk_start Forward inclusive (job.zone.reads s)) t → Walked Forward true job (p +ℤ pos 1) (job.zone.reads (p +ℤ pos 1)) u → t ≤ℤ u → Nearest Forward inclusive job s t
   forward_first s p t u edge each walked second h =
       record {
         counts = walked_counts Forward inclusive job s t walked;

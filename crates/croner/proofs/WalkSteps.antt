@@ -7,12 +7,12 @@ use Rattle.croner.proofs.ZoneOrder.{cases_lt_z}
 use Rattle.croner.proofs.FirstInstants.{first_ordered, forward_order, backward_order}
 use Rattle.croner.proofs.ZoneOrder.{Calm}
 use Rattle.croner.specs.Schedule.{NextScheduled}
-use Rattle.croner.specs.Walk.{First, RunOf, Ahead, NoneOf, Walked, walk_start, one_on}
-use Rattle.croner.specs.Runs.{Job, Reaches}
+use Rattle.croner.specs.Walk.{First, RunOf, NoneOf, Walked, walk_start, one_on}
+use Rattle.croner.specs.Runs.{Job, Reaches, Ahead}
 
 -- i is a run ahead of s, of a scheduled second that a walk from a wall second visits
 abbrev pub Seen : Direction → Bool → Job → ℤ → ℤ → ℤ → Type 0
-Seen direction inclusive job s from i = (w : ℤ) × Reaches direction from w × job.scheduled w × RunOf job w i × Ahead direction inclusive s i
+Seen direction inclusive job s from i = (w : ℤ) × Reaches direction from w × job.timetable.scheduled w × RunOf job w i × Ahead direction inclusive s i
 
 -- ---- the seconds that a walk leaves behind
 
@@ -20,7 +20,7 @@ pub none_at_start : (direction : Direction) (inclusive : Bool) (job : Job) (s fr
 none_at_start Forward inclusive job s from = λ w i a b own of ahead. omega (arith, ints)
 none_at_start Backward inclusive job s from = λ w i a b own of ahead. omega (arith, ints)
 
-pub none_to_next : (direction : Direction) (inclusive : Bool) (job : Job) (s from to next : ℤ) → NoneOf direction inclusive job s from to → NextScheduled direction job.scheduled to next → NoneOf direction inclusive job s from next
+pub none_to_next : (direction : Direction) (inclusive : Bool) (job : Job) (s from to next : ℤ) → NoneOf direction inclusive job s from to → NextScheduled direction job.timetable.scheduled to next → NoneOf direction inclusive job s from next
 none_to_next Forward inclusive job s from to next none found =
     λ w i a b own of ahead. elim (cases_lt_z w to) [ inl lt ↦ none w i a lt own of ahead | inr le ↦ found.none w le b own ]
 none_to_next Backward inclusive job s from to next none found =
@@ -34,14 +34,14 @@ pub one_on_reaches : (direction : Direction) (from to : ℤ) → Reaches directi
 one_on_reaches Forward from to a = omega (arith, ints)
 one_on_reaches Backward from to a = omega (arith, ints)
 
-pub none_past : (direction : Direction) (inclusive : Bool) (job : Job) (s from w : ℤ) → NoneOf direction inclusive job s from w → ((i : ℤ) → job.scheduled w → RunOf job w i → Ahead direction inclusive s i → ⊥) → NoneOf direction inclusive job s from (one_on direction w)
+pub none_past : (direction : Direction) (inclusive : Bool) (job : Job) (s from w : ℤ) → NoneOf direction inclusive job s from w → ((i : ℤ) → job.timetable.scheduled w → RunOf job w i → Ahead direction inclusive s i → ⊥) → NoneOf direction inclusive job s from (one_on direction w)
 none_past Forward inclusive job s from w none here =
     λ v i a b own of ahead.
     elim (cases_lt_z v w) [
       | inl lt ↦ none v i a lt own of ahead
       | inr le ↦
           let e : v ≡ w = omega (arith, ints) in
-          here i (subst job.scheduled e own) (subst (λ (u : ℤ). RunOf job u i) e of) ahead
+          here i (subst job.timetable.scheduled e own) (subst (λ (u : ℤ). RunOf job u i) e of) ahead
     ]
 none_past Backward inclusive job s from w none here =
     λ v i a b own of ahead.
@@ -49,7 +49,7 @@ none_past Backward inclusive job s from w none here =
       | inl lt ↦ none v i a lt own of ahead
       | inr le ↦
           let e : v ≡ w = omega (arith, ints) in
-          here i (subst job.scheduled e own) (subst (λ (u : ℤ). RunOf job u i) e of) ahead
+          here i (subst job.timetable.scheduled e own) (subst (λ (u : ℤ). RunOf job u i) e of) ahead
     ]
 
 -- ---- answers
@@ -90,15 +90,15 @@ ahead_or_at inclusive s i ahead = elim ahead [ inl lt ↦ omega (arith, ints) | 
 pub behind_or_at : (inclusive : Bool) (s i : ℤ) → Ahead Backward inclusive s i → i ≤ℤ s
 behind_or_at inclusive s i ahead = elim ahead [ inl lt ↦ omega (arith, ints) | inr (is, e) ↦ omega (arith, ints) ]
 
-pub each_reads : (job : Job) (w i : ℤ) → job.fixed_time ≡ false → RunOf job w i → job.zone.reads i ≡ w
+pub each_reads : (job : Job) (w i : ℤ) → job.timetable.fixed_time ≡ false → RunOf job w i → job.zone.reads i ≡ w
 each_reads job w i each of = elim of [ inl (f, e) ↦ e | inr (fixed, first, date) ↦ absurd (cc) ]
 
-pub first_of_run : (job : Job) (w i : ℤ) → job.fixed_time ≡ true → RunOf job w i → First job.zone.reads w i
+pub first_of_run : (job : Job) (w i : ℤ) → job.timetable.fixed_time ≡ true → RunOf job w i → First job.zone.reads w i
 first_of_run job w i fixed of = elim of [ inl (f, e) ↦ absurd (cc) | inr (f, first, date) ↦ first ]
 
 module _ (job : Job) (calm : Calm job.zone.reads) (inclusive : Bool) where
   -- an interval job: the nearest instant ahead that reads w
-  pub forward_each : (s w t : ℤ) → job.fixed_time ≡ false → Reaches Forward (walk_start Forward inclusive (job.zone.reads s)) w → job.scheduled w → NoneOf Forward inclusive job s (walk_start Forward inclusive (job.zone.reads s)) w → job.zone.reads t ≡ w → s ≤ℤ t → ((x : ℤ) → s ≤ℤ x → job.zone.reads x ≡ w → t ≤ℤ x) → Walked Forward inclusive job s (walk_start Forward inclusive (job.zone.reads s)) t
+  pub forward_each : (s w t : ℤ) → job.timetable.fixed_time ≡ false → Reaches Forward (walk_start Forward inclusive (job.zone.reads s)) w → job.timetable.scheduled w → NoneOf Forward inclusive job s (walk_start Forward inclusive (job.zone.reads s)) w → job.zone.reads t ≡ w → s ≤ℤ t → ((x : ℤ) → s ≤ℤ x → job.zone.reads x ≡ w → t ≤ℤ x) → Walked Forward inclusive job s (walk_start Forward inclusive (job.zone.reads s)) t
   forward_each s w t each from own none e ahead least =
       let low = above_start inclusive (job.zone.reads s) w from in
       record {
@@ -120,7 +120,7 @@ module _ (job : Job) (calm : Calm job.zone.reads) (inclusive : Bool) where
             ];
       }
 
-  pub backward_each : (s w t : ℤ) → job.fixed_time ≡ false → Reaches Backward (walk_start Backward inclusive (job.zone.reads s)) w → job.scheduled w → NoneOf Backward inclusive job s (walk_start Backward inclusive (job.zone.reads s)) w → job.zone.reads t ≡ w → t ≤ℤ s → ((x : ℤ) → x ≤ℤ s → job.zone.reads x ≡ w → x ≤ℤ t) → Walked Backward inclusive job s (walk_start Backward inclusive (job.zone.reads s)) t
+  pub backward_each : (s w t : ℤ) → job.timetable.fixed_time ≡ false → Reaches Backward (walk_start Backward inclusive (job.zone.reads s)) w → job.timetable.scheduled w → NoneOf Backward inclusive job s (walk_start Backward inclusive (job.zone.reads s)) w → job.zone.reads t ≡ w → t ≤ℤ s → ((x : ℤ) → x ≤ℤ s → job.zone.reads x ≡ w → x ≤ℤ t) → Walked Backward inclusive job s (walk_start Backward inclusive (job.zone.reads s)) t
   backward_each s w t each from own none e ahead most =
       let high = below_start inclusive (job.zone.reads s) w from in
       record {
@@ -143,7 +143,7 @@ module _ (job : Job) (calm : Calm job.zone.reads) (inclusive : Bool) where
       }
 
 -- a fixed-time job: the first instant that reads w or more
-pub forward_first_of : (job : Job) (inclusive : Bool) (s from w t : ℤ) → Reaches Forward from w → job.scheduled w → NoneOf Forward inclusive job s from w → job.fixed_time ≡ true → First job.zone.reads w t → (job.zone.reads t ≡ w) ⊎ job.date_matches (job.zone.reads t) → Ahead Forward inclusive s t → Walked Forward inclusive job s from t
+pub forward_first_of : (job : Job) (inclusive : Bool) (s from w t : ℤ) → Reaches Forward from w → job.timetable.scheduled w → NoneOf Forward inclusive job s from w → job.timetable.fixed_time ≡ true → First job.zone.reads w t → (job.zone.reads t ≡ w) ⊎ job.timetable.date_matches (job.zone.reads t) → Ahead Forward inclusive s t → Walked Forward inclusive job s from t
 forward_first_of job inclusive s from w t a own none fixed first date ahead =
     record {
       second = w;
@@ -155,7 +155,7 @@ forward_first_of job inclusive s from w t a own none fixed first date ahead =
           elim (cases_lt_z v w) [ inl lt ↦ absurd (none v i b lt own2 of ahead2) | inr le ↦ first_ordered job.zone.reads w v t i le first (first_of_run job v i fixed of) ];
     }
 
-pub backward_first_of : (job : Job) (inclusive : Bool) (s from w t : ℤ) → Reaches Backward from w → job.scheduled w → NoneOf Backward inclusive job s from w → job.fixed_time ≡ true → First job.zone.reads w t → (job.zone.reads t ≡ w) ⊎ job.date_matches (job.zone.reads t) → Ahead Backward inclusive s t → Walked Backward inclusive job s from t
+pub backward_first_of : (job : Job) (inclusive : Bool) (s from w t : ℤ) → Reaches Backward from w → job.timetable.scheduled w → NoneOf Backward inclusive job s from w → job.timetable.fixed_time ≡ true → First job.zone.reads w t → (job.zone.reads t ≡ w) ⊎ job.timetable.date_matches (job.zone.reads t) → Ahead Backward inclusive s t → Walked Backward inclusive job s from t
 backward_first_of job inclusive s from w t a own none fixed first date ahead =
     record {
       second = w;

@@ -3,9 +3,9 @@ use Rattle.std.specs.Prelude.{◌≡◌, ⊤, ℕ, ◌<◌, ◌≤◌, ℤ, pos,
 use Rattle.croner_base.specs.declared.time.Direction.{Direction}
 use Rattle.croner_base.specs.declared.time.Direction.TheVariants.{Forward, Backward}
 use Rattle.croner_base.specs.Zone.{Zone, Moment}
-use Rattle.croner.specs.Runs.{Job, Precedes, Nearest}
+use Rattle.croner.specs.Runs.{Precedes}
 use Rattle.croner.specs.Walk.{one_on}
-use Rattle.croner.specs.Premises.{IsSearchable, IsCalmStart, Shows}
+use Rattle.croner.specs.Premises.{IsCalmStart, StartsCalm}
 
 -- the clock is put forward or back right after the instant p
 abbrev pub Break : (ℤ → ℤ) → ℤ → Type 0
@@ -61,13 +61,6 @@ IsEdge moment direction m (Some t) =
     × ((n : ℕ) × (n ≤ 86400) × ((moment t).instant ≡ offset_from direction m.instant n))
 IsEdge moment direction m None = IsCalmStart m.zone m.fraction → ¬ (HasTwin direction m.zone.reads m.instant)
 
--- the value is an answer of a search
-pub record IsFound {T : Type 0} (moment : T → Moment) (direction : Direction) (inclusive : Bool) (job : Job) (start : Moment) (t : T) : Type 0 where
-  pub zone_is : (moment t).zone ≡ job.zone
-  pub whole : (moment t).fraction ≡ 0
-  pub shows : Shows job (moment t).instant
-  pub nearest : IsSearchable start → Nearest direction inclusive job start.instant (moment t).instant
-
 -- the other direction
 abbrev pub opposite_way : Direction → Direction
 opposite_way Forward = Backward
@@ -78,5 +71,5 @@ abbrev pub HasOtherHalf : {T : Type 0} → (T → Moment) → Direction → Mome
 HasOtherHalf moment direction m (Some halves) =
     ((moment halves.0).zone ≡ m.zone) × ((moment halves.0).fraction ≡ m.fraction) × ((moment halves.1).zone ≡ m.zone)
     × ((moment halves.1).instant ≡ one_on (opposite_way direction) (moment halves.0).instant)
-    × (IsSearchable m → EdgeOf direction m.zone.reads m.instant (moment halves.0).instant)
-HasOtherHalf moment direction m None = IsSearchable m → ¬ (HasTwin direction m.zone.reads m.instant)
+    × (StartsCalm m → EdgeOf direction m.zone.reads m.instant (moment halves.0).instant)
+HasOtherHalf moment direction m None = StartsCalm m → ¬ (HasTwin direction m.zone.reads m.instant)

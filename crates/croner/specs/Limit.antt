@@ -2,7 +2,8 @@
 use Rattle.std.specs.Prelude.{ℤ, pos, neg_ℤ, ◌<ℤ◌, ◌≤ℤ◌, Bool}
 use Rattle.croner_base.specs.declared.time.Direction.{Direction}
 use Rattle.croner_base.specs.declared.time.Direction.TheVariants.{Forward, Backward}
-use Rattle.croner.specs.Runs.{Job, Reaches, Counts}
+use Rattle.croner_base.specs.Limits.{first_searched, last_searched}
+use Rattle.croner.specs.Runs.{Job, Reaches, Ahead, Counts}
 
 -- the wall second 5000-01-01T00:00:00
 abbrev pub year_5000 : ℤ
@@ -25,3 +26,16 @@ InSpan direction reads i = (j : ℤ) → Reaches direction j i → IsWithin dire
 -- no run that counts from s lies in the span
 abbrev pub NoneInSpan : Direction → Bool → Job → ℤ → Type 0
 NoneInSpan direction inclusive job s = (i : ℤ) → InSpan direction job.zone.reads i → ¬ (Counts direction inclusive job s i)
+
+-- nothing is scheduled ahead of a wall second
+abbrev pub NoneAhead : Direction → Bool → (ℤ → Type 0) → ℤ → Type 0
+NoneAhead direction inclusive scheduled w = (v : ℤ) → Ahead direction inclusive w v → ¬ (scheduled v)
+
+-- a start that reads this is past the years: it lies outside the span, and nothing is scheduled ahead of it
+abbrev pub IsPast : Direction → Bool → (ℤ → Type 0) → ℤ → Type 0
+IsPast direction inclusive scheduled w = ¬ (IsWithin direction w) × NoneAhead direction inclusive scheduled w
+
+-- a wall second of year 5001 or later forward, of year 0 or earlier backward
+abbrev pub IsOutside : Direction → ℤ → Type 0
+IsOutside Forward w = last_searched <ℤ w
+IsOutside Backward w = w <ℤ first_searched

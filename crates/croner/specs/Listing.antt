@@ -1,15 +1,16 @@
 -- The listing of runs from a start: lists of instants that begin it, and what an iterator has yet to give.
-use Rattle.std.specs.Prelude.{◌≡◌, ◌&&◌, ℤ, ◌⊎◌, ◌++◌, Bool, true, false, IsTrue, List, [], ◌∷◌, Option, None, IfSome, MatchOption, map}
+use Rattle.std.specs.Prelude.{◌≡◌, ◌&&◌, ℤ, ◌⊎◌, ◌++◌, Bool, true, false, IsTrue, List, [], ◌∷◌, Option, Some, None, Result, Ok, Err, MatchOption, map}
 use Rattle.std.specs.List.{All, AllPairs, Contains}
 use Rattle.croner_base.specs.Zone.{Moment}
 use Rattle.croner_base.specs.declared.errors.CronError.{CronError}
-use Rattle.croner_base.specs.declared.errors.CronError.TheVariants.{InvalidDate, InvalidTime, OutOfMemory}
+use Rattle.croner_base.specs.declared.errors.CronError.TheVariants.{OutOfMemory}
 use Rattle.croner_base.specs.declared.time.Direction.{Direction}
 use Rattle.croner_pattern.specs.Meaning.{Meaning, meaning_of}
-use Rattle.croner.specs.Runs.{Job, Precedes, Reaches, Counts, Nearest}
-use Rattle.croner.specs.Limit.{InSpan, NoneInSpan}
-use Rattle.croner.specs.PatternJob.{pattern_job}
-use Rattle.croner.specs.Premises.{IsSearchable, Shows}
+use Rattle.croner.specs.Faults.{fault_of}
+use Rattle.croner.specs.Runs.{Job, Precedes, Reaches, Counts}
+use Rattle.croner.specs.Limit.{InSpan}
+use Rattle.croner.specs.PatternJob.{pattern_job, timetable_of}
+use Rattle.croner.specs.Searches.{IsFound, IsRefused}
 use Rattle.croner.specs.declared.iterator.CronIterator.{CronIterator}
 
 -- the items begin the listing from s: they go strictly in the direction, each counts from s, and each run that counts and
@@ -70,27 +71,25 @@ BeginsRest s items = Begins s.direction (counts_position s) (job_at s) s.positio
 abbrev pub moved : Standing → Moment → Standing
 moved s item = record s { position = item; is_first = false; fault = None }
 
--- the refusals that an iterator keeps
-abbrev pub IsFault : Bool → CronError → Type 0
-IsFault lack e = (e ≡ InvalidDate) ⊎ (e ≡ InvalidTime) ⊎ ((e ≡ OutOfMemory) × IsTrue lack)
-
--- a call that gave the item: the iterator stands there, in the same zone, at a whole second, which shows a scheduled
--- second as each answer of a search does; and from a start that searches are promised for, the item is the nearest of what
--- was left
+-- a call that gave the item: its search found it, and the iterator stands there
 pub record GivesItem (old : Standing) (item : Moment) (new : Standing) : Type 0 where
   pub stands : new ≡ moved old item
-  pub same_zone : item.zone ≡ old.position.zone
-  pub whole : item.fraction ≡ 0
-  pub shows : Shows (job_at old) item.instant
-  pub nearest : IsSearchable old.position → Nearest old.direction (counts_position old) (job_at old) old.position.instant item.instant
+  pub found : IsFound old.direction (counts_position old) (timetable_of old.pattern) old.position item
 
--- a call that gave no item: position and first mark stand, and so does all else but the fault. With no fault nothing in the
--- span is left; a fault is want of memory alone, from a start that searches are promised for.
+-- a call that gave no item: its search was refused, or memory for the item was wanting, which is a refusal too; the iterator
+-- stands where it stood, and keeps what refused it unless that is the limit
 pub record GivesNone (lack : Bool) (old new : Standing) : Type 0 where
-  pub stands : new ≡ record old { fault = new.fault }
-  pub faults : IfSome new.fault (IsFault lack)
-  pub ends : IsSearchable old.position → new.fault ≡ None → NoneInSpan old.direction (counts_position old) (job_at old) old.position.instant
-  pub lacks : IsSearchable old.position → IfSome new.fault (λ e. (e ≡ OutOfMemory) × IsTrue lack)
+  pub refusal : CronError
+  pub refused : IsRefused lack old.direction (counts_position old) (timetable_of old.pattern) old.position refusal
+  pub stands : new ≡ record old { fault = fault_of refusal }
+
+-- what a call does once its search has answered: it stands at what was found and gives it, unless memory for it is wanting; a
+-- refusal is kept, as it is, unless it is the limit
+abbrev pub Settles : {T : Type 0} → (T → Moment) → Bool → Standing → Result T CronError → Option T → Standing → Type 0
+Settles moment lack old (Ok found) (Some item) new = (moment item ≡ moment found) × (new ≡ moved old (moment found))
+Settles moment lack old (Ok found) None new = IsTrue lack × (new ≡ record old { fault = Some OutOfMemory })
+Settles moment lack old (Err refusal) (Some item) new = ⊥
+Settles moment lack old (Err refusal) None new = new ≡ record old { fault = fault_of refusal }
 
 -- what a call of `next` does
 abbrev pub Steps : {T : Type 0} → (T → Moment) → Bool → CronIterator T → Option T → CronIterator T → Type 0

@@ -7,8 +7,8 @@ use Rattle.croner_base.specs.Zone.{Zone, Moment}
 use Rattle.croner_base.specs.Calm.{IsCalm, IsInReach, HoldsAround}
 use Rattle.croner.specs.Runs.{Job}
 
--- a search from this moment keeps its promises: the zone is calm, the start is a whole second, and the backend holds
--- what the search needs
+-- a search from this moment is refused for no want of the backend: the zone is calm, the start is a whole second, and the
+-- backend holds what the search needs
 pub record IsSearchable (m : Moment) : Type 0 where
   pub calm : IsCalm m.zone
   pub whole : m.fraction ≡ 0
@@ -21,12 +21,16 @@ HasOneInstantEach z = (c : CivilDateTime) → IsSome (z.resolves c) → (i : ℤ
 -- an answer of an interval job shows a scheduled second, and so does each answer where every held second is resolved to
 -- one instant
 abbrev pub Shows : Job → ℤ → Type 0
-Shows job i = (job.fixed_time ≡ false) ⊎ HasOneInstantEach job.zone → job.scheduled (job.zone.reads i)
+Shows job i = (job.timetable.fixed_time ≡ false) ⊎ HasOneInstantEach job.zone → job.timetable.scheduled (job.zone.reads i)
 
 -- a whole second in a calm zone
 pub record IsCalmStart (z : Zone) (fraction : ℕ) : Type 0 where
   pub calm : IsCalm z
   pub whole : fraction ≡ 0
+
+-- a search from this moment is from a whole second in a calm zone
+abbrev pub StartsCalm : Moment → Type 0
+StartsCalm m = IsCalmStart m.zone m.fraction
 
 -- the zone holds the seconds of the years 0 to 5001, and the instants that show them
 pub record HoldsYears (z : Zone) : Type 0 where

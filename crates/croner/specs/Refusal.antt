@@ -7,10 +7,6 @@ use Rattle.croner_base.specs.declared.errors.CronError.TheVariants.{InvalidDate,
 abbrev pub IsBackendError : Bool → Type 0 → CronError → Type 0
 IsBackendError lack unheld e = ((e ≡ OutOfMemory) × IsTrue lack) ⊎ (((e ≡ InvalidDate) ⊎ (e ≡ InvalidTime)) × unheld)
 
--- the limit, with what it means, or the backend's error
-abbrev pub IsSearchError : Bool → Type 0 → Type 0 → CronError → Type 0
-IsSearchError lack limit unheld e = ((e ≡ TimeSearchLimitExceeded) × limit) ⊎ IsBackendError lack unheld e
-
 -- the limit, InvalidDate, InvalidTime, or want of memory, the last only where the backend can lack memory
 abbrev pub IsRefusal : Bool → CronError → Type 0
 IsRefusal lack e =

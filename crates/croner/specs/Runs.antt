@@ -4,35 +4,34 @@ use Rattle.croner_base.specs.Zone.{Zone}
 use Rattle.croner_base.specs.declared.time.Direction.{Direction}
 use Rattle.croner_base.specs.declared.time.Direction.TheVariants.{Forward, Backward}
 
--- what a search looks for: the zone that runs are in, which wall seconds are scheduled, at which of them the date
--- matches, and whether it is a fixed-time job
-pub record Job : Type 1 where
-  pub zone : Zone
+-- when a schedule asks for runs, in whatever zone: which wall seconds are scheduled, at which of them the date matches, and
+-- whether it is a fixed-time job's
+pub record Timetable : Type 1 where
   pub scheduled : ℤ → Type 0
   pub date_matches : ℤ → Type 0
   pub fixed_time : Bool
 
--- the job of a schedule in a zone
-abbrev pub job_in : Zone → (ℤ → Type 0) → (ℤ → Type 0) → Bool → Job
-job_in z scheduled date_matches fixed_time = record {
-  zone = z;
-  scheduled = scheduled;
-  date_matches = date_matches;
-  fixed_time = fixed_time;
-}
+-- what a search looks for: the runs of a timetable in a zone
+pub record Job : Type 1 where
+  pub zone : Zone
+  pub timetable : Timetable
+
+-- the job of a timetable in a zone
+abbrev pub job_in : Zone → Timetable → Job
+job_in z timetable = record { zone = z; timetable = timetable }
 
 -- a run by what the clock shows at i: for a fixed-time job no earlier instant shows the same
 abbrev pub OwnRun : Job → ℤ → Type 0
 OwnRun job i =
-    job.scheduled (job.zone.reads i)
-    × (job.fixed_time ≡ true → (j : ℤ) → j <ℤ i → ¬ (job.zone.reads j ≡ job.zone.reads i))
+    job.timetable.scheduled (job.zone.reads i)
+    × (job.timetable.fixed_time ≡ true → (j : ℤ) → j <ℤ i → ¬ (job.zone.reads j ≡ job.zone.reads i))
 
 -- a fixed-time job's scheduled second lies in the gap that i ends, and the date that the clock shows at i matches
 abbrev pub CarriedRun : Job → ℤ → Type 0
 CarriedRun job i =
-    (job.fixed_time ≡ true)
-    × ((w : ℤ) × (job.zone.reads (i -ℤ pos 1) <ℤ w) × (w <ℤ job.zone.reads i) × job.scheduled w)
-    × job.date_matches (job.zone.reads i)
+    (job.timetable.fixed_time ≡ true)
+    × ((w : ℤ) × (job.zone.reads (i -ℤ pos 1) <ℤ w) × (w <ℤ job.zone.reads i) × job.timetable.scheduled w)
+    × job.timetable.date_matches (job.zone.reads i)
 
 -- the job runs at i
 abbrev pub Run : Job → ℤ → Type 0
@@ -47,6 +46,10 @@ Precedes Backward a b = b <ℤ a
 abbrev pub Reaches : Direction → ℤ → ℤ → Type 0
 Reaches Forward a b = a ≤ℤ b
 Reaches Backward a b = b ≤ℤ a
+
+-- i lies ahead of s, or is it in an inclusive search
+abbrev pub Ahead : Direction → Bool → ℤ → ℤ → Type 0
+Ahead direction inclusive s i = Precedes direction s i ⊎ ((inclusive ≡ true) × (i ≡ s))
 
 -- the start of an inclusive search counts itself: forward not where it is a carried run only
 abbrev pub StartCounts : Direction → Job → ℤ → Type 0

@@ -6,7 +6,7 @@ use Rattle.croner_base.specs.declared.time.civil.CivilDateTime.{CivilDateTime}
 use Rattle.croner_base.specs.Civil.{wall_second}
 use Rattle.croner_base.specs.Zone.{Zone, Moment}
 use Rattle.croner_base.specs.Calm.{IsCalm}
-use Rattle.croner.specs.Runs.{Job, Precedes, Reaches}
+use Rattle.croner.specs.Runs.{Job, Precedes, Reaches, Ahead}
 use Rattle.croner.specs.Schedule.{NoneScheduled}
 use Rattle.croner.specs.Premises.{IsCalmStart, HasOneInstantEach, Shows}
 use Rattle.croner.specs.declared.search.walk.Passed.{Passed}
@@ -30,26 +30,22 @@ pub record First (reads : ℤ → ℤ) (w i : ℤ) : Type 0 where
 -- i is a run of the scheduled second w
 abbrev pub RunOf : Job → ℤ → ℤ → Type 0
 RunOf job w i =
-    ((job.fixed_time ≡ false) × (job.zone.reads i ≡ w))
-    ⊎ ((job.fixed_time ≡ true) × First job.zone.reads w i × ((job.zone.reads i ≡ w) ⊎ job.date_matches (job.zone.reads i)))
-
--- i lies ahead of s, or is it in an inclusive search
-abbrev pub Ahead : Direction → Bool → ℤ → ℤ → Type 0
-Ahead direction inclusive s i = Precedes direction s i ⊎ ((inclusive ≡ true) × (i ≡ s))
+    ((job.timetable.fixed_time ≡ false) × (job.zone.reads i ≡ w))
+    ⊎ ((job.timetable.fixed_time ≡ true) × First job.zone.reads w i × ((job.zone.reads i ≡ w) ⊎ job.timetable.date_matches (job.zone.reads i)))
 
 -- no run of a scheduled second from a wall second on, up to another left out, lies ahead
 abbrev pub NoneOf : Direction → Bool → Job → ℤ → ℤ → ℤ → Type 0
 NoneOf direction inclusive job s from to =
-    (w i : ℤ) → Reaches direction from w → Precedes direction w to → job.scheduled w → RunOf job w i → ¬ (Ahead direction inclusive s i)
+    (w i : ℤ) → Reaches direction from w → Precedes direction w to → job.timetable.scheduled w → RunOf job w i → ¬ (Ahead direction inclusive s i)
 
 -- t is a run ahead of a scheduled second from a wall second on, and none of these is nearer
 pub record Walked (direction : Direction) (inclusive : Bool) (job : Job) (s from t : ℤ) : Type 0 where
   pub second : ℤ
   pub visited : Reaches direction from second
-  pub scheduled : job.scheduled second
+  pub scheduled : job.timetable.scheduled second
   pub run : RunOf job second t
   pub ahead : Ahead direction inclusive s t
-  pub nearest : (w i : ℤ) → Reaches direction from w → job.scheduled w → RunOf job w i → Ahead direction inclusive s i → Reaches direction t i
+  pub nearest : (w i : ℤ) → Reaches direction from w → job.timetable.scheduled w → RunOf job w i → Ahead direction inclusive s i → Reaches direction t i
 
 -- what a walk from s answers
 abbrev pub WalkedFrom : Direction → Bool → Job → ℤ → ℤ → Type 0
@@ -60,7 +56,7 @@ abbrev pub OutFrom : Direction → Bool → Job → ℤ → Type 0
 OutFrom direction inclusive job s =
     (cursor : ℤ)
     × NoneOf direction inclusive job s (walk_start direction inclusive (job.zone.reads s)) cursor
-    × NoneScheduled direction job.fixed_time job.scheduled cursor
+    × NoneScheduled direction job.timetable.fixed_time job.timetable.scheduled cursor
 
 -- the walk from s has come to a wall second
 pub record Walking (direction : Direction) (inclusive : Bool) (job : Job) (s : ℤ) (fraction : ℕ) (wall : ℤ) : Type 0 where

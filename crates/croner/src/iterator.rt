@@ -3,7 +3,7 @@ ghost use Rattle.std.specs.Prelude.{◌≡◌, true, None, IsTrue};
 ghost use Rattle.croner_base.specs.declared.time.Direction.{Direction};
 ghost use Rattle.croner_pattern.specs.Meaning.{meaning_of};
 ghost use Rattle.croner_pattern.specs.Shapes.{has_field_shapes};
-ghost use Rattle.croner.specs.Faults.{is_kept};
+ghost use Rattle.croner.specs.Faults.{is_kept, fault_of};
 
 use crate::Cron;
 use croner_base::errors::CronError;
@@ -14,6 +14,9 @@ use std::alloc::AllocError;
 ///
 /// Each item is the position from which the next search starts. A call of `next` that gives no item leaves the iterator
 /// where it stands, so a later call can go on; `fault` says why it gave none where the end of the searched years is not the reason.
+///
+/// In a calm zone and from a whole second, no item and no fault says that no run is left in the searched years, over whatever
+/// backend.
 #[derive(Debug, Drop)]
 pub struct CronIterator<T> {
     cron: Cron,
@@ -27,8 +30,9 @@ pub struct CronIterator<T> {
 }
 
 impl<T: CronDateTime> CronIterator<T> {
-    ghost use Rattle.std.specs.Prelude.{IfSome, IfNone, Some, option_map};
-    ghost use Rattle.croner.specs.Listing.{standing_of, new_standing, counts_position, moved};
+    ghost use Rattle.std.specs.Prelude.{IfSome, IfNone, IfErr, Some, option_map};
+    ghost use Rattle.croner.specs.Listing.{standing_of, new_standing, counts_position, moved, Settles};
+    ghost use Rattle.croner.specs.Refusal.{IsRefusal};
 
     /// An iterator from a start: it counts the start where it is inclusive and the start is a run.
     pub fn new(cron: Cron, start: T, inclusive: bool, direction: Direction) -> Self
@@ -81,6 +85,30 @@ impl<T: CronDateTime> CronIterator<T> {
             }
         }
     }
+
+    // What a call gives once its search has answered, and where the iterator stands then.
+    fn settle(&mut self, answer: Result<T, CronError>) -> Option<T>
+        requires { IfErr answer (IsRefusal T.can_lack_memory) }
+        ensures { Settles T.moment T.can_lack_memory (standing_of T.moment self.old) answer result (standing_of T.moment self.new) }
+    {
+        match answer {
+            Ok(found) => self.step_to(found),
+            Err(refusal) => {
+                self.fault = fault_of(refusal);
+                None
+            }
+        }
+    }
+}
+
+// The error that a call without an item keeps: none for the limit, else the very one that refused its search.
+fn fault_of(refusal: CronError) -> Option<CronError>
+    ensures { result ≡ fault_of refusal }
+{
+    match refusal {
+        CronError::TimeSearchLimitExceeded => None,
+        kept => Some(kept),
+    }
 }
 
 // A copy of a fault, which has no message: it takes no memory.
@@ -123,19 +151,9 @@ impl<T: CronDateTime> Iterator for CronIterator<T> {
 
     fn next(&mut self) -> Option<T> {
         let inclusive = self.counts_position();
-        match self
+        let answer = self
             .cron
-            .find_occurrence(&self.position, inclusive, self.direction)
-        {
-            Ok(found) => self.step_to(found),
-            Err(CronError::TimeSearchLimitExceeded) => {
-                self.fault = None;
-                None
-            }
-            Err(refused) => {
-                self.fault = Some(refused);
-                None
-            }
-        }
+            .find_occurrence(&self.position, inclusive, self.direction);
+        self.settle(answer)
     }
 }

@@ -1,12 +1,9 @@
 //! The searches of a job: its next and its previous run.
 ghost use Rattle.std.specs.Prelude.{◌≡◌, true, false, IfOk, IfErr};
 ghost use Rattle.croner_pattern.specs.Shapes.{has_field_shapes};
-ghost use Rattle.croner.specs.Limit.{NoneInSpan};
 ghost use Rattle.croner.specs.Listing.{standing_of, new_standing};
-ghost use Rattle.croner.specs.PatternJob.{pattern_job};
-ghost use Rattle.croner.specs.Premises.{IsSearchable, Shows};
-ghost use Rattle.croner.specs.Refusal.{IsRefusal, IsLimitOrMemory};
-ghost use Rattle.croner.specs.Runs.{Nearest};
+ghost use Rattle.croner.specs.PatternJob.{timetable_of};
+ghost use Rattle.croner.specs.Searches.{IsFound, IsRefused};
 ghost use Rattle.croner.specs.Views.{job_of};
 
 use crate::iterator::CronIterator;
@@ -17,55 +14,50 @@ use croner_base::time::{CronDateTime, Direction};
 impl Cron {
     /// The next run after a time, or from it on where the search is inclusive, in the time's zone.
     ///
-    /// In a calm zone and from a whole second this is the nearest run: an interval job runs at each instant that reads a
-    /// scheduled second, in both halves of a repeated range; a fixed-time job runs at the earlier instant of a repeated second
-    /// alone, and a second of it that lies in a gap is carried to the gap's end, where the date there matches. A run that is only
-    /// carried to the start itself is not given.
+    /// An interval job runs at each instant that reads a scheduled second, in both halves of a repeated range. A fixed-time job
+    /// runs at the earlier instant of a repeated second alone, and a second of it that lies in a gap is carried to the gap's end,
+    /// where the date there matches. A run that is only carried to the start itself is not given.
     ///
-    /// `TimeSearchLimitExceeded` means that no run is left before year 5000; runs of year 5000 itself may be found or not.
-    /// `InvalidDate` and `InvalidTime` come where the backend doesn't hold a moment that is needed, and `OutOfMemory` only over
-    /// a backend that can lack memory. Nothing is changed by a search.
+    /// A zone is calm where its clock is moved by at most two hours at a time, seldom, at moments more than two days apart, and
+    /// the backend resolves each second that it holds to just the instants that show it. In a calm zone and from a whole second
+    /// the answer is the nearest run, over whatever backend. In every zone and from every start, a fraction of a second
+    /// included, it is a whole second of the start's zone, and an interval job's answer shows a scheduled second.
     ///
-    /// In every zone and from every start, a fraction of a second included, an answer is a whole second of the start's zone, and an
-    /// interval job's answer shows a scheduled second. The fields of the pattern must have the shapes of their places, as those
-    /// of every parsed pattern have.
+    /// It is refused by
+    /// - `TimeSearchLimitExceeded` where no run is left before year 5000, which is so in a calm zone from a whole second; runs of
+    ///   year 5000 itself may be found or not. A start past the years, which reads year 5000 or later with nothing scheduled
+    ///   ahead, as each start from year 5001 on, is always refused so.
+    /// - `InvalidDate` or `InvalidTime`, as the backend has it, where the backend doesn't hold a moment that had to be asked for;
+    ///   a run may be left then. It never comes in a calm zone from a whole second where the years 0 to 5001 and two days around
+    ///   the start are held.
+    /// - `OutOfMemory`, only over a backend that can lack memory.
+    ///
+    /// Nothing is changed by a search. The fields of the pattern must have the shapes of their places, as those of every parsed
+    /// pattern have.
     pub fn find_next_occurrence<T: CronDateTime>(
         &self,
         start: &T,
         inclusive: bool,
     ) -> Result<T, CronError>
         requires { has_field_shapes (job_of self.now) ≡ true }
-        ensures nearest { IsSearchable (T.moment start.now) → IfOk result (λ t. Nearest Direction.Forward inclusive
-            (pattern_job (job_of self.now) (T.moment start.now).zone) (T.moment start.now).instant (T.moment t).instant) }
-        ensures limit { IsSearchable (T.moment start.now) → IfErr result (λ e. e ≡ CronError.TimeSearchLimitExceeded →
-            NoneInSpan Direction.Forward inclusive (pattern_job (job_of self.now) (T.moment start.now).zone) (T.moment start.now).instant) }
-        ensures refuses { IsSearchable (T.moment start.now) → IfErr result (IsLimitOrMemory T.can_lack_memory) }
-        ensures kinds { IfErr result (IsRefusal T.can_lack_memory) }
-        ensures reads { IfOk result (λ t. Shows (pattern_job (job_of self.now) (T.moment start.now).zone) (T.moment t).instant) }
-        ensures same_zone { IfOk result (λ t. (T.moment t).zone ≡ (T.moment start.now).zone) }
-        ensures whole { IfOk result (λ t. (T.moment t).fraction ≡ 0) }
+        ensures found { IfOk result (λ t. IsFound Direction.Forward inclusive (timetable_of (job_of self.now)) (T.moment start.now) (T.moment t)) }
+        ensures refused { IfErr result (IsRefused T.can_lack_memory Direction.Forward inclusive (timetable_of (job_of self.now)) (T.moment start.now)) }
     {
         self.find_occurrence(start, inclusive, Direction::Forward)
     }
 
     /// The previous run before a time, or from it back where the search is inclusive, in the time's zone: as
     /// [`find_next_occurrence`](Self::find_next_occurrence), the other way. A run that is only carried to the start counts here
-    /// where the search is inclusive; `TimeSearchLimitExceeded` means that no run is left after year 1.
+    /// where the search is inclusive. `TimeSearchLimitExceeded` says that no run is left after year 1, and always comes from a start
+    /// that reads year 1 or earlier with nothing scheduled ahead, as each start of year 0 or earlier.
     pub fn find_previous_occurrence<T: CronDateTime>(
         &self,
         start: &T,
         inclusive: bool,
     ) -> Result<T, CronError>
         requires { has_field_shapes (job_of self.now) ≡ true }
-        ensures nearest { IsSearchable (T.moment start.now) → IfOk result (λ t. Nearest Direction.Backward inclusive
-            (pattern_job (job_of self.now) (T.moment start.now).zone) (T.moment start.now).instant (T.moment t).instant) }
-        ensures limit { IsSearchable (T.moment start.now) → IfErr result (λ e. e ≡ CronError.TimeSearchLimitExceeded →
-            NoneInSpan Direction.Backward inclusive (pattern_job (job_of self.now) (T.moment start.now).zone) (T.moment start.now).instant) }
-        ensures refuses { IsSearchable (T.moment start.now) → IfErr result (IsLimitOrMemory T.can_lack_memory) }
-        ensures kinds { IfErr result (IsRefusal T.can_lack_memory) }
-        ensures reads { IfOk result (λ t. Shows (pattern_job (job_of self.now) (T.moment start.now).zone) (T.moment t).instant) }
-        ensures same_zone { IfOk result (λ t. (T.moment t).zone ≡ (T.moment start.now).zone) }
-        ensures whole { IfOk result (λ t. (T.moment t).fraction ≡ 0) }
+        ensures found { IfOk result (λ t. IsFound Direction.Backward inclusive (timetable_of (job_of self.now)) (T.moment start.now) (T.moment t)) }
+        ensures refused { IfErr result (IsRefused T.can_lack_memory Direction.Backward inclusive (timetable_of (job_of self.now)) (T.moment start.now)) }
     {
         self.find_occurrence(start, inclusive, Direction::Backward)
     }
@@ -78,15 +70,8 @@ impl Cron {
         direction: Direction,
     ) -> Result<T, CronError>
         requires { has_field_shapes (job_of self.now) ≡ true }
-        ensures nearest { IsSearchable (T.moment start.now) → IfOk result (λ t. Nearest direction inclusive
-            (pattern_job (job_of self.now) (T.moment start.now).zone) (T.moment start.now).instant (T.moment t).instant) }
-        ensures limit { IsSearchable (T.moment start.now) → IfErr result (λ e. e ≡ CronError.TimeSearchLimitExceeded →
-            NoneInSpan direction inclusive (pattern_job (job_of self.now) (T.moment start.now).zone) (T.moment start.now).instant) }
-        ensures refuses { IsSearchable (T.moment start.now) → IfErr result (IsLimitOrMemory T.can_lack_memory) }
-        ensures kinds { IfErr result (IsRefusal T.can_lack_memory) }
-        ensures reads { IfOk result (λ t. Shows (pattern_job (job_of self.now) (T.moment start.now).zone) (T.moment t).instant) }
-        ensures same_zone { IfOk result (λ t. (T.moment t).zone ≡ (T.moment start.now).zone) }
-        ensures whole { IfOk result (λ t. (T.moment t).fraction ≡ 0) }
+        ensures found { IfOk result (λ t. IsFound direction inclusive (timetable_of (job_of self.now)) (T.moment start.now) (T.moment t)) }
+        ensures refused { IfErr result (IsRefused T.can_lack_memory direction inclusive (timetable_of (job_of self.now)) (T.moment start.now)) }
     {
         search::find(
             self.pattern.allocator(),

@@ -50,16 +50,12 @@ pub(crate) fn next_scheduled(
 }
 
 impl Schedule for CronPattern {
-    ghost use Rattle.croner_pattern.specs.Schedule.{IsScheduled, DateMatches, is_fixed_time};
+    ghost use Rattle.croner.specs.PatternJob.{timetable_of};
     ghost use Rattle.croner.specs.SearchedYears.{scheduled_searched};
 
     ghost shaped = { λ p. has_field_shapes (meaning_of p) ≡ true };
 
-    ghost scheduled = { λ p. IsScheduled (meaning_of p) };
-
-    ghost date_matches = { λ p. DateMatches (meaning_of p) };
-
-    ghost fixed_time = { λ p. is_fixed_time (meaning_of p) };
+    ghost timetable = { λ p. timetable_of (meaning_of p) };
 
     fn next_scheduled(&self, from: CivilDateTime, direction: Direction) -> Option<CivilDateTime> {
         next_scheduled(self, from, direction)

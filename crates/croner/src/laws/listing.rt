@@ -6,7 +6,8 @@ ghost use Rattle.croner_pattern.specs.Shapes.{has_field_shapes};
 ghost use Rattle.croner.specs.Listing.{Standing, standing_of, new_standing, moved, instants, IsLeft, BeginsRest, Gave, GaveAll, Takes};
 ghost use Rattle.croner.specs.Neighbours.{AreCompared, IsWholeIn, onward};
 ghost use Rattle.croner.specs.Runs.{Precedes};
-ghost use Rattle.croner.specs.Premises.{IsSearchable};
+ghost use Rattle.croner.specs.PatternJob.{timetable_of};
+ghost use Rattle.croner.specs.Premises.{IsSearchable, StartsCalm};
 ghost use Rattle.croner.specs.Refusal.{IsRefusal};
 ghost use Rattle.croner.specs.Searches.{IsFound, IsRefused, IsReturnable};
 ghost use Rattle.croner.specs.Views.{job_of};
@@ -21,21 +22,21 @@ use std::cmp::Ordering;
 /// The items of up to so many calls of `next`, whatever calls without an item come between, and whether the last call said that
 /// nothing is left.
 ///
-/// In a calm zone the items begin the listing of what the iterator had yet to give, strictly in its direction, and the iterator
-/// goes on with the rest; where nothing is said to be left, they are all of it up to the end of the searched years. Over a
-/// backend that cannot lack memory there is an item for each call, or they are all of it too. In every zone an item is a whole
-/// second of the start's zone. The only error is `OutOfMemory`, for the room of as many items as there are calls, which is taken
+/// In a calm zone and from a whole second, over whatever backend, the items begin the listing of what the iterator had yet to
+/// give, strictly in its direction, and the iterator goes on with the rest; where nothing is said to be left, they are all of it
+/// up to the end of the searched years. Over a backend that also holds what its searches need and cannot lack memory there is an
+/// item for each call, or they are all of it too. In every zone an item is a whole second of the start's zone. The only error is `OutOfMemory`, for the room of as many items as there are calls, which is taken
 /// first: the iterator then stands where it stood.
 pub fn next_runs<T: CronDateTime>(
     alloc: Global,
     iterator: &mut CronIterator<T>,
     calls: u32,
 ) -> Result<(Vec<T>, bool), CronError>
-    ensures listing { IsSearchable (standing_of T.moment iterator.old).position →
+    ensures listing { StartsCalm (standing_of T.moment iterator.old).position →
         IfOk result (λ r. BeginsRest (standing_of T.moment iterator.old) (instants T.moment r.0.items)) }
-    ensures rest { IsSearchable (standing_of T.moment iterator.old).position →
+    ensures rest { StartsCalm (standing_of T.moment iterator.old).position →
         IfOk result (λ r. Gave (standing_of T.moment iterator.old) (standing_of T.moment iterator.new) (instants T.moment r.0.items)) }
-    ensures all { IsSearchable (standing_of T.moment iterator.old).position →
+    ensures all { StartsCalm (standing_of T.moment iterator.old).position →
         IfOk result (λ r. IsTrue r.1 → GaveAll (standing_of T.moment iterator.old) (instants T.moment r.0.items)) }
     ensures counted { IsSearchable (standing_of T.moment iterator.old).position → T.can_lack_memory ≡ false →
         IfOk result (λ r. (length r.0.items ≡ calls) ⊎ GaveAll (standing_of T.moment iterator.old) (instants T.moment r.0.items)) }
@@ -69,22 +70,22 @@ pub fn resumed<T: CronDateTime>(cron: Cron, item: T, direction: Direction) -> Cr
 
 /// The items of up to so many calls of `next`, and how each compares with the one before it, by `cmp_instant`.
 ///
-/// In a calm zone the items of a forward iterator are strictly later one by one, and those of a backward one strictly earlier: as
-/// instants, and in the order of the values themselves. There are as many as in [`next_runs`]. The only error is `OutOfMemory`,
-/// for the room of both lists, which is taken first: the iterator then stands where it stood.
+/// In a calm zone and from a whole second the items of a forward iterator are strictly later one by one, and those of a backward
+/// one strictly earlier: as instants, and in the order of the values themselves. There are as many as in [`next_runs`]. The only
+/// error is `OutOfMemory`, for the room of both lists, which is taken first: the iterator then stands where it stood.
 pub fn items_in_order<T: CronDateTime>(
     alloc: Global,
     iterator: &mut CronIterator<T>,
     calls: u32,
 ) -> Result<(Vec<T>, Vec<Ordering>), CronError>
-    ensures given { IsSearchable (standing_of T.moment iterator.old).position →
+    ensures given { StartsCalm (standing_of T.moment iterator.old).position →
         IfOk result (λ r. Gave (standing_of T.moment iterator.old) (standing_of T.moment iterator.new) (instants T.moment r.0.items)) }
     ensures counted { IsSearchable (standing_of T.moment iterator.old).position → T.can_lack_memory ≡ false →
         IfOk result (λ r. (length r.0.items ≡ calls) ⊎ GaveAll (standing_of T.moment iterator.old) (instants T.moment r.0.items)) }
-    ensures ordered { IsSearchable (standing_of T.moment iterator.old).position → IfOk result (λ r.
+    ensures ordered { StartsCalm (standing_of T.moment iterator.old).position → IfOk result (λ r.
         AllPairs (Precedes (standing_of T.moment iterator.old).direction) (instants T.moment r.0.items)) }
     ensures compared { IfOk result (λ r. AreCompared T.moment r.0.items r.1.items) }
-    ensures strict { IsSearchable (standing_of T.moment iterator.old).position → IfOk result (λ r.
+    ensures strict { StartsCalm (standing_of T.moment iterator.old).position → IfOk result (λ r.
         All (λ o. o ≡ onward (standing_of T.moment iterator.old).direction) r.1.items) }
     ensures kept { IfErr result (λ e. standing_of T.moment iterator.new ≡ standing_of T.moment iterator.old) }
     ensures err { IfErr result (λ e. e ≡ CronError.OutOfMemory) }
@@ -114,16 +115,17 @@ fn compare<T: CronDateTime>(items: &[T], orders: &mut Vec<Ordering>)
 
 /// A run, found again: the next run after it, and the previous run before that one.
 ///
-/// In a calm zone, from a run of year 3 or later, the second is the first: the same instant of the same zone. The only errors are
-/// the limit, where no run is left before year 5000 after the one that was handed in, and `OutOfMemory`, only over a backend
-/// that can lack memory.
+/// In a calm zone, from a run of year 3 or later, over whatever backend, the second is the first: the same instant of the same
+/// zone. There the pair is refused only for what refuses a search for the next run: so the limit says that no run is left before
+/// year 5000 after the one that was handed in, and where the backend also holds what that search needs, there is nothing else but
+/// `OutOfMemory`, only over a backend that can lack memory.
 pub fn there_and_back<T: CronDateTime>(job: &Cron, run: &T) -> Result<(T, T), CronError>
     requires { has_field_shapes (job_of job.now) ≡ true }
-    ensures there { IfOk result (λ r. IsFound Direction.Forward false (job_of job.now) (T.moment run.now) (T.moment r.0)) }
-    ensures back { IfOk result (λ r. IsFound Direction.Backward false (job_of job.now) (T.moment r.0) (T.moment r.1)) }
+    ensures there { IfOk result (λ r. IsFound Direction.Forward false (timetable_of (job_of job.now)) (T.moment run.now) (T.moment r.0)) }
+    ensures back { IfOk result (λ r. IsFound Direction.Backward false (timetable_of (job_of job.now)) (T.moment r.0) (T.moment r.1)) }
     ensures same { IsReturnable (job_of job.now) (T.moment run.now) → IfOk result (λ r. T.moment r.1 ≡ T.moment run.now) }
     ensures refused { IsReturnable (job_of job.now) (T.moment run.now) →
-        IfErr result (IsRefused T.can_lack_memory Direction.Forward false (job_of job.now) (T.moment run.now)) }
+        IfErr result (IsRefused T.can_lack_memory Direction.Forward false (timetable_of (job_of job.now)) (T.moment run.now)) }
     ensures kinds { IfErr result (IsRefusal T.can_lack_memory) }
 {
     match job.find_next_occurrence(run, false) {

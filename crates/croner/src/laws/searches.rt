@@ -1,9 +1,11 @@
 //! Laws of searches in every zone: calm or not, and from each start, fractions of a second included.
-ghost use Rattle.std.specs.Prelude.{◌≡◌, ◌↔◌, true, false, IsTrue, IfOk, IfErr};
+ghost use Rattle.std.specs.Prelude.{◌≡◌, ◌↔◌, true, false, IsTrue, IfOk, IfErr, Err};
 ghost use Rattle.croner_base.specs.Civil.{wall_second};
 ghost use Rattle.croner_base.specs.Zone.{reading};
 ghost use Rattle.croner_pattern.specs.Schedule.{IsScheduled, is_fixed_time};
 ghost use Rattle.croner_pattern.specs.Shapes.{has_field_shapes};
+ghost use Rattle.croner.specs.Limit.{IsOutside};
+ghost use Rattle.croner.specs.PatternJob.{timetable_of};
 ghost use Rattle.croner.specs.Premises.{HasOneInstantEach};
 ghost use Rattle.croner.specs.Refusal.{IsRefusal};
 ghost use Rattle.croner.specs.Searches.{IsFound, IsRefused};
@@ -25,11 +27,11 @@ pub fn found_and_matching<T: CronDateTime>(
     direction: Direction,
 ) -> Result<(T, bool), CronError>
     requires { has_field_shapes (job_of job.now) ≡ true }
-    ensures found { IfOk result (λ r. IsFound direction inclusive (job_of job.now) (T.moment start.now) (T.moment r.0)) }
+    ensures found { IfOk result (λ r. IsFound direction inclusive (timetable_of (job_of job.now)) (T.moment start.now) (T.moment r.0)) }
     ensures matching { IfOk result (λ r. IsTrue r.1 ↔ IsScheduled (job_of job.now) (reading (T.moment r.0))) }
     ensures interval { is_fixed_time (job_of job.now) ≡ false → IfOk result (λ r. IsTrue r.1) }
     ensures single { HasOneInstantEach (T.moment start.now).zone → IfOk result (λ r. IsTrue r.1) }
-    ensures refused { IfErr result (IsRefused T.can_lack_memory direction inclusive (job_of job.now) (T.moment start.now)) }
+    ensures refused { IfErr result (IsRefused T.can_lack_memory direction inclusive (timetable_of (job_of job.now)) (T.moment start.now)) }
 {
     match job.find_occurrence(start, inclusive, direction) {
         Ok(found) => match job.is_time_matching(&found) {
@@ -52,13 +54,13 @@ pub fn found_and_shown<T: CronDateTime>(
     direction: Direction,
 ) -> Result<(T, CivilDateTime), CronError>
     requires { has_field_shapes (job_of job.now) ≡ true }
-    ensures found { IfOk result (λ r. IsFound direction inclusive (job_of job.now) (T.moment start.now) (T.moment r.0)) }
+    ensures found { IfOk result (λ r. IsFound direction inclusive (timetable_of (job_of job.now)) (T.moment start.now) (T.moment r.0)) }
     ensures zone { IfOk result (λ r. (T.moment r.0).zone ≡ (T.moment start.now).zone) }
     ensures whole { IfOk result (λ r. (T.moment r.0).fraction ≡ 0) }
     ensures shown { IfOk result (λ r. wall_second r.1 ≡ (T.moment start.now).zone.reads (T.moment r.0).instant) }
     ensures interval { is_fixed_time (job_of job.now) ≡ false → IfOk result (λ r. IsScheduled (job_of job.now) (wall_second r.1)) }
     ensures single { HasOneInstantEach (T.moment start.now).zone → IfOk result (λ r. IsScheduled (job_of job.now) (wall_second r.1)) }
-    ensures refused { IfErr result (IsRefused T.can_lack_memory direction inclusive (job_of job.now) (T.moment start.now)) }
+    ensures refused { IfErr result (IsRefused T.can_lack_memory direction inclusive (timetable_of (job_of job.now)) (T.moment start.now)) }
 {
     match job.find_occurrence(start, inclusive, direction) {
         Ok(found) => {
@@ -69,11 +71,12 @@ pub fn found_and_shown<T: CronDateTime>(
     }
 }
 
-/// What a search answers, for the kinds of its refusals.
+/// What a search answers, for its refusals.
 ///
 /// It is refused by the limit, by `InvalidDate`, by `InvalidTime` or, only over a backend that can lack memory, by
-/// `OutOfMemory`. From a start that searches are promised for, by the limit, which says that no run is left, or by want of
-/// memory.
+/// `OutOfMemory`. In a calm zone from a whole second the limit says that no run is left; where the backend also holds what a
+/// search needs, it is refused by the limit or by want of memory alone. A start whose clock shows year 5001 or later forward,
+/// year 0 or earlier backward, gets the limit, in every zone and over each backend.
 pub fn found_or_refused<T: CronDateTime>(
     job: &Cron,
     start: &T,
@@ -82,8 +85,9 @@ pub fn found_or_refused<T: CronDateTime>(
 ) -> Result<T, CronError>
     requires { has_field_shapes (job_of job.now) ≡ true }
     ensures kinds { IfErr result (IsRefusal T.can_lack_memory) }
-    ensures refused { IfErr result (IsRefused T.can_lack_memory direction inclusive (job_of job.now) (T.moment start.now)) }
-    ensures found { IfOk result (λ t. IsFound direction inclusive (job_of job.now) (T.moment start.now) (T.moment t)) }
+    ensures refused { IfErr result (IsRefused T.can_lack_memory direction inclusive (timetable_of (job_of job.now)) (T.moment start.now)) }
+    ensures found { IfOk result (λ t. IsFound direction inclusive (timetable_of (job_of job.now)) (T.moment start.now) (T.moment t)) }
+    ensures outside { IsOutside direction (reading (T.moment start.now)) → result ≡ Err CronError.TimeSearchLimitExceeded }
 {
     job.find_occurrence(start, inclusive, direction)
 }

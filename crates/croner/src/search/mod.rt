@@ -3,14 +3,16 @@ mod gap;
 mod schedule;
 mod walk;
 
-ghost use Rattle.std.specs.Prelude.{◌≡◌, ◌↔◌, IsTrue, IfOk, IfErr, None};
+ghost use Rattle.std.specs.Prelude.{◌≡◌, ◌↔◌, IsTrue, IfOk, IfErr, Err, None};
 ghost use Rattle.croner_base.specs.declared.errors.CronError.TheVariants.{TimeSearchLimitExceeded};
-ghost use Rattle.croner.specs.Runs.{job_in, Nearest};
-ghost use Rattle.croner.specs.Limit.{NoneInSpan};
-ghost use Rattle.croner.specs.Premises.{IsSearchable, Shows};
+ghost use Rattle.croner_base.specs.Zone.{reading};
+ghost use Rattle.croner.specs.Runs.{job_in};
+ghost use Rattle.croner.specs.Limit.{IsPast, IsWithin};
+ghost use Rattle.croner.specs.Premises.{IsSearchable};
+ghost use Rattle.croner.specs.Searches.{IsFound, IsRefused};
 ghost use Rattle.croner.specs.Walk.{IsWalked, HasWalked};
-ghost use Rattle.croner.specs.Halves.{CountsBoth, IsFound, HasOtherHalf, opposite_way};
-ghost use Rattle.croner.specs.Refusal.{IsBackendError, IsSearchError, IsRefusal, IsLimitOrMemory};
+ghost use Rattle.croner.specs.Halves.{CountsBoth, HasOtherHalf, opposite_way};
+ghost use Rattle.croner.specs.Refusal.{IsBackendError};
 
 use crate::fold::{is_on_first_half, other_edge};
 use crate::instant::{moved, precedes};
@@ -51,16 +53,10 @@ fn nearer_half<T: CronDateTime, S: Schedule>(
 ) -> Result<T, CronError>
     requires shaped { S.shaped schedule.now }
     requires walked { IsWalked T.moment direction inclusive
-        (job_in (T.moment start.now).zone (S.scheduled schedule.now) (S.date_matches schedule.now) (S.fixed_time schedule.now))
-        (T.moment start.now) first }
-    ensures value { IfOk result (IsFound T.moment direction inclusive
-        (job_in (T.moment start.now).zone (S.scheduled schedule.now) (S.date_matches schedule.now) (S.fixed_time schedule.now))
-        (T.moment start.now)) }
-    ensures err { IfErr result (IsSearchError T.can_lack_memory
-        (IsSearchable (T.moment start.now) → NoneInSpan direction inclusive
-        (job_in (T.moment start.now).zone (S.scheduled schedule.now) (S.date_matches schedule.now) (S.fixed_time schedule.now))
-        (T.moment start.now).instant)
-        (¬ (IsSearchable (T.moment start.now)))) }
+        (job_in (T.moment start.now).zone (S.timetable schedule.now)) (T.moment start.now) first }
+    requires left { ¬ (IsPast direction inclusive (S.timetable schedule.now).scheduled (reading (T.moment start.now))) }
+    ensures found { IfOk result (λ t. IsFound direction inclusive (S.timetable schedule.now) (T.moment start.now) (T.moment t)) }
+    ensures refused { IfErr result (IsRefused T.can_lack_memory direction inclusive (S.timetable schedule.now) (T.moment start.now)) }
 {
     if !counts_both(schedule.is_fixed_time(), direction) {
         return Ok(first);
@@ -90,7 +86,8 @@ fn nearer_half<T: CronDateTime, S: Schedule>(
     }
 }
 
-// After the first walk's limit: the walk over the other half, where the start is on the half that comes first.
+// After the first walk's limit: the walk over the other half, where the start is on the half that comes first. From a start
+// outside the span nothing more is asked: no instant from there on lies in it.
 fn after_limit<T: CronDateTime, S: Schedule>(
     alloc: Global,
     schedule: &S,
@@ -100,21 +97,18 @@ fn after_limit<T: CronDateTime, S: Schedule>(
 ) -> Result<T, CronError>
     requires shaped { S.shaped schedule.now }
     requires out { HasWalked T.moment direction inclusive
-        (job_in (T.moment start.now).zone (S.scheduled schedule.now) (S.date_matches schedule.now) (S.fixed_time schedule.now))
-        (T.moment start.now) None }
-    ensures value { IfOk result (IsFound T.moment direction inclusive
-        (job_in (T.moment start.now).zone (S.scheduled schedule.now) (S.date_matches schedule.now) (S.fixed_time schedule.now))
-        (T.moment start.now)) }
-    ensures err { IfErr result (IsSearchError T.can_lack_memory
-        (IsSearchable (T.moment start.now) → NoneInSpan direction inclusive
-        (job_in (T.moment start.now).zone (S.scheduled schedule.now) (S.date_matches schedule.now) (S.fixed_time schedule.now))
-        (T.moment start.now).instant)
-        (¬ (IsSearchable (T.moment start.now)))) }
+        (job_in (T.moment start.now).zone (S.timetable schedule.now)) (T.moment start.now) None }
+    ensures found { IfOk result (λ t. IsFound direction inclusive (S.timetable schedule.now) (T.moment start.now) (T.moment t)) }
+    ensures refused { IfErr result (IsRefused T.can_lack_memory direction inclusive (S.timetable schedule.now) (T.moment start.now)) }
+    ensures past { ¬ (IsWithin direction (reading (T.moment start.now))) → result ≡ Err TimeSearchLimitExceeded }
 {
     if !counts_both(schedule.is_fixed_time(), direction) {
         return Err(CronError::TimeSearchLimitExceeded);
     }
-    let (edge, own_last) = match other_half(alloc, start, direction) {
+    if !is_within(start.to_civil(), direction) {
+        return Err(CronError::TimeSearchLimitExceeded);
+    }
+    let (edge, own_last) = match edge_and_last(alloc, start, direction) {
         Ok(Some(found)) => found,
         Ok(None) => return Err(CronError::TimeSearchLimitExceeded),
         Err(error) => return Err(error),
@@ -129,24 +123,7 @@ fn after_limit<T: CronDateTime, S: Schedule>(
     }
 }
 
-// The edge of the other half and the last instant of the start's own, where the start is on the half that comes first;
-// `None` also where the backend does not hold what is asked for.
-fn other_half<T: CronDateTime>(
-    alloc: Global,
-    start: &T,
-    direction: Direction,
-) -> Result<Option<(T, T)>, CronError>
-    ensures value { IfOk result (HasOtherHalf T.moment direction (T.moment start.now)) }
-    ensures err { IfErr result (IsBackendError T.can_lack_memory (¬ (IsSearchable (T.moment start.now)))) }
-{
-    match edge_and_last(alloc, start, direction) {
-        Ok(found) => Ok(found),
-        Err(CronError::InvalidDate) => Ok(None),
-        Err(CronError::InvalidTime) => Ok(None),
-        Err(error) => Err(error),
-    }
-}
-
+// The edge of the other half and the last instant of the start's own, where the start is on the half that comes first.
 fn edge_and_last<T: CronDateTime>(
     alloc: Global,
     start: &T,
@@ -171,35 +148,9 @@ fn edge_and_last<T: CronDateTime>(
     }
 }
 
-#[tactic(auto, using(crate::proofs::SearchLimit::walk_error))]
-fn find_either<T: CronDateTime, S: Schedule>(
-    alloc: Global,
-    schedule: &S,
-    start: &T,
-    inclusive: bool,
-    direction: Direction,
-) -> Result<T, CronError>
-    requires { S.shaped schedule.now }
-    ensures value { IfOk result (IsFound T.moment direction inclusive
-        (job_in (T.moment start.now).zone (S.scheduled schedule.now) (S.date_matches schedule.now) (S.fixed_time schedule.now))
-        (T.moment start.now)) }
-    ensures err { IfErr result (IsSearchError T.can_lack_memory
-        (IsSearchable (T.moment start.now) → NoneInSpan direction inclusive
-        (job_in (T.moment start.now).zone (S.scheduled schedule.now) (S.date_matches schedule.now) (S.fixed_time schedule.now))
-        (T.moment start.now).instant)
-        (¬ (IsSearchable (T.moment start.now)))) }
-{
-    match walk(alloc, schedule, start, inclusive, direction) {
-        Ok(Some(first)) => nearer_half(alloc, schedule, start, first, inclusive, direction),
-        Ok(None) => after_limit(alloc, schedule, start, inclusive, direction),
-        Err(error) => Err(error),
-    }
-}
-
 /// The nearest run from the start in the direction, itself included where the search is inclusive. The limit where no run
 /// is found in the years that are searched; the backend's own error where it does not hold a moment that is needed, or
 /// lacks memory.
-#[tactic(auto, using(crate::proofs::SearchLimit::kinds_of, crate::proofs::SearchLimit::refuses_of, crate::proofs::SearchLimit::limit_of))]
 pub(crate) fn find<T: CronDateTime, S: Schedule>(
     alloc: Global,
     schedule: &S,
@@ -208,22 +159,12 @@ pub(crate) fn find<T: CronDateTime, S: Schedule>(
     direction: Direction,
 ) -> Result<T, CronError>
     requires { S.shaped schedule.now }
-    ensures nearest { IsSearchable (T.moment start.now) → IfOk result (λ t. Nearest direction inclusive
-        (job_in (T.moment start.now).zone (S.scheduled schedule.now) (S.date_matches schedule.now) (S.fixed_time schedule.now))
-        (T.moment start.now).instant (T.moment t).instant) }
-    ensures limit { IsSearchable (T.moment start.now) → IfErr result (λ e. e ≡ TimeSearchLimitExceeded → NoneInSpan direction inclusive
-        (job_in (T.moment start.now).zone (S.scheduled schedule.now) (S.date_matches schedule.now) (S.fixed_time schedule.now))
-        (T.moment start.now).instant) }
-    ensures refuses { IsSearchable (T.moment start.now) → IfErr result (IsLimitOrMemory T.can_lack_memory) }
-    ensures kinds { IfErr result (IsRefusal T.can_lack_memory) }
-    ensures reads { IfOk result (λ t. Shows
-        (job_in (T.moment start.now).zone (S.scheduled schedule.now) (S.date_matches schedule.now) (S.fixed_time schedule.now))
-        (T.moment t).instant) }
-    ensures same_zone { IfOk result (λ t. (T.moment t).zone ≡ (T.moment start.now).zone) }
-    ensures whole { IfOk result (λ t. (T.moment t).fraction ≡ 0) }
+    ensures found { IfOk result (λ t. IsFound direction inclusive (S.timetable schedule.now) (T.moment start.now) (T.moment t)) }
+    ensures refused { IfErr result (IsRefused T.can_lack_memory direction inclusive (S.timetable schedule.now) (T.moment start.now)) }
 {
-    match find_either(alloc, schedule, start, inclusive, direction) {
-        Ok(found) => Ok(found),
-        Err(error) => Err(error),
+    match walk(alloc, schedule, start, inclusive, direction) {
+        Ok(Some(first)) => nearer_half(alloc, schedule, start, first, inclusive, direction),
+        Ok(None) => after_limit(alloc, schedule, start, inclusive, direction),
+        Err(refused) => Err(refused),
     }
 }

@@ -1,10 +1,11 @@
 //! One walk along the wall clock.
-ghost use Rattle.std.specs.Prelude.{◌≡◌, ◌⊎◌, ℤ, IfOk, IfErr, MatchOption, Some};
+ghost use Rattle.std.specs.Prelude.{◌≡◌, ◌⊎◌, ℤ, IfOk, IfErr, MatchOption, Ok, Some, None};
 ghost use Rattle.croner_base.specs.declared.time.value.Resolution.TheVariants.{Ambiguous, Gap};
-ghost use Rattle.croner_base.specs.Zone.{IsResolved};
+ghost use Rattle.croner_base.specs.Zone.{IsResolved, reading};
 ghost use Rattle.croner.specs.Wall.{IsLastYear};
 ghost use Rattle.croner_base.specs.Calm.{IsCalm};
 ghost use Rattle.croner_base.specs.Civil.{wall_second};
+ghost use Rattle.croner.specs.Limit.{NoneAhead};
 ghost use Rattle.croner.specs.Runs.{job_in};
 ghost use Rattle.croner.specs.Premises.{HoldsYears};
 ghost use Rattle.croner.specs.Walk.{CannotMove, HasPassed, HasWalked, Walking, walk_start, NearerOf, ChosenOf, IsOneOf};
@@ -91,12 +92,12 @@ fn pass_two<T: CronDateTime, S: Schedule>(
 ) -> Result<Passed<T>, CronError>
     requires shaped { S.shaped schedule.now }
     requires resolved { IsResolved T.moment (T.moment origin.now).zone found (Ambiguous earlier later) }
-    requires scheduled { S.scheduled schedule.now (wall_second found) }
+    requires scheduled { (S.timetable schedule.now).scheduled (wall_second found) }
     requires walking { Walking direction inclusive
-        (job_in (T.moment origin.now).zone (S.scheduled schedule.now) (S.date_matches schedule.now) (S.fixed_time schedule.now))
+        (job_in (T.moment origin.now).zone (S.timetable schedule.now))
         (T.moment origin.now).instant (T.moment origin.now).fraction (wall_second found) }
     ensures value { IfOk result (HasPassed T.moment direction inclusive
-        (job_in (T.moment origin.now).zone (S.scheduled schedule.now) (S.date_matches schedule.now) (S.fixed_time schedule.now))
+        (job_in (T.moment origin.now).zone (S.timetable schedule.now))
         (T.moment origin.now) (wall_second found)) }
     ensures err { IfErr result (IsBackendError T.can_lack_memory
         (IsCalm (T.moment origin.now).zone → ¬ (HoldsYears (T.moment origin.now).zone))) }
@@ -123,12 +124,12 @@ fn pass_gap<T: CronDateTime, S: Schedule>(
 ) -> Result<Passed<T>, CronError>
     requires shaped { S.shaped schedule.now }
     requires in_gap { (T.moment origin.now).zone.resolves found ≡ Some Gap }
-    requires scheduled { S.scheduled schedule.now (wall_second found) }
+    requires scheduled { (S.timetable schedule.now).scheduled (wall_second found) }
     requires walking { Walking direction inclusive
-        (job_in (T.moment origin.now).zone (S.scheduled schedule.now) (S.date_matches schedule.now) (S.fixed_time schedule.now))
+        (job_in (T.moment origin.now).zone (S.timetable schedule.now))
         (T.moment origin.now).instant (T.moment origin.now).fraction (wall_second found) }
     ensures value { IfOk result (HasPassed T.moment direction inclusive
-        (job_in (T.moment origin.now).zone (S.scheduled schedule.now) (S.date_matches schedule.now) (S.fixed_time schedule.now))
+        (job_in (T.moment origin.now).zone (S.timetable schedule.now))
         (T.moment origin.now) (wall_second found)) }
     ensures err { IfErr result (IsBackendError T.can_lack_memory
         (IsCalm (T.moment origin.now).zone → ¬ (HoldsYears (T.moment origin.now).zone))) }
@@ -164,12 +165,12 @@ fn pass<T: CronDateTime, S: Schedule>(
     direction: Direction,
 ) -> Result<Passed<T>, CronError>
     requires shaped { S.shaped schedule.now }
-    requires scheduled { S.scheduled schedule.now (wall_second found) }
+    requires scheduled { (S.timetable schedule.now).scheduled (wall_second found) }
     requires walking { Walking direction inclusive
-        (job_in (T.moment origin.now).zone (S.scheduled schedule.now) (S.date_matches schedule.now) (S.fixed_time schedule.now))
+        (job_in (T.moment origin.now).zone (S.timetable schedule.now))
         (T.moment origin.now).instant (T.moment origin.now).fraction (wall_second found) }
     ensures value { IfOk result (HasPassed T.moment direction inclusive
-        (job_in (T.moment origin.now).zone (S.scheduled schedule.now) (S.date_matches schedule.now) (S.fixed_time schedule.now))
+        (job_in (T.moment origin.now).zone (S.timetable schedule.now))
         (T.moment origin.now) (wall_second found)) }
     ensures err { IfErr result (IsBackendError T.can_lack_memory
         (IsCalm (T.moment origin.now).zone → ¬ (HoldsYears (T.moment origin.now).zone))) }
@@ -202,7 +203,7 @@ fn first_second(
 }
 
 /// The nearest run that a walk along the wall clock from the origin meets, over one half of each repeated range; `None`
-/// where it meets none in the years that are searched.
+/// where it meets none in the years that are searched, and at once where nothing is scheduled ahead.
 pub(crate) fn walk<T: CronDateTime, S: Schedule>(
     alloc: Global,
     schedule: &S,
@@ -212,8 +213,9 @@ pub(crate) fn walk<T: CronDateTime, S: Schedule>(
 ) -> Result<Option<T>, CronError>
     requires { S.shaped schedule.now }
     ensures value { IfOk result (HasWalked T.moment direction inclusive
-        (job_in (T.moment origin.now).zone (S.scheduled schedule.now) (S.date_matches schedule.now) (S.fixed_time schedule.now))
+        (job_in (T.moment origin.now).zone (S.timetable schedule.now))
         (T.moment origin.now)) }
+    ensures none { NoneAhead direction inclusive (S.timetable schedule.now).scheduled (reading (T.moment origin.now)) → result ≡ Ok None }
     ensures err { IfErr result (IsBackendError T.can_lack_memory
         (IsCalm (T.moment origin.now).zone → ¬ (HoldsYears (T.moment origin.now).zone))) }
 {

@@ -1,68 +1,67 @@
-use Rattle.std.proofs.Common.{inl, inr, refl}
 use Rattle.croner.proofs.WalkLoop.{backend_error}
-use Rattle.croner.proofs.SearchLimit.{calm_start, holds_here, first_one_half, first_alone, at_edge, first_before, second_nearer, first_nearer, second_none, second_error}
+use Rattle.croner.proofs.SearchLimit.{calm_start, holds_here, first_one_half, first_alone, at_edge, first_before, second_nearer, first_nearer, second_none, second_error, refused_limit, refused_backend}
 use Rattle.croner.proofs.search.nearer_half.Goals as goal
 
-pub returns-then-not-counts_both-clause-value : goal.returns-then-not-counts_both-clause-value
-returns-then-not-counts_both-clause-value g c =
-    first_one_half g.T.CronDateTime.moment c.args.direction c.args.inclusive (g.T.CronDateTime.moment c.args.start.now) (g.S.Schedule.scheduled c.args.schedule.now) (g.S.Schedule.date_matches c.args.schedule.now) (g.S.Schedule.fixed_time c.args.schedule.now) _ _ _ c.is_fixed_time.ensures c.if-not-counts_both.true c.counts_both.ensures c.requires.walked
+pub returns-then-not-counts_both-clause-found : goal.returns-then-not-counts_both-clause-found
+returns-then-not-counts_both-clause-found g c =
+    first_one_half g.T.CronDateTime.moment c.args.direction c.args.inclusive (g.T.CronDateTime.moment c.args.start.now) (g.S.Schedule.timetable c.args.schedule.now) c.requires.left _ _ _ c.is_fixed_time.ensures c.if-not-counts_both.true c.counts_both.ensures c.requires.walked
 
-pub returns-in-Ok-false-clause-value : goal.returns-in-Ok-false-clause-value
-returns-in-Ok-false-clause-value g c =
+pub returns-in-Ok-false-clause-found : goal.returns-in-Ok-false-clause-found
+returns-in-Ok-false-clause-found g c =
     let test = rw c.in-Ok-false.is at c.is_on_first_half.ensures in
-    first_alone g.T.CronDateTime.moment c.args.direction c.args.inclusive (g.T.CronDateTime.moment c.args.start.now) (g.S.Schedule.scheduled c.args.schedule.now) (g.S.Schedule.date_matches c.args.schedule.now) (g.S.Schedule.fixed_time c.args.schedule.now) _ c.in-Ok-false.field-0 c.in-Ok-false.field-0-test test.value c.requires.walked
+    first_alone g.T.CronDateTime.moment c.args.direction c.args.inclusive (g.T.CronDateTime.moment c.args.start.now) (g.S.Schedule.timetable c.args.schedule.now) c.requires.left _ c.in-Ok-false.field-0 c.in-Ok-false.field-0-test test.value c.requires.walked
 
-pub returns-in-Err-clause-err : goal.returns-in-Err-clause-err
-returns-in-Err-clause-err g c =
+pub returns-in-Err-clause-refused : goal.returns-in-Err-clause-refused
+returns-in-Err-clause-refused g c =
     let error = rw c.in-Err.is at c.is_on_first_half.ensures in
-    inr (backend_error _ _ _ _ (λ stuck h. stuck (holds_here (g.T.CronDateTime.moment c.args.start.now) h)) error.err)
+    refused_backend _ _ _ _ _ _ c.requires.left (backend_error _ _ _ _ (λ stuck h. stuck (holds_here (g.T.CronDateTime.moment c.args.start.now) h)) error.err)
 
-pub returns-in-Ok-None-clause-err : goal.returns-in-Ok-None-clause-err
-returns-in-Ok-None-clause-err g c =
+pub returns-in-Ok-None-clause-refused : goal.returns-in-Ok-None-clause-refused
+returns-in-Ok-None-clause-refused g c =
     let test = rw c.in-Ok-true.is at c.is_on_first_half.ensures in
     let none = rw (c.in-Ok-None.is, c.in-Ok-None.field-0-is) at c.other_edge.ensures in
-    inl (
-      refl,
-      λ h.
-          let start = calm_start (g.T.CronDateTime.moment c.args.start.now) h in
-          absurd (none.value start ((test.value start).0 c.in-Ok-true.field-0-test)),
-    )
+    refused_limit _ _ _ _ _ (λ start. absurd (none.value start ((test.value start).0 c.in-Ok-true.field-0-test)))
 
-pub returns-then-precedes-clause-value : goal.returns-then-precedes-clause-value
-returns-then-precedes-clause-value g c =
+pub returns-in-Err-other_edge-clause-refused : goal.returns-in-Err-other_edge-clause-refused
+returns-in-Err-other_edge-clause-refused g c =
+    let error = rw c.in-Err-other_edge.is at c.other_edge.ensures in
+    refused_backend _ _ _ _ _ _ c.requires.left (backend_error _ _ _ _ (λ stuck h. stuck (calm_start (g.T.CronDateTime.moment c.args.start.now) h) h.held) error.err)
+
+pub returns-then-precedes-clause-found : goal.returns-then-precedes-clause-found
+returns-then-precedes-clause-found g c =
     let test = rw c.in-Ok-true.is at c.is_on_first_half.ensures in
     let edge = rw (c.in-Ok-Some.is, c.in-Ok-Some.field-0-is) at c.other_edge.ensures in
-    let at = at_edge g.T.CronDateTime.moment c.args.direction c.args.inclusive (g.T.CronDateTime.moment c.args.start.now) (g.S.Schedule.scheduled c.args.schedule.now) (g.S.Schedule.date_matches c.args.schedule.now) (g.S.Schedule.fixed_time c.args.schedule.now) c.in-Ok-Some.edge c.is_fixed_time.result c.counts_both.result c.in-Ok-true.field-0 c.is_fixed_time.ensures c.if-not-counts_both.false c.counts_both.ensures c.in-Ok-true.field-0-test test.value edge.value in
-    first_before g.T.CronDateTime.moment c.args.direction c.args.inclusive (g.T.CronDateTime.moment c.args.start.now) (g.S.Schedule.scheduled c.args.schedule.now) (g.S.Schedule.date_matches c.args.schedule.now) (g.S.Schedule.fixed_time c.args.schedule.now) _ _ _ at c.if-precedes.true c.precedes.ensures c.requires.walked
+    let at = at_edge g.T.CronDateTime.moment c.args.direction c.args.inclusive (g.T.CronDateTime.moment c.args.start.now) (g.S.Schedule.timetable c.args.schedule.now) c.in-Ok-Some.edge c.is_fixed_time.result c.counts_both.result c.in-Ok-true.field-0 c.is_fixed_time.ensures c.if-not-counts_both.false c.counts_both.ensures c.in-Ok-true.field-0-test test.value edge.value in
+    first_before g.T.CronDateTime.moment c.args.direction c.args.inclusive (g.T.CronDateTime.moment c.args.start.now) (g.S.Schedule.timetable c.args.schedule.now) c.requires.left _ _ _ at c.if-precedes.true c.precedes.ensures c.requires.walked
 
-pub returns-then-precedes-2-clause-value : goal.returns-then-precedes-2-clause-value
-returns-then-precedes-2-clause-value g c =
+pub returns-then-precedes-2-clause-found : goal.returns-then-precedes-2-clause-found
+returns-then-precedes-2-clause-found g c =
     let test = rw c.in-Ok-true.is at c.is_on_first_half.ensures in
     let edge = rw (c.in-Ok-Some.is, c.in-Ok-Some.field-0-is) at c.other_edge.ensures in
-    let at = at_edge g.T.CronDateTime.moment c.args.direction c.args.inclusive (g.T.CronDateTime.moment c.args.start.now) (g.S.Schedule.scheduled c.args.schedule.now) (g.S.Schedule.date_matches c.args.schedule.now) (g.S.Schedule.fixed_time c.args.schedule.now) c.in-Ok-Some.edge c.is_fixed_time.result c.counts_both.result c.in-Ok-true.field-0 c.is_fixed_time.ensures c.if-not-counts_both.false c.counts_both.ensures c.in-Ok-true.field-0-test test.value edge.value in
+    let at = at_edge g.T.CronDateTime.moment c.args.direction c.args.inclusive (g.T.CronDateTime.moment c.args.start.now) (g.S.Schedule.timetable c.args.schedule.now) c.in-Ok-Some.edge c.is_fixed_time.result c.counts_both.result c.in-Ok-true.field-0 c.is_fixed_time.ensures c.if-not-counts_both.false c.counts_both.ensures c.in-Ok-true.field-0-test test.value edge.value in
     let there = rw (c.in-Ok-Some-walk.is, c.in-Ok-Some-walk.field-0-is) at c.walk.ensures in
-    second_nearer g.T.CronDateTime.moment c.args.direction c.args.inclusive (g.T.CronDateTime.moment c.args.start.now) (g.S.Schedule.scheduled c.args.schedule.now) (g.S.Schedule.date_matches c.args.schedule.now) (g.S.Schedule.fixed_time c.args.schedule.now) _ _ _ _ at c.if-precedes-2.true c.precedes-2.ensures c.requires.walked there.value
+    second_nearer g.T.CronDateTime.moment c.args.direction c.args.inclusive (g.T.CronDateTime.moment c.args.start.now) (g.S.Schedule.timetable c.args.schedule.now) c.requires.left _ _ _ _ at c.if-precedes-2.true c.precedes-2.ensures c.requires.walked there.value
 
-pub returns-else-precedes-2-clause-value : goal.returns-else-precedes-2-clause-value
-returns-else-precedes-2-clause-value g c =
+pub returns-else-precedes-2-clause-found : goal.returns-else-precedes-2-clause-found
+returns-else-precedes-2-clause-found g c =
     let test = rw c.in-Ok-true.is at c.is_on_first_half.ensures in
     let edge = rw (c.in-Ok-Some.is, c.in-Ok-Some.field-0-is) at c.other_edge.ensures in
-    let at = at_edge g.T.CronDateTime.moment c.args.direction c.args.inclusive (g.T.CronDateTime.moment c.args.start.now) (g.S.Schedule.scheduled c.args.schedule.now) (g.S.Schedule.date_matches c.args.schedule.now) (g.S.Schedule.fixed_time c.args.schedule.now) c.in-Ok-Some.edge c.is_fixed_time.result c.counts_both.result c.in-Ok-true.field-0 c.is_fixed_time.ensures c.if-not-counts_both.false c.counts_both.ensures c.in-Ok-true.field-0-test test.value edge.value in
+    let at = at_edge g.T.CronDateTime.moment c.args.direction c.args.inclusive (g.T.CronDateTime.moment c.args.start.now) (g.S.Schedule.timetable c.args.schedule.now) c.in-Ok-Some.edge c.is_fixed_time.result c.counts_both.result c.in-Ok-true.field-0 c.is_fixed_time.ensures c.if-not-counts_both.false c.counts_both.ensures c.in-Ok-true.field-0-test test.value edge.value in
     let there = rw (c.in-Ok-Some-walk.is, c.in-Ok-Some-walk.field-0-is) at c.walk.ensures in
-    first_nearer g.T.CronDateTime.moment c.args.direction c.args.inclusive (g.T.CronDateTime.moment c.args.start.now) (g.S.Schedule.scheduled c.args.schedule.now) (g.S.Schedule.date_matches c.args.schedule.now) (g.S.Schedule.fixed_time c.args.schedule.now) _ _ _ _ at c.if-precedes-2.false c.precedes-2.ensures c.requires.walked there.value
+    first_nearer g.T.CronDateTime.moment c.args.direction c.args.inclusive (g.T.CronDateTime.moment c.args.start.now) (g.S.Schedule.timetable c.args.schedule.now) c.requires.left _ _ _ _ at c.if-precedes-2.false c.precedes-2.ensures c.requires.walked there.value
 
-pub returns-in-Ok-None-walk-clause-err : goal.returns-in-Ok-None-walk-clause-err
-returns-in-Ok-None-walk-clause-err g c =
+pub returns-in-Ok-None-walk-clause-refused : goal.returns-in-Ok-None-walk-clause-refused
+returns-in-Ok-None-walk-clause-refused g c =
     let test = rw c.in-Ok-true.is at c.is_on_first_half.ensures in
     let edge = rw (c.in-Ok-Some.is, c.in-Ok-Some.field-0-is) at c.other_edge.ensures in
-    let at = at_edge g.T.CronDateTime.moment c.args.direction c.args.inclusive (g.T.CronDateTime.moment c.args.start.now) (g.S.Schedule.scheduled c.args.schedule.now) (g.S.Schedule.date_matches c.args.schedule.now) (g.S.Schedule.fixed_time c.args.schedule.now) c.in-Ok-Some.edge c.is_fixed_time.result c.counts_both.result c.in-Ok-true.field-0 c.is_fixed_time.ensures c.if-not-counts_both.false c.counts_both.ensures c.in-Ok-true.field-0-test test.value edge.value in
+    let at = at_edge g.T.CronDateTime.moment c.args.direction c.args.inclusive (g.T.CronDateTime.moment c.args.start.now) (g.S.Schedule.timetable c.args.schedule.now) c.in-Ok-Some.edge c.is_fixed_time.result c.counts_both.result c.in-Ok-true.field-0 c.is_fixed_time.ensures c.if-not-counts_both.false c.counts_both.ensures c.in-Ok-true.field-0-test test.value edge.value in
     let there = rw (c.in-Ok-None-walk.is, c.in-Ok-None-walk.field-0-is) at c.walk.ensures in
-    inl (refl, second_none g.T.CronDateTime.moment c.args.direction c.args.inclusive (g.T.CronDateTime.moment c.args.start.now) (g.S.Schedule.scheduled c.args.schedule.now) (g.S.Schedule.date_matches c.args.schedule.now) (g.S.Schedule.fixed_time c.args.schedule.now) _ _ _ at c.if-precedes.false c.precedes.ensures c.requires.walked there.value)
+    refused_limit _ _ _ _ _ (second_none g.T.CronDateTime.moment c.args.direction c.args.inclusive (g.T.CronDateTime.moment c.args.start.now) (g.S.Schedule.timetable c.args.schedule.now) _ _ _ at c.if-precedes.false c.precedes.ensures c.requires.walked there.value)
 
-pub returns-in-Err-walk-clause-err : goal.returns-in-Err-walk-clause-err
-returns-in-Err-walk-clause-err g c =
+pub returns-in-Err-walk-clause-refused : goal.returns-in-Err-walk-clause-refused
+returns-in-Err-walk-clause-refused g c =
     let test = rw c.in-Ok-true.is at c.is_on_first_half.ensures in
     let edge = rw (c.in-Ok-Some.is, c.in-Ok-Some.field-0-is) at c.other_edge.ensures in
-    let at = at_edge g.T.CronDateTime.moment c.args.direction c.args.inclusive (g.T.CronDateTime.moment c.args.start.now) (g.S.Schedule.scheduled c.args.schedule.now) (g.S.Schedule.date_matches c.args.schedule.now) (g.S.Schedule.fixed_time c.args.schedule.now) c.in-Ok-Some.edge c.is_fixed_time.result c.counts_both.result c.in-Ok-true.field-0 c.is_fixed_time.ensures c.if-not-counts_both.false c.counts_both.ensures c.in-Ok-true.field-0-test test.value edge.value in
+    let at = at_edge g.T.CronDateTime.moment c.args.direction c.args.inclusive (g.T.CronDateTime.moment c.args.start.now) (g.S.Schedule.timetable c.args.schedule.now) c.in-Ok-Some.edge c.is_fixed_time.result c.counts_both.result c.in-Ok-true.field-0 c.is_fixed_time.ensures c.if-not-counts_both.false c.counts_both.ensures c.in-Ok-true.field-0-test test.value edge.value in
     let error = rw c.in-Err-walk.is at c.walk.ensures in
-    inr (second_error _ (g.T.CronDateTime.moment c.args.start.now) _ _ at.zone_is error.err)
+    refused_backend _ _ _ _ _ _ c.requires.left (second_error _ (g.T.CronDateTime.moment c.args.start.now) _ _ at.zone_is error.err)

@@ -5,17 +5,11 @@ use Rattle.croner.proofs.laws.listing.there_and_back.Goals as goal
 pub returns-in-Ok-find_previous_occurrence-clause-same : goal.returns-in-Ok-find_previous_occurrence-clause-same
 returns-in-Ok-find_previous_occurrence-clause-same g c r =
     let moment = g.T.CronDateTime.moment in
-    let next = c.in-Ok.ensures in
-    let back = c.in-Ok-find_previous_occurrence.ensures in
-    returns_to (job_of c.args.job.now) (moment c.args.run.now) (moment c.in-Ok.next) r
-    (record { zone = next.same_zone; whole = next.whole; nearest = next.nearest })
-    (moment c.in-Ok-find_previous_occurrence.back) (record { zone = back.same_zone; whole = back.whole; nearest = back.nearest })
+    returns_to (job_of c.args.job.now) (moment c.args.run.now) (moment c.in-Ok.next) r c.in-Ok.ensures.found
+    (moment c.in-Ok-find_previous_occurrence.back) c.in-Ok-find_previous_occurrence.ensures.found
 
 pub returns-in-Err-find_previous_occurrence-clause-refused : goal.returns-in-Err-find_previous_occurrence-clause-refused
 returns-in-Err-find_previous_occurrence-clause-refused g c r =
     let moment = g.T.CronDateTime.moment in
-    let next = c.in-Ok.ensures in
-    let refused = c.in-Err-find_previous_occurrence.ensures in
-    refused_back (job_of c.args.job.now) (moment c.args.run.now) (moment c.in-Ok.next) r
-    (record { zone = next.same_zone; whole = next.whole; nearest = next.nearest })
-    g.T.CronDateTime.can_lack_memory c.in-Err-find_previous_occurrence.refused (record { kind = refused.kinds; promised = refused.refuses; limit = refused.limit })
+    refused_back (job_of c.args.job.now) (moment c.args.run.now) (moment c.in-Ok.next) r c.in-Ok.ensures.found
+    g.T.CronDateTime.can_lack_memory c.in-Err-find_previous_occurrence.refused c.in-Err-find_previous_occurrence.ensures.refused

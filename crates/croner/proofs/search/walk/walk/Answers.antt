@@ -4,7 +4,7 @@ use Rattle.croner.specs.Runs.{job_in}
 use Rattle.croner.specs.Walk.{walk_start}
 use Rattle.croner.proofs.CalmZone.{calm_of}
 use Rattle.croner.proofs.WalkPace.{paced_start, paced_on, paced_ends}
-use Rattle.croner.proofs.WalkLoop.{walking_start, walking_next, walk_reaches, out_far}
+use Rattle.croner.proofs.WalkLoop.{walking_start, walking_next, walk_reaches, something_ahead, out_far}
 use Rattle.croner.proofs.ErrorsKept.{error_kept}
 use Rattle.croner.proofs.search.walk.walk.Goals as goal
 
@@ -12,7 +12,7 @@ pub returns-in_default-clause-value : goal.returns-in_default-clause-value
 returns-in_default-clause-value g c =
     let last = rw c.in_default.is at c.first_second.ensures in
     let origin = g.T.CronDateTime.moment c.args.origin.now in
-    λ start. out_far _ _ (job_in origin.zone (g.S.Schedule.scheduled c.args.schedule.now) (g.S.Schedule.date_matches c.args.schedule.now) (g.S.Schedule.fixed_time c.args.schedule.now)) origin.instant c.to_civil.result last c.to_civil.ensures
+    λ start. out_far _ _ (job_in origin.zone (g.S.Schedule.timetable c.args.schedule.now)) origin.instant c.to_civil.result last c.to_civil.ensures
 
 pub loop-init : goal.loop-init
 loop-init g c =
@@ -39,7 +39,7 @@ pass-requires-clause-walking g c =
 pub loop-preserved : goal.loop-preserved
 loop-preserved g c =
     let origin = g.T.CronDateTime.moment c.args.origin.now in
-    let job = job_in origin.zone (g.S.Schedule.scheduled c.args.schedule.now) (g.S.Schedule.date_matches c.args.schedule.now) (g.S.Schedule.fixed_time c.args.schedule.now) in
+    let job = job_in origin.zone (g.S.Schedule.timetable c.args.schedule.now) in
     let found = rw c.in-Some-next_scheduled.is at c.next_scheduled.ensures in
     let searched = g.met.S.Schedule.in_years c.args.schedule.now c.requires (wall_second c.in-Some-next_scheduled.found) found.is in
     let there = walking_next _ _ job _ _ _ _ c.loop.invariant.walking found in
@@ -59,3 +59,17 @@ returns-clause-value g c =
 pub returns-in_err-answer-clause-err : goal.returns-in_err-answer-clause-err
 returns-in_err-answer-clause-err g c =
     error_kept c.from_residual.result c.in_err-answer.field-0.0 _ c.from_residual.ensures.1 c.in_err-answer.ensures.err
+
+pub returns-in-Answer-clause-none : goal.returns-in-Answer-clause-none
+returns-in-Answer-clause-none g c none =
+    let origin = g.T.CronDateTime.moment c.args.origin.now in
+    let job = job_in origin.zone (g.S.Schedule.timetable c.args.schedule.now) in
+    let found = rw c.in-Some-next_scheduled.is at c.next_scheduled.ensures in
+    absurd (something_ahead _ _ job _ _ _ (walking_next _ _ job _ _ _ _ c.loop.invariant.walking found) found.is none)
+
+pub returns-in_err-answer-clause-none : goal.returns-in_err-answer-clause-none
+returns-in_err-answer-clause-none g c none =
+    let origin = g.T.CronDateTime.moment c.args.origin.now in
+    let job = job_in origin.zone (g.S.Schedule.timetable c.args.schedule.now) in
+    let found = rw c.in-Some-next_scheduled.is at c.next_scheduled.ensures in
+    absurd (something_ahead _ _ job _ _ _ (walking_next _ _ job _ _ _ _ c.loop.invariant.walking found) found.is none)

@@ -10,7 +10,7 @@ invariant-loop g l =
     let origin = g.T.CronDateTime.moment l.origin in
     record {
       walking : Walking l.fn.direction l.fn.inclusive
-          (job_in origin.zone (g.S.Schedule.scheduled l.schedule) (g.S.Schedule.date_matches l.schedule) (g.S.Schedule.fixed_time l.schedule))
+          (job_in origin.zone (g.S.Schedule.timetable l.schedule))
           origin.instant origin.fraction (wall_second l.wall);
       paced : IsCalmStart origin.zone origin.fraction → Paced l.fn.direction origin.zone.reads origin.instant (wall_second l.wall) l.counter;
     }
