@@ -8,11 +8,11 @@ use Rattle.croner_base.specs.declared.errors.CronError.TheVariants.{TimeSearchLi
 use Rattle.croner_base.specs.Zone.{Zone, Moment, reading, nanos_of}
 use Rattle.croner_base.specs.Calm.{IsCalm, IsNear}
 use Rattle.croner.specs.Runs.{Timetable, Job, job_in, Nearest, Counts, Precedes, Reaches}
-use Rattle.croner.specs.Limit.{IsWithin, NoneInSpan, NoneAhead, IsPast}
+use Rattle.croner.specs.Limit.{IsWithin, NoneInSpan, IsPast}
 use Rattle.croner.specs.Schedule.{IsCovered, NoneScheduled}
 use Rattle.croner.specs.Premises.{IsSearchable, IsCalmStart, StartsCalm, HoldsYears, HoldsSecond}
 use Rattle.croner.specs.Refusal.{IsBackendError, IsRefusal, IsLimitOrMemory}
-use Rattle.croner.specs.Walk.{RunOf, NoneOf, Walked, WalkedFrom, walk_start, one_on, OutFrom, IsWalked}
+use Rattle.croner.specs.Walk.{RunOf, NoneOf, Walked, WalkedFrom, walk_start, one_on, OutFrom, IsWalked, IsWalkRefused}
 use Rattle.croner.specs.Searches.{IsFound, IsRefused}
 use Rattle.croner.specs.Halves.{EdgeOf, HasTwin, CountsBoth, IsEdge, HasOtherHalf, opposite_way, offset_from, moment_from}
 use Rattle.croner.proofs.ZoneOrder.{Calm, cases_lt_z, before_break, after_break}
@@ -386,9 +386,10 @@ module _ (lack : Bool) (direction : Direction) (inclusive : Bool) (timetable : T
     past = λ p. absurd (left p);
   }
 
-  -- the error of the first walk
-  pub refused_walk : (e : CronError) → (NoneAhead direction inclusive timetable.scheduled (reading start) → ⊥) → IsBackendError lack (IsCalm start.zone → HoldsYears start.zone → ⊥) e → IsRefused lack direction inclusive timetable start e
-  refused_walk e ahead error = refused_backend e (λ p. ahead p.1) (second_error lack start start.zone e refl error)
+-- the refusal of the first walk
+pub refused_walk : (lack : Bool) (direction : Direction) (inclusive : Bool) (timetable : Timetable) (start : Moment) (e : CronError) → IsWalkRefused lack direction inclusive timetable start e → IsRefused lack direction inclusive timetable start e
+refused_walk lack direction inclusive timetable start e walk =
+    refused_backend lack direction inclusive timetable start e (λ p. walk.ahead p.1) (second_error lack start start.zone e refl walk.error)
 
 pub own_error : {T : Type 0} (moment : T → Moment) (direction way : Direction) (start : Moment) (edge : T) (lack : Bool) (e : CronError) → way ≡ opposite_way direction → IsEdge moment direction start (Some edge) → IsBackendError lack ((moment edge).zone.holds (offset_from way (moment edge).instant 1) ≡ false) e → IsBackendError lack (IsSearchable start → ⊥) e
 own_error moment direction way start edge lack e same at error =

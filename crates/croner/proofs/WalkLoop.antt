@@ -160,6 +160,17 @@ onward_front Backward reads held front f past unread =
       );
     }
 
+-- where a walk comes to lies ahead of where its origin reads
+ahead_on : (direction : Direction) (inclusive : Bool) (r w : ℤ) → Reaches direction (walk_start direction inclusive r) w → Ahead direction inclusive r w
+ahead_on Forward true r w h = elim (cases_lt_z r w) [ inl lt ↦ inl lt | inr le ↦ inr (refl, omega (arith, ints)) ]
+ahead_on Forward false r w h = inl (omega (arith, ints))
+ahead_on Backward true r w h = elim (cases_lt_z w r) [ inl lt ↦ inl lt | inr le ↦ inr (refl, omega (arith, ints)) ]
+ahead_on Backward false r w h = inl (omega (arith, ints))
+
+-- a walk that comes to a scheduled second has something scheduled ahead
+pub something_ahead : (direction : Direction) (inclusive : Bool) (job : Job) (s : ℤ) (f : ℕ) (wall : ℤ) → Walking direction inclusive job s f wall → job.timetable.scheduled wall → NoneAhead direction inclusive job.timetable.scheduled (job.zone.reads s) → ⊥
+something_ahead direction inclusive job s f wall walking own none = none wall (ahead_on direction inclusive (job.zone.reads s) wall walking.reaches) own
+
 -- ---- answers of a walk
 
 shows_read : (job : Job) (w i : ℤ) → job.timetable.scheduled w → job.zone.reads i ≡ w → Shows job i
@@ -176,6 +187,7 @@ module _ {T : Type 0} (moment : T → Moment) (direction : Direction) (inclusive
         zone_is = named.zone_is;
         whole = named.whole;
         shows = shows_read job (wall_second c) (moment t).instant own named.reads_it;
+        ahead = something_ahead direction inclusive job origin.instant origin.fraction (wall_second c) there own;
         walked = walked_single direction inclusive job origin.instant origin.fraction c (moment t).instant there own is;
       }
 
@@ -186,6 +198,7 @@ module _ {T : Type 0} (moment : T → Moment) (direction : Direction) (inclusive
         zone_is = named.zone_is;
         whole = named.whole;
         shows = shows_read job (wall_second c) (moment t).instant own named.reads_it;
+        ahead = something_ahead direction inclusive job origin.instant origin.fraction (wall_second c) there own;
         walked = λ start.
             walked_chosen direction inclusive job origin.instant origin.fraction moment c e l t there own is start
             (subst (λ (x : Bool). ChosenOf moment x direction origin.instant e l (Some t)) same (chosen start.whole named_e.whole named_l.whole));
@@ -210,6 +223,7 @@ module _ {T : Type 0} (moment : T → Moment) (direction : Direction) (inclusive
         zone_is = zone_is;
         whole = whole;
         shows = shows_carried job (moment t).instant fixed many;
+        ahead = something_ahead direction inclusive job origin.instant origin.fraction (wall_second c) there own;
         walked = λ start. walked_gap direction inclusive job origin.instant origin.fraction (wall_second c) (wall_second end) (moment t).instant fixed there own (gap_end start.calm) date (ahead start.whole whole) start;
       }
 
@@ -263,17 +277,6 @@ start_reaches Backward false r w h = omega (arith, ints)
 
 pub walk_reaches : (direction : Direction) (inclusive : Bool) (job : Job) (s : ℤ) (f : ℕ) (wall : ℤ) → Walking direction inclusive job s f wall → Reaches direction (job.zone.reads s) wall
 walk_reaches direction inclusive job s f wall walking = start_reaches direction inclusive (job.zone.reads s) wall walking.reaches
-
--- where a walk comes to lies ahead of where its origin reads
-ahead_on : (direction : Direction) (inclusive : Bool) (r w : ℤ) → Reaches direction (walk_start direction inclusive r) w → Ahead direction inclusive r w
-ahead_on Forward true r w h = elim (cases_lt_z r w) [ inl lt ↦ inl lt | inr le ↦ inr (refl, omega (arith, ints)) ]
-ahead_on Forward false r w h = inl (omega (arith, ints))
-ahead_on Backward true r w h = elim (cases_lt_z w r) [ inl lt ↦ inl lt | inr le ↦ inr (refl, omega (arith, ints)) ]
-ahead_on Backward false r w h = inl (omega (arith, ints))
-
--- a walk that comes to a scheduled second has something scheduled ahead
-pub something_ahead : (direction : Direction) (inclusive : Bool) (job : Job) (s : ℤ) (f : ℕ) (wall : ℤ) → Walking direction inclusive job s f wall → job.timetable.scheduled wall → NoneAhead direction inclusive job.timetable.scheduled (job.zone.reads s) → ⊥
-something_ahead direction inclusive job s f wall walking own none = none wall (ahead_on direction inclusive (job.zone.reads s) wall walking.reaches) own
 
 far_none : (direction : Direction) (fixed_time : Bool) (scheduled : ℤ → Type 0) (w from : ℤ) → IsFar direction w → Reaches direction w from → NoneScheduled direction fixed_time scheduled from
 far_none Forward fixed_time scheduled w from far on = λ v after covered own. let never : ⊥ = omega (arith, ints) in never

@@ -1,14 +1,17 @@
 -- The words of one walk along the wall clock.
 use Rattle.std.specs.Prelude.{◌≡◌, ⊤, ℕ, ℤ, pos, ◌+ℤ◌, ◌-ℤ◌, ◌<ℤ◌, ◌≤ℤ◌, ◌⊎◌, Bool, true, false, Option, Some, None}
+use Rattle.croner_base.specs.declared.errors.CronError.{CronError}
 use Rattle.croner_base.specs.declared.time.Direction.{Direction}
 use Rattle.croner_base.specs.declared.time.Direction.TheVariants.{Forward, Backward}
 use Rattle.croner_base.specs.declared.time.civil.CivilDateTime.{CivilDateTime}
 use Rattle.croner_base.specs.Civil.{wall_second}
-use Rattle.croner_base.specs.Zone.{Zone, Moment}
+use Rattle.croner_base.specs.Zone.{Zone, Moment, reading}
 use Rattle.croner_base.specs.Calm.{IsCalm}
-use Rattle.croner.specs.Runs.{Job, Precedes, Reaches, Ahead}
+use Rattle.croner.specs.Limit.{NoneAhead}
+use Rattle.croner.specs.Refusal.{IsBackendError}
+use Rattle.croner.specs.Runs.{Timetable, Job, Precedes, Reaches, Ahead}
 use Rattle.croner.specs.Schedule.{NoneScheduled}
-use Rattle.croner.specs.Premises.{IsCalmStart, HasOneInstantEach, Shows}
+use Rattle.croner.specs.Premises.{IsCalmStart, HasOneInstantEach, HoldsYears, Shows}
 use Rattle.croner.specs.declared.search.walk.Passed.{Passed}
 use Rattle.croner.specs.declared.search.walk.Passed.TheVariants.{Answer, GoOn, Limit}
 
@@ -114,6 +117,7 @@ pub record IsWalked {T : Type 0} (moment : T → Moment) (direction : Direction)
   pub zone_is : (moment t).zone ≡ job.zone
   pub whole : (moment t).fraction ≡ 0
   pub shows : Shows job (moment t).instant
+  pub ahead : ¬ (NoneAhead direction inclusive job.timetable.scheduled (job.zone.reads origin.instant))
   pub walked : IsCalmStart job.zone origin.fraction → WalkedFrom direction inclusive job origin.instant (moment t).instant
 
 -- what one pass of a walk comes to
@@ -129,6 +133,11 @@ abbrev pub HasWalked : {T : Type 0} → (T → Moment) → Direction → Bool �
 HasWalked moment direction inclusive job origin (Some t) = IsWalked moment direction inclusive job origin t
 HasWalked moment direction inclusive job origin None =
     IsCalmStart job.zone origin.fraction → OutFrom direction inclusive job origin.instant
+
+-- why a walk is refused: the backend's error, and there was something to ask for
+pub record IsWalkRefused (lack : Bool) (direction : Direction) (inclusive : Bool) (timetable : Timetable) (origin : Moment) (e : CronError) : Type 0 where
+  pub error : IsBackendError lack (IsCalm origin.zone → ¬ (HoldsYears origin.zone)) e
+  pub ahead : ¬ (NoneAhead direction inclusive timetable.scheduled (reading origin))
 
 -- past the gap that holds a second: where it ends, or further than the search reaches
 abbrev pub HasGapEnd : {T : Type 0} → (T → Moment) → Zone → ℤ → Option (CivilDateTime × T) → Type 0

@@ -73,13 +73,8 @@ impl Cron {
         ensures found { IfOk result (λ t. IsFound direction inclusive (timetable_of (job_of self.now)) (T.moment start.now) (T.moment t)) }
         ensures refused { IfErr result (IsRefused T.can_lack_memory direction inclusive (timetable_of (job_of self.now)) (T.moment start.now)) }
     {
-        search::find(
-            self.pattern.allocator(),
-            &self.pattern,
-            start,
-            inclusive,
-            direction,
-        )
+        let alloc = self.pattern.allocator();
+        search::find(alloc, &self.pattern, start, inclusive, direction)
     }
 
     /// The runs from a start on, the start itself included where it is a run, in a direction. The pattern is copied for the

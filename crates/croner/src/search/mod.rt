@@ -7,7 +7,7 @@ ghost use Rattle.std.specs.Prelude.{◌≡◌, ◌↔◌, IsTrue, IfOk, IfErr, E
 ghost use Rattle.croner_base.specs.declared.errors.CronError.TheVariants.{TimeSearchLimitExceeded};
 ghost use Rattle.croner_base.specs.Zone.{reading};
 ghost use Rattle.croner.specs.Runs.{job_in};
-ghost use Rattle.croner.specs.Limit.{IsPast, IsWithin};
+ghost use Rattle.croner.specs.Limit.{IsWithin};
 ghost use Rattle.croner.specs.Premises.{IsSearchable};
 ghost use Rattle.croner.specs.Searches.{IsFound, IsRefused};
 ghost use Rattle.croner.specs.Walk.{IsWalked, HasWalked};
@@ -54,7 +54,6 @@ fn nearer_half<T: CronDateTime, S: Schedule>(
     requires shaped { S.shaped schedule.now }
     requires walked { IsWalked T.moment direction inclusive
         (job_in (T.moment start.now).zone (S.timetable schedule.now)) (T.moment start.now) first }
-    requires left { ¬ (IsPast direction inclusive (S.timetable schedule.now).scheduled (reading (T.moment start.now))) }
     ensures found { IfOk result (λ t. IsFound direction inclusive (S.timetable schedule.now) (T.moment start.now) (T.moment t)) }
     ensures refused { IfErr result (IsRefused T.can_lack_memory direction inclusive (S.timetable schedule.now) (T.moment start.now)) }
 {

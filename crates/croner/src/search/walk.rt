@@ -1,14 +1,13 @@
 //! One walk along the wall clock.
-ghost use Rattle.std.specs.Prelude.{◌≡◌, ◌⊎◌, ℤ, IfOk, IfErr, MatchOption, Ok, Some, None};
+ghost use Rattle.std.specs.Prelude.{◌≡◌, ◌⊎◌, ℤ, IfOk, IfErr, MatchOption, Some};
 ghost use Rattle.croner_base.specs.declared.time.value.Resolution.TheVariants.{Ambiguous, Gap};
-ghost use Rattle.croner_base.specs.Zone.{IsResolved, reading};
+ghost use Rattle.croner_base.specs.Zone.{IsResolved};
 ghost use Rattle.croner.specs.Wall.{IsLastYear};
 ghost use Rattle.croner_base.specs.Calm.{IsCalm};
 ghost use Rattle.croner_base.specs.Civil.{wall_second};
-ghost use Rattle.croner.specs.Limit.{NoneAhead};
 ghost use Rattle.croner.specs.Runs.{job_in};
 ghost use Rattle.croner.specs.Premises.{HoldsYears};
-ghost use Rattle.croner.specs.Walk.{CannotMove, HasPassed, HasWalked, Walking, walk_start, NearerOf, ChosenOf, IsOneOf};
+ghost use Rattle.croner.specs.Walk.{CannotMove, HasPassed, HasWalked, IsWalkRefused, Walking, walk_start, NearerOf, ChosenOf, IsOneOf};
 ghost use Rattle.croner.specs.Refusal.{IsBackendError};
 
 use super::Schedule;
@@ -203,7 +202,7 @@ fn first_second(
 }
 
 /// The nearest run that a walk along the wall clock from the origin meets, over one half of each repeated range; `None`
-/// where it meets none in the years that are searched, and at once where nothing is scheduled ahead.
+/// where it meets none in the years that are searched, and without a question where nothing is scheduled ahead.
 pub(crate) fn walk<T: CronDateTime, S: Schedule>(
     alloc: Global,
     schedule: &S,
@@ -215,9 +214,7 @@ pub(crate) fn walk<T: CronDateTime, S: Schedule>(
     ensures value { IfOk result (HasWalked T.moment direction inclusive
         (job_in (T.moment origin.now).zone (S.timetable schedule.now))
         (T.moment origin.now)) }
-    ensures none { NoneAhead direction inclusive (S.timetable schedule.now).scheduled (reading (T.moment origin.now)) → result ≡ Ok None }
-    ensures err { IfErr result (IsBackendError T.can_lack_memory
-        (IsCalm (T.moment origin.now).zone → ¬ (HoldsYears (T.moment origin.now).zone))) }
+    ensures err { IfErr result (IsWalkRefused T.can_lack_memory direction inclusive (S.timetable schedule.now) (T.moment origin.now)) }
 {
     let Some(mut wall) = first_second(origin.to_civil(), inclusive, direction) else {
         return Ok(None);

@@ -45,4 +45,4 @@ returns-clause-refused g c =
     let halves = rw (c.in-Ok-Some.is, c.in-Ok-Some.field-0-is) at c.edge_and_last.ensures in
     let error = rw c.in-Err-walk.is at c.walk.ensures in
     let within = start_within _ (g.T.CronDateTime.moment c.args.start.now) _ _ c.if-not-is_within.false c.to_civil.ensures c.is_within.ensures in
-    refused_backend _ _ _ _ _ _ (not_past _ _ _ _ within) (second_error _ (g.T.CronDateTime.moment c.args.start.now) _ _ halves.value.0 error.err)
+    refused_backend _ _ _ _ _ _ (not_past _ _ _ _ within) (second_error _ (g.T.CronDateTime.moment c.args.start.now) _ _ halves.value.0 error.err.error)

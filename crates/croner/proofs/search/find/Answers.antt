@@ -1,8 +1,7 @@
-use Rattle.std.proofs.Common.{sym, ◌∙◌}
 use Rattle.croner.proofs.SearchLimit.{refused_walk}
 use Rattle.croner.proofs.search.find.Goals as goal
 
 pub returns-in-Err-clause-refused : goal.returns-in-Err-clause-refused
 returns-in-Err-clause-refused g c =
-    let error = rw c.in-Err.is at c.walk.ensures in
-    refused_walk _ _ _ _ _ _ (λ none. let never = error.none none in absurd (cc)) error.err
+    let walk = rw c.in-Err.is at c.walk.ensures in
+    refused_walk _ _ _ _ _ _ walk.err

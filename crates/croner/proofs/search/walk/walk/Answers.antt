@@ -58,18 +58,9 @@ returns-clause-value g c =
 
 pub returns-in_err-answer-clause-err : goal.returns-in_err-answer-clause-err
 returns-in_err-answer-clause-err g c =
-    error_kept c.from_residual.result c.in_err-answer.field-0.0 _ c.from_residual.ensures.1 c.in_err-answer.ensures.err
-
-pub returns-in-Answer-clause-none : goal.returns-in-Answer-clause-none
-returns-in-Answer-clause-none g c none =
     let origin = g.T.CronDateTime.moment c.args.origin.now in
-    let job = job_in origin.zone (g.S.Schedule.timetable c.args.schedule.now) in
+    let timetable = g.S.Schedule.timetable c.args.schedule.now in
     let found = rw c.in-Some-next_scheduled.is at c.next_scheduled.ensures in
-    absurd (something_ahead _ _ job _ _ _ (walking_next _ _ job _ _ _ _ c.loop.invariant.walking found) found.is none)
-
-pub returns-in_err-answer-clause-none : goal.returns-in_err-answer-clause-none
-returns-in_err-answer-clause-none g c none =
-    let origin = g.T.CronDateTime.moment c.args.origin.now in
-    let job = job_in origin.zone (g.S.Schedule.timetable c.args.schedule.now) in
-    let found = rw c.in-Some-next_scheduled.is at c.next_scheduled.ensures in
-    absurd (something_ahead _ _ job _ _ _ (walking_next _ _ job _ _ _ _ c.loop.invariant.walking found) found.is none)
+    let there = walking_next _ _ (job_in origin.zone timetable) _ _ _ _ c.loop.invariant.walking found in
+    error_kept c.from_residual.result c.in_err-answer.field-0.0 _ c.from_residual.ensures.1
+    (record { error = c.in_err-answer.ensures.err; ahead = something_ahead _ _ (job_in origin.zone timetable) _ _ _ there found.is })
