@@ -21,7 +21,7 @@ use croner_base::errors::CronError;
 use croner_base::time::{CronDateTime, Direction};
 pub(crate) use schedule::Schedule;
 use std::alloc::Global;
-use walk::walk;
+use walk::{Origin, walk};
 
 // Whether the other half of a repeated range counts too: not so for a fixed-time job forward.
 fn counts_both(fixed_time: bool, direction: Direction) -> bool
@@ -73,7 +73,12 @@ fn nearer_half<T: CronDateTime, S: Schedule>(
     if precedes(&first, &edge, direction) {
         return Ok(first);
     }
-    let second = match walk(alloc, schedule, &edge, true, direction) {
+    let across = Origin {
+        time: &edge,
+        inclusive: true,
+        direction,
+    };
+    let second = match walk(alloc, schedule, &across) {
         Ok(Some(second)) => second,
         Ok(None) => return Err(CronError::TimeSearchLimitExceeded),
         Err(error) => return Err(error),
@@ -115,7 +120,12 @@ fn after_limit<T: CronDateTime, S: Schedule>(
     if !is_within(own_last.to_civil(), direction) {
         return Err(CronError::TimeSearchLimitExceeded);
     }
-    match walk(alloc, schedule, &edge, true, direction) {
+    let across = Origin {
+        time: &edge,
+        inclusive: true,
+        direction,
+    };
+    match walk(alloc, schedule, &across) {
         Ok(Some(second)) => Ok(second),
         Ok(None) => Err(CronError::TimeSearchLimitExceeded),
         Err(error) => Err(error),
@@ -161,7 +171,12 @@ pub(crate) fn find<T: CronDateTime, S: Schedule>(
     ensures found { IfOk result (λ t. IsFound direction inclusive (S.timetable schedule.now) (T.moment start.now) (T.moment t)) }
     ensures refused { IfErr result (IsRefused T.can_lack_memory direction inclusive (S.timetable schedule.now) (T.moment start.now)) }
 {
-    match walk(alloc, schedule, start, inclusive, direction) {
+    let origin = Origin {
+        time: start,
+        inclusive,
+        direction,
+    };
+    match walk(alloc, schedule, &origin) {
         Ok(Some(first)) => nearer_half(alloc, schedule, start, first, inclusive, direction),
         Ok(None) => after_limit(alloc, schedule, start, inclusive, direction),
         Err(refused) => Err(refused),

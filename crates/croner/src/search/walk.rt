@@ -21,6 +21,16 @@ use std::alloc::Global;
 /// The most scheduled seconds that a walk looks at: the seconds of a leap year.
 const PASS_LIMIT: u32 = 31_622_400;
 
+/// From where a walk goes, and which way.
+#[derive(Drop)]
+pub(crate) struct Origin<'a, T> {
+    /// The time that it starts at.
+    pub(crate) time: &'a T,
+    /// Whether that time counts itself.
+    pub(crate) inclusive: bool,
+    pub(crate) direction: Direction,
+}
+
 /// What one pass of a walk comes to.
 #[derive(Drop)]
 pub(crate) enum Passed<T> {
@@ -82,29 +92,34 @@ fn chosen<T: CronDateTime>(
 fn pass_two<T: CronDateTime, S: Schedule>(
     alloc: Global,
     schedule: &S,
-    origin: &T,
+    origin: &Origin<'_, T>,
     found: CivilDateTime,
     earlier: T,
     later: T,
-    inclusive: bool,
-    direction: Direction,
 ) -> Result<Passed<T>, CronError>
     requires shaped { S.shaped schedule.now }
-    requires resolved { IsResolved T.moment (T.moment origin.now).zone found (Ambiguous earlier later) }
+    requires resolved { IsResolved T.moment (T.moment origin.now.time.now).zone found (Ambiguous earlier later) }
     requires scheduled { (S.timetable schedule.now).scheduled (wall_second found) }
-    requires walking { Walking direction inclusive
-        (job_in (T.moment origin.now).zone (S.timetable schedule.now))
-        (T.moment origin.now).instant (T.moment origin.now).fraction (wall_second found) }
-    ensures value { IfOk result (HasPassed T.moment direction inclusive
-        (job_in (T.moment origin.now).zone (S.timetable schedule.now))
-        (T.moment origin.now) (wall_second found)) }
+    requires walking { Walking origin.now.direction origin.now.inclusive
+        (job_in (T.moment origin.now.time.now).zone (S.timetable schedule.now))
+        (T.moment origin.now.time.now).instant (T.moment origin.now.time.now).fraction (wall_second found) }
+    ensures value { IfOk result (HasPassed T.moment origin.now.direction origin.now.inclusive
+        (job_in (T.moment origin.now.time.now).zone (S.timetable schedule.now))
+        (T.moment origin.now.time.now) (wall_second found)) }
     ensures err { IfErr result (IsBackendError T.can_lack_memory
-        (IsCalm (T.moment origin.now).zone → ¬ (HoldsYears (T.moment origin.now).zone))) }
+        (IsCalm (T.moment origin.now.time.now).zone → ¬ (HoldsYears (T.moment origin.now.time.now).zone))) }
 {
     let fixed_time = schedule.is_fixed_time();
-    match chosen(alloc, origin, earlier, later, fixed_time, direction) {
+    match chosen(
+        alloc,
+        origin.time,
+        earlier,
+        later,
+        fixed_time,
+        origin.direction,
+    ) {
         Ok(Some(answer)) => Ok(Passed::Answer(answer)),
-        Ok(None) => match one_second_on(found, direction) {
+        Ok(None) => match one_second_on(found, origin.direction) {
             Some(next) => Ok(Passed::GoOn(next)),
             None => unreachable!(),
         },
@@ -116,38 +131,38 @@ fn pass_two<T: CronDateTime, S: Schedule>(
 fn pass_gap<T: CronDateTime, S: Schedule>(
     alloc: Global,
     schedule: &S,
-    origin: &T,
+    origin: &Origin<'_, T>,
     found: CivilDateTime,
-    inclusive: bool,
-    direction: Direction,
 ) -> Result<Passed<T>, CronError>
     requires shaped { S.shaped schedule.now }
-    requires in_gap { (T.moment origin.now).zone.resolves found ≡ Some Gap }
+    requires in_gap { (T.moment origin.now.time.now).zone.resolves found ≡ Some Gap }
     requires scheduled { (S.timetable schedule.now).scheduled (wall_second found) }
-    requires walking { Walking direction inclusive
-        (job_in (T.moment origin.now).zone (S.timetable schedule.now))
-        (T.moment origin.now).instant (T.moment origin.now).fraction (wall_second found) }
-    ensures value { IfOk result (HasPassed T.moment direction inclusive
-        (job_in (T.moment origin.now).zone (S.timetable schedule.now))
-        (T.moment origin.now) (wall_second found)) }
+    requires walking { Walking origin.now.direction origin.now.inclusive
+        (job_in (T.moment origin.now.time.now).zone (S.timetable schedule.now))
+        (T.moment origin.now.time.now).instant (T.moment origin.now.time.now).fraction (wall_second found) }
+    ensures value { IfOk result (HasPassed T.moment origin.now.direction origin.now.inclusive
+        (job_in (T.moment origin.now.time.now).zone (S.timetable schedule.now))
+        (T.moment origin.now.time.now) (wall_second found)) }
     ensures err { IfErr result (IsBackendError T.can_lack_memory
-        (IsCalm (T.moment origin.now).zone → ¬ (HoldsYears (T.moment origin.now).zone))) }
+        (IsCalm (T.moment origin.now.time.now).zone → ¬ (HoldsYears (T.moment origin.now.time.now).zone))) }
 {
     if !schedule.is_fixed_time() {
-        return match one_second_on(found, direction) {
+        return match one_second_on(found, origin.direction) {
             Some(next) => Ok(Passed::GoOn(next)),
             None => unreachable!(),
         };
     }
-    let Some((end, carried)) = gap_end(alloc, origin, found)? else {
+    let Some((end, carried)) = gap_end(alloc, origin.time, found)? else {
         return Ok(Passed::Limit);
     };
-    if schedule.matches_date(end) && lies_ahead(origin, &carried, inclusive, direction) {
+    if schedule.matches_date(end)
+        && lies_ahead(origin.time, &carried, origin.inclusive, origin.direction)
+    {
         return Ok(Passed::Answer(carried));
     }
-    match direction {
+    match origin.direction {
         Direction::Forward => Ok(Passed::GoOn(end)),
-        Direction::Backward => match gap_front(alloc, origin, found)? {
+        Direction::Backward => match gap_front(alloc, origin.time, found)? {
             Some(front) => Ok(Passed::GoOn(front)),
             None => Ok(Passed::Limit),
         },
@@ -158,30 +173,26 @@ fn pass_gap<T: CronDateTime, S: Schedule>(
 fn pass<T: CronDateTime, S: Schedule>(
     alloc: Global,
     schedule: &S,
-    origin: &T,
+    origin: &Origin<'_, T>,
     found: CivilDateTime,
-    inclusive: bool,
-    direction: Direction,
 ) -> Result<Passed<T>, CronError>
     requires shaped { S.shaped schedule.now }
     requires scheduled { (S.timetable schedule.now).scheduled (wall_second found) }
-    requires walking { Walking direction inclusive
-        (job_in (T.moment origin.now).zone (S.timetable schedule.now))
-        (T.moment origin.now).instant (T.moment origin.now).fraction (wall_second found) }
-    ensures value { IfOk result (HasPassed T.moment direction inclusive
-        (job_in (T.moment origin.now).zone (S.timetable schedule.now))
-        (T.moment origin.now) (wall_second found)) }
+    requires walking { Walking origin.now.direction origin.now.inclusive
+        (job_in (T.moment origin.now.time.now).zone (S.timetable schedule.now))
+        (T.moment origin.now.time.now).instant (T.moment origin.now.time.now).fraction (wall_second found) }
+    ensures value { IfOk result (HasPassed T.moment origin.now.direction origin.now.inclusive
+        (job_in (T.moment origin.now.time.now).zone (S.timetable schedule.now))
+        (T.moment origin.now.time.now) (wall_second found)) }
     ensures err { IfErr result (IsBackendError T.can_lack_memory
-        (IsCalm (T.moment origin.now).zone → ¬ (HoldsYears (T.moment origin.now).zone))) }
+        (IsCalm (T.moment origin.now.time.now).zone → ¬ (HoldsYears (T.moment origin.now.time.now).zone))) }
 {
-    match origin.resolve_civil(alloc, found)? {
+    match origin.time.resolve_civil(alloc, found)? {
         Resolution::Single(only) => Ok(Passed::Answer(only)),
         Resolution::Ambiguous(earlier, later) => {
-            pass_two(
-                alloc, schedule, origin, found, earlier, later, inclusive, direction,
-            )
+            pass_two(alloc, schedule, origin, found, earlier, later)
         }
-        Resolution::Gap => pass_gap(alloc, schedule, origin, found, inclusive, direction),
+        Resolution::Gap => pass_gap(alloc, schedule, origin, found),
     }
 }
 
@@ -206,24 +217,23 @@ fn first_second(
 pub(crate) fn walk<T: CronDateTime, S: Schedule>(
     alloc: Global,
     schedule: &S,
-    origin: &T,
-    inclusive: bool,
-    direction: Direction,
+    origin: &Origin<'_, T>,
 ) -> Result<Option<T>, CronError>
     requires { S.shaped schedule.now }
-    ensures value { IfOk result (HasWalked T.moment direction inclusive
-        (job_in (T.moment origin.now).zone (S.timetable schedule.now))
-        (T.moment origin.now)) }
-    ensures err { IfErr result (IsWalkRefused T.can_lack_memory direction inclusive (S.timetable schedule.now) (T.moment origin.now)) }
+    ensures value { IfOk result (HasWalked T.moment origin.now.direction origin.now.inclusive
+        (job_in (T.moment origin.now.time.now).zone (S.timetable schedule.now))
+        (T.moment origin.now.time.now)) }
+    ensures err { IfErr result (IsWalkRefused T.can_lack_memory origin.now.direction origin.now.inclusive (S.timetable schedule.now) (T.moment origin.now.time.now)) }
 {
-    let Some(mut wall) = first_second(origin.to_civil(), inclusive, direction) else {
+    let Some(mut wall) = first_second(origin.time.to_civil(), origin.inclusive, origin.direction)
+    else {
         return Ok(None);
     };
     for _ in 0..PASS_LIMIT {
-        let Some(found) = schedule.next_scheduled(wall, direction) else {
+        let Some(found) = schedule.next_scheduled(wall, origin.direction) else {
             return Ok(None);
         };
-        match pass(alloc, schedule, origin, found, inclusive, direction)? {
+        match pass(alloc, schedule, origin, found)? {
             Passed::Answer(answer) => return Ok(Some(answer)),
             Passed::GoOn(next) => wall = next,
             Passed::Limit => return Ok(None),

@@ -13,13 +13,13 @@ unreachable-requires g c =
 pub returns-then-not-is_fixed_time-clause-value : goal.returns-then-not-is_fixed_time-clause-value
 returns-then-not-is_fixed_time-clause-value g c =
     let moved = rw c.in-Some.is at c.one_second_on.ensures in
-    past_gap_each g.T.CronDateTime.moment _ _ _ (g.T.CronDateTime.moment c.args.origin.now) c.args.found _
+    past_gap_each g.T.CronDateTime.moment _ _ _ (g.T.CronDateTime.moment c.args.origin.now.time.now) c.args.found _
     (sym c.is_fixed_time.ensures ∙ c.if-not-is_fixed_time.true) c.requires.in_gap c.requires.walking moved
 
 pub returns-then-lies_ahead-clause-value : goal.returns-then-lies_ahead-clause-value
 returns-then-lies_ahead-clause-value g c =
     let found = rw c.in-Some-2.is at c.in_ok-end.ensures in
-    carried_walked g.T.CronDateTime.moment _ _ _ (g.T.CronDateTime.moment c.args.origin.now) c.args.found c.in-Some-2.end c.in-Some-2.carried
+    carried_walked g.T.CronDateTime.moment _ _ _ (g.T.CronDateTime.moment c.args.origin.now.time.now) c.args.found c.in-Some-2.end c.in-Some-2.carried
     (sym c.is_fixed_time.ensures ∙ c.if-not-is_fixed_time.false) c.requires.scheduled c.requires.walking found.value
     (c.matches_date.ensures.0 c.if-matches_date.true)
     (λ whole whole2. (c.lies_ahead.ensures whole whole2).0 c.if-lies_ahead.true)
@@ -27,7 +27,7 @@ returns-then-lies_ahead-clause-value g c =
 pub returns-in-Forward-clause-value : goal.returns-in-Forward-clause-value
 returns-in-Forward-clause-value g c =
     let found = rw c.in-Some-2.is at c.in_ok-end.ensures in
-    past_gap_forward g.T.CronDateTime.moment _ _ _ (g.T.CronDateTime.moment c.args.origin.now) c.args.found c.in-Some-2.end c.in-Some-2.carried
+    past_gap_forward g.T.CronDateTime.moment _ _ _ (g.T.CronDateTime.moment c.args.origin.now.time.now) c.args.found c.in-Some-2.end c.in-Some-2.carried
     c.in-Forward.is (sym c.is_fixed_time.ensures ∙ c.if-not-is_fixed_time.false) c.requires.in_gap c.requires.walking found.value
     (λ whole whole2 date ahead.
     elim c.else-matches_date.branch [
@@ -39,7 +39,7 @@ pub returns-in-Some-3-clause-value : goal.returns-in-Some-3-clause-value
 returns-in-Some-3-clause-value g c =
     let found = rw c.in-Some-2.is at c.in_ok-end.ensures in
     let before = rw c.in-Some-3.is at c.in_ok-front-in-Backward.ensures in
-    past_gap_backward g.T.CronDateTime.moment _ _ _ (g.T.CronDateTime.moment c.args.origin.now) c.args.found c.in-Some-2.end c.in-Some-3.front c.in-Some-2.carried
+    past_gap_backward g.T.CronDateTime.moment _ _ _ (g.T.CronDateTime.moment c.args.origin.now.time.now) c.args.found c.in-Some-2.end c.in-Some-3.front c.in-Some-2.carried
     c.in-Backward.is (sym c.is_fixed_time.ensures ∙ c.if-not-is_fixed_time.false) c.requires.in_gap c.requires.walking found.value
     (λ whole whole2 date ahead.
     elim c.else-matches_date.branch [

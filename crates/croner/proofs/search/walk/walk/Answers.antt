@@ -11,14 +11,14 @@ use Rattle.croner.proofs.search.walk.walk.Goals as goal
 pub returns-in_default-clause-value : goal.returns-in_default-clause-value
 returns-in_default-clause-value g c =
     let last = rw c.in_default.is at c.first_second.ensures in
-    let origin = g.T.CronDateTime.moment c.args.origin.now in
+    let origin = g.T.CronDateTime.moment c.args.origin.now.time.now in
     λ start. out_far _ _ (job_in origin.zone (g.S.Schedule.timetable c.args.schedule.now)) origin.instant c.to_civil.result last c.to_civil.ensures
 
 pub loop-init : goal.loop-init
 loop-init g c =
     let begun = rw c.in-Some.is at c.first_second.ensures in
     record {
-      walking = walking_start _ _ _ _ _ _ (begun ∙ ap (walk_start c.args.direction c.args.inclusive) c.to_civil.ensures);
+      walking = walking_start _ _ _ _ _ _ (begun ∙ ap (walk_start c.args.origin.now.direction c.args.origin.now.inclusive) c.to_civil.ensures);
       paced = λ start. paced_start _ _ _ _;
     }
 
@@ -38,7 +38,7 @@ pass-requires-clause-walking g c =
 
 pub loop-preserved : goal.loop-preserved
 loop-preserved g c =
-    let origin = g.T.CronDateTime.moment c.args.origin.now in
+    let origin = g.T.CronDateTime.moment c.args.origin.now.time.now in
     let job = job_in origin.zone (g.S.Schedule.timetable c.args.schedule.now) in
     let found = rw c.in-Some-next_scheduled.is at c.next_scheduled.ensures in
     let searched = g.met.S.Schedule.in_years c.args.schedule.now c.requires (wall_second c.in-Some-next_scheduled.found) found.is in
@@ -46,19 +46,19 @@ loop-preserved g c =
     let passed = rw c.in-GoOn.is at c.in_ok-answer.ensures in
     record {
       walking = passed.value.0;
-      paced = λ start. paced_on c.args.direction origin.zone.reads (calm_of origin.zone start.calm) origin.instant _ _ _ _ (c.loop.invariant.paced start) found.on (walk_reaches _ _ job _ _ _ there) searched (passed.value.1 start);
+      paced = λ start. paced_on c.args.origin.now.direction origin.zone.reads (calm_of origin.zone start.calm) origin.instant _ _ _ _ (c.loop.invariant.paced start) found.on (walk_reaches _ _ job _ _ _ there) searched (passed.value.1 start);
     }
 
 pub returns-clause-value : goal.returns-clause-value
 returns-clause-value g c =
-    let origin = g.T.CronDateTime.moment c.args.origin.now in
+    let origin = g.T.CronDateTime.moment c.args.origin.now.time.now in
     λ start.
-    let ends = paced_ends c.args.direction origin.zone start.calm origin.instant (wall_second c.loop.wall) c.loop.counter (c.loop.invariant.paced start) in
+    let ends = paced_ends c.args.origin.now.direction origin.zone start.calm origin.instant (wall_second c.loop.wall) c.loop.counter (c.loop.invariant.paced start) in
     absurd (omega arith)
 
 pub returns-in_err-answer-clause-err : goal.returns-in_err-answer-clause-err
 returns-in_err-answer-clause-err g c =
-    let origin = g.T.CronDateTime.moment c.args.origin.now in
+    let origin = g.T.CronDateTime.moment c.args.origin.now.time.now in
     let timetable = g.S.Schedule.timetable c.args.schedule.now in
     let found = rw c.in-Some-next_scheduled.is at c.next_scheduled.ensures in
     let there = walking_next _ _ (job_in origin.zone timetable) _ _ _ _ c.loop.invariant.walking found in
