@@ -19,20 +19,20 @@ no_replaced s full None e f =
 no_replaced s full (Some text) e f =
     ap (λ b. of_fields s text (cond b (seven (words text)) None)) (no_count s (length (words text)) e f)
 
-abbrev IsRefused : Result Meaning Refusal → Type 0
-IsRefused r = (m : Meaning) → r ≡ Ok m → ⊥
+abbrev HasNoMeaning : Result Meaning Refusal → Type 0
+HasNoMeaning r = (m : Meaning) → r ≡ Ok m → ⊥
 
 is_ok_meaning : Result Meaning Refusal → Bool
 is_ok_meaning (Ok m) = true
 is_ok_meaning (Err e) = false
 
-err_is_refused : (e : Refusal) → IsRefused (Err e)
+err_has_none : (e : Refusal) → HasNoMeaning (Err e)
 unfolding is_ok_meaning
-err_is_refused e = λ m h. false≢true (ap is_ok_meaning h)
+err_has_none e = λ m h. false≢true (ap is_ok_meaning h)
 
 pub no_texts : (s : Settings) (text : List ℕ) → s.seconds_field ≡ seconds.Disallowed → s.year_field ≡ year.Required → (m : Meaning) → outcome s text ≡ Ok m → ⊥
 no_texts s given e f =
     let text = trim (str_to_ascii_uppercase given) in
     let full = nicknamed s text in
-    cond_both (eqb (length text) 0) (Err Empty) (of_replaced s full (replaced s.quartz false full)) IsRefused (λ _. err_is_refused Empty)
-    (λ _. subst IsRefused (sym (no_replaced s full (replaced s.quartz false full) e f)) (err_is_refused Invalid))
+    cond_both (eqb (length text) 0) (Err Empty) (of_replaced s full (replaced s.quartz false full)) HasNoMeaning (λ _. err_has_none Empty)
+    (λ _. subst HasNoMeaning (sym (no_replaced s full (replaced s.quartz false full) e f)) (err_has_none Invalid))

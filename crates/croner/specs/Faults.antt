@@ -18,10 +18,4 @@ is_kept (Some (ComponentError message)) = false
 -- the error that a call without an item keeps: none for the limit, else the very one that refused its search
 abbrev pub fault_of : CronError → Option CronError
 fault_of TimeSearchLimitExceeded = None
-fault_of EmptyPattern = Some EmptyPattern
-fault_of InvalidDate = Some InvalidDate
-fault_of InvalidTime = Some InvalidTime
-fault_of OutOfMemory = Some OutOfMemory
-fault_of (InvalidPattern message) = Some (InvalidPattern message)
-fault_of (IllegalCharacters message) = Some (IllegalCharacters message)
-fault_of (ComponentError message) = Some (ComponentError message)
+fault_of refusal = Some refusal
