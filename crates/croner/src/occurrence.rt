@@ -24,12 +24,11 @@ impl Cron {
     /// included, it is a whole second of the start's zone, and an interval job's answer shows a scheduled second.
     ///
     /// It is refused by
-    /// - `TimeSearchLimitExceeded` where no run is left before year 5000, which is so in a calm zone from a whole second; runs of
-    ///   year 5000 itself may be found or not. A start past the years, which reads year 5000 or later with nothing scheduled
-    ///   ahead, as each start from year 5001 on, is always refused so.
-    /// - `InvalidDate` or `InvalidTime`, as the backend has it, where the backend doesn't hold a moment that had to be asked for;
-    ///   a run may be left then. It never comes in a calm zone from a whole second where the years 0 to 5001 and two days around
-    ///   the start are held.
+    /// - `TimeSearchLimitExceeded`: in a calm zone and from a whole second no run is left before year 5000; runs of year 5000
+    ///   itself may be found or not. It always comes from a start past the years, which reads year 5000 or later with nothing
+    ///   scheduled ahead, as each start from year 5001 on.
+    /// - `InvalidDate` or `InvalidTime`, as the backend has it: a moment that had to be asked for is not held, and a run may be
+    ///   left. Neither comes in a calm zone from a whole second where the years 0 to 5001 and two days around the start are held.
     /// - `OutOfMemory`, only over a backend that can lack memory.
     ///
     /// Nothing is changed by a search. The fields of the pattern must have the shapes of their places, as those of every parsed
@@ -48,8 +47,8 @@ impl Cron {
 
     /// The previous run before a time, or from it back where the search is inclusive, in the time's zone: as
     /// [`find_next_occurrence`](Self::find_next_occurrence), the other way. A run that is only carried to the start counts here
-    /// where the search is inclusive. `TimeSearchLimitExceeded` says that no run is left after year 1, and always comes from a start
-    /// that reads year 1 or earlier with nothing scheduled ahead, as each start of year 0 or earlier.
+    /// where the search is inclusive. `TimeSearchLimitExceeded` says there that no run is left after year 1, and always comes from a
+    /// start that reads year 1 or earlier with nothing scheduled ahead, as each start of year 0 or earlier.
     pub fn find_previous_occurrence<T: CronDateTime>(
         &self,
         start: &T,

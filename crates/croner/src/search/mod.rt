@@ -158,8 +158,8 @@ fn edge_and_last<T: CronDateTime>(
 }
 
 /// The nearest run from the start in the direction, itself included where the search is inclusive. The limit where no run
-/// is found in the years that are searched; the backend's own error where it does not hold a moment that is needed, or
-/// lacks memory.
+/// is found in the years that are searched; the backend's own error, as it is, where it does not hold a moment that is asked
+/// for, or lacks memory.
 pub(crate) fn find<T: CronDateTime, S: Schedule>(
     alloc: Global,
     schedule: &S,
