@@ -1,6 +1,6 @@
 //! Reading a cron pattern: the settings of a parser, and its one call `parse`.
 
-ghost use Rattle.std.specs.Prelude.{◌≡◌, ◌||◌, [], true, false, Some, None, IfOk, MatchOption, string_bytes};
+ghost use Rattle.std.specs.Prelude.{◌≡◌, ◌||◌, true, false, Some, None, IfOk, MatchOption, map, string_bytes};
 
 mod fields;
 mod read;
@@ -134,7 +134,7 @@ impl CronParser {
     ghost use Rattle.croner.specs.Settings.{default_settings, accepts_count};
     ghost use Rattle.croner.specs.Cut.{replaced};
     ghost use Rattle.croner.specs.Gives.{Gives};
-    ghost use Rattle.croner.specs.Grammar.{outcome, of_trimmed, nicknamed, of_replaced, of_fields, of_settled, has_plus};
+    ghost use Rattle.croner.specs.Grammar.{outcome, of_trimmed, nicknamed, of_replaced, of_fields, fields_of, of_settled, has_plus};
     ghost use Rattle.croner.specs.Views.{job_of, texts_of};
     ghost use Rattle.croner_pattern.specs.Shapes.{has_field_shapes};
 
@@ -199,7 +199,11 @@ impl CronParser {
         ensures { Gives job_of result (of_replaced self.now full.now (replaced self.now.quartz false full.now)) }
     {
         match replaced(alloc, full, self.alternative_weekdays)? {
-            Some(text) => self.parse_replaced(alloc, text.as_str()),
+            Some(text) => {
+                let text = text.as_str();
+                let words = words(alloc, text)?;
+                self.parse_words(alloc, text, words.as_slice())
+            }
             None => self.refuse_lost(alloc, full),
         }
     }
@@ -232,14 +236,13 @@ impl CronParser {
         }
     }
 
-    /// Reads a text whose names are replaced.
-    fn parse_replaced(&self, alloc: Global, text: &str) -> Result<Cron, CronError>
-        ensures { Gives job_of result (of_replaced self.now [] (Some text.now)) }
+    /// Reads the words of a text whose names are replaced.
+    fn parse_words(&self, alloc: Global, text: &str, words: &[&str]) -> Result<Cron, CronError>
+        ensures { Gives job_of result (of_fields self.now text.now (fields_of self.now (map (λ w. w.now) words.now))) }
     {
-        let words = words(alloc, text)?;
         let count = words.len();
         if self.accepts_count(count) {
-            if let Some(given) = seven(words.as_slice()) {
+            if let Some(given) = seven(words) {
                 return self.parse_fields(alloc, text, given);
             }
         }
