@@ -4,6 +4,7 @@ use Rattle.std.proofs.lemmas.Bool.{false≢true}
 use Rattle.std.specs.Prelude.{codes}
 use Rattle.std.specs.Fmt.{digits}
 use Rattle.croner_base.specs.CivilText.{datetime_text}
+use Rattle.croner_base.specs.declared.errors.CronError.TheVariants.{InvalidDate, OutOfMemory, TimeSearchLimitExceeded}
 use Rattle.croner_base.specs.declared.time.Direction.TheVariants.{Forward, Backward}
 use Rattle.croner_base.specs.declared.time.value.Resolution.TheVariants.{Single, Ambiguous, Gap}
 use Rattle.cronrun_command.specs.Answer.{bool_text}
@@ -11,6 +12,7 @@ use Rattle.cronrun_command.specs.Command.{command_of}
 use Rattle.cronrun_command.specs.Count.{IsCountText}
 use Rattle.cronrun_command.specs.Line.{second_text}
 use Rattle.cronrun_command.specs.Moment.{two_digits, four_digits, AreDateNumbers}
+use Rattle.cronrun_command.specs.Reason.{reason_of}
 use Rattle.cronrun_command.specs.Start.{first_instant}
 
 -- words and numbers
@@ -78,3 +80,13 @@ none_in_a_gap = refl
 
 none_beyond_the_clock : first_instant None ≡ None
 none_beyond_the_clock = refl
+
+-- reasons: the fault itself, and the limit where there is none
+a_fault_is_its_reason : reason_of (Some InvalidDate) ≡ InvalidDate
+a_fault_is_its_reason = refl
+
+want_of_memory_is_its_reason : reason_of (Some OutOfMemory) ≡ OutOfMemory
+want_of_memory_is_its_reason = refl
+
+no_fault_is_the_limit : reason_of None ≡ TimeSearchLimitExceeded
+no_fault_is_the_limit = refl

@@ -38,6 +38,11 @@ abbrev pub AreGiven : Standing → List Moment → Type 0
 AreGiven s [] = ⊤
 AreGiven s (run ∷ runs) = GivesItem s run (moved s run) × AreGiven (moved s run) runs
 
+-- where the listing stands after these runs
+abbrev pub stands_after : Standing → List Moment → Standing
+stands_after s [] = s
+stands_after s (run ∷ runs) = stands_after (moved s run) runs
+
 -- the zone that a listing names: civil time where it names none
 abbrev pub zone_of : Option TimeZone → Zone
 zone_of None = civil_zone

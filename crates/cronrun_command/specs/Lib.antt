@@ -5,6 +5,8 @@ pub mod Count
 pub mod Line
 pub mod Moment
 pub mod Opened
+pub mod Reason
 pub mod Refused
 pub mod Start
+pub mod Stopped
 pub mod Written

@@ -11,6 +11,7 @@ ghost use Rattle.cronrun_command.specs.Answer.{Answers, IsOpened};
 ghost use Rattle.cronrun_command.specs.Opened.{Opens};
 ghost use Rattle.cronrun_command.specs.Start.{first_instant};
 ghost use Rattle.cronrun_command.specs.Refused.{IsRefused};
+ghost use Rattle.cronrun_command.specs.Stopped.{Stops};
 
 use crate::request::Request;
 use crate::runs::list;
@@ -31,6 +32,7 @@ const CIVIL_CLOCK: DateTime = DateTime::MIN;
 pub fn answer<W: Write>(alloc: Global, request: Request<'_>, out: &mut W) -> Result<(), Stop>
     ensures answers { OnOk result (Answers request.entry (W.contents out.old) (W.contents out.new)) }
     ensures opened { IsOpened request.entry ⊎ Keeps (W.contents out.old) (W.contents out.new) }
+    ensures stops { IfErr result (Stops request.entry (W.contents out.old) (W.contents out.new)) }
 {
     match request {
         Request::Match { pattern, at } => {

@@ -5,6 +5,7 @@ ghost use Rattle.std.specs.Prelude.{◌≡◌, ◌≤◌, map, string_bytes};
 ghost use Rattle.std.specs.Io.KnownBytes.{Keeps};
 ghost use Rattle.cronrun_command.specs.Answer.{AnswersWords, OpensWords};
 ghost use Rattle.cronrun_command.specs.Call.{IsCall};
+ghost use Rattle.cronrun_command.specs.Stopped.{StopsWords};
 
 mod answer;
 mod count;
@@ -54,13 +55,14 @@ const USAGE: &str =
 /// limit of a search where there is none. A failed write to standard output is [`REFUSED`] too, one
 /// to standard error changes no status.
 pub fn run<O: Write, E: Write>(alloc: Global, words: &[String], out: &mut O, err: &mut E) -> u8
-    ensures known { result ≤ MISUSED }
-    ensures call { IsCall (map string_bytes words.now) → result ≤ REFUSED }
-    ensures answered { result ≡ ANSWERED → AnswersWords (map string_bytes words.now) (O.contents out.old) (O.contents out.new) }
-    ensures quiet { result ≡ ANSWERED → Keeps (E.contents err.old) (E.contents err.new) }
-    ensures opened { result ≤ REFUSED → OpensWords (map string_bytes words.now) (O.contents out.old) (O.contents out.new) }
-    ensures misused { ¬ (IsCall (map string_bytes words.now)) → result ≡ MISUSED }
-    ensures silent { result ≡ MISUSED → Keeps (O.contents out.old) (O.contents out.new) }
+    ensures known { result ≤ 2 }
+    ensures call { IsCall (map string_bytes words.now) → result ≤ 1 }
+    ensures answered { result ≡ 0 → AnswersWords (map string_bytes words.now) (O.contents out.old) (O.contents out.new) }
+    ensures quiet { result ≡ 0 → Keeps (E.contents err.old) (E.contents err.new) }
+    ensures stopped { result ≡ 1 → StopsWords (map string_bytes words.now) (O.contents out.old) (O.contents out.new) }
+    ensures opened { result ≤ 1 → OpensWords (map string_bytes words.now) (O.contents out.old) (O.contents out.new) }
+    ensures misused { ¬ (IsCall (map string_bytes words.now)) → result ≡ 2 }
+    ensures silent { result ≡ 2 → Keeps (O.contents out.old) (O.contents out.new) }
 {
     let Some(request) = Request::read(words) else {
         return misused(err);
@@ -79,7 +81,7 @@ pub fn run<O: Write, E: Write>(alloc: Global, words: &[String], out: &mut O, err
 
 /// Writes the usage line, and gives the status of words that are no call.
 pub fn misused<E: Write>(err: &mut E) -> u8
-    ensures { result ≡ MISUSED }
+    ensures { result ≡ 2 }
 {
     let _ = writeln!(err, "{USAGE}");
     MISUSED

@@ -1,7 +1,8 @@
 //! Listing the runs of a pattern.
-ghost use Rattle.std.specs.Prelude.{◌≡◌, ◌⊎◌, Ok, Some, false, is_some, IfOk, IfErr, OnOk};
+ghost use Rattle.std.specs.Prelude.{◌≡◌, ◌⊎◌, Ok, Some, false, is_some, option_map, IsTrue, IfOk, IfErr, OnOk};
 ghost use Rattle.std.specs.Io.KnownBytes.{Keeps};
 ghost use Rattle.croner_base.specs.Zone.{at_instant};
+ghost use Rattle.croner.specs.Faults.{is_kept};
 ghost use Rattle.croner.specs.Grammar.{outcome};
 ghost use Rattle.croner.specs.Listing.{standing_of};
 ghost use Rattle.croner.specs.Settings.{default_settings};
@@ -9,6 +10,8 @@ ghost use Rattle.cronrun_command.specs.Answer.{Answers, IsOpened, zone_of};
 ghost use Rattle.cronrun_command.specs.Start.{first_instant};
 ghost use Rattle.cronrun_command.specs.Refused.{IsRefused};
 ghost use Rattle.cronrun_command.specs.Opened.{StandsAtStart};
+ghost use Rattle.cronrun_command.specs.Reason.{reason_of};
+ghost use Rattle.cronrun_command.specs.Stopped.{StopsList, StopsNext};
 ghost use Rattle.cronrun_command.specs.Written.{WritesNext};
 ghost use Rattle.cronrun_command.specs.declared.request.Request.TheVariants.{List};
 
@@ -34,6 +37,8 @@ pub fn list<T: Listed, W: Write>(
         OnOk result (Answers (List listing.now) (W.contents out.old) (W.contents out.new)) }
     ensures opened { (T.moment clock.now).zone ≡ zone_of listing.now.zone →
         IsOpened (List listing.now) ⊎ Keeps (W.contents out.old) (W.contents out.new) }
+    ensures stops { (T.moment clock.now).zone ≡ zone_of listing.now.zone → T.in_zone ≡ is_some listing.now.zone →
+        IfErr result (StopsList T.can_lack_memory listing.now (W.contents out.old) (W.contents out.new)) }
 {
     let mut runs = runs_from(alloc, listing, clock)?;
     for _run in 0..listing.count {
@@ -63,7 +68,9 @@ fn runs_from<T: CronDateTime>(
 
 // Writes the line of the next run, or gives the reason why there is none.
 fn write_next<T: Listed, W: Write>(runs: &mut CronIterator<T>, out: &mut W) -> Result<(), Stop>
-    ensures { OnOk result (WritesNext T.in_zone (standing_of T.moment runs.old) (standing_of T.moment runs.new)
+    ensures writes { OnOk result (WritesNext T.in_zone (standing_of T.moment runs.old) (standing_of T.moment runs.new)
+        (W.contents out.old) (W.contents out.new)) }
+    ensures stops { IfErr result (StopsNext T.can_lack_memory (standing_of T.moment runs.old) (standing_of T.moment runs.new)
         (W.contents out.old) (W.contents out.new)) }
 {
     match runs.next() {
@@ -76,8 +83,12 @@ fn write_next<T: Listed, W: Write>(runs: &mut CronIterator<T>, out: &mut W) -> R
     }
 }
 
-// Why a listing ends early: the fault of its iterator, or the limit where there is none.
-fn reason(fault: Option<&CronError>) -> CronError {
+// Why a listing ends early: the fault of its iterator, or the limit where there is none. The faults that iterators keep have no
+// message, so a copy of one takes no memory.
+fn reason(fault: Option<&CronError>) -> CronError
+    ensures { IsTrue (is_kept (option_map (λ fault. fault.now) fault.entry))
+        → result ≡ reason_of (option_map (λ fault. fault.now) fault.entry) }
+{
     match fault {
         Some(fault) => match fault.clone() {
             Ok(fault) => fault,

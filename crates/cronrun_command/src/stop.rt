@@ -22,12 +22,22 @@ impl fmt::Display for Stop {
 }
 
 impl From<CronError> for Stop {
+    ghost use Rattle.std.specs.Prelude.{◌≡◌};
+    ghost use Rattle.cronrun_command.specs.declared.stop.Stop.TheVariants.{Refused};
+
+    ghost from_gives = { λ error stop. stop ≡ Refused error };
+
     fn from(error: CronError) -> Stop {
         Stop::Refused(error)
     }
 }
 
 impl From<io::Error> for Stop {
+    ghost use Rattle.std.specs.Prelude.{◌≡◌};
+    ghost use Rattle.cronrun_command.specs.declared.stop.Stop.TheVariants.{Unwritten};
+
+    ghost from_gives = { λ error stop. stop ≡ Unwritten error };
+
     fn from(error: io::Error) -> Stop {
         Stop::Unwritten(error)
     }
