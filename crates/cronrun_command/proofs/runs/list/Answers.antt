@@ -1,4 +1,4 @@
-use Rattle.std.proofs.Common.{◌≡◌, ◌∙◌, Bool, subst, arith}
+use Rattle.std.proofs.Common.{◌≡◌, ◌∙◌, ◌<◌, Bool, subst, arith}
 use Rattle.std.proofs.lemmas.Result.{err_from_is_err_and}
 use Rattle.croner_base.specs.Zone.{Zone}
 use Rattle.croner.specs.Grammar.{outcome}
@@ -51,7 +51,8 @@ returns-in_err-write_next-clause-stops g c = λ zone in_zone.
     let mid = contents c.loop-run.out in
     let P : Zone → Type 0 = λ z. StandsAtStart (outcome default_settings l.pattern.now) z l.at l.direction start in
     let Q : Bool → Type 0 = λ b. Wrote b start cur n before mid in
+    let few : n < l.count = omega arith in
     let p = err_from_is_err_and c.from_residual-in_err-write_next.result c.from_residual-in_err-write_next.ensures.1 in
     rw (p.1, p.2)
     (stops_list g.T.CronDateTime.can_lack_memory l start cur new n before mid (contents c.write_next.new.out) c.in_err-write_next.field-0.0
-    (subst P zone c.in_ok-runs.ensures.ok) (subst Q in_zone c.loop-run.invariant.wrote) c.loop-run-test.true c.in_err-write_next.ensures.stops)
+    (subst P zone c.in_ok-runs.ensures.ok) (subst Q in_zone c.loop-run.invariant.wrote) few c.in_err-write_next.ensures.stops)
