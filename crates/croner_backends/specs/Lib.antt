@@ -1,0 +1,3 @@
+pub mod BoxedMoment
+pub mod Narrow
+pub mod NarrowMoment
