@@ -1,2 +1,5 @@
 pub mod Narrowed
 pub mod Bounds
+pub mod NarrowCalm
+pub mod Promised
+pub mod BackendsCalm

@@ -1,5 +1,5 @@
 -- A zone of which a backend holds only what lies between two instants.
-use Rattle.std.specs.Prelude.{◌&&◌, Bool, if◌then◌else◌, int_lt, int_le, ℤ, pos, ◌-ℤ◌, Option, Some, None}
+use Rattle.std.specs.Prelude.{◌≡◌, ◌⊎◌, ◌&&◌, Bool, if◌then◌else◌, int_lt, int_le, ℤ, pos, ◌-ℤ◌, ◌<ℤ◌, ◌≤ℤ◌, Option, Some, None}
 use Rattle.croner_base.specs.declared.time.value.Resolution.{Resolution}
 use Rattle.croner_base.specs.declared.time.value.Resolution.TheVariants.{Single, Ambiguous, Gap}
 use Rattle.croner_base.specs.Civil.{wall_second}
@@ -31,3 +31,11 @@ narrow z low high = record {
   resolves = λ c. narrowed z.reads low high (wall_second c) (z.resolves c);
   holds = λ i. is_between low high i && z.holds i;
 }
+
+-- an instant that shows a wall second, or that ends the gap over it
+abbrev pub IsOf : (ℤ → ℤ) → ℤ → ℤ → Type 0
+IsOf reads w i = (reads i ≡ w) ⊎ ((reads (i -ℤ pos 1) <ℤ w) × (w <ℤ reads i))
+
+-- each of these lies between the two
+abbrev pub IsHeldBetween : (ℤ → ℤ) → ℤ → ℤ → ℤ → Type 0
+IsHeldBetween reads low high w = (i : ℤ) → IsOf reads w i → (low ≤ℤ i) × (i ≤ℤ high)

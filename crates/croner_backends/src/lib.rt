@@ -3,6 +3,7 @@
 #![tactic(auto)]
 
 mod boxed;
+pub mod laws;
 mod narrow;
 
 pub use boxed::BoxedTime;
