@@ -1,10 +1,10 @@
 -- The zone that holds little is calm where the whole zone is, and what it holds.
-use Rattle.std.proofs.Common.{◌≡◌, ◌∙◌, ap, sym, refl, inl, inr, ◌⊎◌, ◌↔◌, arith, subst, Bool, true, false, ◌&&◌, int_lt, int_le, ℤ, pos, ◌+ℤ◌, ◌-ℤ◌, ◌<ℤ◌, ◌≤ℤ◌, Option, Some, None, IsSome}
+use Rattle.std.proofs.Common.{◌≡◌, ap, refl, inl, inr, ◌↔◌, arith, Bool, true, false, ℤ, pos, ◌+ℤ◌, ◌-ℤ◌, ◌<ℤ◌, ◌≤ℤ◌, Option, Some, None, IsSome}
 use Rattle.std.proofs.lemmas.Int.{ints, by_lt_z}
 use Rattle.croner_base.specs.declared.time.civil.CivilDateTime.{CivilDateTime}
 use Rattle.croner_base.specs.declared.time.value.Resolution.{Resolution}
 use Rattle.croner_base.specs.declared.time.value.Resolution.TheVariants.{Single, Ambiguous, Gap}
-use Rattle.croner_base.specs.Calm.{IsCalm, NamesAll}
+use Rattle.croner_base.specs.Calm.{IsCalm}
 use Rattle.croner_base.specs.Civil.{wall_second}
 use Rattle.croner_base.specs.Zone.{Zone}
 use Rattle.croner_base.proofs.TableTests.{both_parts, le_of, lt_of, le_test, lt_test}
@@ -12,7 +12,7 @@ use Rattle.croner.specs.Halves.{Break}
 use Rattle.croner.proofs.CalmZone.{Exactly, calm_of, exact_of}
 use Rattle.croner.proofs.GapSides.{unread_is_in_gap}
 use Rattle.croner.proofs.ZoneOrder.{Calm, order}
-use Rattle.croner_backends.specs.Narrow.{is_between, is_skipped, is_held, narrowed, narrow, IsOf, IsHeldBetween}
+use Rattle.croner_backends.specs.Narrow.{is_between, is_held, narrowed, narrow, IsHeldBetween}
 
 -- ---- calm
 
