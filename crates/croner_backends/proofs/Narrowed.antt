@@ -1,5 +1,5 @@
 -- What a backend that holds little makes of what the table holds.
-use Rattle.std.proofs.Common.{◌≡◌, ◌∙◌, ap, refl, inl, inr, ◌↔◌, Bool, true, false, ◌&&◌, ℤ, ◌+ℤ◌, Option, Some, None, IsTrue, IsSome, IfSome}
+use Rattle.std.proofs.Common.{◌≡◌, ◌∙◌, ap, refl, inl, inr, ◌↔◌, Bool, true, false, ◌&&◌, ℤ, ◌+ℤ◌, Option, Some, None, IsTrue, IsSome, IfSome, Result, Ok, Err, IfErr}
 use Rattle.croner_base.specs.declared.errors.CronError.{CronError}
 use Rattle.croner_base.specs.declared.errors.CronError.TheVariants.{InvalidTime}
 use Rattle.croner_base.specs.declared.time.civil.CivilDateTime.{CivilDateTime}
@@ -21,6 +21,11 @@ pub none_false : {X : Type 0} (r : Option X) (b : Bool) → r ≡ None → IsSom
 none_false (Some x) b e h = absurd (cc)
 none_false None true e h = absurd (cc (h.1 refl))
 none_false None false e h = refl
+
+-- a refusal by one error alone
+pub refused_as : {X : Type 0} (P : CronError → Type 0) (r : Result X CronError) → P InvalidTime → ((e : CronError) → r ≡ Err e → e ≡ InvalidTime) → IfErr r P
+refused_as P (Ok x) h only = tt
+refused_as P (Err e) h only = let same = only e refl in rw same h
 
 both_false : (a b : Bool) → b ≡ false → (a && b) ≡ false
 both_false true b h = h

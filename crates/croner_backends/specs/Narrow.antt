@@ -32,10 +32,10 @@ narrow z low high = record {
   holds = λ i. is_between low high i && z.holds i;
 }
 
--- an instant that shows a wall second, or that ends the gap over it
-abbrev pub IsOf : (ℤ → ℤ) → ℤ → ℤ → Type 0
-IsOf reads w i = (reads i ≡ w) ⊎ ((reads (i -ℤ pos 1) <ℤ w) × (w <ℤ reads i))
+-- the clock shows the wall second at the instant, or skips it there
+abbrev pub ShowsOrSkips : (ℤ → ℤ) → ℤ → ℤ → Type 0
+ShowsOrSkips reads w i = (reads i ≡ w) ⊎ ((reads (i -ℤ pos 1) <ℤ w) × (w <ℤ reads i))
 
--- each of these lies between the two
+-- each instant of that kind lies between the two
 abbrev pub IsHeldBetween : (ℤ → ℤ) → ℤ → ℤ → ℤ → Type 0
-IsHeldBetween reads low high w = (i : ℤ) → IsOf reads w i → (low ≤ℤ i) × (i ≤ℤ high)
+IsHeldBetween reads low high w = (i : ℤ) → ShowsOrSkips reads w i → (low ≤ℤ i) × (i ≤ℤ high)

@@ -1,7 +1,11 @@
-use Rattle.std.proofs.Common.{◌∙◌, sym, refl}
+use Rattle.std.proofs.Common.{◌∙◌, sym, refl, false}
 use Rattle.croner_base.specs.TableZone.{table_zone}
+use Rattle.croner_base.specs.declared.errors.CronError.{CronError}
+use Rattle.croner_base.specs.declared.errors.CronError.TheVariants.{InvalidTime}
 use Rattle.croner_base.specs.declared.time.value.Resolution.TheVariants.{Gap}
-use Rattle.croner_backends.proofs.Narrowed.{some_true, none_false, held, not_held, not_resolved, unheld_none, single_kept, single_out, two_kept, first_out, second_out}
+use Rattle.croner_base.specs.Zone.{IsUnheld}
+use Rattle.croner_backends.specs.Narrow.{narrow}
+use Rattle.croner_backends.proofs.Narrowed.{some_true, none_false, refused_as, held, not_held, not_resolved, unheld_none, single_kept, single_out, two_kept, first_out, second_out}
 use Rattle.croner_backends.proofs.narrow.NarrowTimeCronDateTime.resolve_civil.Goals as goal
 use Rattle.croner_backends.proofs.narrow.NarrowTimeCronDateTime.resolve_civil.Goals.{in-Ok-Single+in-Some, in-Ok-Single+in-None, in-Ok-Ambiguous+in-Some-Some, in-Ok-Ambiguous+in_default, in_default-via-in-Some+in_default, in_default-via-in_default, in-Ok-Gap+then-skips, in-Ok-Gap+else-skips, in-Err}
 
@@ -36,27 +40,35 @@ pub returns-clause-err : goal.returns-clause-err
 returns-clause-err c =
     let s = c.args.self.now in
     let z = table_zone s.time.table.now in
+    let d = c.args.civil in
+    let Refused : CronError → Type 0 = IsUnheld false (narrow z s.low s.high) d in
     elim c.match-resolve_civil.branch [
       | in-Ok-Single+in-Some w ↦ rw w.result-is tt
       | in-Ok-Single+in-None w ↦
           let r = rw w.in-Ok-Single.field-0-is at w.in-Ok-Single.ensures.value in
-          rw w.result-is (single_out z s.low s.high c.args.civil w.in-Ok-Single.time r (none_false w.kept.result _ w.in-None.is w.kept.ensures.some))
+          let out = single_out z s.low s.high d w.in-Ok-Single.time r (none_false w.kept.result _ w.in-None.is w.kept.ensures.some) in
+          refused_as Refused c.match-resolve_civil.result out (λ e is. let same = sym is ∙ w.result-is in cc)
       | in-Ok-Ambiguous+in-Some-Some w ↦ rw w.result-is tt
       | in-Ok-Ambiguous+in_default w ↦
           let r = rw w.in-Ok-Ambiguous.field-0-is at w.in-Ok-Ambiguous.ensures.value in
           let first = w.kept-in-Ok-Ambiguous in
           let second = w.kept-in-Ok-Ambiguous-2 in
+          let out : Refused InvalidTime =
           elim w.in_default.branch [
             | in_default-via-in-Some+in_default v ↦
-                rw w.result-is (second_out z s.low s.high c.args.civil w.in-Ok-Ambiguous.earlier w.in-Ok-Ambiguous.later r (none_false second.result _ v.in_default.is-1 second.ensures.some))
+                second_out z s.low s.high d w.in-Ok-Ambiguous.earlier w.in-Ok-Ambiguous.later r (none_false second.result _ v.in_default.is-1 second.ensures.some)
             | in_default-via-in_default v ↦
-                rw w.result-is (first_out z s.low s.high c.args.civil w.in-Ok-Ambiguous.earlier w.in-Ok-Ambiguous.later r (none_false first.result _ v.in_default.is-0 first.ensures.some))
-          ]
+                first_out z s.low s.high d w.in-Ok-Ambiguous.earlier w.in-Ok-Ambiguous.later r (none_false first.result _ v.in_default.is-0 first.ensures.some)
+          ] in
+          refused_as Refused c.match-resolve_civil.result out (λ e is. let same = sym is ∙ w.result-is in cc)
       | in-Ok-Gap+then-skips w ↦ rw w.result-is tt
       | in-Ok-Gap+else-skips w ↦
           let a = w.in-Ok-Gap.ensures in
           let r = rw w.in-Ok-Gap.field-0-is at a.value in
           let skipped = w.skips.ensures (a.held.0 refl) in
-          rw w.result-is (not_held z s.low s.high c.args.civil Gap r (sym skipped ∙ w.if-skips.false))
-      | in-Err w ↦ rw w.result-is (not_resolved z s.low s.high c.args.civil (unheld_none z c.args.civil w.in-Err.field-0 w.in-Err.ensures.err))
+          let out = not_held z s.low s.high d Gap r (sym skipped ∙ w.if-skips.false) in
+          refused_as Refused c.match-resolve_civil.result out (λ e is. let same = sym is ∙ w.result-is in cc)
+      | in-Err w ↦
+          let out = not_resolved z s.low s.high d (unheld_none z d w.in-Err.field-0 w.in-Err.ensures.err) in
+          refused_as Refused c.match-resolve_civil.result out (λ e is. let same = sym is ∙ w.result-is in cc)
     ]
