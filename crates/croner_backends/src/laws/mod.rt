@@ -2,4 +2,5 @@
 //! function.
 
 pub mod clocks;
+pub mod listings;
 pub mod searches;

@@ -1,0 +1,43 @@
+//! Iterators over the two backends: their items begin the listing of the runs on the clocks of their tables.
+ghost use Rattle.std.specs.Prelude.{◌≡◌, IsTrue, IfOk, IfErr};
+ghost use Rattle.croner.specs.Listing.{standing_of, instants, BeginsRest, Gave, GaveAll};
+ghost use Rattle.croner_backends.specs.BoxedMoment.{boxed_moment};
+ghost use Rattle.croner_backends.specs.NarrowMoment.{narrow_moment};
+
+use crate::{BoxedTime, NarrowTime};
+use croner::CronIterator;
+use croner::errors::CronError;
+use croner::laws::listing::next_runs;
+use std::alloc::Global;
+
+/// The items of up to so many calls of `next` over the backend that takes memory, whatever memory they find, and whether the
+/// last call said that nothing is left: they begin the listing of what the iterator had yet to give, it goes on with the rest,
+/// and where nothing is said to be left they are all of it. The only error is `OutOfMemory`, for the room of the items.
+pub fn next_boxed_runs<'t>(
+    alloc: Global,
+    iterator: &mut CronIterator<BoxedTime<'t>>,
+    calls: u32,
+) -> Result<(Vec<BoxedTime<'t>>, bool), CronError>
+    ensures listing { IfOk result (λ r. BeginsRest (standing_of boxed_moment iterator.old) (instants boxed_moment r.0.items)) }
+    ensures rest { IfOk result
+        (λ r. Gave (standing_of boxed_moment iterator.old) (standing_of boxed_moment iterator.new) (instants boxed_moment r.0.items)) }
+    ensures all { IfOk result (λ r. IsTrue r.1 → GaveAll (standing_of boxed_moment iterator.old) (instants boxed_moment r.0.items)) }
+    ensures err { IfErr result (λ e. e ≡ CronError.OutOfMemory) }
+{
+    next_runs(alloc, iterator, calls)
+}
+
+/// The same over the backend that holds little, whatever it holds.
+pub fn next_narrow_runs<'t>(
+    alloc: Global,
+    iterator: &mut CronIterator<NarrowTime<'t>>,
+    calls: u32,
+) -> Result<(Vec<NarrowTime<'t>>, bool), CronError>
+    ensures listing { IfOk result (λ r. BeginsRest (standing_of narrow_moment iterator.old) (instants narrow_moment r.0.items)) }
+    ensures rest { IfOk result
+        (λ r. Gave (standing_of narrow_moment iterator.old) (standing_of narrow_moment iterator.new) (instants narrow_moment r.0.items)) }
+    ensures all { IfOk result (λ r. IsTrue r.1 → GaveAll (standing_of narrow_moment iterator.old) (instants narrow_moment r.0.items)) }
+    ensures err { IfErr result (λ e. e ≡ CronError.OutOfMemory) }
+{
+    next_runs(alloc, iterator, calls)
+}
