@@ -1,4 +1,4 @@
-//! The jobs of rows: a parser's settings and a text.
+//! The jobs of rows: a parser's settings and a text, and searches of a job.
 ghost use Rattle.std.specs.Prelude.{◌≡◌, true, IfOk};
 ghost use Rattle.croner_pattern.specs.Shapes.{has_field_shapes};
 ghost use Rattle.croner.specs.Views.{job_of};
@@ -6,6 +6,7 @@ ghost use Rattle.croner.specs.Views.{job_of};
 use crate::fault::Fault;
 use croner::Cron;
 use croner::parser::{CronParser, CronParserBuilder, Seconds, Year};
+use croner::time::CronDateTime;
 use std::alloc::Global;
 
 /// The job of a text, read by the parser of some settings, which commas part; no setting is the default parser.
@@ -31,9 +32,19 @@ fn with(builder: CronParserBuilder, setting: &str) -> Result<CronParserBuilder, 
         "seconds disallowed" => Ok(builder.seconds(Seconds::Disallowed)),
         "year required" => Ok(builder.year(Year::Required)),
         "year disallowed" => Ok(builder.year(Year::Disallowed)),
-        "both days" => Ok(builder.dom_and_dow(true)),
-        "Quartz" => Ok(builder.alternative_weekdays(true)),
-        "sloppy" => Ok(builder.sloppy_ranges(true)),
+        _ => Err(Fault::Malformed),
+    }
+}
+
+/// The next run `after` a time or `from` it on, or the previous one `before` it or `back from` it.
+pub fn run_found<T: CronDateTime>(job: &Cron, search: &str, start: &T) -> Result<T, Fault>
+    requires { has_field_shapes (job_of job.now) ≡ true }
+{
+    match search {
+        "after" => Ok(job.find_next_occurrence(start, false)?),
+        "from" => Ok(job.find_next_occurrence(start, true)?),
+        "before" => Ok(job.find_previous_occurrence(start, false)?),
+        "back from" => Ok(job.find_previous_occurrence(start, true)?),
         _ => Err(Fault::Malformed),
     }
 }

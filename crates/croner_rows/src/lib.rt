@@ -1,4 +1,5 @@
-//! The worked rows of the library and of its program, as tables of tests.
+//! What only a test can show of the library and of its program: messages, `Debug`, faults that an iterator keeps, memory
+//! that is found, and what the program answers to words. Other rows are lines of the program `cronreplay`.
 //!
 //! A module a subject; its tables are texts, one row a line (`table`).
 #![tactic(auto)]
@@ -8,29 +9,23 @@ mod clock;
 #[cfg(test)]
 mod command_line;
 #[cfg(test)]
-mod days;
-#[cfg(test)]
 mod debug;
 #[cfg(test)]
 mod fault;
 #[cfg(test)]
-mod fields;
-#[cfg(test)]
-mod iterators;
+mod faults;
 #[cfg(test)]
 mod job;
 #[cfg(test)]
-mod orders;
+mod limits;
 #[cfg(test)]
-mod search;
+mod long;
 #[cfg(test)]
-mod searches;
+mod messages;
 #[cfg(test)]
 mod table;
 #[cfg(test)]
-mod tables;
-#[cfg(test)]
-mod texts;
+mod values;
 #[cfg(test)]
 mod words;
 #[cfg(test)]
