@@ -8,7 +8,7 @@ use std::alloc::Global;
 use std::fmt;
 
 /// A group of calls of one kind.
-#[derive(Clone, Copy)]
+#[derive(Debug, Clone, Copy)]
 pub enum Group {
     Parse,
     MatchCivil,

@@ -14,14 +14,15 @@ mod moment;
 mod paris;
 mod passes;
 mod starts;
+mod stop;
 mod subjects;
 
-use anyhow::Result;
 use group::Group;
 use measure::{Measured, measure};
 use std::io;
 use std::io::ErrorKind;
 use std::process::ExitCode;
+use stop::Stop;
 use subjects::Subjects;
 
 /// The status where the words are not of their form.
@@ -41,26 +42,17 @@ fn show(rt: &HostRuntime, group: Group, measured: Measured) -> io::Result<()> {
     }
 }
 
-// Measures a group, and shows what it answered and took.
-fn bench_group(rt: &HostRuntime, group: Group, subjects: &Subjects<'_>, rounds: u32) -> Result<()> {
-    let measured = measure(rt, group, subjects, rounds)?;
-    show(rt, group, measured)?;
-    Ok(())
-}
-
-fn bench_all(rt: &HostRuntime, subjects: &Subjects<'_>, rounds: u32) -> Result<()> {
-    for group in &Group::ALL {
-        bench_group(rt, *group, subjects, rounds)?;
-    }
-    Ok(())
-}
-
-fn bench(rt: &HostRuntime, rounds: u32) -> Result<()> {
+// Measures each group, and shows what it answered and took.
+fn bench(rt: &HostRuntime, rounds: u32) -> Result<(), Stop> {
     let table = paris::table(rt.alloc())?;
     let zone = paris::zone()?;
     let patterns = given::patterns(rt)?;
     let subjects = Subjects::new(rt.alloc(), patterns, &table, &zone)?;
-    bench_all(rt, &subjects, rounds)
+    for group in Group::ALL {
+        let measured = measure(rt, group, &subjects, rounds)?;
+        show(rt, group, measured)?;
+    }
+    Ok(())
 }
 
 // The rounds that the words ask for. None where they are not of their form.
@@ -72,11 +64,16 @@ fn rounds(rt: &HostRuntime) -> io::Result<Option<u32>> {
     }
 }
 
-fn main(rt: HostRuntime) -> Result<ExitCode> {
+fn main(rt: HostRuntime) -> io::Result<ExitCode> {
     let Some(rounds) = rounds(&rt)? else {
         eprintln!(rt; "{USAGE}")?;
         return Ok(ExitCode::from(MISUSED));
     };
-    bench(&rt, rounds)?;
-    Ok(ExitCode::SUCCESS)
+    match bench(&rt, rounds) {
+        Ok(()) => Ok(ExitCode::SUCCESS),
+        Err(stop) => {
+            eprintln!(rt; "{stop}")?;
+            Ok(ExitCode::FAILURE)
+        }
+    }
 }

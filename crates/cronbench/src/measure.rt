@@ -2,8 +2,8 @@
 
 use crate::answers::Answers;
 use crate::group::Group;
+use crate::stop::Stop;
 use crate::subjects::Subjects;
-use anyhow::{Result, ensure};
 use std::rt::CpuClock;
 use std::time::Duration;
 
@@ -27,26 +27,24 @@ impl Measured {
 }
 
 /// Measures a group in so many passes, at least one: its answers, the same in each, and the least time.
-pub fn measure<R: CpuClock + AllocGlobal>(
-    rt: &R,
+pub fn measure(
+    rt: &HostRuntime,
     group: Group,
     subjects: &Subjects<'_>,
     passes: u32,
-) -> Result<Measured> {
+) -> Result<Measured, Stop> {
     let mut least = measure_pass(rt, group, subjects)?;
     for _ in 1..passes {
         let measured = measure_pass(rt, group, subjects)?;
-        ensure!(measured.answers == least.answers, "two answers of {group}");
+        if measured.answers != least.answers {
+            return Err(Stop::Differing(group));
+        }
         least.time = least.time.min(measured.time);
     }
     Ok(least)
 }
 
-fn measure_pass<R: CpuClock + AllocGlobal>(
-    rt: &R,
-    group: Group,
-    subjects: &Subjects<'_>,
-) -> Result<Measured> {
+fn measure_pass(rt: &HostRuntime, group: Group, subjects: &Subjects<'_>) -> Result<Measured, Stop> {
     let begin = rt.thread_cpu_time()?;
     let answers = group.pass(rt.alloc(), subjects)?;
     let time = rt.thread_cpu_time()?.saturating_sub(begin);

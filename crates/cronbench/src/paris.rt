@@ -1,6 +1,6 @@
 //! The clock of Paris: as a table of its changes, and as a rule.
 
-use anyhow::Result;
+use crate::stop::Stop;
 use croner::time::table::ClockTable;
 use jiff::Error;
 use jiff::civil::{DateTime, Weekday};
@@ -23,7 +23,7 @@ const MARCH: i8 = 3;
 const OCTOBER: i8 = 10;
 
 /// The changes of 2020 to 2059. Before the first it is winter time, and after the last too.
-pub fn table(alloc: Global) -> Result<ClockTable> {
+pub fn table(alloc: Global) -> Result<ClockTable, Stop> {
     let mut changes = Vec::new(alloc);
     for year in FIRST_YEAR..YEAR_BEHIND {
         changes.push((change_in(year, MARCH)?, SUMMER_OFFSET))?;

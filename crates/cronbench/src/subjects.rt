@@ -2,7 +2,7 @@
 
 use crate::job::Job;
 use crate::starts::{FIRST_SECOND, civil_at, seconds, table_at, zoned_at};
-use anyhow::Result;
+use crate::stop::Stop;
 use croner::errors::CronError;
 use croner::time::table::{ClockTable, TableTime};
 use jiff::Zoned;
@@ -36,7 +36,7 @@ impl<'t> Subjects<'t> {
         patterns: Vec<String>,
         table: &'t ClockTable,
         zone: &TimeZone<'static>,
-    ) -> Result<Subjects<'t>> {
+    ) -> Result<Subjects<'t>, Stop> {
         let jobs = jobs(alloc, patterns.as_slice())?;
         let never = Never::new(alloc)?;
         let times = Times::new(alloc, table, zone)?;
@@ -62,7 +62,7 @@ pub struct Never {
 
 impl Never {
     /// Reads the two patterns.
-    fn new(alloc: Global) -> Result<Never> {
+    fn new(alloc: Global) -> Result<Never, Stop> {
         let first = civil_at(FIRST_SECOND)?;
         let no_date = Job::read(alloc, NO_DATE)?;
         let no_minute = Job::read(alloc, NO_MINUTE)?;
@@ -87,7 +87,11 @@ pub struct Times<'t> {
 
 impl<'t> Times<'t> {
     /// Places the times on the table and in the zone.
-    fn new(alloc: Global, table: &'t ClockTable, zone: &TimeZone<'static>) -> Result<Times<'t>> {
+    fn new(
+        alloc: Global,
+        table: &'t ClockTable,
+        zone: &TimeZone<'static>,
+    ) -> Result<Times<'t>, Stop> {
         let seconds = seconds(alloc)?;
         let civil = civil_times(alloc, seconds.as_slice())?;
         let on_table = table_times(alloc, table, seconds.as_slice())?;
@@ -100,7 +104,7 @@ impl<'t> Times<'t> {
     }
 }
 
-fn civil_times(alloc: Global, seconds: &[i64]) -> Result<Vec<DateTime>> {
+fn civil_times(alloc: Global, seconds: &[i64]) -> Result<Vec<DateTime>, Stop> {
     let mut times = Vec::new(alloc);
     for second in seconds {
         times.push(civil_at(*second)?)?;
@@ -112,7 +116,7 @@ fn table_times<'t>(
     alloc: Global,
     table: &'t ClockTable,
     seconds: &[i64],
-) -> Result<Vec<TableTime<'t>>> {
+) -> Result<Vec<TableTime<'t>>, Stop> {
     let mut times = Vec::new(alloc);
     for second in seconds {
         times.push(table_at(table, *second)?)?;
@@ -124,7 +128,7 @@ fn zoned_times(
     alloc: Global,
     zone: &TimeZone<'static>,
     seconds: &[i64],
-) -> Result<Vec<Zoned<'static>>> {
+) -> Result<Vec<Zoned<'static>>, Stop> {
     let mut times = Vec::new(alloc);
     for second in seconds {
         times.push(zoned_at(zone, *second)?)?;
