@@ -23,6 +23,8 @@ mod long;
 #[cfg(test)]
 mod messages;
 #[cfg(test)]
+mod narrow;
+#[cfg(test)]
 mod table;
 #[cfg(test)]
 mod values;
