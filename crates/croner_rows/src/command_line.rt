@@ -56,6 +56,7 @@ const MATCHES: &str = r#"
     match | * * * * *     | 0000-02-29T00:00:00 | 0 "false\n" ""
     match | * * * * *     | 5000-12-31T23:59:00 | 0 "true\n" ""
     match | * * * * *     | 5001-01-01T00:00:00 | 0 "false\n" ""
+    match | * * * * *     | 9000-01-01T00:00:00 | 0 "false\n" ""
     match | , * * * *     | 2024-07-01T09:30:00 | 0 "false\n" ""
     match | *,5 * * * *   | 2024-07-01T09:30:00 | 1 "" Component error
     match | 60 * * * *    | 2024-07-01T09:30:00 | 1 "" Component error
@@ -94,6 +95,7 @@ const LISTINGS: &str = r#"
     next | 60 * * * *            | 2024-03-31T02:30:00 | 1 | CET-1CEST,M3.5.0,M10.5.0/3 | 1 "" Component error
     prev | */20 9 * * *          | 2024-03-01T09:20:00 | 3 | 0 "2024-03-01T09:00:00\n2024-02-29T09:40:00\n2024-02-29T09:20:00\n" ""
     next | 0 0 0 1 1 * 2025-2026 | 2024-06-01T00:00:00 | 3 | 1 "2025-01-01T00:00:00\n2026-01-01T00:00:00\n" "CronScheduler time search limit exceeded.\n"
+    next | 0 0 0 1 1 * 2025-2026 | 2024-06-01T00:00:00 | 1000 | 1 "2025-01-01T00:00:00\n2026-01-01T00:00:00\n" "CronScheduler time search limit exceeded.\n"
     next | 0 0 31 2 *            | 2024-01-01T00:00:00 | 1 | 1 "" "CronScheduler time search limit exceeded.\n"
     prev | * * * * *             | 0001-01-01T00:00:30 | 2 | 1 "0001-01-01T00:00:00\n" "CronScheduler time search limit exceeded.\n"
     next | 0 0 1 1 *             | 2024-01-01T00:00:00 | 0001 | 0 "2025-01-01T00:00:00\n" ""
