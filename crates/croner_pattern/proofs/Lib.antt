@@ -7,3 +7,8 @@ pub mod Known
 pub mod Firsts
 pub mod Masks
 pub mod Once
+pub mod DescriptionExamples
+pub mod ListsWritten
+pub mod RunsWritten
+pub mod FieldWords
+pub mod Sentences

@@ -11,3 +11,6 @@ pub mod Schedule
 pub mod Questions
 pub mod Order
 pub mod Written
+pub mod Lists
+pub mod Description
+pub mod ListSteps

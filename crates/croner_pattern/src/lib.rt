@@ -1,4 +1,6 @@
 //! Patterns of seven fields, and the dates and times that they name.
 #![tactic(auto)]
 
+pub mod describe;
+pub mod laws;
 pub mod pattern;

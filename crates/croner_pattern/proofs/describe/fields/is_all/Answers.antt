@@ -1,0 +1,8 @@
+use Rattle.std.proofs.Common.{rules}
+use Rattle.croner_pattern.proofs.FieldWords.{all_by_count}
+use Rattle.croner_pattern.proofs.describe.fields.is_all.Goals as goal
+
+pub returns-then-step-eq1 : goal.returns-then-step-eq1
+returns-then-step-eq1 c =
+    let all = all_by_count c.args.field.now c.max-greatest.ensures.whole in
+    search (rules, all)
