@@ -2,6 +2,7 @@
 #![tactic(auto)]
 
 mod cursor;
+mod description;
 mod fold;
 mod instant;
 mod iterator;
@@ -18,6 +19,7 @@ pub use croner_base::time::{
     Weekday, YEAR_LOWER_LIMIT, YEAR_UPPER_LIMIT,
 };
 pub use croner_base::{component, errors, time};
+pub use croner_pattern::describe;
 pub use croner_pattern::pattern::CronPattern;
 pub use iterator::CronIterator;
 pub use job::{Cron, JobType};

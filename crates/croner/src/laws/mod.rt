@@ -6,3 +6,4 @@ pub mod listing;
 pub mod searches;
 
 pub use croner_base::laws::{calendar, clocks, marks, tables};
+pub use croner_pattern::laws::lists;

@@ -2,13 +2,13 @@
 
 ghost use Rattle.std.specs.Prelude.{◌≡◌, ◌==◌};
 ghost use Rattle.croner_base.specs.Field.{marked_values};
+ghost use Rattle.croner_pattern.specs.Schedule.{is_plain};
 ghost use Rattle.croner_pattern.specs.Description.{begins_with, is_all, is_one, is_one_value, is_stepped, is_zero, numbers, plain_values, value_of};
 ghost use Rattle.croner_words.specs.Writes.{Writes};
 ghost use Rattle.std.specs.Prelude.{length, IfOk, IfErr, MatchResult};
 ghost use Rattle.croner_base.specs.declared.errors.CronError.TheVariants.{OutOfMemory};
 
 use crate::describe::lists::number_list;
-use crate::pattern::has_plain;
 use croner_base::component::{ALL_BIT, CronComponent};
 use croner_base::errors::CronError;
 use croner_words::language::Language;
@@ -20,6 +20,13 @@ pub(crate) fn is_all(field: &CronComponent) -> bool
 {
     let (least, greatest) = (field.min(), field.max());
     field.step() == 1 && field.count_set_values(ALL_BIT) == usize::from(greatest - least) + 1
+}
+
+// Whether the value is plain.
+fn has_plain(field: &CronComponent, value: u16) -> bool
+    ensures { result ≡ is_plain field.now value }
+{
+    field.least_from(value) == Some(value)
 }
 
 /// Whether the first plain value is the least value that the field may hold.
