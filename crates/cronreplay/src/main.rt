@@ -17,6 +17,7 @@ mod searches;
 mod shown;
 mod time;
 mod wanted;
+mod words;
 mod zone;
 
 use replay::{Stop, replay};

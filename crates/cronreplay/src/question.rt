@@ -8,6 +8,7 @@ use crate::fault::Fault;
 use crate::member::text;
 use crate::pattern::parse;
 use crate::time::{Ask, answer_from_start};
+use crate::words::described;
 use crate::zone::clock_table;
 use croner::time::Direction;
 use serde_json::Value;
@@ -32,6 +33,7 @@ pub fn answer(alloc: Global, question: &Value) -> Result<Value, Fault> {
         "reading" => answer_from_start(alloc, question, Ask::Reading),
         "add" => answer_from_start(alloc, question, Ask::Add),
         "clock_table" => clock_table(alloc, question),
+        "describe" => described(alloc, question),
         "cronrun" => cronrun(alloc, question),
         _ => Err(Fault::Unsupported),
     }
