@@ -111,10 +111,13 @@ least_is_plain f value None none = (λ e. absurd (no_some e), λ _. none value (
   where
     no_some : (None ≡ Some value) → ⊥
     no_some e = absurd (subst (λ o. MatchOption o (Unit {0}) (λ _. ⊥)) e tt)
-least_is_plain f value (Some v) is = (λ e. subst (λ o. MatchOption o ⊥ (λ x. is_plain f x ≡ true)) e is.plain, λ ne. elim (cases_Bool (is_plain f value)) [
-  | inr miss ↦ miss
-  | inl hit ↦ absurd (ne (ap Some (let same : v ≡ value = omega (arith, is.above, is.first value (omega arith) hit) in same)))
-])
+least_is_plain f value (Some v) is = (
+  λ e. subst (λ o. MatchOption o ⊥ (λ x. is_plain f x ≡ true)) e is.plain,
+  λ ne. elim (cases_Bool (is_plain f value)) [
+    | inr miss ↦ miss
+    | inl hit ↦ absurd (ne (ap Some (let same : v ≡ value = omega (arith, is.above, is.first value (omega arith) hit) in same)))
+  ],
+)
 
 -- the first value in the direction is the nearest from the far end on
 pub from_the_start : (dir : Direction) (from max v : ℕ) → (dir ≡ Forward → from ≡ 0) → (dir ≡ Backward → from ≡ max) → v ≤ max → Reaches dir (pos from) (pos v)
