@@ -9,7 +9,7 @@ use Rattle.std.specs.Str.{chars}
 use Rattle.std.specs.Fmt.{is_char_start, char_count, take_chars, padded, format_spec}
 use Rattle.std.specs.Fmt.{decimal}
 use Rattle.std.specs.Prelude.{codes}
-use Rattle.croner_base.specs.Excerpt.{excerpt, excerpt_characters}
+use Rattle.croner_base.specs.Excerpt.{excerpt}
 use lib.Utf8.{encode, encodes, next}
 
 take_none : (b : ℕ) (t : List ℕ) → is_char_start b ≡ true → take_chars 0 (b ∷ t) ≡ []
@@ -111,29 +111,29 @@ length_encodes (c ∷ cs) =
     omega (arith, length-append (encode c) (encodes cs))
 
 -- an excerpt is short, whatever the text
-pub length_excerpt : (text : List ℕ) → IsUtf8 text → length text < 2 ^ 64 → length (excerpt text) ≤ 302
-length_excerpt text u small =
+pub length_excerpt : (most : ℕ) (text : List ℕ) → IsUtf8 text → length text < 2 ^ 64 → length (excerpt most text) ≤ 4 * most + 46
+length_excerpt most text u small =
     let cs = chars text in
     let all : length (encodes cs) ≤ 4 * length cs = length_encodes cs in
     let same = encodes-chars text u in
     let fewer : length cs ≤ length text = omega (arith, length-le-encodes cs, ap length same) in
-    elim (cases_lt excerpt_characters (length cs)) [
+    elim (cases_lt most (length cs)) [
       | inl long ↦
-          let no : leb (length cs) excerpt_characters ≡ false = grind (arith, nat_tests) in
-          let places : length (decimal (length cs - excerpt_characters)) ≤ 20 = omega (arith, length-decimal-le 20 (length cs - excerpt_characters)) in
-          let cut = length_encodes (take excerpt_characters cs) in
-          let first : length (take excerpt_characters cs) ≤ excerpt_characters = omega (arith, length-take excerpt_characters cs) in
+          let no : leb (length cs) most ≡ false = grind (arith, nat_tests) in
+          let places : length (decimal (length cs - most)) ≤ 20 = omega (arith, length-decimal-le 20 (length cs - most)) in
+          let cut = length_encodes (take most cs) in
+          let first : length (take most cs) ≤ most = omega (arith, length-take most cs) in
           rw no (simp (length-append) (omega arith))
       | inr short ↦
-          let yes : leb (length cs) excerpt_characters ≡ true = grind (arith, nat_tests) in
-          let whole : length text ≤ 256 = omega (arith, ap length same) in
+          let yes : leb (length cs) most ≡ true = grind (arith, nat_tests) in
+          let whole : length text ≤ 4 * most = omega (arith, ap length same) in
           rw yes (simp (length-append) (omega arith))
     ]
 
 -- the text of a long excerpt
-pub long_written : (text : List ℕ) (count : ℕ) → IsUtf8 text → count ≡ length (chars text) → excerpt_characters < count
-    → 39 ∷ (padded (format_spec 32 0 0 0 excerpt_characters) text ++ (codes "' (characters left out: " ++ (decimal (count - excerpt_characters) ++ codes ")"))) ≡ excerpt text
-long_written text count u same long =
-    let cut = cut_written excerpt_characters text u in
-    let no : leb (length (chars text)) excerpt_characters ≡ false = grind (arith, nat_tests) in
+pub long_written : (most : ℕ) (text : List ℕ) (count : ℕ) → IsUtf8 text → count ≡ length (chars text) → most < count
+    → 39 ∷ (padded (format_spec 32 0 0 0 most) text ++ (codes "' (characters left out: " ++ (decimal (count - most) ++ codes ")"))) ≡ excerpt most text
+long_written most text count u same long =
+    let cut = cut_written most text u in
+    let no : leb (length (chars text)) most ≡ false = grind (arith, nat_tests) in
     rw (cut, same, no)

@@ -1,5 +1,5 @@
 -- Counting by the ones of words.
-use Rattle.std.proofs.Common.{◌≡◌, ◌≢◌, ℕ, zero, suc, ◌+◌, ◌-◌, ◌*◌, ◌/◌, ◌%◌, ◌^◌, ◌<◌, ◌≤◌, Bool, true, false, eqb, cond, not, eq-eqb, List, [], ◌∷◌, ◌++◌, append_assoc, length, get_or, bit_and, bit_or, count_ones, refl, ap, sym, ◌∙◌, arith, subst, inl, inr, min, max}
+use Rattle.std.proofs.Common.{◌≡◌, ◌≢◌, ℕ, zero, suc, ◌+◌, ◌-◌, ◌*◌, ◌%◌, ◌^◌, ◌<◌, ◌≤◌, Bool, true, false, eqb, cond, not, eq-eqb, List, [], ◌∷◌, ◌++◌, append_assoc, length, get_or, bit_and, bit_or, count_ones, refl, ap, sym, ◌∙◌, arith, subst, inl, inr, min}
 use Rattle.std.specs.Int.{bit_at}
 use Rattle.std.specs.List.{filter, range_with_len}
 use Rattle.std.proofs.lemmas.Bool.{cases_eq, cases_lt, cases_Bool, ne_eqb, false≢true}

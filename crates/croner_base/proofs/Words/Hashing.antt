@@ -1,5 +1,5 @@
 -- The sets of modifiers as binary numbers, one write a number.
-use Rattle.std.proofs.Common.{◌≡◌, ℕ, zero, suc, ◌+◌, ◌-◌, ◌*◌, ◌/◌, ◌^◌, ◌<◌, ◌≤◌, cond, eqb, List, [], ◌∷◌, ◌++◌, length, get_or, bit_and, refl, ap, sym, ◌∙◌, arith, inl, inr, min, append_assoc}
+use Rattle.std.proofs.Common.{◌≡◌, ℕ, zero, suc, ◌+◌, ◌-◌, ◌*◌, ◌^◌, ◌<◌, ◌≤◌, cond, eqb, List, [], ◌++◌, length, get_or, bit_and, refl, ap, sym, ◌∙◌, arith, inl, inr, append_assoc}
 use Rattle.std.specs.Hash as fed
 use Rattle.std.specs.Int.{bit_at}
 use Rattle.std.specs.List.{flat_map, range_with_len}

@@ -10,7 +10,7 @@ use Rattle.std.proofs.lemmas.Bool.Decides.{nat_tests}
 use Rattle.croner_base.specs.Field.{room}
 use Rattle.croner_base.specs.Words.Marked.{GainsRange}
 use Rattle.croner_base.specs.Words.Rows.{width, rows_below, mark_at, sums_of}
-use Rattle.croner_base.proofs.Words.Places.{row_before, word_within, value_within}
+use Rattle.croner_base.proofs.Words.Places.{row_before, word_within}
 use Rattle.croner_base.proofs.Words.Sums.{mark_at-one, mark_at-none, sums_of-bit, sums_of-lt, sums_of-past, length-sums_of}
 use Rattle.croner_base.specs.Words.Masks.{MasksFrom, MasksTo, HasMarked}
 

@@ -65,7 +65,7 @@ impl CronComponent {
     pub(super) fn no_number(&self, text: &str, part: &str) -> CronError
         ensures { IsFieldError result }
     {
-        let (text, part) = (Excerpt::of(text), Excerpt::of(part));
+        let (text, part) = (Excerpt::of_one_of_two(text), Excerpt::of_one_of_two(part));
         refusal(format!(in self.alloc;
             "Invalid number {text} in the part {part}: expected one from 0 to 65535."
         ))
@@ -122,7 +122,7 @@ impl CronComponent {
     pub(super) fn no_range_to_step(&self, left: &str, part: &str) -> CronError
         ensures { IsFieldError result }
     {
-        let (left, part) = (Excerpt::of(left), Excerpt::of(part));
+        let (left, part) = (Excerpt::of_one_of_two(left), Excerpt::of_one_of_two(part));
         refusal(format!(in self.alloc;
             "Invalid start {left} in the part {part}: expected '*' or a range before the '/'."
         ))
@@ -144,7 +144,7 @@ impl CronComponent {
     pub(super) fn wrong_nth(&self, nth: &str, part: &str) -> CronError
         ensures { IsFieldError result }
     {
-        let (nth, part) = (Excerpt::of(nth), Excerpt::of(part));
+        let (nth, part) = (Excerpt::of_one_of_two(nth), Excerpt::of_one_of_two(part));
         refusal(format!(in self.alloc;
             "Invalid nth {nth} in the part {part}: expected a number from 1 to 5 or 'L' after the '#'."
         ))

@@ -1,4 +1,4 @@
-use Rattle.std.proofs.Common.{arith, ◌≡◌, ◌≤◌, ◌<◌, ◌+◌, ◌*◌, ◌-◌, ◌^◌, min, ap}
+use Rattle.std.proofs.Common.{arith, ◌≡◌, ◌<◌, ◌*◌, ◌-◌, ◌^◌, min, ap}
 use Rattle.std.proofs.lemmas.Nat.{ones-le}
 use Rattle.croner_base.specs.Field.{room}
 use Rattle.croner_base.specs.Words.Marked.{is_set}

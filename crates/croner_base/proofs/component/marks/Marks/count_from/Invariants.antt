@@ -1,4 +1,4 @@
-use Rattle.std.proofs.Common.{◌≡◌, ◌≤◌, ◌+◌, ◌*◌, ◌-◌, min}
+use Rattle.std.proofs.Common.{◌≡◌, ◌≤◌, ◌*◌, ◌-◌, min}
 use Rattle.croner_base.specs.Field.{room}
 use Rattle.croner_base.specs.Words.Marked.{is_set}
 use Rattle.croner_base.proofs.Words.Counting.{count_up}

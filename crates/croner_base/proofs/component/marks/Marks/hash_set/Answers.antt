@@ -1,4 +1,4 @@
-use Rattle.std.proofs.Common.{arith, ◌≡◌, ◌*◌, ap, sym, ◌∙◌}
+use Rattle.std.proofs.Common.{arith, ◌≡◌, ◌*◌, ap, ◌∙◌}
 use Rattle.std.specs.Hash as fed
 use Rattle.std.specs.Hash.{fed_then}
 use Rattle.std.specs.List.{fold}

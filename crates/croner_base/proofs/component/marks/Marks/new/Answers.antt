@@ -1,4 +1,4 @@
-use Rattle.std.proofs.Common.{ℕ, ◌≡◌, ◌*◌, List, ap, ◌∙◌, rules}
+use Rattle.std.proofs.Common.{◌≡◌, ◌*◌, ap, ◌∙◌, rules}
 use Rattle.croner_base.specs.Words.Rows.{sums_of}
 use Rattle.croner_base.proofs.Words.Sums.{blank, sums_of-none, with_sums}
 use Rattle.croner_base.proofs.component.marks.Marks.new.Goals as goal

@@ -1,4 +1,4 @@
-use Rattle.std.proofs.Common.{arith, rules, ◌≡◌, ◌≢◌, ◌+◌, ◌*◌, ◌∷◌, [], ◌++◌, ap, sym, ◌∙◌, refl}
+use Rattle.std.proofs.Common.{arith, ◌≡◌, ◌+◌, ◌*◌, ◌++◌, ap, sym, ◌∙◌, refl}
 use Rattle.std.specs.Int.{bit_at}
 use Rattle.std.proofs.lemmas.Nat.Bits.{shr_and_one}
 use Rattle.croner_base.proofs.Words.Counting.{values_all, values_yes, values_no}
