@@ -4,6 +4,7 @@ pub mod Differing
 pub mod Fields
 pub mod Gaining
 pub mod Hashing
+pub mod Kept
 pub mod Places
 pub mod Plain
 pub mod Range

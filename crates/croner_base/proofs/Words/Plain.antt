@@ -1,5 +1,5 @@
 -- The plain row and the plain values.
-use Rattle.std.proofs.Common.{◌≡◌, ◌≢◌, ℕ, ◌*◌, ◌/◌, ◌%◌, ◌<◌, ◌≤◌, true, false, not, eqb, List, [], length, get_or, take, Option, None, Some, MatchOption, bit_and, ap, sym, ◌∙◌, arith, inl, inr, min}
+use Rattle.std.proofs.Common.{◌≡◌, ◌≢◌, ℕ, ◌+◌, ◌*◌, ◌/◌, ◌%◌, ◌<◌, ◌≤◌, true, false, not, eqb, List, [], length, get_or, take, Option, None, Some, MatchOption, bit_and, ap, sym, ◌∙◌, arith, subst, inl, inr, min}
 use Rattle.std.specs.Int.{bit_at}
 use Rattle.std.proofs.lemmas.Bool.{cases_eq, cases_lt}
 use Rattle.std.proofs.lemmas.Bool.Decides.{nat_tests}
@@ -7,6 +7,7 @@ use Rattle.std.proofs.lemmas.List.{get_or-take, get_or_past}
 use Rattle.std.proofs.lemmas.Nat.{mul-le}
 use Rattle.std.proofs.lemmas.Nat.Bits.{and_pow, bit_at-lt, bit_at-zero}
 use Rattle.croner_base.specs.Field.{room}
+use Rattle.croner_base.specs.Words.Counts.{ShowsMarked}
 use Rattle.croner_base.specs.Words.Marked.{Marked, is_set}
 use Rattle.croner_base.specs.Words.Next.{NonePlainFrom, IsLeastPlain, NonePlainTo, IsGreatestPlain}
 use Rattle.croner_base.specs.Words.Search.{HasNoneFrom, IsLeastFrom, HasNoneTo, IsGreatestTo}
@@ -51,6 +52,12 @@ is_plain f v h = plain_bit f v ∙ ap (λ n. not (eqb n 0)) h
 
 not_plain : (f : Marked) (v : ℕ) → bit_at (get_or f.marks v 0) 0 ≡ 0 → is_set 1 f v ≡ false
 not_plain f v h = plain_bit f v ∙ ap (λ n. not (eqb n 0)) h
+
+pub shows_plain : (f : Marked) (bits i word : ℕ) → bits ≡ 1 → ((b : ℕ) → b < 64 → i * 64 + b < room f.max → bit_at word b ≡ bit_at (get_or f.marks (i * 64 + b) 0) 0) → ShowsMarked f bits i word
+shows_plain f bits i word e is = record {
+  off = λ b h here z. subst (λ n. is_set n f (i * 64 + b) ≡ false) (sym e) (not_plain f (i * 64 + b) (sym (is b h here) ∙ z));
+  on = λ b h here one. subst (λ n. is_set n f (i * 64 + b) ≡ true) (sym e) (is_plain f (i * 64 + b) (sym (is b h here) ∙ one));
+}
 
 -- the row shows which values are plain
 pub record Shows (row : List ℕ) (f : Marked) : Type 0 where

@@ -3,6 +3,7 @@ use Rattle.std.specs.Prelude.{ℕ, zero, suc, ◌+◌, ◌*◌, ◌/◌, ◌%◌
 use Rattle.std.specs.Int.{bit_at}
 use Rattle.std.specs.List.{range_with_len}
 use Rattle.croner_base.specs.Field.{room}
+use Rattle.croner_base.specs.Words.Marked.{Marked}
 
 -- how many words a row has
 abbrev pub width : ℕ → ℕ
@@ -29,3 +30,7 @@ sum_below words wide supported (suc k) v = sum_below words wide supported k v + 
 -- for each value from 0 to the maximum its sum
 unfoldable pub sums_of : List ℕ → ℕ → ℕ → List ℕ
 sums_of words max supported = map (sum_below words (width max) supported 8) (range_with_len 0 (room max))
+
+-- the marks that the words keep, with a row for each of these modifiers
+abbrev pub marks_in : List ℕ → ℕ → ℕ → Marked
+marks_in words max supported = record { max = max; supported = supported; marks = sums_of words max supported }

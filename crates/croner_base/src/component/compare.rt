@@ -1,8 +1,25 @@
 //! Equality, order and hash of components: by the marks from value 0 on, and then by the other parts.
 
+ghost use Rattle.std.specs.Prelude.{◌≡◌, IsTrue};
+
 use super::CronComponent;
 use std::cmp::Ordering;
 use std::hash::{Hash, Hasher};
+
+impl CronComponent {
+    // Whether all parts are the same, as those of a field and of its clone.
+    fn is_same(&self, other: &CronComponent) -> bool
+        ensures { IsTrue result → self.now ≡ other.now }
+    {
+        self.marks.is_same(&other.marks)
+            && self.min == other.min
+            && self.step == other.step
+            && self.from_wildcard == other.from_wildcard
+            && self.enabled_features == other.enabled_features
+            && self.input_offset == other.input_offset
+            && self.sloppy_ranges == other.sloppy_ranges
+    }
+}
 
 impl PartialEq for CronComponent {
     ghost use Rattle.std.specs.Ordering.{eq_by_cmp};
@@ -56,6 +73,9 @@ impl Ord for CronComponent {
     ghost matches_eq = { Prim.search (comparing, rules) };
 
     fn cmp(&self, other: &CronComponent) -> Ordering {
+        if self.is_same(other) {
+            return Ordering::Equal;
+        }
         self.marks
             .cmp_marks(&other.marks)
             .then(self.min.cmp(&other.min))

@@ -7,34 +7,36 @@ ghost use Rattle.croner_base.specs.Words.Marked.{is_set, set_at, unset_at, nothi
 ghost use Rattle.croner_base.specs.Words.Next.{NonePlainFrom, IsLeastPlain, NonePlainTo, IsGreatestPlain};
 ghost use Rattle.croner_base.specs.Words.Rows.{in_row, width};
 
-use smallvec::{SmallVec, smallvec};
 use std::alloc::{AllocError, Global};
 use std::marker::Model;
+use words::{ALL_ROWS, MODIFIERS, Words};
 
 mod compare;
 mod count;
 mod hash;
 mod row;
 mod rows;
+mod words;
 
 /// For each value from 0 to the maximum the modifiers that it is marked with. A maximum of 0 leaves no value.
 #[derive(Debug, Drop)]
 pub struct Marks {
-    words: SmallVec<u64, 8>,
+    words: Words,
     max: u16,
     supported: u8,
 }
 
 impl Model for Marks {
     ghost use Rattle.std.specs.Prelude.{◌≡◌, ◌*◌, length};
+    ghost use Rattle.croner_base.specs.Words.Kept.{words_of, rows_of};
     ghost use Rattle.croner_base.specs.Words.Marked.{Marked};
     ghost use Rattle.croner_base.specs.Words.Rows.{rows_below, width, sums_of};
 
     ghost Value = { Marked };
 
-    ghost view = { λ c. record { max = c.max; supported = c.supported; marks = sums_of c.words.items c.max c.supported } };
+    ghost view = { λ c. record { max = c.max; supported = c.supported; marks = sums_of (words_of c.words) c.max (rows_of c.words c.supported) } };
 
-    ghost invariant = { λ c. length c.words.items ≡ rows_below c.supported 8 * width c.max };
+    ghost invariant = { λ c. length (words_of c.words) ≡ rows_below (rows_of c.words c.supported) 8 * width c.max };
 }
 
 impl Marks {
@@ -42,8 +44,12 @@ impl Marks {
     pub fn new(alloc: Global, max: u16, supported: u8) -> Result<Self, AllocError>
         ensures { IfOk result (λ m. m ≡ nothing_set max supported) }
     {
-        let places = usize::from(rows::rows(supported)) * rows::width(max);
-        let words = smallvec![in alloc; 0; places]?;
+        let width = rows::width(max);
+        let words = if width == 1 {
+            Words::InPlace([0; MODIFIERS])
+        } else {
+            Words::OnHeap(vec![in alloc; 0; usize::from(rows::rows(supported)) * width]?)
+        };
         Ok(Marks {
             words,
             max,
@@ -56,7 +62,7 @@ impl Marks {
         ensures { result ≡ nothing_set 0 0 }
     {
         Marks {
-            words: SmallVec::new(alloc),
+            words: Words::OnHeap(Vec::new(alloc)),
             max: 0,
             supported: 0,
         }
@@ -81,8 +87,12 @@ impl Marks {
     pub fn copied(&self, alloc: Global) -> Result<Self, AllocError>
         ensures { IfOk result (λ copy. copy ≡ self.now) }
     {
+        let words = match &self.words {
+            Words::InPlace(words) => Words::InPlace(*words),
+            Words::OnHeap(words) => Words::OnHeap(Vec::from_slice(alloc, words)?),
+        };
         Ok(Marks {
-            words: SmallVec::from_slice(alloc, &self.words)?,
+            words,
             max: self.max,
             supported: self.supported,
         })
@@ -102,7 +112,11 @@ impl Marks {
         requires are_supported { bit_and self.old.supported bits ≡ bits }
         ensures { self.new ≡ set_at self.old value bits }
     {
-        rows::mark_each(&mut self.words, self.max, self.supported, bits, value);
+        let (max, supported) = (self.max, self.supported);
+        match &mut self.words {
+            Words::InPlace(words) => rows::mark_each(words, max, ALL_ROWS, bits, value),
+            Words::OnHeap(words) => rows::mark_each(words, max, supported, bits, value),
+        }
     }
 
     /// Takes each modifier of `bits` off the value.
@@ -111,7 +125,11 @@ impl Marks {
         requires are_supported { bit_and self.old.supported bits ≡ bits }
         ensures { self.new ≡ unset_at self.old value bits }
     {
-        rows::unmark_each(&mut self.words, self.max, self.supported, bits, value);
+        let (max, supported) = (self.max, self.supported);
+        match &mut self.words {
+            Words::InPlace(words) => rows::unmark_each(words, max, ALL_ROWS, bits, value),
+            Words::OnHeap(words) => rows::unmark_each(words, max, supported, bits, value),
+        }
     }
 
     /// Marks the values from `first` to `last` with each modifier of `bits`.
@@ -136,8 +154,11 @@ impl Marks {
         requires is_supported { bit_at self.old.supported k ≡ 1 }
         ensures { GainsRange self.old self.new (2 ^ k) first last }
     {
-        let start = rows::place(self.max, self.supported, k, 0);
-        row::mark_between(&mut self.words, start, first, last);
+        let (max, supported) = (self.max, self.supported);
+        match &mut self.words {
+            Words::InPlace(words) => rows::mark_between(words, max, ALL_ROWS, k, first, last),
+            Words::OnHeap(words) => rows::mark_between(words, max, supported, k, first, last),
+        }
     }
 
     /// The least plain value from the given one on.
@@ -173,10 +194,9 @@ impl Marks {
         ensures past { (v : ℕ) → room self.now.max ≤ v → slice_index self.now.marks v ≡ 0 }
         ensures plain { (v : ℕ) → v < room self.now.max → in_row result.now v ≡ bit_at (slice_index self.now.marks v) 0 }
     {
-        if self.supported & 1 == 0 {
-            &self.words[..0]
-        } else {
-            &self.words[..rows::width(self.max)]
+        match &self.words {
+            Words::InPlace(words) => rows::plain(words, self.max, ALL_ROWS),
+            Words::OnHeap(words) => rows::plain(words, self.max, self.supported),
         }
     }
 
@@ -186,6 +206,9 @@ impl Marks {
         ensures small { (v : ℕ) → slice_index self.now.marks v < 256 }
         ensures bits { (b : ℕ) → b < 64 → i * 64 + b < room self.now.max → bit_at result b ≡ bit_at (slice_index self.now.marks (i * 64 + b)) k }
     {
-        rows::word(&self.words, self.max, self.supported, k, i)
+        match &self.words {
+            Words::InPlace(words) => rows::word(words, self.max, ALL_ROWS, k, i),
+            Words::OnHeap(words) => rows::word(words, self.max, self.supported, k, i),
+        }
     }
 }

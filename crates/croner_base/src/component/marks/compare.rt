@@ -8,6 +8,7 @@ ghost use Rattle.croner_base.specs.Words.Differences.{SameSums, IsFirstDifferenc
 ghost use Rattle.croner_base.specs.Field.{room};
 ghost use Rattle.croner_base.specs.Words.Rows.{width};
 
+use super::words::{ALL_ROWS, Words};
 use super::{Marks, rows};
 use std::cmp::Ordering;
 
@@ -34,7 +35,10 @@ impl Marks {
         ensures within { value < length self.now.marks }
         ensures value { result ≡ slice_index self.now.marks value }
     {
-        rows::sum(&self.words, self.max, self.supported, value)
+        match &self.words {
+            Words::InPlace(words) => rows::sum(words, self.max, ALL_ROWS, value),
+            Words::OnHeap(words) => rows::sum(words, self.max, self.supported, value),
+        }
     }
 
     fn first_difference(&self, other: &Marks) -> Option<u16>
@@ -58,13 +62,13 @@ impl Marks {
         None
     }
 
-    // Whether both keep the same words for the same values and modifiers.
-    fn is_same(&self, other: &Marks) -> bool
+    /// Whether both keep the same words for the same values and modifiers.
+    pub fn is_same(&self, other: &Marks) -> bool
         ensures { IsTrue result → self.now ≡ other.now }
     {
         self.max == other.max
             && self.supported == other.supported
-            && self.words.as_slice() == other.words.as_slice()
+            && self.words.is_same(&other.words)
     }
 
     fn differences(&self, other: &Marks, i: usize) -> u64

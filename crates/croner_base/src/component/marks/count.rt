@@ -6,9 +6,11 @@ ghost use Rattle.croner_base.specs.Words.Counts.{ShowsMarked, ShowsFrom, marked_
 ghost use Rattle.croner_base.specs.Words.Marked.{is_set};
 ghost use Rattle.croner_base.specs.Words.Rows.{width};
 
-use super::Marks;
 use super::row::{mask_from, mask_to};
 use super::rows::width;
+use super::words::{ALL_ROWS, Words};
+use super::{Marks, rows};
+use crate::component::ALL_BIT;
 use std::alloc::{AllocError, Global};
 
 impl Marks {
@@ -58,13 +60,13 @@ impl Marks {
         requires { i < width self.now.max }
         ensures { ShowsMarked self.now bits i result }
     {
-        let mut found = 0;
-        for k in 0..8 {
-            if bits >> k & 1 == 1 {
-                found |= self.word(k, i);
-            }
+        if bits == ALL_BIT {
+            return self.word(0, i);
         }
-        found
+        match &self.words {
+            Words::InPlace(words) => rows::any(words, self.max, ALL_ROWS, bits, i),
+            Words::OnHeap(words) => rows::any(words, self.max, self.supported, bits, i),
+        }
     }
 }
 

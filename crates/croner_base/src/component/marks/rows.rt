@@ -3,7 +3,11 @@
 ghost use Rattle.std.specs.Prelude.{◌≡◌, ℕ, ◌+◌, ◌*◌, ◌/◌, ◌%◌, ◌^◌, ◌<◌, ◌≤◌, ◌==◌, ◌-◌, length, slice_index, slice_set, bit_or, bit_and};
 ghost use Rattle.std.specs.Int.{bit_at};
 ghost use Rattle.croner_base.specs.Field.{room};
-ghost use Rattle.croner_base.specs.Words.Rows.{width, rows_below, mark_at, sum_below, sums_of};
+ghost use Rattle.croner_base.specs.Words.Counts.{ShowsMarked};
+ghost use Rattle.croner_base.specs.Words.Marked.{GainsRange};
+ghost use Rattle.croner_base.specs.Words.Rows.{width, rows_below, in_row, mark_at, sum_below, sums_of, marks_in};
+
+use super::row;
 
 /// How many supported modifiers stand below modifier `k`.
 fn rows_below(supported: u8, k: u8) -> u8
@@ -91,6 +95,35 @@ pub fn unmark(words: &mut [u64], max: u16, supported: u8, k: u8, value: u16)
     words[place(max, supported, k, value)] &= !(1 << (value % 64));
 }
 
+/// The values of word `i` that have one of the modifiers of `bits`. Bits past the maximum say nothing.
+pub fn any(words: &[u64], max: u16, supported: u8, bits: u8, i: usize) -> u64
+    requires within { i < width max }
+    requires rows { length words.now ≡ rows_below supported 8 * width max }
+    ensures { ShowsMarked (marks_in words.now max supported) bits i result }
+{
+    let mut found = 0;
+    for k in 0..8 {
+        if bits >> k & 1 == 1 {
+            found |= word(words, max, supported, k, i);
+        }
+    }
+    found
+}
+
+/// The row of the plain values, and no word where they aren't supported.
+pub fn plain(words: &[u64], max: u16, supported: u8) -> &[u64]
+    requires { length words.now ≡ rows_below supported 8 * width max }
+    ensures size { length result.now ≤ 1024 }
+    ensures full { 0 < length result.now → max < length result.now * 64 }
+    ensures plain { (v : ℕ) → v < room max → in_row result.now v ≡ bit_at (slice_index (sums_of words.now max supported) v) 0 }
+{
+    if supported & 1 == 0 {
+        &words[..0]
+    } else {
+        &words[..width(max)]
+    }
+}
+
 /// The sum of the bits of the value's modifiers.
 pub fn sum(words: &[u64], max: u16, supported: u8, value: u16) -> u8
     requires within { value < room max }
@@ -134,4 +167,17 @@ pub fn unmark_each(words: &mut [u64], max: u16, supported: u8, bits: u8, value: 
             unmark(words, max, supported, k, value);
         }
     }
+}
+
+/// Marks the values from `first` to `last` with modifier `k`, whose bit is 2 to the power `k`.
+pub fn mark_between(words: &mut [u64], max: u16, supported: u8, k: u8, first: u16, last: u16)
+    requires order { first ≤ last }
+    requires within { last < room max }
+    requires modifier { k < 8 }
+    requires is_supported { bit_at supported k ≡ 1 }
+    requires rows { length words.old ≡ rows_below supported 8 * width max }
+    ensures rows { length words.new ≡ length words.old }
+    ensures marked { GainsRange (marks_in words.old max supported) (marks_in words.new max supported) (2 ^ k) first last }
+{
+    row::mark_between(words, place(max, supported, k, 0), first, last);
 }

@@ -1,25 +1,25 @@
-use Rattle.std.proofs.Common.{arith, ◌≡◌, ◌+◌, sym, ◌∙◌, subst}
-use Rattle.std.specs.Int.{bit_at}
-use Rattle.std.proofs.lemmas.Nat.Bits.{shr_and_one}
-use Rattle.croner_base.proofs.Words.Counting.{ShowsAny, any_none, any_skip, any_more, any_all}
+use Rattle.std.proofs.Common.{◌≡◌, ap, sym, ◌∙◌, subst}
+use Rattle.croner_base.specs.Words.Counts.{ShowsMarked}
+use Rattle.croner_base.specs.Words.Kept.{words_of, rows_of}
+use Rattle.croner_base.specs.Words.Rows.{sums_of, marks_in}
+use Rattle.croner_base.proofs.Words.Kept.{Keeps, keeps, shown_by}
+use Rattle.croner_base.proofs.Words.Plain.{shows_plain}
 use Rattle.croner_base.proofs.component.marks.Marks.any.Goals as goal
-use Rattle.croner_base.proofs.component.marks.Marks.any.Goals.{then-bits-k-eq1, else-bits-k-eq1}
 
-pub loop-k-init : goal.loop-k-init
-loop-k-init c = any_none c.args.self.now c.args.bits c.args.i
+pub returns-then-bits-eq-ALL_BIT : goal.returns-then-bits-eq-ALL_BIT
+returns-then-bits-eq-ALL_BIT c = shows_plain c.args.self.now c.args.bits c.args.i c.word.result c.if-bits-eq-ALL_BIT.true c.word.ensures.bits
 
-pub loop-k-preserved : goal.loop-k-preserved
-loop-k-preserved c = elim c.if-bits-k-eq1.branch [
-  | then-bits-k-eq1 w ↦
-      let one : bit_at c.args.bits c.loop-k.k ≡ 1 = sym (shr_and_one c.args.bits c.loop-k.k) ∙ w.if-bits-k-eq1.true in
-      subst (λ n. ShowsAny c.args.self.now c.args.bits c.args.i n (c.loop-k.k + 1)) (sym w.found-is)
-      (any_more c.args.self.now c.args.bits c.args.i c.loop-k.found c.loop-k.k w.word-found.result c.loop-k.invariant one w.word-found.ensures.bits)
-  | else-bits-k-eq1 w ↦
-      subst (λ n. ShowsAny c.args.self.now c.args.bits c.args.i n (c.loop-k.k + 1)) (sym w.found-is)
-      (any_skip c.args.self.now c.args.bits c.args.i c.loop-k.found c.loop-k.k c.loop-k.invariant (λ e. w.if-bits-k-eq1.false (shr_and_one c.args.bits c.loop-k.k ∙ e)))
-]
+pub returns-in-InPlace : goal.returns-in-InPlace
+returns-in-InPlace c =
+    let is : Keeps c.in-InPlace.words c.self.inside.max 255 c.args.self.now =
+    keeps c.in-InPlace.words c.self.inside.max 255 c.args.self.now (ap (λ f. f.max) c.self.view_is)
+    (ap (λ ws. sums_of (words_of ws) c.self.inside.max (rows_of ws c.self.inside.supported)) (sym c.in-InPlace.is) ∙ ap (λ f. f.marks) c.self.view_is) in
+    shown_by c.in-InPlace.words c.self.inside.max 255 c.args.bits c.args.i c.any.result c.args.self.now is c.any.ensures
 
-pub returns : goal.returns
-returns c =
-    let end : c.loop-k.k ≡ 8 = omega arith in
-    any_all c.args.self.now c.args.bits c.args.i c.loop-k.found c.ranges.bits.fits (subst (ShowsAny c.args.self.now c.args.bits c.args.i c.loop-k.found) end c.loop-k.invariant)
+pub returns-in-OnHeap : goal.returns-in-OnHeap
+returns-in-OnHeap c =
+    let is : Keeps c.in-OnHeap.words.items c.self.inside.max c.self.inside.supported c.args.self.now =
+    keeps c.in-OnHeap.words.items c.self.inside.max c.self.inside.supported c.args.self.now (ap (λ f. f.max) c.self.view_is)
+    (ap (λ ws. sums_of (words_of ws) c.self.inside.max (rows_of ws c.self.inside.supported)) (sym c.in-OnHeap.is) ∙ ap (λ f. f.marks) c.self.view_is) in
+    shown_by c.in-OnHeap.words.items c.self.inside.max c.self.inside.supported c.args.bits c.args.i c.any-in-OnHeap.result c.args.self.now is
+    (subst (λ ws. ShowsMarked (marks_in ws c.self.inside.max c.self.inside.supported) c.args.bits c.args.i c.any-in-OnHeap.result) c.deref.ensures.value c.any-in-OnHeap.ensures)

@@ -1,7 +1,8 @@
 use Rattle.std.proofs.Common.{length, ap, sym, ◌∙◌}
+use Rattle.croner_base.specs.Words.Kept.{words_of, rows_of}
 use Rattle.croner_base.proofs.Words.Sums.{length-sums_of}
 use Rattle.croner_base.proofs.component.marks.Marks.len.Goals as goal
 
 pub returns-clause-marks : goal.returns-clause-marks
 returns-clause-marks c =
-    c.room.ensures ∙ sym (length-sums_of c.self.inside.words.items c.self.inside.max c.self.inside.supported) ∙ ap (λ f. length f.marks) c.self.view_is
+    c.room.ensures ∙ sym (length-sums_of (words_of c.self.inside.words) c.self.inside.max (rows_of c.self.inside.words c.self.inside.supported)) ∙ ap (λ f. length f.marks) c.self.view_is

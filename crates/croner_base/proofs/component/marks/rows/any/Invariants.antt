@@ -1,0 +1,6 @@
+use Rattle.croner_base.specs.Words.Rows.{marks_in}
+use Rattle.croner_base.proofs.Words.Counting.{ShowsAny}
+use Rattle.croner_base.proofs.component.marks.rows.any.Given as goal
+
+abbrev pub invariant-loop-k : goal.invariant-loop-k
+invariant-loop-k l = ShowsAny (marks_in l.words l.max l.supported) l.bits l.i l.found l.k

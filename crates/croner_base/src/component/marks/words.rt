@@ -1,0 +1,31 @@
+//! Where the words of the rows are kept.
+
+ghost use Rattle.std.specs.Prelude.{◌≡◌, IsTrue};
+ghost use Rattle.croner_base.specs.Words.Kept.{IsSame};
+
+/// The modifiers that there are, and so the most rows.
+pub const MODIFIERS: usize = 8;
+
+/// The bits of all modifiers.
+pub const ALL_ROWS: u8 = 255;
+
+/// The words of the rows: in place where a row has one word, with a row for each of the eight modifiers, and else in
+/// one piece of memory, with a row for each supported modifier, one after another.
+#[derive(Debug, Drop)]
+pub enum Words {
+    InPlace([u64; MODIFIERS]),
+    OnHeap(Vec<u64>),
+}
+
+impl Words {
+    /// Whether the words are the same and kept alike.
+    pub fn is_same(&self, other: &Words) -> bool
+        ensures { IsTrue result → IsSame self.now other.now }
+    {
+        match (self, other) {
+            (Words::InPlace(words), Words::InPlace(others)) => words == others,
+            (Words::OnHeap(words), Words::OnHeap(others)) => words.as_slice() == others.as_slice(),
+            _ => false,
+        }
+    }
+}
