@@ -7,3 +7,4 @@ pub mod Masks
 pub mod Next
 pub mod Rows
 pub mod Search
+pub mod Word

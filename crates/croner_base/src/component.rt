@@ -310,6 +310,9 @@ impl CronComponent {
     }
 
     /// The values from 0 to 63 that have any of the modifiers of `bit`, as a word: bit v stands for the value v.
+    ///
+    /// Each modifier is asked by itself: one that isn't supported adds no value, and keeps out none that another adds.
+    /// [`get_set_values`](Self::get_set_values) lists nothing at all where one isn't supported.
     pub fn low_word(&self, bit: u8) -> u64
         ensures { (value : ℕ) → value < 64 → (bit_at result value == 1) ≡ is_marked bit self.now value }
     {

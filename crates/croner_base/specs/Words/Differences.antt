@@ -3,6 +3,7 @@ use Rattle.std.specs.Prelude.{ℕ, ◌≡◌, ◌≢◌, ◌+◌, ◌*◌, ◌<�
 use Rattle.std.specs.Int.{bit_at}
 use Rattle.croner_base.specs.Field.{room}
 use Rattle.croner_base.specs.Words.Marked.{Marked}
+use Rattle.croner_base.specs.Words.Word.{word_bits}
 
 -- no value that both have has two sums
 abbrev pub SameSums : Marked → Marked → Type 0
@@ -16,5 +17,5 @@ pub record IsFirstDifference (f g : Marked) (v : ℕ) : Type 0 where
 
 -- the word has a bit for each value of word i that has two sums
 pub record ShowsDifferences (f g : Marked) (i found : ℕ) : Type 0 where
-  pub same : (b : ℕ) → b < 64 → i * 64 + b < room f.max → i * 64 + b < room g.max → bit_at found b ≡ 0 → slice_index f.marks (i * 64 + b) ≡ slice_index g.marks (i * 64 + b)
-  pub differs : (b : ℕ) → b < 64 → i * 64 + b < room f.max → i * 64 + b < room g.max → bit_at found b ≡ 1 → slice_index f.marks (i * 64 + b) ≢ slice_index g.marks (i * 64 + b)
+  pub same : (b : ℕ) → b < word_bits → i * word_bits + b < room f.max → i * word_bits + b < room g.max → bit_at found b ≡ 0 → slice_index f.marks (i * word_bits + b) ≡ slice_index g.marks (i * word_bits + b)
+  pub differs : (b : ℕ) → b < word_bits → i * word_bits + b < room f.max → i * word_bits + b < room g.max → bit_at found b ≡ 1 → slice_index f.marks (i * word_bits + b) ≢ slice_index g.marks (i * word_bits + b)

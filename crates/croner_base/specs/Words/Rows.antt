@@ -1,17 +1,18 @@
 -- Rows of words of 64 bits, one row for each supported modifier, one after another, with one bit a value.
-use Rattle.std.specs.Prelude.{ℕ, zero, suc, ◌+◌, ◌*◌, ◌/◌, ◌%◌, ◌^◌, List, slice_index, map}
+use Rattle.std.specs.Prelude.{ℕ, zero, suc, ◌+◌, ◌-◌, ◌*◌, ◌/◌, ◌%◌, ◌^◌, List, slice_index, map}
 use Rattle.std.specs.Int.{bit_at}
 use Rattle.std.specs.List.{range_with_len}
 use Rattle.croner_base.specs.Field.{room}
 use Rattle.croner_base.specs.Words.Marked.{Marked}
+use Rattle.croner_base.specs.Words.Word.{word_bits}
 
 -- how many words a row has
 abbrev pub width : ℕ → ℕ
-width max = (room max + 63) / 64
+width max = (room max + (word_bits - 1)) / word_bits
 
 -- 1 where a row has the value, and else 0
 abbrev pub in_row : List ℕ → ℕ → ℕ
-in_row words v = bit_at (slice_index words (v / 64)) (v % 64)
+in_row words v = bit_at (slice_index words (v / word_bits)) (v % word_bits)
 
 -- how many of the first k modifiers are supported
 unfoldable pub rows_below : ℕ → ℕ → ℕ
@@ -20,7 +21,7 @@ rows_below supported (suc k) = rows_below supported k + bit_at supported k
 
 -- 1 where modifier k is supported and its row has the value, and else 0
 unfoldable pub mark_at : List ℕ → ℕ → ℕ → ℕ → ℕ → ℕ
-mark_at words wide supported k v = bit_at supported k * bit_at (slice_index words (rows_below supported k * wide + v / 64)) (v % 64)
+mark_at words wide supported k v = bit_at supported k * bit_at (slice_index words (rows_below supported k * wide + v / word_bits)) (v % word_bits)
 
 -- the sum of the bits of the first k modifiers that the value has
 unfoldable pub sum_below : List ℕ → ℕ → ℕ → ℕ → ℕ → ℕ

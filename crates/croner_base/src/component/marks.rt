@@ -6,10 +6,11 @@ ghost use Rattle.croner_base.specs.Field.{room};
 ghost use Rattle.croner_base.specs.Words.Marked.{is_set, set_at, unset_at, nothing_set, GainsRange};
 ghost use Rattle.croner_base.specs.Words.Next.{NonePlainFrom, IsLeastPlain, NonePlainTo, IsGreatestPlain};
 ghost use Rattle.croner_base.specs.Words.Rows.{in_row, width};
+ghost use Rattle.croner_base.specs.Words.Word.{word_bits};
 
 use std::alloc::{AllocError, Global};
 use std::marker::Model;
-use words::{ALL_ROWS, MODIFIERS, Words};
+use words::{ALL_ROWS, MODIFIERS, WORD_BITS, Words};
 
 mod compare;
 mod count;
@@ -103,7 +104,7 @@ impl Marks {
         requires { value < room self.now.max }
         ensures { result ≡ is_set bits self.now value }
     {
-        self.any(bits, usize::from(value / 64)) >> (value % 64) & 1 == 1
+        self.any(bits, usize::from(value / WORD_BITS)) >> (value % WORD_BITS) & 1 == 1
     }
 
     /// Marks the value with each modifier of `bits`.
@@ -190,7 +191,7 @@ impl Marks {
 
     fn plain(&self) -> &[u64]
         ensures size { length result.now ≤ 1024 }
-        ensures full { 0 < length result.now → self.now.max < length result.now * 64 }
+        ensures full { 0 < length result.now → self.now.max < length result.now * word_bits }
         ensures past { (v : ℕ) → room self.now.max ≤ v → slice_index self.now.marks v ≡ 0 }
         ensures plain { (v : ℕ) → v < room self.now.max → in_row result.now v ≡ bit_at (slice_index self.now.marks v) 0 }
     {
@@ -204,7 +205,7 @@ impl Marks {
         requires modifier { k < 8 }
         requires within { i < width self.now.max }
         ensures small { (v : ℕ) → slice_index self.now.marks v < 256 }
-        ensures bits { (b : ℕ) → b < 64 → i * 64 + b < room self.now.max → bit_at result b ≡ bit_at (slice_index self.now.marks (i * 64 + b)) k }
+        ensures bits { (b : ℕ) → b < word_bits → i * word_bits + b < room self.now.max → bit_at result b ≡ bit_at (slice_index self.now.marks (i * word_bits + b)) k }
     {
         match &self.words {
             Words::InPlace(words) => rows::word(words, self.max, ALL_ROWS, k, i),

@@ -8,7 +8,7 @@ ghost use Rattle.croner_base.specs.Words.Differences.{SameSums, IsFirstDifferenc
 ghost use Rattle.croner_base.specs.Field.{room};
 ghost use Rattle.croner_base.specs.Words.Rows.{width};
 
-use super::words::{ALL_ROWS, Words};
+use super::words::{ALL_ROWS, WORD_BITS, Words};
 use super::{Marks, rows};
 use std::cmp::Ordering;
 
@@ -51,7 +51,7 @@ impl Marks {
         for i in 0..shared {
             let found = self.differences(other, i);
             if found != 0 {
-                let value = (i * 64 + found.trailing_zeros() as usize) as u16;
+                let value = (i * WORD_BITS as usize + found.trailing_zeros() as usize) as u16;
                 return if self.has(value) && other.has(value) {
                     Some(value)
                 } else {

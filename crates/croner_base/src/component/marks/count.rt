@@ -5,10 +5,11 @@ ghost use Rattle.std.specs.Int.{bit_at};
 ghost use Rattle.croner_base.specs.Words.Counts.{ShowsMarked, ShowsFrom, marked_from, values_in};
 ghost use Rattle.croner_base.specs.Words.Marked.{is_set};
 ghost use Rattle.croner_base.specs.Words.Rows.{width};
+ghost use Rattle.croner_base.specs.Words.Word.{word_bits};
 
 use super::row::{mask_from, mask_to};
 use super::rows::width;
-use super::words::{ALL_ROWS, Words};
+use super::words::{ALL_ROWS, WORD_BITS, Words};
 use super::{Marks, rows};
 use crate::component::ALL_BIT;
 use std::alloc::{AllocError, Global};
@@ -19,7 +20,7 @@ impl Marks {
         ensures { result ≡ length (marked_from first bits self.now) }
     {
         let mut count = 0;
-        for i in usize::from(first / 64)..width(self.max) {
+        for i in usize::from(first / WORD_BITS)..width(self.max) {
             count += self.marked(first, bits, i).count_ones() as usize;
         }
         count
@@ -30,7 +31,7 @@ impl Marks {
         ensures { IfOk result (λ values. values.items ≡ marked_from first bits self.now) }
     {
         let mut values = Vec::with_capacity(alloc, self.count_from(first, bits))?;
-        for i in usize::from(first / 64)..width(self.max) {
+        for i in usize::from(first / WORD_BITS)..width(self.max) {
             push_values(&mut values, self.marked(first, bits, i), i)?;
         }
         Ok(values)
@@ -38,7 +39,7 @@ impl Marks {
 
     /// The first 64 values that have one of the modifiers of `bits`, as a word.
     pub fn low_word(&self, bits: u8) -> u64
-        ensures { (v : ℕ) → v < 64 → (bit_at result v == 1) ≡ is_set bits self.now v }
+        ensures { (v : ℕ) → v < word_bits → (bit_at result v == 1) ≡ is_set bits self.now v }
     {
         if self.max() == 0 {
             return 0;
@@ -49,7 +50,7 @@ impl Marks {
     // The values of word `i`, from the given one on, that have one of the modifiers of `bits`.
     fn marked(&self, first: u16, bits: u8, i: usize) -> u64
         requires here { i < width self.now.max }
-        requires from { first / 64 ≤ i }
+        requires from { first / word_bits ≤ i }
         ensures { ShowsFrom self.now bits first i result }
     {
         self.any(bits, i) & mask_from(first, i) & mask_to(self.max, i)
@@ -74,9 +75,9 @@ fn push_values(values: &mut Vec<u16>, word: u64, i: usize) -> Result<(), AllocEr
     requires { i < 1024 }
     ensures { OnOk result (values.new.items ≡ values.old.items ++ values_in word i) }
 {
-    for b in 0..64_u16 {
+    for b in 0..WORD_BITS {
         if word >> b & 1 == 1 {
-            values.push((i * 64) as u16 + b)?;
+            values.push(i as u16 * WORD_BITS + b)?;
         }
     }
     Ok(())

@@ -3,6 +3,7 @@
 ghost use Rattle.std.specs.Prelude.{◌≡◌, ◌*◌, ◌<◌, fold};
 ghost use Rattle.croner_base.specs.Words.Rows.{width};
 ghost use Rattle.croner_base.specs.Written.{digits_of, set_writes, sets_writes};
+ghost use Rattle.croner_base.specs.Words.Word.{word_bits};
 
 use super::Marks;
 use super::row::mask_to;
@@ -34,7 +35,7 @@ impl Marks {
     fn digits(&self, k: u8, i: usize) -> u64
         requires modifier { k < 8 }
         requires within { i < width self.now.max }
-        ensures { result ≡ digits_of self.now.marks k (i * 64) 64 }
+        ensures { result ≡ digits_of self.now.marks k (i * word_bits) word_bits }
     {
         self.word(k, i) & mask_to(self.max, i)
     }

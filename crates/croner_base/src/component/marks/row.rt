@@ -3,17 +3,20 @@
 ghost use Rattle.std.specs.Prelude.{◌≡◌, ◌+◌, ◌*◌, ◌/◌, ◌<◌, ◌≤◌, length, MatchOption};
 ghost use Rattle.croner_base.specs.Words.Search.{HasNoneFrom, IsLeastFrom, HasNoneTo, IsGreatestTo};
 ghost use Rattle.croner_base.specs.Words.Masks.{MasksFrom, MasksTo, HasMarked};
+ghost use Rattle.croner_base.specs.Words.Word.{word_bits};
+
+use super::words::WORD_BITS;
 
 /// The least value of the row from the given one on.
 pub fn least_from(row: &[u64], value: u16) -> Option<u16>
     requires { length row.now ≤ 1024 }
     ensures { MatchOption result (HasNoneFrom row.now value) (λ least. IsLeastFrom row.now value least) }
 {
-    let mut mask = u64::MAX << (value % 64);
-    for i in usize::from(value / 64)..row.len() {
+    let mut mask = u64::MAX << (value % WORD_BITS);
+    for i in usize::from(value / WORD_BITS)..row.len() {
         let rest = row[i] & mask;
         if rest != 0 {
-            return Some((i * 64 + rest.trailing_zeros() as usize) as u16);
+            return Some((i * WORD_BITS as usize + rest.trailing_zeros() as usize) as u16);
         }
         mask = u64::MAX;
     }
@@ -22,16 +25,19 @@ pub fn least_from(row: &[u64], value: u16) -> Option<u16>
 
 /// The greatest value of the row up to the given one.
 pub fn greatest_to(row: &[u64], value: u16) -> Option<u16>
-    requires { value < length row.now * 64 }
+    requires { value < length row.now * word_bits }
     ensures { MatchOption result (HasNoneTo row.now value) (λ greatest. IsGreatestTo row.now value greatest) }
 {
-    let mut mask = u64::MAX >> (63 - value % 64);
-    let mut i = usize::from(value / 64) + 1;
+    let mut mask = u64::MAX >> (WORD_BITS - 1 - value % WORD_BITS);
+    let mut i = usize::from(value / WORD_BITS) + 1;
     while i > 0 {
         i -= 1;
         let rest = row[i] & mask;
         if rest != 0 {
-            return Some((i * 64 + 63 - rest.leading_zeros() as usize) as u16);
+            return Some(
+                (i * WORD_BITS as usize + (WORD_BITS as usize - 1)
+                    - rest.leading_zeros() as usize) as u16,
+            );
         }
         mask = u64::MAX;
     }
@@ -40,11 +46,11 @@ pub fn greatest_to(row: &[u64], value: u16) -> Option<u16>
 
 /// The values from the given one on, in word `i`.
 pub fn mask_from(value: u16, i: usize) -> u64
-    requires { value / 64 ≤ i }
+    requires { value / word_bits ≤ i }
     ensures { MasksFrom result value i }
 {
-    if i == usize::from(value / 64) {
-        u64::MAX << (value % 64)
+    if i == usize::from(value / WORD_BITS) {
+        u64::MAX << (value % WORD_BITS)
     } else {
         u64::MAX
     }
@@ -52,11 +58,11 @@ pub fn mask_from(value: u16, i: usize) -> u64
 
 /// The values up to the given one, in word `i`.
 pub fn mask_to(value: u16, i: usize) -> u64
-    requires { i ≤ value / 64 }
+    requires { i ≤ value / word_bits }
     ensures { MasksTo result value i }
 {
-    if i == usize::from(value / 64) {
-        u64::MAX >> (63 - value % 64)
+    if i == usize::from(value / WORD_BITS) {
+        u64::MAX >> (WORD_BITS - 1 - value % WORD_BITS)
     } else {
         u64::MAX
     }
@@ -65,11 +71,11 @@ pub fn mask_to(value: u16, i: usize) -> u64
 /// Marks the values from `first` to `last` in the row whose first word is at `start`.
 pub fn mark_between(words: &mut [u64], start: usize, first: u16, last: u16)
     requires order { first ≤ last }
-    requires within { start + last / 64 < length words.old }
+    requires within { start + last / word_bits < length words.old }
     ensures rows { length words.new ≡ length words.old }
     ensures marked { HasMarked words.old words.new start first last }
 {
-    for i in usize::from(first / 64)..usize::from(last / 64) + 1 {
+    for i in usize::from(first / WORD_BITS)..usize::from(last / WORD_BITS) + 1 {
         words[start + i] |= mask_from(first, i) & mask_to(last, i);
     }
 }

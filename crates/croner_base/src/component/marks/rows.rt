@@ -6,8 +6,10 @@ ghost use Rattle.croner_base.specs.Field.{room};
 ghost use Rattle.croner_base.specs.Words.Counts.{ShowsMarked};
 ghost use Rattle.croner_base.specs.Words.Marked.{GainsRange};
 ghost use Rattle.croner_base.specs.Words.Rows.{width, rows_below, in_row, mark_at, sum_below, sums_of, marks_in};
+ghost use Rattle.croner_base.specs.Words.Word.{word_bits};
 
 use super::row;
+use super::words::WORD_BITS;
 
 /// How many supported modifiers stand below modifier `k`.
 fn rows_below(supported: u8, k: u8) -> u8
@@ -36,15 +38,15 @@ pub fn room(max: u16) -> usize
 pub fn width(max: u16) -> usize
     ensures { result ≡ width max }
 {
-    (room(max) + 63) / 64
+    (room(max) + WORD_BITS as usize - 1) / WORD_BITS as usize
 }
 
 /// Where the word of a modifier and a value stands.
 pub fn place(max: u16, supported: u8, k: u8, value: u16) -> usize
     requires { k < 8 }
-    ensures { result ≡ rows_below supported k * width max + value / 64 }
+    ensures { result ≡ rows_below supported k * width max + value / word_bits }
 {
-    usize::from(rows_below(supported, k)) * width(max) + usize::from(value / 64)
+    usize::from(rows_below(supported, k)) * width(max) + usize::from(value / WORD_BITS)
 }
 
 /// Whether the value has the modifier.
@@ -54,7 +56,8 @@ fn has(words: &[u64], max: u16, supported: u8, k: u8, value: u16) -> bool
     requires rows { length words.now ≡ rows_below supported 8 * width max }
     ensures { result ≡ (mark_at words.now (width max) supported k value == 1) }
 {
-    supported >> k & 1 == 1 && words[place(max, supported, k, value)] >> (value % 64) & 1 == 1
+    supported >> k & 1 == 1
+        && words[place(max, supported, k, value)] >> (value % WORD_BITS) & 1 == 1
 }
 
 /// Word `i` of the modifier's row, and 0 where it isn't supported.
@@ -62,7 +65,7 @@ pub fn word(words: &[u64], max: u16, supported: u8, k: u8, i: usize) -> u64
     requires modifier { k < 8 }
     requires within { i < width max }
     requires rows { length words.now ≡ rows_below supported 8 * width max }
-    ensures { (b : ℕ) → b < 64 → bit_at result b ≡ mark_at words.now (width max) supported k (i * 64 + b) }
+    ensures { (b : ℕ) → b < word_bits → bit_at result b ≡ mark_at words.now (width max) supported k (i * word_bits + b) }
 {
     if supported >> k & 1 == 1 {
         words[place(max, supported, k, 0) + i]
@@ -80,7 +83,7 @@ pub fn mark(words: &mut [u64], max: u16, supported: u8, k: u8, value: u16)
     ensures rows { length words.new ≡ length words.old }
     ensures marked { sums_of words.new max supported ≡ slice_set (sums_of words.old max supported) value (bit_or (slice_index (sums_of words.old max supported) value) (2 ^ k)) }
 {
-    words[place(max, supported, k, value)] |= 1 << (value % 64);
+    words[place(max, supported, k, value)] |= 1 << (value % WORD_BITS);
 }
 
 /// Takes the modifier off the value.
@@ -92,7 +95,7 @@ pub fn unmark(words: &mut [u64], max: u16, supported: u8, k: u8, value: u16)
     ensures rows { length words.new ≡ length words.old }
     ensures unmarked { sums_of words.new max supported ≡ slice_set (sums_of words.old max supported) value (bit_and (slice_index (sums_of words.old max supported) value) (255 - 2 ^ k)) }
 {
-    words[place(max, supported, k, value)] &= !(1 << (value % 64));
+    words[place(max, supported, k, value)] &= !(1 << (value % WORD_BITS));
 }
 
 /// The values of word `i` that have one of the modifiers of `bits`. Bits past the maximum say nothing.
@@ -114,7 +117,7 @@ pub fn any(words: &[u64], max: u16, supported: u8, bits: u8, i: usize) -> u64
 pub fn plain(words: &[u64], max: u16, supported: u8) -> &[u64]
     requires { length words.now ≡ rows_below supported 8 * width max }
     ensures size { length result.now ≤ 1024 }
-    ensures full { 0 < length result.now → max < length result.now * 64 }
+    ensures full { 0 < length result.now → max < length result.now * word_bits }
     ensures plain { (v : ℕ) → v < room max → in_row result.now v ≡ bit_at (slice_index (sums_of words.now max supported) v) 0 }
 {
     if supported & 1 == 0 {

@@ -3,6 +3,9 @@
 ghost use Rattle.std.specs.Prelude.{◌≡◌, IsTrue};
 ghost use Rattle.croner_base.specs.Words.Kept.{IsSame};
 
+/// How many values a word has, one bit each.
+pub const WORD_BITS: u16 = 64;
+
 /// The modifiers that there are, and so the most rows.
 pub const MODIFIERS: usize = 8;
 
