@@ -122,7 +122,7 @@ const SHOWN: &str = "
     empty     | EmptyPattern
     error     | InvalidPattern(\"one\")
     civil     | CivilDateTime { date: CivilDate { year: 2024, month: 2, day: 29 }, time: CivilTime { hour: 1, minute: 2, second: 3 } }
-    field     | CronComponent { marks: Marks { words: [0, 0], max: 1, supported: 65 }, min: 0, step: 1, from_wildcard: false, enabled_features: 0, input_offset: 0, sloppy_ranges: false, alloc: Global }
+    field     | CronComponent { marks: Marks { words: InPlace([0, 0, 0, 0, 0, 0, 0, 0]), max: 1, supported: 65 }, min: 0, step: 1, from_wildcard: false, enabled_features: 0, input_offset: 0, sloppy_ranges: false, alloc: Global }
     clock     | TableTime { table: ClockTable { first_offset: 0, changes: [(0, 7200)] }, second: 5 }
     twice     | Ambiguous(TableTime { table: ClockTable { first_offset: 7200, changes: [(0, 7199)] }, second: -1 }, TableTime { table: ClockTable { first_offset: 7200, changes: [(0, 7199)] }, second: 0 })
 ";
@@ -131,7 +131,7 @@ const AROUND: &str = "
     parser  | CronParser { seconds: Optional, year: Optional ... } | shown
     builder | CronParserBuilder { ... } | shown
     job     | Cron { pattern: CronPattern { ... } | shown
-    pattern | CronPattern { seconds: CronComponent { marks: Marks { words: [1, 0], max: 59, supported: 65 }, min: 0, step: 1,  ... text: \"5 4 * * *\", star_day: true, star_weekday: true, day_and_weekday: false, alloc: Global } | shown
+    pattern | CronPattern { seconds: CronComponent { marks: Marks { words: InPlace([1, 0, 0, 0, 0, 0, 0, 0]), max: 59, supported: 65 }, min: 0, step: 1,  ... text: \"5 4 * * *\", star_day: true, star_weekday: true, day_and_weekday: false, alloc: Global } | shown
 ";
 
 // The rows that differ, of all tables here.
