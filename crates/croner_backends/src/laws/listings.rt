@@ -1,6 +1,9 @@
 //! Iterators over the two backends: their items begin the listing of the runs on the clocks of their tables.
-ghost use Rattle.std.specs.Prelude.{◌≡◌, IsTrue, IfOk, IfErr};
+ghost use Rattle.std.specs.Prelude.{◌≡◌, ◌≤◌, ◌⊎◌, IsTrue, IfOk, IfErr, length};
+ghost use Rattle.std.specs.List.{All};
 ghost use Rattle.croner.specs.Listing.{standing_of, instants, BeginsRest, Gave, GaveAll};
+ghost use Rattle.croner.specs.Neighbours.{IsWholeIn};
+ghost use Rattle.croner.specs.Premises.{IsSearchable};
 ghost use Rattle.croner_backends.specs.BoxedMoment.{boxed_moment};
 ghost use Rattle.croner_backends.specs.NarrowMoment.{narrow_moment};
 
@@ -12,7 +15,8 @@ use std::alloc::Global;
 
 /// The items of up to so many calls of `next` over the backend that takes memory, whatever memory they find, and whether the
 /// last call said that nothing is left: they begin the listing of what the iterator had yet to give, it goes on with the rest,
-/// and where nothing is said to be left they are all of it. The only error is `OutOfMemory`, for the room of the items.
+/// and where nothing is said to be left they are all of it. Each is a whole second on the clock of the table. The only error is
+/// `OutOfMemory`, for the room of the items, which is taken first: the iterator then stands where it stood.
 pub fn next_boxed_runs<'t>(
     alloc: Global,
     iterator: &mut CronIterator<BoxedTime<'t>>,
@@ -22,12 +26,16 @@ pub fn next_boxed_runs<'t>(
     ensures rest { IfOk result
         (λ r. Gave (standing_of boxed_moment iterator.old) (standing_of boxed_moment iterator.new) (instants boxed_moment r.0.items)) }
     ensures all { IfOk result (λ r. IsTrue r.1 → GaveAll (standing_of boxed_moment iterator.old) (instants boxed_moment r.0.items)) }
+    ensures whole { IfOk result (λ r. All (λ t. IsWholeIn (standing_of boxed_moment iterator.old).position.zone (boxed_moment t)) r.0.items) }
+    ensures most { IfOk result (λ r. length r.0.items ≤ calls) }
+    ensures kept { IfErr result (λ e. standing_of boxed_moment iterator.new ≡ standing_of boxed_moment iterator.old) }
     ensures err { IfErr result (λ e. e ≡ CronError.OutOfMemory) }
 {
     next_runs(alloc, iterator, calls)
 }
 
-/// The same over the backend that holds little, whatever it holds.
+/// The same over the backend that holds little, whatever it holds. Where it holds what the searches need, there is an item for
+/// each call, or the items are all that is left.
 pub fn next_narrow_runs<'t>(
     alloc: Global,
     iterator: &mut CronIterator<NarrowTime<'t>>,
@@ -37,6 +45,11 @@ pub fn next_narrow_runs<'t>(
     ensures rest { IfOk result
         (λ r. Gave (standing_of narrow_moment iterator.old) (standing_of narrow_moment iterator.new) (instants narrow_moment r.0.items)) }
     ensures all { IfOk result (λ r. IsTrue r.1 → GaveAll (standing_of narrow_moment iterator.old) (instants narrow_moment r.0.items)) }
+    ensures counted { IsSearchable (standing_of narrow_moment iterator.old).position →
+        IfOk result (λ r. (length r.0.items ≡ calls) ⊎ GaveAll (standing_of narrow_moment iterator.old) (instants narrow_moment r.0.items)) }
+    ensures whole { IfOk result (λ r. All (λ t. IsWholeIn (standing_of narrow_moment iterator.old).position.zone (narrow_moment t)) r.0.items) }
+    ensures most { IfOk result (λ r. length r.0.items ≤ calls) }
+    ensures kept { IfErr result (λ e. standing_of narrow_moment iterator.new ≡ standing_of narrow_moment iterator.old) }
     ensures err { IfErr result (λ e. e ≡ CronError.OutOfMemory) }
 {
     next_runs(alloc, iterator, calls)

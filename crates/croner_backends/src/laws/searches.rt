@@ -6,6 +6,7 @@ ghost use Rattle.croner_base.specs.Zone.{reading};
 ghost use Rattle.croner_pattern.specs.Shapes.{has_field_shapes};
 ghost use Rattle.croner.specs.Limit.{NoneInSpan};
 ghost use Rattle.croner.specs.PatternJob.{pattern_job};
+ghost use Rattle.croner.specs.Premises.{IsSearchable};
 ghost use Rattle.croner.specs.Refusal.{IsRefusal, IsLimitOrMemory};
 ghost use Rattle.croner.specs.Runs.{Nearest};
 ghost use Rattle.croner.specs.Views.{job_of};
@@ -40,7 +41,7 @@ pub fn nearest_boxed_run<'t>(
 
 /// What a search over the backend that holds little answers, whatever it holds: the nearest run on the clock of the table;
 /// the limit, where none is left in the searched years; or `InvalidDate` or `InvalidTime`, where something that the search
-/// had to ask for is not held.
+/// had to ask for is not held, which never comes where the backend holds what a search needs.
 pub fn nearest_narrow_run<'t>(
     job: &Cron,
     start: &NarrowTime<'t>,
@@ -53,6 +54,7 @@ pub fn nearest_narrow_run<'t>(
     ensures same_zone { IfOk result (λ t. (narrow_moment t).zone ≡ (narrow_moment start.now).zone) }
     ensures limit { IfErr result (λ e. e ≡ CronError.TimeSearchLimitExceeded → NoneInSpan direction inclusive
         (pattern_job (job_of job.now) (table_zone start.now.time.table.now)) start.now.time.second) }
+    ensures held { IsSearchable (narrow_moment start.now) → IfErr result (IsLimitOrMemory false) }
     ensures kinds { IfErr result (IsRefusal false) }
 {
     found_or_refused(job, start, inclusive, direction)
