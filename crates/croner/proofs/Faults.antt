@@ -1,5 +1,5 @@
 -- What an iterator keeps of a refusal.
-use Rattle.std.proofs.Common.{◌≡◌, Bool, true, IsTrue, Option, Some, None, inl, inr, refl, sym, subst}
+use Rattle.std.proofs.Common.{◌≡◌, Bool, IsTrue, Some, None, inl, inr, refl, sym, subst}
 use Rattle.croner_base.specs.declared.errors.CronError.{CronError}
 use Rattle.croner_base.specs.declared.errors.CronError.TheVariants.{EmptyPattern, InvalidDate, InvalidTime, TimeSearchLimitExceeded, InvalidPattern, IllegalCharacters, ComponentError, OutOfMemory}
 use Rattle.croner.specs.Faults.{is_kept, fault_of}

@@ -1,5 +1,5 @@
 -- What an iterator gave between two standings, call by call.
-use Rattle.std.proofs.Common.{◌≡◌, ℕ, ℤ, ◌⊎◌, inl, inr, refl, sym, subst, Bool, true, false, List, [], ◌∷◌, ◌++◌, None, ap, ◌∙◌, IsTrue, length, ◌+◌, Option}
+use Rattle.std.proofs.Common.{◌≡◌, ℕ, suc, ℤ, ◌⊎◌, inl, inr, refl, sym, subst, arith, Bool, true, false, List, [], ◌∷◌, ◌++◌, None, ap, ◌∙◌, IsTrue, length, ◌+◌, Option}
 use Rattle.croner_base.specs.Calm.{IsCalm}
 use Rattle.croner_base.specs.Zone.{Zone, Moment}
 use Rattle.croner_base.specs.declared.errors.CronError.{CronError}
@@ -11,7 +11,7 @@ use Rattle.croner.specs.Faults.{fault_of}
 use Rattle.croner.specs.Premises.{IsSearchable, StartsCalm}
 use Rattle.croner.specs.PatternJob.{pattern_job}
 use Rattle.croner.specs.Limit.{InSpan}
-use Rattle.croner.specs.Listing.{Standing, standing_of, instants, Takes, IsLeft, BeginsRest, Gave, GaveAll, moved, counts_position, job_at, GivesItem, GivesNone}
+use Rattle.croner.specs.Listing.{Standing, standing_of, instants, Takes, TakesInTurn, IsLeft, BeginsRest, Gave, GaveAll, moved, counts_position, job_at, GivesItem, GivesNone}
 use Rattle.croner.specs.Neighbours.{IsWholeIn}
 use Rattle.croner.specs.declared.iterator.CronIterator.{CronIterator}
 use Rattle.std.proofs.lemmas.Bool.{false≢true}
@@ -153,7 +153,7 @@ module _ {T : Type 0} (moment : T → Moment) (lack : Bool) (old : Standing) (cu
       let P : List T → Type 0 = λ ts. Goes old (standing_of moment new) (instants moment ts) in
       let Q : List ℤ → Type 0 = λ is. Goes old (standing_of moment new) is in
       elim takes [
-        | inl (none, e) ↦ subst P (sym e) (goes_on lack old (standing_of moment cur) (standing_of moment new) (instants moment before) g none)
+        | inl (none, with_fault, e) ↦ subst P (sym e) (goes_on lack old (standing_of moment cur) (standing_of moment new) (instants moment before) g none)
         | inr (t, item, e) ↦
             subst P (sym e) (subst Q (sym (map_push (λ x. (moment x).instant) before t))
             (goes_to old (standing_of moment cur) (standing_of moment new) (instants moment before) (moment t) g item))
@@ -163,6 +163,14 @@ module _ {T : Type 0} (moment : T → Moment) (lack : Bool) (old : Standing) (cu
   over_by_call true g (none, without, e) h = is_over lack old (standing_of moment cur) (standing_of moment new) (instants moment before) g none without
   over_by_call false g takes h = absurd (false≢true h)
 
+  -- and one more of the calls in turn
+  pub called_again : (start : CronIterator T) (calls : ℕ) (b mark : Bool) → TakesInTurn moment lack calls start cur before b → Takes moment lack cur new before after mark
+      → TakesInTurn moment lack (calls + 1) start new after mark
+  called_again start calls b mark called takes =
+      let P : ℕ → Type 0 = λ n. TakesInTurn moment lack n start new after mark in
+      let each : suc calls ≡ calls + 1 = omega arith in
+      subst P each (cur, before, b, called, takes)
+
   -- each item is a whole second of the zone
   pub wholes_by_call : (b : Bool) → Goes old (standing_of moment cur) (instants moment before) → Takes moment lack cur new before after b
       → All (λ t. IsWholeIn old.position.zone (moment t)) before → All (λ t. IsWholeIn old.position.zone (moment t)) after
@@ -170,7 +178,7 @@ module _ {T : Type 0} (moment : T → Moment) (lack : Bool) (old : Standing) (cu
   wholes_by_call false g takes wholes =
       let P : List T → Type 0 = All (λ t. IsWholeIn old.position.zone (moment t)) in
       elim takes [
-        | inl (none, e) ↦ subst P (sym e) wholes
+        | inl (none, with_fault, e) ↦ subst P (sym e) wholes
         | inr (t, item, e) ↦
             subst P (sym e) (All-push (λ x. IsWholeIn old.position.zone (moment x)) before t wholes (record { zone = item.found.zone ∙ g.zone; whole = item.found.whole }))
       ]
@@ -182,7 +190,7 @@ module _ {T : Type 0} (moment : T → Moment) (lack : Bool) (old : Standing) (cu
   counted_by_call true calls g (none, without, e) memory counted p = inr (is_over lack old (standing_of moment cur) (standing_of moment new) (instants moment before) g none without)
   counted_by_call false calls g takes memory counted p =
       elim takes [
-        | inl (none, e) ↦
+        | inl (none, with_fault, e) ↦
             inr (is_over lack old (standing_of moment cur) (standing_of moment new) (instants moment before) g none (without_fault lack (standing_of moment cur) (standing_of moment new) none memory (g.searchable p)))
         | inr (t, item, e) ↦
             elim (counted p) [

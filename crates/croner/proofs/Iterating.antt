@@ -1,13 +1,13 @@
 -- What a call of an iterator's `next` does, from the search that it makes.
-use Rattle.std.proofs.Common.{◌≡◌, IsTrue, Bool, Option, Some, None, Result, Ok, Err, IfOk, IfErr, sym, subst, inl, inr, ap, ◌∙◌, refl}
+use Rattle.std.proofs.Common.{◌≡◌, IsTrue, Bool, Option, Some, None, Result, Ok, Err, IfOk, IfErr, sym, subst, inr, ap, ◌∙◌, refl}
 use Rattle.croner_base.specs.Zone.{Moment}
 use Rattle.croner_base.specs.declared.errors.CronError.{CronError}
-use Rattle.croner_base.specs.declared.errors.CronError.TheVariants.{TimeSearchLimitExceeded, OutOfMemory}
+use Rattle.croner_base.specs.declared.errors.CronError.TheVariants.{OutOfMemory}
 use Rattle.croner_base.specs.declared.time.Direction.{Direction}
 use Rattle.croner.specs.Runs.{Timetable}
 use Rattle.croner.specs.PatternJob.{timetable_of}
 use Rattle.croner.specs.Searches.{IsFound, IsRefused}
-use Rattle.croner.specs.Listing.{Standing, standing_of, counts_position, moved, GivesItem, GivesNone, Settles, Steps}
+use Rattle.croner.specs.Listing.{standing_of, counts_position, moved, Settles, Steps}
 use Rattle.croner.specs.declared.iterator.CronIterator.{CronIterator}
 
 -- want of memory for the item of a run that was found is a refusal too

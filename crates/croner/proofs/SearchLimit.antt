@@ -11,7 +11,7 @@ use Rattle.croner.specs.Runs.{Timetable, Job, job_in, Nearest, Counts, Precedes,
 use Rattle.croner.specs.Limit.{IsWithin, NoneInSpan, IsPast}
 use Rattle.croner.specs.Schedule.{IsCovered, NoneScheduled}
 use Rattle.croner.specs.Premises.{IsSearchable, IsCalmStart, StartsCalm, HoldsYears, HoldsSecond}
-use Rattle.croner.specs.Refusal.{IsBackendError, IsRefusal, IsLimitOrMemory}
+use Rattle.croner.specs.Refusal.{IsBackendError, IsRefusal}
 use Rattle.croner.specs.Walk.{RunOf, NoneOf, Walked, WalkedFrom, walk_start, one_on, OutFrom, IsWalked, IsWalkRefused}
 use Rattle.croner.specs.Searches.{IsFound, IsRefused}
 use Rattle.croner.specs.Halves.{EdgeOf, HasTwin, CountsBoth, IsEdge, HasOtherHalf, opposite_way, offset_from, moment_from}

@@ -1,9 +1,10 @@
 -- The run before the run after a run: the run itself.
-use Rattle.std.proofs.Common.{◌≡◌, ℕ, arith, refl, sym, ap, subst, ◌∙◌, ℤ, pos, neg_ℤ, ◌+ℤ◌, ◌≤ℤ◌, Bool, false, inl, inr}
+use Rattle.std.proofs.Common.{◌≡◌, ℕ, arith, refl, sym, ap, subst, ◌∙◌, ℤ, pos, neg_ℤ, ◌+ℤ◌, ◌≤ℤ◌, Bool, false, IsTrue, inl, inr}
 use Rattle.std.proofs.lemmas.Bool.{false≢true}
 use Rattle.std.proofs.lemmas.Int.{ints}
 use Rattle.jiff_core.specs.Calendar.{days_of_months}
 use Rattle.croner_base.specs.declared.errors.CronError.{CronError}
+use Rattle.croner_base.specs.declared.errors.CronError.TheVariants.{TimeSearchLimitExceeded, OutOfMemory}
 use Rattle.croner_base.specs.declared.time.Direction.TheVariants.{Forward, Backward}
 use Rattle.croner_base.specs.declared.time.civil.CivilDateTime.{CivilDateTime}
 use Rattle.croner_base.specs.Calendar.{IsRealDate, day_number, year_start, days_since_zero, days_until_zero}
@@ -83,19 +84,21 @@ module _ (m : Meaning) (start next : Moment) (r : IsReturnable m start) (there :
       ap in_zone (found.zone ∙ there.zone) ∙ ap at instant ∙ ap with_fraction whole
 
   -- and does not answer the limit
-  no_limit : NoneInSpan Backward false (pattern_job m next.zone) next.instant → ⊥
-  no_limit none =
+  none_left : NoneInSpan Backward false (pattern_job m next.zone) next.instant → ⊥
+  none_left none =
       let P : Zone → Type 0 = λ z. NoneInSpan Backward false (pattern_job m z) next.instant in
       elim near.counts [
         | inl (past, run) ↦ subst P there.zone none start.instant (in_span m start r) (inl (past, r.run))
         | inr (is, e, own) ↦ absurd (false≢true is)
       ]
 
-  -- so it is refused by something else, and the pair of searches for the same reason
-  pub refused_back : (lack : Bool) (e : CronError) → IsRefused lack Backward false (timetable_of m) next e → IsRefused lack Forward false (timetable_of m) start e
-  refused_back lack e refused = record {
-    limit = λ h is. absurd (no_limit (refused.limit calm_next is));
-    promised = λ p. refused.promised (searchable_next p);
-    kind = refused.kind;
-    past = λ p. absurd (there.left p);
-  }
+  pub no_limit : (lack : Bool) (e : CronError) → IsRefused lack Backward false (timetable_of m) next e → e ≡ TimeSearchLimitExceeded → ⊥
+  no_limit lack e refused is = none_left (refused.limit calm_next is)
+
+  -- so where what a search needs is held it is want of memory that refuses it
+  pub only_memory : (lack : Bool) (e : CronError) → IsRefused lack Backward false (timetable_of m) next e → IsSearchable start → (e ≡ OutOfMemory) × IsTrue lack
+  only_memory lack e refused p =
+      elim (refused.promised (searchable_next p)) [
+        | inl limit ↦ absurd (no_limit lack e refused limit)
+        | inr memory ↦ memory
+      ]

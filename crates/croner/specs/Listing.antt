@@ -1,5 +1,5 @@
 -- The listing of runs from a start: lists of instants that begin it, and what an iterator has yet to give.
-use Rattle.std.specs.Prelude.{◌≡◌, ◌&&◌, ℤ, ◌⊎◌, ◌++◌, Bool, true, false, IsTrue, List, [], ◌∷◌, Option, Some, None, Result, Ok, Err, MatchOption, map}
+use Rattle.std.specs.Prelude.{◌≡◌, ◌&&◌, ℕ, zero, suc, ℤ, ◌⊎◌, ◌++◌, Bool, true, false, IsTrue, List, [], ◌∷◌, Option, Some, None, Result, Ok, Err, MatchOption, map}
 use Rattle.std.specs.List.{All, AllPairs, Contains}
 use Rattle.croner_base.specs.Zone.{Moment}
 use Rattle.croner_base.specs.declared.errors.CronError.{CronError}
@@ -114,9 +114,16 @@ GaveAll old items = (i : ℤ) → IsLeft old i → InSpan old.direction old.posi
 abbrev pub instants : {T : Type 0} → (T → Moment) → List T → List ℤ
 instants moment items = map (λ t. (moment t).instant) items
 
--- a call put its item behind the others; or it gave none, and answers whether nothing is left
+-- a call put its item behind the others; or it gave none, and the mark says whether it kept no fault, so that nothing is left
 abbrev pub Takes : {T : Type 0} → (T → Moment) → Bool → CronIterator T → CronIterator T → List T → List T → Bool → Type 0
 Takes moment lack old new before after true = GivesNone lack (standing_of moment old) (standing_of moment new) × ((standing_of moment new).fault ≡ None) × (after ≡ before)
 Takes {T} moment lack old new before after false =
-    (GivesNone lack (standing_of moment old) (standing_of moment new) × (after ≡ before))
+    (GivesNone lack (standing_of moment old) (standing_of moment new) × ¬ ((standing_of moment new).fault ≡ None) × (after ≡ before))
     ⊎ ((t : T) × GivesItem (standing_of moment old) (moment t) (standing_of moment new) × (after ≡ before ++ t ∷ []))
+
+-- so many calls one after the other: where the iterator then stands, the items, and the mark of the last call
+abbrev pub TakesInTurn : {T : Type 0} → (T → Moment) → Bool → ℕ → CronIterator T → CronIterator T → List T → Bool → Type 0
+TakesInTurn moment lack zero old new items mark = (new ≡ old) × (items ≡ []) × (mark ≡ false)
+TakesInTurn {T} moment lack (suc calls) old new items mark =
+    (between : CronIterator T) × (before : List T) × (b : Bool)
+    × TakesInTurn moment lack calls old between before b × Takes moment lack between new before items mark

@@ -3,12 +3,11 @@ ghost use Rattle.std.specs.Prelude.{◌≡◌, ◌≤◌, ◌<◌, ◌+◌, ◌�
 ghost use Rattle.std.specs.List.{All, AllPairs};
 ghost use Rattle.croner_pattern.specs.Meaning.{meaning_of};
 ghost use Rattle.croner_pattern.specs.Shapes.{has_field_shapes};
-ghost use Rattle.croner.specs.Listing.{Standing, standing_of, new_standing, moved, instants, IsLeft, BeginsRest, Gave, GaveAll, Takes};
+ghost use Rattle.croner.specs.Listing.{Standing, standing_of, new_standing, moved, instants, IsLeft, BeginsRest, Gave, GaveAll, Takes, TakesInTurn};
 ghost use Rattle.croner.specs.Neighbours.{AreCompared, IsWholeIn, onward};
 ghost use Rattle.croner.specs.Runs.{Precedes};
 ghost use Rattle.croner.specs.PatternJob.{timetable_of};
 ghost use Rattle.croner.specs.Premises.{IsSearchable, StartsCalm};
-ghost use Rattle.croner.specs.Refusal.{IsRefusal};
 ghost use Rattle.croner.specs.Searches.{IsFound, IsRefused, IsReturnable};
 ghost use Rattle.croner.specs.Views.{job_of};
 
@@ -19,14 +18,15 @@ use croner_base::time::{CronDateTime, Direction};
 use std::alloc::Global;
 use std::cmp::Ordering;
 
-/// The items of up to so many calls of `next`, whatever calls without an item come between, and whether the last call said that
-/// nothing is left.
+/// The items of up to so many calls of `next`, whatever calls without an item come between, and whether the last call gave
+/// none and kept no fault, so that nothing is left.
 ///
-/// In a calm zone and from a whole second, over whatever backend, the items begin the listing of what the iterator had yet to
-/// give, strictly in its direction, and the iterator goes on with the rest; where nothing is said to be left, they are all of it
-/// up to the end of the searched years. Over a backend that also holds what its searches need and cannot lack memory there is an
-/// item for each call, or they are all of it too. In every zone an item is a whole second of the start's zone. The only error is `OutOfMemory`, for the room of as many items as there are calls, which is taken
-/// first: the iterator then stands where it stood.
+/// The items and the mark are those of just so many calls, one after the other. In a calm zone and from a whole second, over
+/// whatever backend, the items begin the listing of what the iterator had yet to give, strictly in its direction, and the
+/// iterator goes on with the rest; where nothing is said to be left, they are all of it up to the end of the searched years.
+/// Over a backend that also holds what its searches need and cannot lack memory there is an item for each call, or they are all
+/// of it too. In every zone an item is a whole second of the start's zone. The only error is `OutOfMemory`, for the room of as
+/// many items as there are calls, which is taken first: the iterator then stands where it stood.
 pub fn next_runs<T: CronDateTime>(
     alloc: Global,
     iterator: &mut CronIterator<T>,
@@ -40,6 +40,7 @@ pub fn next_runs<T: CronDateTime>(
         IfOk result (λ r. IsTrue r.1 → GaveAll (standing_of T.moment iterator.old) (instants T.moment r.0.items)) }
     ensures counted { IsSearchable (standing_of T.moment iterator.old).position → T.can_lack_memory ≡ false →
         IfOk result (λ r. (length r.0.items ≡ calls) ⊎ GaveAll (standing_of T.moment iterator.old) (instants T.moment r.0.items)) }
+    ensures called { IfOk result (λ r. TakesInTurn T.moment T.can_lack_memory calls iterator.old iterator.new r.0.items r.1) }
     ensures whole { IfOk result (λ r. All (λ t. IsWholeIn (standing_of T.moment iterator.old).position.zone (T.moment t)) r.0.items) }
     ensures most { IfOk result (λ r. length r.0.items ≤ calls) }
     ensures kept { IfErr result (λ e. standing_of T.moment iterator.new ≡ standing_of T.moment iterator.old) }
@@ -113,26 +114,33 @@ fn compare<T: CronDateTime>(items: &[T], orders: &mut Vec<Ordering>)
     }
 }
 
-/// A run, found again: the next run after it, and the previous run before that one.
+/// The next run after a run, and the way back: the previous run before that one.
 ///
-/// In a calm zone, from a run of year 3 or later, over whatever backend, the second is the first: the same instant of the same
-/// zone. There the pair is refused only for what refuses a search for the next run: so the limit says that no run is left before
-/// year 5000 after the one that was handed in, and where the backend also holds what that search needs, there is nothing else but
-/// `OutOfMemory`, only over a backend that can lack memory.
-pub fn there_and_back<T: CronDateTime>(job: &Cron, run: &T) -> Result<(T, T), CronError>
+/// In a calm zone, from a run of year 3 or later, over whatever backend, the way back finds that run: the same instant of the
+/// same zone. It is never refused by the limit, also not where the next run lies in year 5000, and where the backend also holds
+/// what a search from the run needs, by nothing but `OutOfMemory`, only over a backend that can lack memory. An error of the
+/// pair is one of the way there alone.
+pub fn there_and_back<T: CronDateTime>(
+    job: &Cron,
+    run: &T,
+) -> Result<(T, Result<T, CronError>), CronError>
     requires { has_field_shapes (job_of job.now) ≡ true }
     ensures there { IfOk result (λ r. IsFound Direction.Forward false (timetable_of (job_of job.now)) (T.moment run.now) (T.moment r.0)) }
-    ensures back { IfOk result (λ r. IsFound Direction.Backward false (timetable_of (job_of job.now)) (T.moment r.0) (T.moment r.1)) }
-    ensures same { IsReturnable (job_of job.now) (T.moment run.now) → IfOk result (λ r. T.moment r.1 ≡ T.moment run.now) }
-    ensures refused { IsReturnable (job_of job.now) (T.moment run.now) →
-        IfErr result (IsRefused T.can_lack_memory Direction.Forward false (timetable_of (job_of job.now)) (T.moment run.now)) }
-    ensures kinds { IfErr result (IsRefusal T.can_lack_memory) }
+    ensures refused { IfErr result (IsRefused T.can_lack_memory Direction.Forward false (timetable_of (job_of job.now)) (T.moment run.now)) }
+    ensures back { IfOk result (λ r. IfOk r.1 (λ b. IsFound Direction.Backward false (timetable_of (job_of job.now)) (T.moment r.0) (T.moment b))) }
+    ensures lost { IfOk result (λ r. IfErr r.1 (IsRefused T.can_lack_memory Direction.Backward false (timetable_of (job_of job.now)) (T.moment r.0))) }
+    ensures same { IsReturnable (job_of job.now) (T.moment run.now) →
+        IfOk result (λ r. IfOk r.1 (λ b. T.moment b ≡ T.moment run.now)) }
+    ensures no_limit { IsReturnable (job_of job.now) (T.moment run.now) →
+        IfOk result (λ r. IfErr r.1 (λ e. ¬ (e ≡ CronError.TimeSearchLimitExceeded))) }
+    ensures held { IsReturnable (job_of job.now) (T.moment run.now) → IsSearchable (T.moment run.now) →
+        IfOk result (λ r. IfErr r.1 (λ e. (e ≡ CronError.OutOfMemory) × IsTrue T.can_lack_memory)) }
 {
     match job.find_next_occurrence(run, false) {
-        Ok(next) => match job.find_previous_occurrence(&next, false) {
-            Ok(back) => Ok((next, back)),
-            Err(refused) => Err(refused),
-        },
+        Ok(next) => {
+            let back = job.find_previous_occurrence(&next, false);
+            Ok((next, back))
+        }
         Err(refused) => Err(refused),
     }
 }

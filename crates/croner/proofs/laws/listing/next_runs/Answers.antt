@@ -1,6 +1,6 @@
 use Rattle.std.proofs.Common.{◌≡◌, ◌⊎◌, ℕ, length, subst, arith}
-use Rattle.croner.specs.Listing.{standing_of, instants}
-use Rattle.croner.proofs.ItemsGiven.{IsOver, goes_by_call, over_by_call, wholes_by_call, counted_by_call, begins_rest, gave, gave_all, counted_all}
+use Rattle.croner.specs.Listing.{standing_of, instants, TakesInTurn}
+use Rattle.croner.proofs.ItemsGiven.{IsOver, goes_by_call, over_by_call, called_again, wholes_by_call, counted_by_call, begins_rest, gave, gave_all, counted_all}
 use Rattle.croner.proofs.laws.listing.next_runs.Goals as goal
 
 pub loop-call-preserved : goal.loop-call-preserved
@@ -17,6 +17,7 @@ loop-call-preserved g c =
     record {
       goes = goes_by_call moment lack old cur new before after c.take_next-is_over.result held.goes takes;
       over = over_by_call moment lack old cur new before after c.take_next-is_over.result held.goes takes;
+      called = called_again moment lack old cur new before after c.args.iterator.now c.loop-call._call c.loop-call.is_over c.take_next-is_over.result held.called takes;
       wholes = wholes_by_call moment lack old cur new before after c.take_next-is_over.result held.goes takes held.wholes;
       counted = λ memory p. counted_by_call moment lack old cur new before after c.take_next-is_over.result c.loop-call._call held.goes takes memory (held.counted memory) p;
       most = omega (arith, c.take_next-is_over.ensures.longer, held.most);
@@ -47,6 +48,13 @@ returns-clause-counted g c p memory =
     let each : c.loop-call._call ≡ c.args.calls = omega arith in
     let counted = subst (λ (n : ℕ). (length c.loop-call.runs.items ≡ n) ⊎ IsOver old cur) each (c.loop-call.invariant.counted memory p) in
     counted_all old cur (instants moment c.loop-call.runs.items) (length c.loop-call.runs.items) c.args.calls c.loop-call.invariant.goes counted p
+
+pub returns-clause-called : goal.returns-clause-called
+returns-clause-called g c =
+    let moment = g.T.CronDateTime.moment in
+    let lack = g.T.CronDateTime.can_lack_memory in
+    let each : c.loop-call._call ≡ c.args.calls = omega arith in
+    subst (λ (n : ℕ). TakesInTurn moment lack n c.args.iterator.now c.loop-call.iterator' c.loop-call.runs.items c.loop-call.is_over) each c.loop-call.invariant.called
 
 pub returns-clause-whole : goal.returns-clause-whole
 returns-clause-whole g c = c.loop-call.invariant.wholes
