@@ -5,4 +5,5 @@ pub mod component;
 pub mod errors;
 pub mod excerpt;
 pub mod laws;
+pub mod limits;
 pub mod time;

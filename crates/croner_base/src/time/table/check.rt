@@ -3,6 +3,8 @@ ghost use Rattle.std.specs.Prelude.{◌≡◌, ◌↔◌, ◌≤◌, IsTrue, IsS
 ghost use Rattle.croner_base.specs.Table as Spec;
 ghost use Rattle.croner_base.specs.Limits.{gap_limit, most_changes, most_gap_seconds};
 
+use crate::limits::GAP_LIMIT_SECONDS;
+
 /// -9999-01-01T00:00:00 UTC, in seconds since 1970-01-01T00:00:00 UTC.
 const FIRST_INSTANT: i64 = -377_705_116_800;
 
@@ -13,7 +15,7 @@ const LAST_INSTANT: i64 = 253_402_300_799;
 pub(crate) const OFFSET_LIMIT_SECONDS: i32 = 86_400;
 
 /// The most seconds that a change moves the clock forward.
-const GAP_LIMIT_SECONDS: i32 = 7_200;
+const LONGEST_GAP: i32 = GAP_LIMIT_SECONDS as i32;
 
 /// The most seconds that a change moves the clock back.
 const FOLD_LIMIT_SECONDS: i32 = 7_200;
@@ -117,7 +119,7 @@ fn is_step(before: i32, after: i32) -> bool
         return false;
     }
     let forward = after - before;
-    -FOLD_LIMIT_SECONDS <= forward && forward <= GAP_LIMIT_SECONDS
+    -FOLD_LIMIT_SECONDS <= forward && forward <= LONGEST_GAP
 }
 
 // 1 for a change with a reading in the years that a pattern can name, at its instant or one second before it.
