@@ -7,6 +7,7 @@ use Rattle.croner_base.specs.declared.time.value.Resolution.TheVariants.{Single,
 use Rattle.croner_base.specs.Civil.{wall_second}
 use Rattle.croner_base.specs.Zone.{Zone}
 use Rattle.croner_base.specs.Calm.{IsChange, IsCalm, NamesAll}
+use Rattle.croner_base.specs.Limits.{gap_limit, fold_limit}
 use Rattle.croner.specs.Halves.{Break}
 use Rattle.croner.proofs.ZoneOrder.{Calm, same_or_not}
 
@@ -31,7 +32,7 @@ change_of_break z p breaks =
     breaks (omega (arith, ints))
 
 -- how far the clock can jump after p
-small_of : (z : Zone) → IsCalm z → (p : ℤ) → ((z.reads p +ℤ pos 1) ≤ℤ (z.reads (p +ℤ pos 1) +ℤ pos 7200)) × (z.reads (p +ℤ pos 1) ≤ℤ (z.reads p +ℤ pos 7201))
+small_of : (z : Zone) → IsCalm z → (p : ℤ) → ((z.reads p +ℤ pos 1) ≤ℤ (z.reads (p +ℤ pos 1) +ℤ pos fold_limit)) × (z.reads (p +ℤ pos 1) ≤ℤ (z.reads p +ℤ pos 1 +ℤ pos gap_limit))
 small_of z calm p =
     let back : z.reads (p +ℤ pos 1 -ℤ pos 1) ≡ z.reads p = ap z.reads (omega (arith, ints)) in
     elim (same_or_not (z.reads (p +ℤ pos 1)) (z.reads p +ℤ pos 1)) [
@@ -45,7 +46,7 @@ pub calm_of : (z : Zone) → IsCalm z → Calm z.reads
 calm_of z calm =
     record {
       forth = λ p. (small_of z calm p).1;
-      back = λ p. let small = (small_of z calm p).0 in omega (arith, ints);
+      back = λ p. (small_of z calm p).0;
       apart = λ p q a b h.
           let far = calm.apart (p +ℤ pos 1) (q +ℤ pos 1) (change_of_break z p a) (change_of_break z q b) (omega (arith, ints)) in
           omega (arith, ints);

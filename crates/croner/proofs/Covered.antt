@@ -15,7 +15,7 @@ use Rattle.croner_pattern.specs.Shapes.{has_field_shapes}
 use Rattle.croner_pattern.specs.Schedule.{IsScheduled, DateMatches, is_scheduled, is_date_matching, is_fixed_time}
 use Rattle.croner.specs.Runs.{Precedes, Reaches}
 use Rattle.croner.specs.Limit.{year_5000, year_2}
-use Rattle.croner.specs.Schedule.{NextScheduled, NoneScheduled}
+use Rattle.croner.specs.Schedule.{last_of_year_1, NextScheduled, NoneScheduled}
 use Rattle.croner.specs.Cursor.{has_room, edge_day, IsMatchingTime, IsMove, IsOpen, IsOnSchedule, IsNearest, NoneOn, Finds}
 use Rattle.croner.proofs.Ahead.{not_both, precedes-reaches, reaches-trans}
 use Rattle.croner.proofs.CivilOrder.{seconds_bound, same_date, reach-date, no_room-past}
@@ -53,7 +53,7 @@ covered-forward y h = omega (arith, signed_arith, edge-forward, wall_second-part
 covered-backward : (y : CivilDateTime) → year_2 ≤ℤ wall_second y → Precedes Backward (day_of_date y.date) (edge_day Backward)
 covered-backward y h = omega (arith, signed_arith, edge-backward, wall_second-parts y, seconds_bound y.time)
 
-covered-fixed : (y : CivilDateTime) → (year_2 -ℤ pos 86_400) ≤ℤ wall_second y → Reaches Backward (day_of_date y.date) (edge_day Backward)
+covered-fixed : (y : CivilDateTime) → last_of_year_1 ≤ℤ wall_second y → Reaches Backward (day_of_date y.date) (edge_day Backward)
 covered-fixed y h = omega (arith, signed_arith, edge-backward, wall_second-parts y, seconds_bound y.time)
 
 -- a job at one time of the day needs no step
@@ -99,7 +99,7 @@ none_covered m Backward false from shapes f none w r covered is =
     none is.shown reach (open_before m Backward from is.shown reach is.matches before)
 none_covered m Backward true from shapes f none w r covered is =
     let reach = subst (λ (z : ℤ). Reaches Backward (wall_second from) z) (sym is.shows) r in
-    let within = covered-fixed is.shown (subst (λ (z : ℤ). (year_2 -ℤ pos 86_400) ≤ℤ z) (sym is.shows) covered) in
+    let within = covered-fixed is.shown (subst (λ (z : ℤ). last_of_year_1 ≤ℤ z) (sym is.shows) covered) in
     none is.shown reach (open_fixed m from is.shown shapes (f refl) reach is.matches within)
 
 -- what the civil search answers

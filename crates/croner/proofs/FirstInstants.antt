@@ -1,13 +1,14 @@
 -- The first instant that shows a wall second or more, and instants that show the same.
 use Rattle.std.proofs.Common.{◌≡◌, ℤ, pos, ◌+ℤ◌, ◌-ℤ◌, ◌<ℤ◌, ◌≤ℤ◌, arith, refl, inl, inr}
 use Rattle.std.proofs.lemmas.Int.{ints}
+use Rattle.croner_base.specs.Limits.{fold_limit, apart_limit}
 use Rattle.croner.proofs.ZoneOrder.{cases_lt_z, order, before_break, after_break}
 use Rattle.croner.proofs.ZoneOrder.{Calm}
 use Rattle.croner.specs.Walk.{First}
 
 module _ (reads : ℤ → ℤ) (calm : Calm reads) where
   -- an instant before the change that reads what j reads after it
-  pub earlier_twin : (i j : ℤ) → i <ℤ j → reads j ≤ℤ reads i → (x : ℤ) × (x ≤ℤ i) × (i ≤ℤ (x +ℤ pos 7200)) × (reads x ≡ reads j)
+  pub earlier_twin : (i j : ℤ) → i <ℤ j → reads j ≤ℤ reads i → (x : ℤ) × (x ≤ℤ i) × (i ≤ℤ (x +ℤ pos fold_limit)) × (reads x ≡ reads j)
   earlier_twin i j h le =
       elim (order reads calm i j h) [
         | inl lt ↦ absurd (omega (arith, ints))
@@ -22,7 +23,7 @@ module _ (reads : ℤ → ℤ) (calm : Calm reads) where
             (x, omega (arith, ints), omega (arith, ints), omega (arith, ints))
       ]
 
-  pub later_twin : (i j : ℤ) → i <ℤ j → reads j ≤ℤ reads i → (x : ℤ) × (j ≤ℤ x) × (x ≤ℤ (j +ℤ pos 7200)) × (reads x ≡ reads i)
+  pub later_twin : (i j : ℤ) → i <ℤ j → reads j ≤ℤ reads i → (x : ℤ) × (j ≤ℤ x) × (x ≤ℤ (j +ℤ pos fold_limit)) × (reads x ≡ reads i)
   later_twin i j h le =
       elim (order reads calm i j h) [
         | inl lt ↦ absurd (omega (arith, ints))
@@ -119,7 +120,7 @@ module _ (reads : ℤ → ℤ) (calm : Calm reads) where
                               let c = turn.near in
                               let d = other.low in
                               let g = other.high in
-                              let far : (q +ℤ pos 172800) <ℤ p = calm.apart q p other.breaks turn.breaks (omega (arith, ints)) in absurd (omega (arith, ints))
+                              let far : (q +ℤ pos apart_limit) <ℤ p = calm.apart q p other.breaks turn.breaks (omega (arith, ints)) in absurd (omega (arith, ints))
                         ]
                   ]
               | inr ahead ↦
@@ -147,7 +148,7 @@ module _ (reads : ℤ → ℤ) (calm : Calm reads) where
                               let c = turn.near in
                               let d = other.low in
                               let g = other.high in
-                              let far : (p +ℤ pos 172800) <ℤ q = calm.apart p q turn.breaks other.breaks (omega (arith, ints)) in absurd (omega (arith, ints))
+                              let far : (p +ℤ pos apart_limit) <ℤ q = calm.apart p q turn.breaks other.breaks (omega (arith, ints)) in absurd (omega (arith, ints))
                         ]
                   ]
               | inr ahead ↦

@@ -1,5 +1,5 @@
 -- The search for the two sides of a gap.
-use Rattle.std.proofs.Common.{◌≡◌, ℕ, zero, suc, ◌*◌, ◌≤◌, ◌<◌, ℤ, pos, ◌+ℤ◌, ◌-ℤ◌, ◌<ℤ◌, ◌≤ℤ◌, arith, refl, sym, ◌∙◌, inl, inr, ap, subst, Bool, Some, IsSome}
+use Rattle.std.proofs.Common.{◌≡◌, ℕ, zero, suc, ◌-◌, ◌*◌, ◌≤◌, ◌<◌, ℤ, pos, ◌+ℤ◌, ◌-ℤ◌, ◌<ℤ◌, ◌≤ℤ◌, arith, refl, sym, ◌∙◌, inl, inr, ap, subst, Bool, Some, IsSome}
 use Rattle.std.proofs.lemmas.Int.{ints}
 use borrow.Author.Differences.{up}
 use Rattle.croner_base.specs.declared.time.Direction.TheVariants.{Forward, Backward}
@@ -9,6 +9,7 @@ use Rattle.croner_base.specs.declared.errors.CronError.{CronError}
 use Rattle.croner_base.specs.Civil.{wall_second}
 use Rattle.croner_base.specs.Zone.{Zone, IsUnheld}
 use Rattle.croner_base.specs.Calm.{IsCalm, IsSearched, IsInReach}
+use Rattle.croner_base.specs.Limits.{gap_limit, fold_limit, apart_limit}
 use Rattle.croner.specs.Premises.{HoldsYears, HasOneInstantEach}
 use Rattle.croner.specs.Refusal.{IsBackendError}
 use Rattle.croner.specs.Wall.{IsLastYear}
@@ -21,20 +22,20 @@ use Rattle.croner.proofs.WallSeconds.{last_year_far}
 -- ---- each wall second is passed somewhere
 
 module _ (reads : ℤ → ℤ) (calm : Calm reads) where
-  grows : (n : ℕ) (i : ℤ) → (reads i +ℤ pos (165600 * n)) ≤ℤ reads (i +ℤ pos (172800 * n))
-  grows zero i = let same : reads (i +ℤ pos (172800 * 0)) ≡ reads i = ap reads (omega (arith, ints)) in omega (arith, ints)
+  grows : (n : ℕ) (i : ℤ) → (reads i +ℤ pos ((apart_limit - fold_limit) * n)) ≤ℤ reads (i +ℤ pos (apart_limit * n))
+  grows zero i = let same : reads (i +ℤ pos (apart_limit * 0)) ≡ reads i = ap reads (omega (arith, ints)) in omega (arith, ints)
   grows (suc n) i =
-      let j : ℤ = i +ℤ pos (172800 * n) in
-      let next : ℤ = i +ℤ pos (172800 * suc n) in
+      let j : ℤ = i +ℤ pos (apart_limit * n) in
+      let next : ℤ = i +ℤ pos (apart_limit * suc n) in
       let before = grows n i in
       let more = gains reads calm j next (omega (arith, ints)) (omega (arith, ints)) in
       omega (arith, ints)
 
-  shrinks : (n : ℕ) (i : ℤ) → (reads (i -ℤ pos (172800 * n)) +ℤ pos (165600 * n)) ≤ℤ reads i
-  shrinks zero i = let same : reads (i -ℤ pos (172800 * 0)) ≡ reads i = ap reads (omega (arith, ints)) in omega (arith, ints)
+  shrinks : (n : ℕ) (i : ℤ) → (reads (i -ℤ pos (apart_limit * n)) +ℤ pos ((apart_limit - fold_limit) * n)) ≤ℤ reads i
+  shrinks zero i = let same : reads (i -ℤ pos (apart_limit * 0)) ≡ reads i = ap reads (omega (arith, ints)) in omega (arith, ints)
   shrinks (suc n) i =
-      let j : ℤ = i -ℤ pos (172800 * n) in
-      let next : ℤ = i -ℤ pos (172800 * suc n) in
+      let j : ℤ = i -ℤ pos (apart_limit * n) in
+      let next : ℤ = i -ℤ pos (apart_limit * suc n) in
       let before = shrinks n i in
       let more = gains reads calm next j (omega (arith, ints)) (omega (arith, ints)) in
       omega (arith, ints)
@@ -47,7 +48,7 @@ module _ (reads : ℤ → ℤ) (calm : Calm reads) where
             let n : ℕ = up (w -ℤ reads s) in
             let far = distance (reads s) w (omega (arith, ints)) in
             let g = grows n s in
-            (s +ℤ pos (172800 * n), omega (arith, ints), omega (arith, ints))
+            (s +ℤ pos (apart_limit * n), omega (arith, ints), omega (arith, ints))
       ]
 
   pub reaches_down : (s w : ℤ) → (j : ℤ) × (j ≤ℤ s) × (reads j ≤ℤ w)
@@ -58,7 +59,7 @@ module _ (reads : ℤ → ℤ) (calm : Calm reads) where
             let n : ℕ = up (reads s -ℤ w) in
             let far = distance w (reads s) (omega (arith, ints)) in
             let g = shrinks n s in
-            (s -ℤ pos (172800 * n), omega (arith, ints), omega (arith, ints))
+            (s -ℤ pos (apart_limit * n), omega (arith, ints), omega (arith, ints))
       ]
 
   -- a second that nothing reads lies in a gap
@@ -71,14 +72,14 @@ module _ (reads : ℤ → ℤ) (calm : Calm reads) where
         | inr (p, a, b, below, above) ↦ (p, below, above)
       ]
 
-  -- a search of two hours from there ends
-  pub gap_ends_soon : (w : ℤ) → Exactly reads w Gap → (v t : ℤ) × (w <ℤ v) × (v ≤ℤ (w +ℤ pos 7200)) × (reads t ≡ v)
+  -- a search as long as the longest gap ends
+  pub gap_ends_soon : (w : ℤ) → Exactly reads w Gap → (v t : ℤ) × (w <ℤ v) × (v ≤ℤ (w +ℤ pos gap_limit)) × (reads t ≡ v)
   gap_ends_soon w none =
       let (p, below, above) = unread_is_in_gap w none in
       let small = calm.forth p in
       (reads (p +ℤ pos 1), p +ℤ pos 1, above, omega (arith, ints), refl)
 
-  pub gap_begins_soon : (w : ℤ) → Exactly reads w Gap → (v t : ℤ) × (v <ℤ w) × (w ≤ℤ (v +ℤ pos 7200)) × (reads t ≡ v)
+  pub gap_begins_soon : (w : ℤ) → Exactly reads w Gap → (v t : ℤ) × (v <ℤ w) × (w ≤ℤ (v +ℤ pos gap_limit)) × (reads t ≡ v)
   gap_begins_soon w none =
       let (p, below, above) = unread_is_in_gap w none in
       let small = calm.forth p in
@@ -164,12 +165,12 @@ module _ (zone : Zone) (held : ℤ) where
 -- ---- in a calm zone the search ends
 
 module _ (zone : Zone) (held : CivilDateTime) (wall : ℤ) (n : ℕ) where
-  pub up_ends : zone.resolves held ≡ Some Gap → InGapUpTo zone (wall_second held) wall → wall ≡ wall_second held +ℤ pos n → 7200 ≤ n → IsCalm zone → ⊥
+  pub up_ends : zone.resolves held ≡ Some Gap → InGapUpTo zone (wall_second held) wall → wall ≡ wall_second held +ℤ pos n → gap_limit ≤ n → IsCalm zone → ⊥
   up_ends named so_far at long calm =
       let (v, t, past, close, e) = gap_ends_soon zone.reads (calm_of zone calm) (wall_second held) (exact_of zone calm held Gap named) in
       so_far.unread calm v (omega (arith, ints)) (omega (arith, ints)) t e
 
-  pub down_ends : zone.resolves held ≡ Some Gap → InGapDownTo zone (wall_second held) wall → wall ≡ wall_second held -ℤ pos n → 7200 ≤ n → IsCalm zone → ⊥
+  pub down_ends : zone.resolves held ≡ Some Gap → InGapDownTo zone (wall_second held) wall → wall ≡ wall_second held -ℤ pos n → gap_limit ≤ n → IsCalm zone → ⊥
   down_ends named so_far at long calm =
       let (v, t, past, close, e) = gap_begins_soon zone.reads (calm_of zone calm) (wall_second held) (exact_of zone calm held Gap named) in
       so_far.unread calm v (omega (arith, ints)) (omega (arith, ints)) t e
@@ -184,10 +185,10 @@ not_one_each zone held named each =
     cc
 
 -- the seconds of a gap search lie in the years that a backend holds
-pub not_last_up : (held wall : ℤ) (n : ℕ) (c : CivilDateTime) → IsSearched held → wall ≡ held +ℤ pos n → n < 7200 → wall ≡ wall_second c → IsLastYear Forward c.date.year → ⊥
+pub not_last_up : (held wall : ℤ) (n : ℕ) (c : CivilDateTime) → IsSearched held → wall ≡ held +ℤ pos n → n < gap_limit → wall ≡ wall_second c → IsLastYear Forward c.date.year → ⊥
 not_last_up held wall n c searched at short is last = let far = last_year_far Forward c last in omega (arith, ints, searched.1)
 
-pub not_last_down : (held wall : ℤ) (n : ℕ) (c : CivilDateTime) → IsSearched held → wall ≡ held -ℤ pos n → n < 7200 → wall ≡ wall_second c → IsLastYear Backward c.date.year → ⊥
+pub not_last_down : (held wall : ℤ) (n : ℕ) (c : CivilDateTime) → IsSearched held → wall ≡ held -ℤ pos n → n < gap_limit → wall ≡ wall_second c → IsLastYear Backward c.date.year → ⊥
 not_last_down held wall n c searched at short is last = let far = last_year_far Backward c last in omega (arith, ints, searched.0)
 
 pub unheld_in_reach : (lack : Bool) (zone : Zone) (c : CivilDateTime) (e : CronError) → IsInReach (wall_second c) → IsUnheld lack zone c e → IsBackendError lack (HoldsYears zone → ⊥) e

@@ -9,7 +9,7 @@ use Rattle.croner.proofs.RunsOfSeconds.{true_or_false}
 use Rattle.croner.proofs.WalkLoop.{never_true}
 use Rattle.croner_base.specs.Zone.{Zone, Moment, reading, nanos_of, IsUnheld}
 use Rattle.croner_base.specs.Calm.{IsCalm, HoldsAround, IsNear}
-use Rattle.croner.specs.Halves.{Break, HasTwin, EdgeOf, offset_from, CountsBoth, Bisected, moment_from, IsEdge}
+use Rattle.croner.specs.Halves.{edge_limit, Break, HasTwin, EdgeOf, offset_from, CountsBoth, Bisected, moment_from, IsEdge}
 use Rattle.croner.proofs.CalmZone.{Exactly, calm_of, exact_of}
 use Rattle.croner.proofs.ZoneOrder.{Calm, window}
 use Rattle.croner_base.specs.declared.time.civil.CivilDateTime.{CivilDateTime}
@@ -56,7 +56,7 @@ module _ (reads : ℤ → ℤ) (calm : Calm reads) where
             ]
       ]
 
-pub edge_between : (direction : Direction) (reads : ℤ → ℤ) → Calm reads → (s : ℤ) (k n : ℕ) → n ≡ k + 1 → k < 86400 → HasTwin direction reads (offset_from direction s k) → (HasTwin direction reads (offset_from direction s n) → ⊥) → EdgeOf direction reads s (offset_from direction s n)
+pub edge_between : (direction : Direction) (reads : ℤ → ℤ) → Calm reads → (s : ℤ) (k n : ℕ) → n ≡ k + 1 → k < edge_limit → HasTwin direction reads (offset_from direction s k) → (HasTwin direction reads (offset_from direction s n) → ⊥) → EdgeOf direction reads s (offset_from direction s n)
 edge_between Forward reads calm s k n e h twin none =
     let at : s +ℤ pos n ≡ s +ℤ pos k +ℤ pos 1 = omega (arith, ints) in
     let b = edge_after reads calm (s +ℤ pos k) twin (λ t. none (subst (HasTwin Forward reads) (sym at) t)) in
@@ -117,7 +117,7 @@ no_twin_of_gap direction reads i none twin = none i refl
 
 -- ---- the margin of a day is past the repeated range
 
-pub twin_far_forward : (reads : ℤ → ℤ) → Calm reads → (s far : ℤ) → far ≡ s +ℤ pos 86400 → HasTwin Forward reads s → HasTwin Forward reads far → ⊥
+pub twin_far_forward : (reads : ℤ → ℤ) → Calm reads → (s far : ℤ) → far ≡ s +ℤ pos edge_limit → HasTwin Forward reads s → HasTwin Forward reads far → ⊥
 twin_far_forward reads calm s far e (x, same, past) (y, same2, past2) =
     elim (order reads calm s x past) [
       | inl lt ↦ omega (arith, ints)
@@ -136,7 +136,7 @@ twin_far_forward reads calm s far e (x, same, past) (y, same2, past2) =
           ]
     ]
 
-pub twin_far_backward : (reads : ℤ → ℤ) → Calm reads → (s far : ℤ) → far ≡ s -ℤ pos 86400 → HasTwin Backward reads s → HasTwin Backward reads far → ⊥
+pub twin_far_backward : (reads : ℤ → ℤ) → Calm reads → (s far : ℤ) → far ≡ s -ℤ pos edge_limit → HasTwin Backward reads s → HasTwin Backward reads far → ⊥
 twin_far_backward reads calm s far e (x, same, past) (y, same2, past2) =
     elim (order reads calm x s past) [
       | inl lt ↦ omega (arith, ints)
@@ -155,9 +155,9 @@ twin_far_backward reads calm s far e (x, same, past) (y, same2, past2) =
           ]
     ]
 
-pub twin_far : (direction : Direction) (reads : ℤ → ℤ) → Calm reads → (s : ℤ) → HasTwin direction reads s → HasTwin direction reads (offset_from direction s 86400) → ⊥
-twin_far Forward reads calm s a b = twin_far_forward reads calm s (s +ℤ pos 86400) refl a b
-twin_far Backward reads calm s a b = twin_far_backward reads calm s (s -ℤ pos 86400) refl a b
+pub twin_far : (direction : Direction) (reads : ℤ → ℤ) → Calm reads → (s : ℤ) → HasTwin direction reads s → HasTwin direction reads (offset_from direction s edge_limit) → ⊥
+twin_far Forward reads calm s a b = twin_far_forward reads calm s (s +ℤ pos edge_limit) refl a b
+twin_far Backward reads calm s a b = twin_far_backward reads calm s (s -ℤ pos edge_limit) refl a b
 
 -- ---- as the code has them
 
@@ -213,7 +213,7 @@ test_moved direction m there n b same test =
 
 -- ---- what the backend holds near the start
 
-reads_near : (direction : Direction) (reads : ℤ → ℤ) → Calm reads → (s : ℤ) (n : ℕ) → n ≤ 86400 → IsNear (reads s) (reads (offset_from direction s n))
+reads_near : (direction : Direction) (reads : ℤ → ℤ) → Calm reads → (s : ℤ) (n : ℕ) → n ≤ edge_limit → IsNear (reads s) (reads (offset_from direction s n))
 reads_near Forward reads calm s n h =
     elim (window reads calm s (s +ℤ pos n) (omega (arith, ints)) (omega (arith, ints))) [
       | inl e ↦ (omega (arith, ints), omega (arith, ints))
@@ -231,15 +231,15 @@ reads_near Backward reads calm s n h =
           (omega (arith, ints), omega (arith, ints))
     ]
 
-offset_near : (direction : Direction) (s : ℤ) (n : ℕ) → n ≤ 86400 → IsNear s (offset_from direction s n)
+offset_near : (direction : Direction) (s : ℤ) (n : ℕ) → n ≤ edge_limit → IsNear s (offset_from direction s n)
 offset_near Forward s n h = (omega (arith, ints), omega (arith, ints))
 offset_near Backward s n h = (omega (arith, ints), omega (arith, ints))
 
-pub holds_there : (direction : Direction) (m : Moment) (n : ℕ) → n ≤ 86400 → m.zone.holds (offset_from direction m.instant n) ≡ false → HoldsAround m → ⊥
+pub holds_there : (direction : Direction) (m : Moment) (n : ℕ) → n ≤ edge_limit → m.zone.holds (offset_from direction m.instant n) ≡ false → HoldsAround m → ⊥
 holds_there direction m n h stuck holds =
     never_true (sym stuck ∙ holds.near_instants (offset_from direction m.instant n) (offset_near direction m.instant n h))
 
-pub holds_second_there : (direction : Direction) (m there : Moment) (n : ℕ) → n ≤ 86400 → there ≡ moment_from direction m n → (HoldsSecond there.zone (reading there) → ⊥) → IsCalmStart m.zone m.fraction → HoldsAround m → ⊥
+pub holds_second_there : (direction : Direction) (m there : Moment) (n : ℕ) → n ≤ edge_limit → there ≡ moment_from direction m n → (HoldsSecond there.zone (reading there) → ⊥) → IsCalmStart m.zone m.fraction → HoldsAround m → ⊥
 holds_second_there direction m there n h same stuck start holds =
     let Stuck : Moment → Type 0 = λ x. HoldsSecond x.zone (reading x) → ⊥ in
     let here : Stuck (moment_from direction m n) = subst Stuck same stuck in
@@ -266,13 +266,13 @@ no_offset Forward s = omega (arith, ints)
 no_offset Backward s = omega (arith, ints)
 
 module _ (direction : Direction) (m : Moment) (b : Bool) where
-  pub bisect_start : b ≡ false → (IsCalmStart m.zone m.fraction → IsTrue b ↔ HasTwin direction m.zone.reads (offset_from direction m.instant 86400)) → Bisected direction m.zone m.instant m.fraction 0 86400
+  pub bisect_start : b ≡ false → (IsCalmStart m.zone m.fraction → IsTrue b ↔ HasTwin direction m.zone.reads (offset_from direction m.instant edge_limit)) → Bisected direction m.zone m.instant m.fraction 0 edge_limit
   bisect_start e test =
       record {
         ordered = omega arith;
         margin = omega arith;
         within = λ start twin. subst (HasTwin direction m.zone.reads) (sym (no_offset direction m.instant)) twin;
-        beyond = λ start. refuted (HasTwin direction m.zone.reads (offset_from direction m.instant 86400)) b e (test start);
+        beyond = λ start. refuted (HasTwin direction m.zone.reads (offset_from direction m.instant edge_limit)) b e (test start);
       }
 
   pub bisect_in : (inside outside middle : ℕ) → Bisected direction m.zone m.instant m.fraction inside outside → middle < outside → b ≡ true → (IsCalmStart m.zone m.fraction → IsTrue b ↔ HasTwin direction m.zone.reads (offset_from direction m.instant middle)) → Bisected direction m.zone m.instant m.fraction middle outside
@@ -294,9 +294,9 @@ module _ (direction : Direction) (m : Moment) (b : Bool) where
         beyond = λ start. refuted (HasTwin direction m.zone.reads (offset_from direction m.instant middle)) b e (test start);
       }
 
-  pub none_within : b ≡ true → (IsCalmStart m.zone m.fraction → IsTrue b ↔ HasTwin direction m.zone.reads (offset_from direction m.instant 86400)) → IsCalmStart m.zone m.fraction → HasTwin direction m.zone.reads m.instant → ⊥
+  pub none_within : b ≡ true → (IsCalmStart m.zone m.fraction → IsTrue b ↔ HasTwin direction m.zone.reads (offset_from direction m.instant edge_limit)) → IsCalmStart m.zone m.fraction → HasTwin direction m.zone.reads m.instant → ⊥
   none_within e test start twin =
-      twin_far direction m.zone.reads (calm_of m.zone start.calm) m.instant twin (shown (HasTwin direction m.zone.reads (offset_from direction m.instant 86400)) b e (test start))
+      twin_far direction m.zone.reads (calm_of m.zone start.calm) m.instant twin (shown (HasTwin direction m.zone.reads (offset_from direction m.instant edge_limit)) b e (test start))
 
 pub edge_found : {T : Type 0} (moment : T → Moment) (direction : Direction) (m : Moment) (inside outside : ℕ) (t : T) → Bisected direction m.zone m.instant m.fraction inside outside → outside ≤ inside + 1 → moment t ≡ moment_from direction m outside → IsEdge moment direction m (Some t)
 edge_found moment direction m inside outside t found close at =

@@ -1,6 +1,7 @@
 -- Each run is the run of a scheduled second, and each run of one is a run.
 use Rattle.std.proofs.Common.{◌≡◌, ℤ, pos, ◌+ℤ◌, ◌-ℤ◌, ◌<ℤ◌, ◌≤ℤ◌, ◌⊎◌, arith, refl, sym, ◌∙◌, inl, inr, ap, subst, Bool, true, false}
 use Rattle.std.proofs.lemmas.Int.{ints}
+use Rattle.croner_base.specs.Limits.{apart_limit}
 use Rattle.croner.proofs.ZoneOrder.{cases_lt_z, order}
 use Rattle.croner.proofs.FirstInstants.{first_if_least}
 use Rattle.croner.specs.Halves.{Break}
@@ -32,7 +33,7 @@ gap_end_is_first reads calm w i below above =
                             let a = turn.low in
                             let b = turn.high in
                             let c = turn.near in
-                            let apart : (q +ℤ pos 172800) <ℤ p = calm.apart q p turn.breaks breaks b in
+                            let apart : (q +ℤ pos apart_limit) <ℤ p = calm.apart q p turn.breaks breaks b in
                             absurd (omega (arith, ints))
                       ]
                   | inr at ↦ let same : reads j ≡ reads p = ap reads (omega (arith, ints)) in absurd (omega (arith, ints))

@@ -7,6 +7,7 @@ use Rattle.croner_base.specs.declared.errors.CronError.{CronError}
 use Rattle.croner_base.specs.declared.errors.CronError.TheVariants.{TimeSearchLimitExceeded}
 use Rattle.croner_base.specs.Zone.{Zone, Moment, reading, nanos_of}
 use Rattle.croner_base.specs.Calm.{IsCalm, IsNear}
+use Rattle.croner_base.specs.Limits.{gap_limit}
 use Rattle.croner.specs.Runs.{Timetable, Job, job_in, Nearest, Counts, Precedes, Reaches}
 use Rattle.croner.specs.Limit.{IsWithin, NoneInSpan, IsPast}
 use Rattle.croner.specs.Schedule.{IsCovered, NoneScheduled}
@@ -14,7 +15,7 @@ use Rattle.croner.specs.Premises.{IsSearchable, IsCalmStart, StartsCalm, HoldsYe
 use Rattle.croner.specs.Refusal.{IsBackendError, IsRefusal}
 use Rattle.croner.specs.Walk.{RunOf, NoneOf, Walked, WalkedFrom, walk_start, one_on, OutFrom, IsWalked, IsWalkRefused}
 use Rattle.croner.specs.Searches.{IsFound, IsRefused}
-use Rattle.croner.specs.Halves.{EdgeOf, HasTwin, CountsBoth, IsEdge, HasOtherHalf, opposite_way, offset_from, moment_from}
+use Rattle.croner.specs.Halves.{edge_limit, EdgeOf, HasTwin, CountsBoth, IsEdge, HasOtherHalf, opposite_way, offset_from, moment_from}
 use Rattle.croner.proofs.ZoneOrder.{Calm, cases_lt_z, before_break, after_break}
 use Rattle.croner.proofs.CalmZone.{calm_of}
 use Rattle.croner.proofs.RunsOfSeconds.{true_or_false}
@@ -25,7 +26,7 @@ use Rattle.croner.proofs.HalfEdges.{found_alone, found_one_half, found_before_ed
 
 -- ---- a run in the span is of a second that is covered
 
-second_is_near : (job : Job) → Calm job.zone.reads → (w i : ℤ) → RunOf job w i → ((job.timetable.fixed_time ≡ false) × (job.zone.reads i ≡ w)) ⊎ ((job.timetable.fixed_time ≡ true) × (w ≤ℤ job.zone.reads i) × (job.zone.reads i ≤ℤ (w +ℤ pos 7200)))
+second_is_near : (job : Job) → Calm job.zone.reads → (w i : ℤ) → RunOf job w i → ((job.timetable.fixed_time ≡ false) × (job.zone.reads i ≡ w)) ⊎ ((job.timetable.fixed_time ≡ true) × (w ≤ℤ job.zone.reads i) × (job.zone.reads i ≤ℤ (w +ℤ pos gap_limit)))
 second_is_near job calm w i of =
     elim of [
       | inl (each, e) ↦ inl (each, e)
@@ -333,7 +334,7 @@ halves_found moment direction start edge own twin is_twin test (zone_is, fractio
   λ h. edge_of h ((test h).0 is_twin),
 )
 
-one_back_near : (direction : Direction) (s e : ℤ) (n : ℕ) → n ≤ 86400 → e ≡ offset_from direction s n → IsNear s (offset_from (opposite_way direction) e 1)
+one_back_near : (direction : Direction) (s e : ℤ) (n : ℕ) → n ≤ edge_limit → e ≡ offset_from direction s n → IsNear s (offset_from (opposite_way direction) e 1)
 one_back_near Forward s e n h at = (omega (arith, ints), omega (arith, ints))
 one_back_near Backward s e n h at = (omega (arith, ints), omega (arith, ints))
 

@@ -11,6 +11,7 @@ use Rattle.croner_base.specs.Calendar.{IsRealDate, day_number, year_start, days_
 use Rattle.croner_base.specs.Calm.{IsCalm}
 use Rattle.croner_base.specs.Civil.{wall_second}
 use Rattle.croner_base.specs.Zone.{Zone, Moment, at_instant}
+use Rattle.croner_base.specs.Limits.{fold_limit}
 use Rattle.croner_base.proofs.Days.{day_number-lt_year}
 use Rattle.croner_base.proofs.JiffSeconds.{wall_second-parts}
 use Rattle.croner_pattern.specs.Meaning.{Meaning}
@@ -32,15 +33,15 @@ last_of_2 = refl
 last_is_real : (y : ℤ) → IsRealDate y 12 31
 last_is_real y = ((omega arith, omega arith), (omega arith, omega arith))
 
--- a second of year 3 or later lies more than two hours behind the first of year 2
-late : (c : CivilDateTime) → pos 3 ≤ℤ c.date.year → (year_2 +ℤ pos 7_200) ≤ℤ wall_second c
+-- a second of year 3 or later lies further behind the first of year 2 than the longest step back
+late : (c : CivilDateTime) → pos 3 ≤ℤ c.date.year → (year_2 +ℤ pos fold_limit) ≤ℤ wall_second c
 late c from =
     omega (arith, ints, last_of_2, day_number-lt_year (pos 2) 12 31 c.date.year c.date.month c.date.day (last_is_real (pos 2)) c.date.real (omega (arith, ints)), wall_second-parts c)
 
 -- so does each later instant of a calm zone
-stays_late : (z : Zone) → IsCalm z → (i j : ℤ) → (year_2 +ℤ pos 7_200) ≤ℤ z.reads i → i ≤ℤ j → year_2 ≤ℤ z.reads j
+stays_late : (z : Zone) → IsCalm z → (i j : ℤ) → (year_2 +ℤ pos fold_limit) ≤ℤ z.reads i → i ≤ℤ j → year_2 ≤ℤ z.reads j
 stays_late z calm i j low le =
-    elim (cases_lt_z (i +ℤ pos 7_200) j) [
+    elim (cases_lt_z (i +ℤ pos fold_limit) j) [
       | inl away ↦ let up = far z.reads (calm_of z calm) i j away in omega (arith, ints)
       | inr near ↦ let up = gains z.reads (calm_of z calm) i j le (omega (arith, ints)) in omega (arith, ints)
     ]
@@ -48,7 +49,7 @@ stays_late z calm i j low le =
 -- a run of year 3 or later lies in the span of a backward search
 in_span : (m : Meaning) (start : Moment) → IsReturnable m start → InSpan Backward start.zone.reads start.instant
 in_span m start r j le =
-    let low : (year_2 +ℤ pos 7_200) ≤ℤ start.zone.reads start.instant = subst (λ (w : ℤ). (year_2 +ℤ pos 7_200) ≤ℤ w) r.from.shows (late r.from.shown r.from.from) in
+    let low : (year_2 +ℤ pos fold_limit) ≤ℤ start.zone.reads start.instant = subst (λ (w : ℤ). (year_2 +ℤ pos fold_limit) ≤ℤ w) r.from.shows (late r.from.shown r.from.from) in
     stays_late start.zone r.calm.calm start.instant j low le
 
 -- what a search finds is searched from as well

@@ -9,6 +9,7 @@ use Rattle.croner_base.specs.declared.time.Direction.TheVariants.{Forward, Backw
 use Rattle.croner_base.specs.declared.time.value.Resolution.TheVariants.{Gap}
 use Rattle.croner_base.specs.Zone.{Zone}
 use Rattle.croner_base.specs.Calm.{IsCalm, IsSearched, IsMet, Rises, gap_seconds, jump}
+use Rattle.croner_base.specs.Limits.{fold_limit}
 use Rattle.croner.specs.Runs.{Precedes, Reaches}
 use Rattle.croner.specs.Halves.{Break}
 use Rattle.croner.specs.Walk.{one_on, Onward, Paces}
@@ -59,7 +60,7 @@ pub record Paced (direction : Direction) (reads : ℤ → ℤ) (s wall : ℤ) (k
   pub sorted : LastFirst direction reads gaps
   pub touching : Touching reads gaps
   pub slack : ℕ
-  pub margin : slack ≤ 7200
+  pub margin : slack ≤ fold_limit
   pub below : slack ≤ come direction (reads s) wall
   pub met : Met direction reads gaps wall k slack
 
@@ -250,8 +251,8 @@ paced_gap direction reads calm s wall w next k paced on unread years onward =
     let under = paced.below in
     record { gaps = qs; sorted = sorted; touching = touching; slack = paced.slack; margin = paced.margin; below = omega arith; met = met }
 
--- a second whose nearer instant is behind lies within two hours of what the start shows
-near_forward : (reads : ℤ → ℤ) → Calm reads → (e s w : ℤ) → e <ℤ s → reads e ≡ w → reads s ≤ℤ w → w <ℤ (reads s +ℤ pos 7200)
+-- a second whose nearer instant is behind lies within the longest step back of what the start shows
+near_forward : (reads : ℤ → ℤ) → Calm reads → (e s w : ℤ) → e <ℤ s → reads e ≡ w → reads s ≤ℤ w → w <ℤ (reads s +ℤ pos fold_limit)
 near_forward reads calm e s w lt same le =
     elim (order reads calm e s lt) [
       | inl ordered ↦ absurd (omega (arith, ints))
@@ -264,7 +265,7 @@ near_forward reads calm e s w lt same le =
           omega (arith, ints)
     ]
 
-near_backward : (reads : ℤ → ℤ) → Calm reads → (e s w : ℤ) → s <ℤ e → reads e ≡ w → w ≤ℤ reads s → reads s <ℤ (w +ℤ pos 7200)
+near_backward : (reads : ℤ → ℤ) → Calm reads → (e s w : ℤ) → s <ℤ e → reads e ≡ w → w ≤ℤ reads s → reads s <ℤ (w +ℤ pos fold_limit)
 near_backward reads calm e s w lt same le =
     elim (order reads calm s e lt) [
       | inl ordered ↦ absurd (omega (arith, ints))

@@ -2,13 +2,14 @@
 use Rattle.std.proofs.Common.{◌≡◌, ℕ, zero, suc, ◌+◌, ◌*◌, ℤ, pos, negsuc, ◌+ℤ◌, ◌-ℤ◌, ◌<ℤ◌, ◌≤ℤ◌, ◌⊎◌, arith, ◌∙◌, inl, inr, ap, subst}
 use Rattle.std.proofs.lemmas.Int.{ints, by_lt_z}
 use borrow.Author.Differences.{up}
+use Rattle.croner_base.specs.Limits.{gap_limit, fold_limit, apart_limit}
 use Rattle.croner.specs.Halves.{Break}
 
 -- changes are small and far apart
 pub record Calm (reads : ℤ → ℤ) : Type 0 where
-  pub forth : (p : ℤ) → reads (p +ℤ pos 1) ≤ℤ (reads p +ℤ pos 7201)
-  pub back : (p : ℤ) → reads p ≤ℤ (reads (p +ℤ pos 1) +ℤ pos 7199)
-  pub apart : (p q : ℤ) → Break reads p → Break reads q → p <ℤ q → (p +ℤ pos 172800) <ℤ q
+  pub forth : (p : ℤ) → reads (p +ℤ pos 1) ≤ℤ (reads p +ℤ pos 1 +ℤ pos gap_limit)
+  pub back : (p : ℤ) → (reads p +ℤ pos 1) ≤ℤ (reads (p +ℤ pos 1) +ℤ pos fold_limit)
+  pub apart : (p q : ℤ) → Break reads p → Break reads q → p <ℤ q → (p +ℤ pos apart_limit) <ℤ q
 
 pub cases_lt_z : (a b : ℤ) → (a <ℤ b) ⊎ (b ≤ℤ a)
 cases_lt_z a b = by_lt_z a b (λ h. inl h) (λ h. inr h)
@@ -78,27 +79,31 @@ pub record Turned (reads : ℤ → ℤ) (i j p : ℤ) : Type 0 where
   pub breaks : Break reads p
   pub earlier : reads i ≡ reads p -ℤ (p -ℤ i)
   pub later : reads j ≡ reads (p +ℤ pos 1) +ℤ (j -ℤ p -ℤ pos 1)
-  pub near : j ≤ℤ (i +ℤ pos 7200)
+  pub near : j ≤ℤ (i +ℤ pos fold_limit)
   pub not_above : reads j ≤ℤ reads i
+
+-- how far one step of the induction below goes: in a window with the longest step back
+abbrev stride : ℕ
+stride = 100_000
 
 module _ (reads : ℤ → ℤ) (calm : Calm reads) where
   -- nothing else happens around a change
-  pub after_break : (p i j : ℤ) → Break reads p → p <ℤ i → i ≤ℤ j → j ≤ℤ (p +ℤ pos 172801) → reads j ≡ reads i +ℤ (j -ℤ i)
+  pub after_break : (p i j : ℤ) → Break reads p → p <ℤ i → i ≤ℤ j → j ≤ℤ (p +ℤ pos (apart_limit + 1)) → reads j ≡ reads i +ℤ (j -ℤ i)
   after_break p i j b above h near =
       straight reads i j h
       (λ k low high other.
-      let far : (p +ℤ pos 172800) <ℤ k = calm.apart p k b other (omega (arith, ints)) in
+      let far : (p +ℤ pos apart_limit) <ℤ k = calm.apart p k b other (omega (arith, ints)) in
       let no : ⊥ = omega (arith, ints) in no)
 
-  pub before_break : (p i j : ℤ) → Break reads p → j ≤ℤ p → i ≤ℤ j → p ≤ℤ (i +ℤ pos 172800) → reads j ≡ reads i +ℤ (j -ℤ i)
+  pub before_break : (p i j : ℤ) → Break reads p → j ≤ℤ p → i ≤ℤ j → p ≤ℤ (i +ℤ pos apart_limit) → reads j ≡ reads i +ℤ (j -ℤ i)
   before_break p i j b below h near =
       straight reads i j h
       (λ k low high other.
-      let far : (k +ℤ pos 172800) <ℤ p = calm.apart k p other b (omega (arith, ints)) in
+      let far : (k +ℤ pos apart_limit) <ℤ p = calm.apart k p other b (omega (arith, ints)) in
       let no : ⊥ = omega (arith, ints) in no)
 
   -- up to two days apart there is one change at most
-  pub window : (i j : ℤ) → i ≤ℤ j → j ≤ℤ (i +ℤ pos 172800) → (reads j ≡ reads i +ℤ (j -ℤ i)) ⊎ ((p : ℤ) × (i ≤ℤ p) × (p <ℤ j) × Break reads p × (reads p ≡ reads i +ℤ (p -ℤ i)) × (reads j ≡ reads (p +ℤ pos 1) +ℤ (j -ℤ p -ℤ pos 1)))
+  pub window : (i j : ℤ) → i ≤ℤ j → j ≤ℤ (i +ℤ pos apart_limit) → (reads j ≡ reads i +ℤ (j -ℤ i)) ⊎ ((p : ℤ) × (i ≤ℤ p) × (p <ℤ j) × Break reads p × (reads p ≡ reads i +ℤ (p -ℤ i)) × (reads j ≡ reads (p +ℤ pos 1) +ℤ (j -ℤ p -ℤ pos 1)))
   window i j h near =
       elim (straight_or_break reads i j h) [
         | inl e ↦ inl e
@@ -108,27 +113,27 @@ module _ (reads : ℤ → ℤ) (calm : Calm reads) where
             inr (p, low, high, b, first, omega (arith, ints))
       ]
 
-  -- in a window a change takes two hours at most
-  pub gains : (i j : ℤ) → i ≤ℤ j → j ≤ℤ (i +ℤ pos 172800) → (reads i +ℤ (j -ℤ i)) ≤ℤ (reads j +ℤ pos 7200)
+  -- in a window a change takes the longest step back at most
+  pub gains : (i j : ℤ) → i ≤ℤ j → j ≤ℤ (i +ℤ pos apart_limit) → (reads i +ℤ (j -ℤ i)) ≤ℤ (reads j +ℤ pos fold_limit)
   gains i j h near =
       elim (window i j h near) [
         | inl e ↦ omega (arith, ints)
-        | inr (p, low, high, b, first, second) ↦ let small : reads p ≤ℤ (reads (p +ℤ pos 1) +ℤ pos 7199) = calm.back p in omega (arith, ints)
+        | inr (p, low, high, b, first, second) ↦ let small : (reads p +ℤ pos 1) ≤ℤ (reads (p +ℤ pos 1) +ℤ pos fold_limit) = calm.back p in omega (arith, ints)
       ]
 
-  -- beyond two hours the readings are in order
-  far_within : (n : ℕ) (i j : ℤ) → (i +ℤ pos 7200) <ℤ j → j ≤ℤ (i +ℤ pos (7201 + n * 100000)) → reads i <ℤ reads j
+  -- beyond the longest step back the readings are in order
+  far_within : (n : ℕ) (i j : ℤ) → (i +ℤ pos fold_limit) <ℤ j → j ≤ℤ (i +ℤ pos (fold_limit + 1 + n * stride)) → reads i <ℤ reads j
   far_within zero i j h k = let g = gains i j (omega (arith, ints)) (omega (arith, ints)) in omega (arith, ints)
   far_within (suc n) i j h k =
-      elim (cases_lt_z (i +ℤ pos 107201) j) [
+      elim (cases_lt_z (i +ℤ pos (stride + fold_limit + 1)) j) [
         | inl far ↦
-            let m : ℤ = i +ℤ pos 100000 in
+            let m : ℤ = i +ℤ pos stride in
             let g = gains i m (omega (arith, ints)) (omega (arith, ints)) in
             let r : reads m <ℤ reads j = far_within n m j (omega (arith, ints)) (omega (arith, ints)) in omega (arith, ints)
         | inr close ↦ let g = gains i j (omega (arith, ints)) (omega (arith, ints)) in omega (arith, ints)
       ]
 
-  pub far : (i j : ℤ) → (i +ℤ pos 7200) <ℤ j → reads i <ℤ reads j
+  pub far : (i j : ℤ) → (i +ℤ pos fold_limit) <ℤ j → reads i <ℤ reads j
   far i j h =
       let d = distance i j (omega (arith, ints)) in far_within (up (j -ℤ i)) i j h (omega (arith, ints))
 
@@ -137,7 +142,7 @@ module _ (reads : ℤ → ℤ) (calm : Calm reads) where
       elim (cases_lt_z (reads i) (reads j)) [
         | inl lt ↦ inl lt
         | inr le ↦
-            elim (cases_lt_z (i +ℤ pos 7200) j) [
+            elim (cases_lt_z (i +ℤ pos fold_limit) j) [
               | inl away ↦ let r : reads i <ℤ reads j = far i j away in absurd (omega (arith, ints))
               | inr near ↦
                   elim (window i j (omega (arith, ints)) (omega (arith, ints))) [

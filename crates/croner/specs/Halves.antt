@@ -1,11 +1,16 @@
 -- The two halves of a repeated range of the wall clock.
-use Rattle.std.specs.Prelude.{◌≡◌, ⊤, ℕ, ◌<◌, ◌≤◌, ℤ, pos, ◌+ℤ◌, ◌-ℤ◌, ◌<ℤ◌, ◌≤ℤ◌, Bool, false, Option, Some, None}
+use Rattle.std.specs.Prelude.{◌≡◌, ⊤, ℕ, ◌+◌, ◌<◌, ◌≤◌, ℤ, pos, ◌+ℤ◌, ◌-ℤ◌, ◌<ℤ◌, ◌≤ℤ◌, Bool, false, Option, Some, None}
 use Rattle.croner_base.specs.declared.time.Direction.{Direction}
 use Rattle.croner_base.specs.declared.time.Direction.TheVariants.{Forward, Backward}
 use Rattle.croner_base.specs.Zone.{Zone, Moment}
+use Rattle.croner_base.specs.Limits.{apart_limit}
 use Rattle.croner.specs.Runs.{Precedes}
 use Rattle.croner.specs.Walk.{one_on}
 use Rattle.croner.specs.Premises.{IsCalmStart, StartsCalm}
+
+-- how many seconds on the edge of the other half is sought
+abbrev pub edge_limit : ℕ
+edge_limit = 86_400
 
 -- the clock is put forward or back right after the instant p
 abbrev pub Break : (ℤ → ℤ) → ℤ → Type 0
@@ -15,16 +20,16 @@ Break reads p = ¬ (reads (p +ℤ pos 1) ≡ reads p +ℤ pos 1)
 abbrev pub HasTwin : Direction → (ℤ → ℤ) → ℤ → Type 0
 HasTwin direction reads i = (x : ℤ) × (reads x ≡ reads i) × Precedes direction i x
 
--- s is at most two days before the change after p
+-- s is at most a window before the change after p
 pub record EdgeAfter (reads : ℤ → ℤ) (s p : ℤ) : Type 0 where
   pub from : s ≤ℤ p
-  pub near : p ≤ℤ (s +ℤ pos 172800)
+  pub near : p ≤ℤ (s +ℤ pos apart_limit)
   pub breaks : Break reads p
 
--- s is at most two days after the change after p
+-- s is at most a window after the change after p
 pub record EdgeBefore (reads : ℤ → ℤ) (p s : ℤ) : Type 0 where
   pub from : p <ℤ s
-  pub near : s ≤ℤ (p +ℤ pos 172801)
+  pub near : s ≤ℤ (p +ℤ pos (apart_limit + 1))
   pub breaks : Break reads p
 
 -- e is the nearest instant of the half that s is not on
@@ -49,7 +54,7 @@ CountsBoth Backward fixed_time = ⊤
 -- between these two offsets from s the half that s is on ends
 pub record Bisected (direction : Direction) (z : Zone) (s : ℤ) (fraction : ℕ) (inside outside : ℕ) : Type 0 where
   pub ordered : inside < outside
-  pub margin : outside ≤ 86400
+  pub margin : outside ≤ edge_limit
   pub within : IsCalmStart z fraction → HasTwin direction z.reads s → HasTwin direction z.reads (offset_from direction s inside)
   pub beyond : IsCalmStart z fraction → ¬ (HasTwin direction z.reads (offset_from direction s outside))
 
@@ -58,7 +63,7 @@ abbrev pub IsEdge : {T : Type 0} → (T → Moment) → Direction → Moment →
 IsEdge moment direction m (Some t) =
     ((moment t).zone ≡ m.zone) × ((moment t).fraction ≡ m.fraction)
     × (IsCalmStart m.zone m.fraction → HasTwin direction m.zone.reads m.instant → EdgeOf direction m.zone.reads m.instant (moment t).instant)
-    × ((n : ℕ) × (n ≤ 86400) × ((moment t).instant ≡ offset_from direction m.instant n))
+    × ((n : ℕ) × (n ≤ edge_limit) × ((moment t).instant ≡ offset_from direction m.instant n))
 IsEdge moment direction m None = IsCalmStart m.zone m.fraction → ¬ (HasTwin direction m.zone.reads m.instant)
 
 -- the other direction

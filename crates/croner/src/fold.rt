@@ -3,7 +3,7 @@ ghost use Rattle.std.specs.Prelude.{◌≡◌, ◌↔◌, ◌≤◌, IsTrue, IfO
 ghost use Rattle.croner_base.specs.Zone.{reading};
 ghost use Rattle.croner_base.specs.Calm.{HoldsAround};
 ghost use Rattle.croner.specs.Premises.{IsCalmStart, HoldsSecond};
-ghost use Rattle.croner.specs.Halves.{HasTwin, IsEdge, offset_from};
+ghost use Rattle.croner.specs.Halves.{edge_limit, HasTwin, IsEdge, offset_from};
 ghost use Rattle.croner.specs.Refusal.{IsBackendError};
 
 use crate::instant::{moved, precedes};
@@ -77,7 +77,7 @@ fn is_offset_on_first_half<T: CronDateTime>(
     seconds: u32,
     direction: Direction,
 ) -> Result<bool, CronError>
-    requires { seconds ≤ 86_400 }
+    requires { seconds ≤ edge_limit }
     ensures value { IsCalmStart (T.moment start.now).zone (T.moment start.now).fraction
         → IfOk result (λ b. IsTrue b
         ↔ HasTwin direction (T.moment start.now).zone.reads

@@ -30,7 +30,6 @@ pub(crate) fn moved<T: CronDateTime>(
     seconds: u32,
     direction: Direction,
 ) -> Result<T, CronError>
-    requires { seconds ≤ 86_400 }
     ensures value { IfOk result (λ t. T.moment t ≡ moment_from direction (T.moment from.now) seconds) }
     ensures err { IfErr result (IsBackendError T.can_lack_memory
         ((T.moment from.now).zone.holds (offset_from direction (T.moment from.now).instant seconds) ≡ false)) }

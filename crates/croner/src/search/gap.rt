@@ -9,11 +9,12 @@ ghost use Rattle.croner.specs.Refusal.{IsBackendError};
 
 use crate::wall::one_second_on;
 use croner_base::errors::CronError;
+use croner_base::limits::GAP_LIMIT_SECONDS;
 use croner_base::time::{CivilDateTime, CronDateTime, Direction, Resolution};
 use std::alloc::Global;
 
 /// How many seconds on a gap's end is sought, and its front.
-const GAP_SEARCH_SECONDS: u32 = 7_200;
+const GAP_SEARCH_SECONDS: u32 = GAP_LIMIT_SECONDS;
 
 /// The first instant after the gap that holds a second, with what it shows; `None` where the gap reaches further than
 /// the search.
