@@ -15,6 +15,7 @@ pub mod HeldRuns
 pub mod ItemsGiven
 pub mod InOrder
 pub mod Iterating
+pub mod JsonTexts
 pub mod Listings
 pub mod Matching
 pub mod Months

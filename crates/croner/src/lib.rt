@@ -7,6 +7,7 @@ mod fold;
 mod instant;
 mod iterator;
 mod job;
+mod json;
 pub mod laws;
 mod occurrence;
 pub mod parser;

@@ -1,0 +1,68 @@
+//! Jobs as JSON: a job is written as the text of its pattern, a JSON string.
+
+ghost use Rattle.std.specs.Prelude.{◌≡◌, true, IfOk, IfErr, Err};
+ghost use Rattle.serde_json.specs.Data.{string};
+ghost use Rattle.serde_json.specs.Find.{as_str};
+ghost use Rattle.serde_json.specs.View.{view};
+ghost use Rattle.croner_pattern.specs.Meaning.{Meaning};
+ghost use Rattle.croner_pattern.specs.Shapes.{has_field_shapes};
+ghost use Rattle.croner.specs.Gives.{Gives, Fails};
+ghost use Rattle.croner.specs.Grammar.{Refusal, Invalid};
+ghost use Rattle.croner.specs.Json.{json_outcome};
+ghost use Rattle.croner.specs.Views.{job_of};
+
+use crate::job::Cron;
+use croner_base::errors::CronError;
+use serde_json::Value;
+use std::alloc::Global;
+
+impl Cron {
+    /// The job as a JSON string: its text, as [`as_str`](Self::as_str) gives it.
+    ///
+    /// The settings of the parser that read the pattern are not in it: a pattern of another parser than the default one can
+    /// be read back as another job, or be refused. The only error is `OutOfMemory`.
+    pub fn to_json(&self) -> Result<Value, CronError>
+        ensures ok { IfOk result (λ v. view v ≡ string (job_of self.now).text) }
+        ensures err { IfErr result (λ e. e ≡ CronError.OutOfMemory) }
+    {
+        match String::from_str(self.pattern.allocator(), self.as_str()) {
+            Ok(text) => Ok(Value::String(text)),
+            Err(_) => Err(CronError::OutOfMemory),
+        }
+    }
+
+    /// Reads a job from a JSON string, with the default settings; see [`CronParser::parse`](crate::parser::CronParser::parse)
+    /// for the errors. Any other value is `InvalidPattern`. `OutOfMemory` where memory runs out.
+    pub fn from_json(alloc: Global, value: &Value) -> Result<Cron, CronError>
+        ensures meaning { Gives job_of result (json_outcome (view value.now)) }
+        ensures shapes { IfOk result (λ job. has_field_shapes (job_of job) ≡ true) }
+    {
+        match value.as_str() {
+            Some(text) => Cron::from_str(alloc, text),
+            None => Err(no_string(alloc, value)),
+        }
+    }
+}
+
+// A value that is no string.
+fn no_string(alloc: Global, value: &Value) -> CronError
+    ensures { Fails {Y = Meaning} result (Err Invalid) }
+{
+    let given = kind_of(value);
+    match format!(in alloc; "A pattern is expected as a JSON string, and {given} was given.") {
+        Ok(message) => CronError::InvalidPattern(message),
+        Err(_) => CronError::OutOfMemory,
+    }
+}
+
+// The kind of a value, in words.
+fn kind_of(value: &Value) -> &'static str {
+    match value {
+        Value::Null => "null",
+        Value::Bool(_) => "a boolean",
+        Value::Number(_) => "a number",
+        Value::String(_) => "a string",
+        Value::Array(_) => "an array",
+        Value::Object(_) => "an object",
+    }
+}
