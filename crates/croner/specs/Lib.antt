@@ -4,6 +4,7 @@ pub mod Faults
 pub mod Gives
 pub mod Grammar
 pub mod Halves
+pub mod IteratorOrder
 pub mod Json
 pub mod Limit
 pub mod Listing

@@ -5,6 +5,8 @@ ghost use Rattle.croner_pattern.specs.Meaning.{meaning_of};
 ghost use Rattle.croner_pattern.specs.Shapes.{has_field_shapes};
 ghost use Rattle.croner.specs.Faults.{is_kept, fault_of};
 
+mod compare;
+
 use crate::Cron;
 use croner_base::errors::CronError;
 use croner_base::time::{CronDateTime, Direction};
