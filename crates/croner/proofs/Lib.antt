@@ -4,6 +4,7 @@ pub mod CivilOrder
 pub mod Covered
 pub mod Cuts
 pub mod Dates
+pub mod EqualJobs
 pub mod Examples
 pub mod ExamplesCursor
 pub mod Faults

@@ -1,5 +1,6 @@
 pub mod Cursor
 pub mod Cut
+pub mod Equality
 pub mod Faults
 pub mod Gives
 pub mod Grammar
