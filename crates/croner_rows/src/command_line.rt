@@ -107,7 +107,21 @@ const LISTINGS: &str = r#"
     next | * * * * *  | 2024-01-01T00:00:00 | 1 | , | 2 "" usage
     next | 60 * * * * | 2024-02-30T00:00:00 | 1    | 2 "" usage
     next | * * * * *  | 2024-01-01T00:00:00 | 2 "" usage
-    describe | * * * * * | 2 "" usage
+"#;
+
+const DESCRIPTIONS: &str = r#"
+    describe | * * * * *            | 0 "Every minute.\n" ""
+    describe | 30 9,17 * * 1        | 0 "At minute 30, of hour 9 and 17, on Monday.\n" ""
+    describe | 0 0 1 * +FRI#L,MON#1 | 0 "At 00:00, on day 1 (if it is also one of: the last Friday of the month and the 1st Monday of the month).\n" ""
+    describe | , * * * *            | 0 "At minute  past every hour.\n" ""
+    describe | 60 * * * *           | 1 "" Component error
+    describe | * * * *              | 1 "" "Invalid pattern: The pattern has 4 fields, but 5, 6 or 7 are expected.\n"
+    describe |                      | 1 "" "CronPattern cannot be an empty string.\n"
+
+    describe | 2 "" usage
+    Describe | * * * * * | 2 "" usage
+    describe | * * * * * | english | 2 "" usage
+    describe | * * * * * | 2024-07-01T09:30:00 | 1 | 2 "" usage
 "#;
 
 /// A writer that takes so many bytes. What is written past them fails, and so does a flush where no room is left.
@@ -160,6 +174,11 @@ const FAILED_WRITES: &str = "
     0 | 0   | match | * * * * * | 2024-07-01T09:30:00 | 1
     9 | 0   | match |           | 2024-07-01T09:30:00 | 1
     9 | 0   | match | 2
+
+    15 | 0   | describe | * * * * *  | 0
+    14 | 200 | describe | * * * * *  | 1
+    13 | 200 | describe | * * * * *  | 1
+    9  | 0   | describe | 60 * * * * | 1
 ";
 
 // The rows that differ, of all tables here.
@@ -168,6 +187,7 @@ fn differing_rows(alloc: Global) -> Result<String, AllocError> {
     add_differing(alloc, &Program, MATCHES, &mut rows)?;
     add_differing(alloc, &Program, MISUSES, &mut rows)?;
     add_differing(alloc, &Program, LISTINGS, &mut rows)?;
+    add_differing(alloc, &Program, DESCRIPTIONS, &mut rows)?;
     add_differing(alloc, &FullWriters, FAILED_WRITES, &mut rows)?;
     Ok(rows)
 }

@@ -18,6 +18,7 @@ pub record AsksForRuns (command at count : List ℕ) (more : List (List ℕ)) (l
 
 -- four words or more ask for runs
 pub asks_for_runs : (words : List (List ℕ)) (command pattern at count : List ℕ) (more : List (List ℕ)) (r : Request) → words ≡ command ∷ (pattern ∷ (at ∷ (count ∷ more))) → Ask words r → (l : Listing) × AsksForRuns command at count more l
+asks_for_runs words command pattern at count more (requests.Describe p) e ask = absurd (let h = ask in cc)
 asks_for_runs words command pattern at count more (requests.Match p m) e ask = absurd (let h = ask.1 in cc)
 asks_for_runs words command pattern at count more (requests.List l) e ask =
     let h = ask.3 in
@@ -40,8 +41,9 @@ zone_length : (more : List (List ℕ)) (zone : Option TimeZone) → NameZone mor
 zone_length more None h = omega (arith, ap length h)
 zone_length more (Some z) h = omega (arith, ap length h.1)
 
--- a call has three to five words
-pub call_length : (words : List (List ℕ)) (r : Request) → Ask words r → (3 ≤ length words) × (length words ≤ 5)
+-- a call has two to five words
+pub call_length : (words : List (List ℕ)) (r : Request) → Ask words r → (2 ≤ length words) × (length words ≤ 5)
+call_length words (requests.Describe p) ask = (omega (arith, ap length ask), omega (arith, ap length ask))
 call_length words (requests.Match p m) ask = (omega (arith, ap length ask.1), omega (arith, ap length ask.1))
 call_length words (requests.List l) ask =
     let few = zone_length ask.2 l.zone ask.6 in

@@ -2,4 +2,5 @@ mod Calls
 mod CountTexts
 mod Examples
 mod Listed
+mod Unread
 mod Words

@@ -28,8 +28,8 @@ module _ {X : Type 0} (f : X → List ℕ) where
   five_texts (v ∷ ws) a b c d e ta tb tc td te low high i j k l m p q r s t =
       let rest = four_texts ws b c d e tb tc td te (omega arith) (omega arith) j k l m q r s t in cc
 
-  -- a call has three to five words
-  pub call_words : (ws : List X) (r : Request) → Ask (map f ws) r → (3 ≤ length ws) × (length ws ≤ 5)
+  -- a call has two to five words
+  pub call_words : (ws : List X) (r : Request) → Ask (map f ws) r → (2 ≤ length ws) × (length ws ≤ 5)
   call_words ws r ask =
       let n = call_length (map f ws) r ask in
       (omega (arith, length-map ws f), omega (arith, length-map ws f))

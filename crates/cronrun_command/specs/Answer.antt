@@ -8,14 +8,16 @@ use Rattle.croner_base.specs.CivilZone.{civil_zone}
 use Rattle.croner_base.specs.Zone.{Zone, Moment}
 use Rattle.croner_base.specs.ZonedZone.{zoned_zone}
 use Rattle.croner_base.specs.declared.time.civil.CivilDateTime.{CivilDateTime}
+use Rattle.croner_pattern.specs.Description.{description}
 use Rattle.croner_pattern.specs.Meaning.{Meaning}
 use Rattle.croner_pattern.specs.Schedule.{IsScheduled}
+use Rattle.croner_words.specs.English.{english}
 use Rattle.croner.specs.Grammar.{outcome}
 use Rattle.croner.specs.Listing.{Standing, GivesItem, moved}
 use Rattle.croner.specs.Settings.{default_settings}
 use Rattle.cronrun_command.specs.Call.{Ask}
 use Rattle.cronrun_command.specs.Line.{AreLines}
-use Rattle.cronrun_command.specs.Opened.{Opens, StandsAtStart}
+use Rattle.cronrun_command.specs.Opened.{IsAccepted, Opens, StandsAtStart}
 use Rattle.cronrun_command.specs.declared.request.Listing.{Listing}
 use Rattle.cronrun_command.specs.declared.request.Request.{Request}
 use Rattle.cronrun_command.specs.declared.request.Request.TheVariants as requests
@@ -31,6 +33,12 @@ pub record IsMatchText (pattern : List ℕ) (at : CivilDateTime) (text : List �
   pub held : Bool
   pub scheduled : IsTrue held ↔ IsScheduled meaning (wall_second at)
   pub line : text ≡ bool_text held ++ 10 ∷ []
+
+-- the pattern is accepted, and the line is its description in English
+pub record IsDescriptionText (pattern : List ℕ) (text : List ℕ) : Type 0 where
+  pub meaning : Meaning
+  pub accepted : outcome default_settings pattern ≡ Ok meaning
+  pub line : text ≡ description english meaning ++ 10 ∷ []
 
 -- the listing gives these runs one after the other, as the calls of an iterator do: where searches are promised each is the
 -- nearest of those left
@@ -57,13 +65,15 @@ pub record IsListText (l : Listing) (text : List ℕ) : Type 0 where
   pub counted : length runs ≡ l.count
   pub lines : AreLines (is_some l.zone) runs text
 
--- the pattern of a call is accepted, and its date and time names an instant
+-- the pattern of a call is accepted, and its date and time, where it has one, names an instant
 abbrev pub IsOpened : Request → Type 0
+IsOpened (requests.Describe pattern) = IsAccepted (outcome default_settings pattern.now)
 IsOpened (requests.Match pattern at) = Opens (outcome default_settings pattern.now) civil_zone at
 IsOpened (requests.List l) = Opens (outcome default_settings l.pattern.now) (zone_of l.zone) l.at
 
 -- the text is the answer of a call
 abbrev pub IsAnswer : Request → List ℕ → Type 0
+IsAnswer (requests.Describe pattern) text = IsDescriptionText pattern.now text
 IsAnswer (requests.Match pattern at) text = IsMatchText pattern.now at text
 IsAnswer (requests.List l) text = IsListText l text
 

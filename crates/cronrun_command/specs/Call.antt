@@ -25,6 +25,7 @@ pub record IsListingOf (command pattern at count : List ℕ) (zone : Option Time
 
 -- the words are a call, and ask for this
 abbrev pub Ask : List (List ℕ) → Request → Type 0
+Ask words (requests.Describe pattern) = words ≡ codes "describe" ∷ (pattern.now ∷ [])
 Ask words (requests.Match pattern at) =
     (text : List ℕ) × (words ≡ codes "match" ∷ (pattern.now ∷ (text ∷ []))) × IsDateTimeText text at
 Ask words (requests.List l) =

@@ -1,4 +1,4 @@
--- Where a listing stands before its first run.
+-- What a call begins from: an accepted pattern, and where a listing stands before its first run.
 use Rattle.std.specs.Prelude.{◌≡◌, ℤ, false, Result, Ok, Some}
 use Rattle.croner_base.specs.declared.time.Direction.{Direction}
 use Rattle.croner_base.specs.declared.time.civil.CivilDateTime.{CivilDateTime}
@@ -7,6 +7,10 @@ use Rattle.croner_pattern.specs.Meaning.{Meaning}
 use Rattle.croner.specs.Grammar.{Refusal}
 use Rattle.croner.specs.Listing.{Standing, new_standing}
 use Rattle.cronrun_command.specs.Start.{first_instant}
+
+-- the pattern is accepted
+abbrev pub IsAccepted : Result Meaning Refusal → Type 0
+IsAccepted outcome = (pattern : Meaning) × (outcome ≡ Ok pattern)
 
 -- the pattern is accepted, and the date and time names an instant
 abbrev pub Opens : Result Meaning Refusal → Zone → CivilDateTime → Type 0

@@ -6,6 +6,11 @@ use Rattle.croner_pattern.specs.Meaning.{Meaning}
 use Rattle.croner.specs.Gives.{Fails}
 use Rattle.croner.specs.Grammar.{Refusal}
 
+-- the pattern is refused, and the error is of its kind; or it is accepted, and memory ran out
+abbrev pub IsUnread : Result Meaning Refusal → CronError → Type 0
+IsUnread (Err refusal) e = Fails {Y = Meaning} e (Err refusal)
+IsUnread (Ok pattern) e = e ≡ OutOfMemory
+
 -- the pattern is refused, and the error is of its kind; or it is accepted, and the date and time names no instant; or memory
 -- ran out
 abbrev pub IsRefused : Result Meaning Refusal → Option ℤ → CronError → Type 0

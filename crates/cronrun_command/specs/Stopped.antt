@@ -11,9 +11,9 @@ use Rattle.croner.specs.Settings.{default_settings}
 use Rattle.cronrun_command.specs.Answer.{AreGiven, stands_after, zone_of, Answers}
 use Rattle.cronrun_command.specs.Call.{Ask}
 use Rattle.cronrun_command.specs.Line.{AreLines}
-use Rattle.cronrun_command.specs.Opened.{Opens, StandsAtStart}
+use Rattle.cronrun_command.specs.Opened.{IsAccepted, Opens, StandsAtStart}
 use Rattle.cronrun_command.specs.Reason.{reason_of}
-use Rattle.cronrun_command.specs.Refused.{IsRefused}
+use Rattle.cronrun_command.specs.Refused.{IsRefused, IsUnread}
 use Rattle.cronrun_command.specs.Start.{first_instant}
 use Rattle.cronrun_command.specs.declared.request.Listing.{Listing}
 use Rattle.cronrun_command.specs.declared.request.Request.{Request}
@@ -58,6 +58,11 @@ pub record IsCutShort (l : Listing) : Type 0 where
   pub some : 0 < length runs
   pub asked : length runs ≤ l.count
 
+-- why no description is written: the pattern is refused, and a writer got nothing; or it did not take the line
+abbrev pub StopsDescribe : List ℕ → Option (List ℕ) → Option (List ℕ) → Stop → Type 0
+StopsDescribe pattern before after (stops.Refused e) = IsUnread (outcome default_settings pattern) e × Keeps before after
+StopsDescribe pattern before after (stops.Unwritten e) = IsAccepted (outcome default_settings pattern)
+
 -- why no truth is written: the pattern or the start is refused, and a writer got nothing; or it did not take the line
 abbrev pub StopsMatch : List ℕ → CivilDateTime → Option (List ℕ) → Option (List ℕ) → Stop → Type 0
 StopsMatch pattern at before after (stops.Refused e) =
@@ -74,6 +79,7 @@ StopsList lack l before after (stops.Unwritten e) = IsCutShort l
 
 -- why a call stops; copies of its dates and times take no memory
 abbrev pub Stops : Request → Option (List ℕ) → Option (List ℕ) → Stop → Type 0
+Stops (requests.Describe pattern) before after stop = StopsDescribe pattern.now before after stop
 Stops (requests.Match pattern at) before after stop = StopsMatch pattern.now at before after stop
 Stops (requests.List l) before after stop = StopsList false l before after stop
 

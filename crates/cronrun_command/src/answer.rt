@@ -1,16 +1,18 @@
 //! Answering a call.
-ghost use Rattle.std.specs.Prelude.{◌≡◌, ◌↔◌, ◌⊎◌, ℤ, Ok, IsTrue, IfOk, IfErr, OnOk};
+ghost use Rattle.std.specs.Prelude.{◌≡◌, ◌↔◌, ◌⊎◌, ℤ, Ok, IsTrue, IfOk, IfErr, OnOk, string_bytes};
 ghost use Rattle.std.specs.Io.KnownBytes.{Keeps};
 ghost use Rattle.croner_base.specs.Civil.{wall_second};
 ghost use Rattle.croner_base.specs.CivilZone.{civil_zone};
+ghost use Rattle.croner_pattern.specs.Description.{description};
 ghost use Rattle.croner_pattern.specs.Meaning.{Meaning};
 ghost use Rattle.croner_pattern.specs.Schedule.{IsScheduled};
+ghost use Rattle.croner_words.specs.English.{english};
 ghost use Rattle.croner.specs.Grammar.{outcome};
 ghost use Rattle.croner.specs.Settings.{default_settings};
 ghost use Rattle.cronrun_command.specs.Answer.{Answers, IsOpened};
 ghost use Rattle.cronrun_command.specs.Opened.{Opens};
 ghost use Rattle.cronrun_command.specs.Start.{first_instant};
-ghost use Rattle.cronrun_command.specs.Refused.{IsRefused};
+ghost use Rattle.cronrun_command.specs.Refused.{IsRefused, IsUnread};
 ghost use Rattle.cronrun_command.specs.Stopped.{Stops};
 
 use crate::request::Request;
@@ -35,6 +37,11 @@ pub fn answer<W: Write>(alloc: Global, request: Request<'_>, out: &mut W) -> Res
     ensures stops { IfErr result (Stops request.entry (W.contents out.old) (W.contents out.new)) }
 {
     match request {
+        Request::Describe { pattern } => {
+            let description = described(alloc, pattern)?;
+            writeln!(out, "{description}")?;
+            Ok(())
+        }
         Request::Match { pattern, at } => {
             let matching = is_match(alloc, pattern, at)?;
             writeln!(out, "{matching}")?;
@@ -48,6 +55,16 @@ pub fn answer<W: Write>(alloc: Global, request: Request<'_>, out: &mut W) -> Res
             None => list(alloc, &listing, &CIVIL_CLOCK, out),
         },
     }
+}
+
+// The description of a pattern in English.
+fn described(alloc: Global, pattern: &str) -> Result<String, CronError>
+    ensures value { IfOk result (λ text. (m : Meaning) × (outcome default_settings pattern.now ≡ Ok m)
+        × (string_bytes text ≡ description english m)) }
+    ensures err { IfErr result (IsUnread (outcome default_settings pattern.now)) }
+{
+    let cron = Cron::from_str(alloc, pattern)?;
+    cron.describe()
 }
 
 // Whether a pattern names a date and time.

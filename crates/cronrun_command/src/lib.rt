@@ -41,7 +41,8 @@ const USAGE: &str =
 /// `false`. `next PATTERN DATETIME COUNT` writes the runs after the start, the nearest first and
 /// one a line, and `prev` in its place those before it. A word RULE behind the count names the
 /// zone of the start. Without it a line is what the clock shows; with it the second since
-/// 1970-01-01T00:00:00 UTC follows, behind a space. `describe` is not there yet.
+/// 1970-01-01T00:00:00 UTC follows, behind a space. `describe PATTERN` writes the pattern's
+/// description in English as a line.
 ///
 /// The default parser reads PATTERN. DATETIME is `YYYY-MM-DDTHH:MM:SS`, COUNT is decimal digits
 /// that write a number from 1 to 1000, and RULE is a POSIX rule. A DATETIME that the zone's clock

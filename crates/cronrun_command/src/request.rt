@@ -13,6 +13,8 @@ use jiff::tz::TimeZone;
 /// A call of the program, its words read.
 #[derive(Drop)]
 pub enum Request<'w> {
+    /// The description of the pattern.
+    Describe { pattern: &'w str },
     /// Whether the pattern names a date and time.
     Match { pattern: &'w str, at: CivilDateTime },
     /// Some runs of the pattern.
@@ -46,6 +48,7 @@ impl<'w> Request<'w> {
         ensures finds { (r : Request) → Ask (map string_bytes words.now) r → IsSome result }
     {
         match words {
+            [command, pattern] => Request::read_describe(command.as_str(), pattern.as_str()),
             [command, pattern, at] => {
                 Request::read_match(command.as_str(), pattern.as_str(), at.as_str())
             }
@@ -72,6 +75,17 @@ impl<'w> Request<'w> {
             }
             _ => None,
         }
+    }
+
+    // `describe PATTERN`.
+    fn read_describe(command: &str, pattern: &'w str) -> Option<Request<'w>>
+        ensures reads { IfSome result (Ask (command.now ∷ (pattern.now ∷ []))) }
+        ensures finds { command.now ≡ codes "describe" → IsSome result }
+    {
+        if command != "describe" {
+            return None;
+        }
+        Some(Request::Describe { pattern })
     }
 
     // `match PATTERN DATETIME`.

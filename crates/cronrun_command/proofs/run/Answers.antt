@@ -4,7 +4,7 @@ use Rattle.std.proofs.KnownBytes.{Appends-kept, Keeps-trans}
 use Rattle.std.specs.Io.KnownBytes.{Keeps}
 use Rattle.croner_base.specs.declared.time.civil.CivilDateTime.{CivilDateTime}
 use Rattle.cronrun_command.specs.Answer.{Answers, IsOpened}
-use Rattle.cronrun_command.specs.Stopped.{Stops, StopsList, StopsMatch}
+use Rattle.cronrun_command.specs.Stopped.{Stops, StopsDescribe, StopsList, StopsMatch}
 use Rattle.cronrun_command.specs.declared.request.Listing.{Listing}
 use Rattle.cronrun_command.specs.declared.request.Request.{Request}
 use Rattle.cronrun_command.specs.declared.request.Request.TheVariants as requests
@@ -46,6 +46,11 @@ flushed_list lack l before now after (stops.Refused e) stopped kept =
     ]
 flushed_list lack l before now after (stops.Unwritten e) stopped kept = stopped
 
+flushed_describe : (pattern : List ℕ) (before now after : Option (List ℕ)) (stop : Stop) → StopsDescribe pattern before now stop → Keeps now after
+    → StopsDescribe pattern before after stop
+flushed_describe pattern before now after (stops.Refused e) stopped kept = (stopped.0, Keeps-trans before now after stopped.1 kept)
+flushed_describe pattern before now after (stops.Unwritten e) stopped kept = stopped
+
 flushed_match : (pattern : List ℕ) (at : CivilDateTime) (before now after : Option (List ℕ)) (stop : Stop) → StopsMatch pattern at before now stop
     → Keeps now after → StopsMatch pattern at before after stop
 flushed_match pattern at before now after (stops.Refused e) stopped kept = (stopped.0, Keeps-trans before now after stopped.1 kept)
@@ -53,6 +58,7 @@ flushed_match pattern at before now after (stops.Unwritten e) stopped kept = sto
 
 flushed : (request : Request) (before now after : Option (List ℕ)) (stop : Stop) → Stops request before now stop → Keeps now after
     → Stops request before after stop
+flushed (requests.Describe pattern) before now after stop stopped kept = flushed_describe pattern.now before now after stop stopped kept
 flushed (requests.Match pattern at) before now after stop stopped kept = flushed_match pattern.now at before now after stop stopped kept
 flushed (requests.List l) before now after stop stopped kept = flushed_list false l before now after stop stopped kept
 

@@ -1,7 +1,21 @@
-use Rattle.std.proofs.Common.{◌++◌, ◌∷◌, [], ℕ, List, refl, sym, subst}
+use Rattle.std.proofs.Common.{◌++◌, ◌∷◌, [], ℕ, List, string_bytes, refl, sym, subst, ap}
 use Rattle.cronrun_command.specs.Answer.{IsAnswer, bool_text}
 use Rattle.cronrun_command.specs.declared.request.Request.{Request}
 use Rattle.cronrun_command.proofs.answer.answer.Goals as goal
+
+pub returns-in_ok-writeln-in-Describe-clause-answers : goal.returns-in_ok-writeln-in-Describe-clause-answers
+returns-in_ok-writeln-in-Describe-clause-answers g c =
+    let value = c.in_ok-description-in-Describe.ensures.value in
+    let text : List ℕ = string_bytes c.in_ok-description-in-Describe.description ++ 10 ∷ [] in
+    let P : Request → Type 0 = λ r. IsAnswer r text in (
+      text,
+      subst P (sym c.in-Describe.is) (record {
+        meaning = value.0;
+        accepted = value.1;
+        line = ap (λ (t : List ℕ). t ++ 10 ∷ []) value.2;
+      }),
+      c.in_ok-writeln-in-Describe.ensures.bytes,
+    )
 
 pub returns-in_ok-writeln-in-Match-clause-answers : goal.returns-in_ok-writeln-in-Match-clause-answers
 returns-in_ok-writeln-in-Match-clause-answers g c =

@@ -5,7 +5,7 @@ use Rattle.cronrun_command.specs.Call.{NameZone}
 use Rattle.cronrun_command.proofs.Calls.{asks_for_runs}
 use Rattle.cronrun_command.proofs.Words.{four_texts, five_texts, call_words, none_is_not_some}
 use Rattle.cronrun_command.proofs.request.Request.read.Goals as goal
-use Rattle.cronrun_command.proofs.request.Request.read.Goals.{in_default-via-then-words-lt3, in_default-via-else-words-lt3+else-words-lt4+else-words-lt5+else-words-lt6}
+use Rattle.cronrun_command.proofs.request.Request.read.Goals.{in_default-via-then-words-lt2, in_default-via-else-words-lt2+else-words-lt3+else-words-lt4+else-words-lt5+else-words-lt6}
 
 pub returns-in_err-listing-in-len4-clause-finds : goal.returns-in_err-listing-in-len4-clause-finds
 returns-in_err-listing-in-len4-clause-finds c = λ r ask.
@@ -80,6 +80,6 @@ pub returns-in_default-clause-finds : goal.returns-in_default-clause-finds
 returns-in_default-clause-finds c = λ r ask.
     let n = call_words string_bytes c.args.words.now r ask in
     elim c.in_default.branch [
-      | in_default-via-then-words-lt3 w ↦ absurd (omega (arith, ltb-true))
-      | in_default-via-else-words-lt3+else-words-lt4+else-words-lt5+else-words-lt6 w ↦ absurd (omega (arith, ltb-false))
+      | in_default-via-then-words-lt2 w ↦ absurd (omega (arith, ltb-true))
+      | in_default-via-else-words-lt2+else-words-lt3+else-words-lt4+else-words-lt5+else-words-lt6 w ↦ absurd (omega (arith, ltb-false))
     ]

@@ -1,0 +1,23 @@
+use Rattle.std.proofs.Common.{Result, subst, sym}
+use Rattle.std.proofs.lemmas.Result.{MatchResult-weaker}
+use Rattle.croner_pattern.specs.Meaning.{Meaning}
+use Rattle.croner.specs.Grammar.{outcome, Refusal}
+use Rattle.croner.specs.Settings.{default_settings}
+use Rattle.croner.specs.Views.{job_of}
+use Rattle.cronrun_command.specs.Refused.{IsUnread}
+use Rattle.cronrun_command.proofs.Unread.{refused_unread}
+use Rattle.cronrun_command.proofs.answer.described.Goals as goal
+
+pub returns-in_err-cron-clause-err : goal.returns-in_err-cron-clause-err
+returns-in_err-cron-clause-err c =
+    refused_unread c.from_residual.result c.in_err-cron.field-0.0 (outcome default_settings c.args.pattern.now) c.from_residual.ensures.1
+    c.in_err-cron.ensures.meaning
+
+pub returns-clause-value : goal.returns-clause-value
+returns-clause-value c =
+    MatchResult-weaker c.describe.result c.describe.ensures (λ text is. (job_of c.in_ok-cron.cron, c.in_ok-cron.ensures.meaning, is)) (λ e lacks. tt)
+
+pub returns-clause-err : goal.returns-clause-err
+returns-clause-err c =
+    MatchResult-weaker c.describe.result c.describe.ensures (λ text is. tt)
+    (λ e lacks. let P : Result Meaning Refusal → Type 0 = λ o. IsUnread o e in subst P (sym c.in_ok-cron.ensures.meaning) lacks)
