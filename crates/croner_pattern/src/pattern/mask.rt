@@ -1,6 +1,6 @@
 //! Which days of a month fit the two day fields of a pattern, one bit a day.
 
-ghost use Rattle.std.specs.Prelude.{◌≡◌, true, IsOk, IfOk};
+ghost use Rattle.std.specs.Prelude.{◌≡◌, ◌<◌, true, IsOk, IfOk};
 ghost use Rattle.std.specs.Int.{IsInRange};
 ghost use Rattle.croner_base.specs.Answers.{SucceedsIff};
 ghost use Rattle.croner_base.specs.Civil.{weekday_index};
@@ -33,5 +33,23 @@ impl CronPattern {
             }
         }
         Ok(mask)
+    }
+
+    /// The days that fit in a month of `length` days whose 1st has the weekday `first`, from 0 for Sunday: bit `day - 1` is
+    /// set exactly where the day fits, and no bit above that of the last day is. With the shapes of a pattern's fields nothing
+    /// is refused.
+    pub fn days_of_month(&self, length: u32, first: u32) -> u32
+        requires shapes { has_field_shapes (meaning_of self.now) ≡ true }
+        requires length { IsInRange 28 31 length }
+        requires first { first < 7 }
+        ensures { IsDayMask (meaning_of self.now) length first result }
+    {
+        let mut mask = 0;
+        for place in 0..length {
+            if self.is_day_named(length, first, place + 1) {
+                mask |= 1 << place;
+            }
+        }
+        mask
     }
 }
