@@ -19,11 +19,11 @@ all_from-at a (suc n) p x h low high =
       | inr ne ↦ all_from-at (a + 1) n p x both.1 (omega arith) (omega arith)
     ]
 
-abbrev same : Bool → Bool → Bool
+abbrev pub same : Bool → Bool → Bool
 same true b = b
 same false b = not b
 
-same-true : (a b : Bool) → same a b ≡ true → a ≡ b
+pub same-true : (a b : Bool) → same a b ≡ true → a ≡ b
 same-true true true h = refl
 same-true true false h = sym h
 same-true false true h = h

@@ -1,8 +1,10 @@
 pub mod DayTable
+pub mod DayBits
 pub mod Examples
 pub mod Shaped
 pub mod Turns
 pub mod Sides
+pub mod NearestDays
 pub mod Known
 pub mod Firsts
 pub mod Masks

@@ -40,7 +40,7 @@ pub record Shaped (m : Meaning) : Type 0 where
   pub weekdays : Alike m.days_of_week.shape (weekday_shape 0)
   pub years : Alike m.years.shape year_shape
 
-either_weekday : (s : Shape) → (is_like s (weekday_shape 0) || is_like s (weekday_shape 1)) ≡ true → Alike s (weekday_shape 0)
+pub either_weekday : (s : Shape) → (is_like s (weekday_shape 0) || is_like s (weekday_shape 1)) ≡ true → Alike s (weekday_shape 0)
 either_weekday s h =
     elim (is_like s (weekday_shape 0)) as (λ b. is_like s (weekday_shape 0) ≡ b → (b || is_like s (weekday_shape 1)) ≡ true → Alike s (weekday_shape 0)) [
       | true ↦ λ e _. alike s (weekday_shape 0) e

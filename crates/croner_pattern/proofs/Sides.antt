@@ -35,7 +35,7 @@ past p a x low miss hit = elim (le-cases a x low) [
 ]
 
 -- one of the numbers of a range passes, or none
-any-true : (p : ℕ → Bool) (a n x : ℕ) → a ≤ x → x < a + n → p x ≡ true → list_any p (range_with_len a n) ≡ true
+pub any-true : (p : ℕ → Bool) (a n x : ℕ) → a ≤ x → x < a + n → p x ≡ true → list_any p (range_with_len a n) ≡ true
 any-true p a zero x low high h = absurd (omega arith)
 any-true p a (suc n) x low high h =
     elim (p a) as (λ b. p a ≡ b → (b || list_any p (range_with_len (a + 1) n)) ≡ true) [
@@ -43,7 +43,7 @@ any-true p a (suc n) x low high h =
       | false ↦ λ miss. any-true p (a + 1) n x (past p a x low miss h) (omega arith) h
     ] refl
 
-any-false : (p : ℕ → Bool) (a n : ℕ) → ((x : ℕ) → a ≤ x → x < a + n → p x ≡ false) → list_any p (range_with_len a n) ≡ false
+pub any-false : (p : ℕ → Bool) (a n : ℕ) → ((x : ℕ) → a ≤ x → x < a + n → p x ≡ false) → list_any p (range_with_len a n) ≡ false
 any-false p a zero h = refl
 any-false p a (suc n) h =
     rw (h a (omega arith) (omega arith)) (any-false p (a + 1) n (λ x low high. h x (omega arith) (omega arith)))

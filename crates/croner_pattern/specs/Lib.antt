@@ -14,3 +14,4 @@ pub mod Written
 pub mod Lists
 pub mod Description
 pub mod ListSteps
+pub mod Private

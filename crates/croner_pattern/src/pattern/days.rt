@@ -1,6 +1,6 @@
 //! Whether a day fits the two day fields of a pattern.
 
-ghost use Rattle.std.specs.Prelude.{◌≡◌, ◌≤◌, ◌<◌, ℕ, true, Ok, Err, IfOk};
+ghost use Rattle.std.specs.Prelude.{◌≡◌, ◌≤◌, ◌<◌, ◌==◌, ℕ, true, Ok, Err, IfOk};
 ghost use Rattle.std.specs.Int.{IsInRange};
 ghost use Rattle.croner_base.specs.Answers.{Finds};
 ghost use Rattle.croner_base.specs.Calendar.{IsRealDate};
@@ -205,10 +205,20 @@ fn is_last_working(length: u32, first: u32, day: u32) -> bool
     requires day { IsInRange 1 length day }
     ensures { result ≡ is_last_working length first day }
 {
+    day == last_working(length, first)
+}
+
+/// The last Monday-to-Friday day of a month.
+pub(super) fn last_working(length: u32, first: u32) -> u32
+    requires length { IsInRange 28 31 length }
+    requires first { first < 7 }
+    ensures value { (day : ℕ) → 1 ≤ day → day ≤ length → (day == result) ≡ is_last_working length first day }
+    ensures bound { IsInRange 1 length result }
+{
     match weekday_of(first, length) {
-        SATURDAY => day + 1 == length,
-        SUNDAY => day + 2 == length,
-        _ => day == length,
+        SATURDAY => length - 1,
+        SUNDAY => length - 2,
+        _ => length,
     }
 }
 

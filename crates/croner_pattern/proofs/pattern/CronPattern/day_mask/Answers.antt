@@ -3,13 +3,30 @@ use Rattle.std.proofs.lemmas.Result.{err_from_is_err_and}
 use Rattle.croner_base.specs.Civil.{weekday_index}
 use Rattle.croner_pattern.specs.Meaning.{meaning_of}
 use Rattle.croner_pattern.specs.Questions.{date_answer, are_answered}
-use Rattle.croner_pattern.specs.Schedule.{is_day_matching}
+use Rattle.croner_pattern.specs.Schedule.{is_day_matching, IsDayMask}
+use Rattle.croner_pattern.specs.Shapes.{has_field_shapes}
 use Rattle.croner_pattern.proofs.Shaped.{none-some}
 use Rattle.croner_pattern.proofs.Sides.{Kind, date_is}
 use Rattle.croner_pattern.proofs.Known.{date_answered}
 use Rattle.croner_pattern.proofs.Masks.{MaskUpTo, mask-hit, mask-miss, all-answered, one-lacks}
 use Rattle.croner_pattern.proofs.pattern.CronPattern.day_mask.Goals as goal
 use Rattle.croner_pattern.proofs.pattern.CronPattern.day_mask.Goals.{then-branch, else-branch}
+
+-- with the shapes of a pattern each day is answered
+pub returns-then-has_field_shapes-clause-asked : goal.returns-then-has_field_shapes-clause-asked
+returns-then-has_field_shapes-clause-asked c =
+    let m = meaning_of c.args.self.now in
+    let len = c.args.month_length in
+    let first = weekday_index c.args.first in
+    let small : first < 7 = subst (λ n. n < 7) c.num_days_from_sunday-first_index.ensures.value c.num_days_from_sunday-first_index.ensures.bound in
+    let shapes : has_field_shapes m ≡ true = sym c.has_field_shapes.ensures ∙ c.if-has_field_shapes.true in
+    all-answered (date_answer m len first) len (λ place low.
+    let k : Kind len first (place + 1) = record { shortest = c.requires.0; longest = c.requires.1; weekday = small; low = omega arith; high = omega arith } in
+    ap is_some (date_answered m len first (place + 1) shapes k))
+
+pub returns-then-has_field_shapes-clause-value : goal.returns-then-has_field_shapes-clause-value
+returns-then-has_field_shapes-clause-value c =
+    subst (λ first. IsDayMask (meaning_of c.args.self.now) c.args.month_length first c.days_of_month.result) c.num_days_from_sunday-first_index.ensures.value c.days_of_month.ensures
 
 pub returns-in_err-fits-clause-asked : goal.returns-in_err-fits-clause-asked
 returns-in_err-fits-clause-asked c =

@@ -1,23 +1,32 @@
-use Rattle.std.proofs.Common.{◌≡◌, ◌+◌, ◌<◌, sym, ◌∙◌, arith, subst}
+use Rattle.std.proofs.Common.{◌≡◌, ℕ, ◌+◌, ◌<◌, Bool, true, false, ◌&&◌, nat_lt, bit_and, if◌then◌else◌, refl, ap, ◌∙◌, arith}
+use Rattle.std.proofs.lemmas.Bool.Decides.{nat_tests}
 use Rattle.croner_pattern.specs.Meaning.{meaning_of}
+use Rattle.croner_pattern.specs.Private.DayBits.{has_bit}
 use Rattle.croner_pattern.specs.Schedule.{is_day_matching}
-use Rattle.croner_pattern.proofs.Masks.{MaskUpTo, mask-hit, mask-miss}
+use Rattle.croner_pattern.proofs.DayBits.{has-and, bit-of}
 use Rattle.croner_pattern.proofs.pattern.CronPattern.days_of_month.Goals as goal
-use Rattle.croner_pattern.proofs.pattern.CronPattern.days_of_month.Goals.{then-is_day_named, else-is_day_named}
 
-pub loop-place-preserved : goal.loop-place-preserved
-loop-place-preserved c =
-    let place = c.loop-place.place in
-    let small : place < 32 = omega arith in
-    let fits = is_day_matching (meaning_of c.args.self.now) c.args.length c.args.first in
-    record {
-      built = elim c.if-is_day_named.branch [
-        | then-is_day_named w ↦ subst (λ n. MaskUpTo fits (place + 1) n) (sym w.mask-is) (mask-hit fits place c.loop-place.mask small (sym c.is_day_named.ensures ∙ w.if-is_day_named.true) c.loop-place.invariant.built)
-        | else-is_day_named w ↦ subst (λ n. MaskUpTo fits (place + 1) n) (sym w.mask-is) (mask-miss fits place c.loop-place.mask (sym c.is_day_named.ensures ∙ w.if-is_day_named.false) c.loop-place.invariant.built)
-      ];
-    }
+and_false : (b : Bool) → (b && false) ≡ false
+and_false true = refl
+and_false false = refl
+
+and_true : (b : Bool) → (b && true) ≡ b
+and_true true = refl
+and_true false = refl
+
+cut : (fits whole low is : Bool) → whole ≡ low → (low ≡ true → fits ≡ is) → (fits && whole) ≡ (low && is)
+cut fits whole true is e f = rw (e, f refl) (and_true is)
+cut fits whole false is e f = rw e (and_false fits)
+
+below : (place len : ℕ) → nat_lt place len ≡ true → place < len
+below place len h = grind (arith, nat_tests)
 
 pub returns : goal.returns
-returns c =
-    let all : c.loop-place.place ≡ c.args.length = omega arith in
-    subst (λ n. MaskUpTo (is_day_matching (meaning_of c.args.self.now) c.args.length c.args.first) n c.loop-place.mask) all c.loop-place.invariant.built
+returns c place =
+    let fits = c.fitting.result in
+    let whole = c.whole_month.result in
+    bit-of (bit_and fits whole) place
+    ∙ ap (λ b. if b then 1 else 0)
+    (has-and fits whole place
+    ∙ cut (has_bit fits place) (has_bit whole place) (nat_lt place c.args.length) (is_day_matching (meaning_of c.args.self.now) c.args.length c.args.first (place + 1))
+    (c.whole_month.ensures place) (λ low. c.fitting.ensures place (below place c.args.length low)))

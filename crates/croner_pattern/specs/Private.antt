@@ -1,0 +1,2 @@
+-- Words of private contracts: nobody else cites them.
+pub mod DayBits
