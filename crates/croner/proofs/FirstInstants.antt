@@ -1,8 +1,8 @@
 -- The first instant that shows a wall second or more, and instants that show the same.
 use Rattle.std.proofs.Common.{◌≡◌, ℤ, pos, ◌+ℤ◌, ◌-ℤ◌, ◌<ℤ◌, ◌≤ℤ◌, arith, refl, inl, inr}
 use Rattle.std.proofs.lemmas.Int.{ints}
-use Rattle.croner_base.specs.Limits.{fold_limit, apart_limit}
-use Rattle.croner.proofs.ZoneOrder.{cases_lt_z, order, before_break, after_break}
+use Rattle.croner_base.specs.Limits.{fold_limit}
+use Rattle.croner.proofs.ZoneOrder.{cases_lt_z, put_back, put_back_once, before_break, after_break}
 use Rattle.croner.proofs.ZoneOrder.{Calm}
 use Rattle.croner.specs.Walk.{First}
 
@@ -10,34 +10,28 @@ module _ (reads : ℤ → ℤ) (calm : Calm reads) where
   -- an instant before the change that reads what j reads after it
   pub earlier_twin : (i j : ℤ) → i <ℤ j → reads j ≤ℤ reads i → (x : ℤ) × (x ≤ℤ i) × (i ≤ℤ (x +ℤ pos fold_limit)) × (reads x ≡ reads j)
   earlier_twin i j h le =
-      elim (order reads calm i j h) [
-        | inl lt ↦ absurd (omega (arith, ints))
-        | inr (p, t) ↦
-            let b = calm.back p in
-            let a = t.earlier in
-            let z = t.later in
-            let l = t.low in
-            let g = t.high in
-            let x : ℤ = i -ℤ (reads i -ℤ reads j) in
-            let e = before_break reads calm p x i t.breaks l (omega (arith, ints)) (omega (arith, ints)) in
-            (x, omega (arith, ints), omega (arith, ints), omega (arith, ints))
-      ]
+      let (p, t) = put_back reads calm i j h (omega (arith, ints)) in
+      let b = calm.back p in
+      let a = t.earlier in
+      let z = t.later in
+      let l = t.low in
+      let g = t.high in
+      let x : ℤ = i -ℤ (reads i -ℤ reads j) in
+      let e = before_break reads calm p x i t.breaks l (omega (arith, ints)) (omega (arith, ints)) in
+      (x, omega (arith, ints), omega (arith, ints), omega (arith, ints))
 
   pub later_twin : (i j : ℤ) → i <ℤ j → reads j ≤ℤ reads i → (x : ℤ) × (j ≤ℤ x) × (x ≤ℤ (j +ℤ pos fold_limit)) × (reads x ≡ reads i)
   later_twin i j h le =
-      elim (order reads calm i j h) [
-        | inl lt ↦ absurd (omega (arith, ints))
-        | inr (p, t) ↦
-            let b = calm.back p in
-            let a = t.earlier in
-            let z = t.later in
-            let l = t.low in
-            let g = t.high in
-            let n = t.near in
-            let x : ℤ = j +ℤ (reads i -ℤ reads j) in
-            let e = after_break reads calm p j x t.breaks g (omega (arith, ints)) (omega (arith, ints)) in
-            (x, omega (arith, ints), omega (arith, ints), omega (arith, ints))
-      ]
+      let (p, t) = put_back reads calm i j h (omega (arith, ints)) in
+      let b = calm.back p in
+      let a = t.earlier in
+      let z = t.later in
+      let l = t.low in
+      let g = t.high in
+      let n = t.near in
+      let x : ℤ = j +ℤ (reads i -ℤ reads j) in
+      let e = after_break reads calm p j x t.breaks g (omega (arith, ints)) (omega (arith, ints)) in
+      (x, omega (arith, ints), omega (arith, ints), omega (arith, ints))
 
   -- ---- the first instant that reads w or more
 
@@ -108,21 +102,7 @@ module _ (reads : ℤ → ℤ) (calm : Calm reads) where
         | inl under ↦
             let (x, past, close, same) = earlier_twin reads calm j t under (omega (arith, ints)) in
             elim (cases_lt_z x s) [
-              | inl behind ↦
-                  elim (order reads calm j t under) [
-                    | inl ordered ↦ absurd (omega (arith, ints))
-                    | inr (p, turn) ↦
-                        elim (order reads calm x s behind) [
-                          | inl ordered ↦ absurd (omega (arith, ints))
-                          | inr (q, other) ↦
-                              let a = turn.low in
-                              let b = turn.high in
-                              let c = turn.near in
-                              let d = other.low in
-                              let g = other.high in
-                              let far : (q +ℤ pos apart_limit) <ℤ p = calm.apart q p other.breaks turn.breaks (omega (arith, ints)) in absurd (omega (arith, ints))
-                        ]
-                  ]
+              | inl behind ↦ absurd (put_back_once reads calm x s j t behind (omega (arith, ints)) h under (omega (arith, ints)) (omega (arith, ints)))
               | inr ahead ↦
                   let k : t ≤ℤ x = least x ahead (omega (arith, ints)) in
                   absurd (omega (arith, ints))
@@ -136,21 +116,7 @@ module _ (reads : ℤ → ℤ) (calm : Calm reads) where
         | inl under ↦
             let (x, past, close, same) = later_twin reads calm t j under (omega (arith, ints)) in
             elim (cases_lt_z s x) [
-              | inl behind ↦
-                  elim (order reads calm t j under) [
-                    | inl ordered ↦ absurd (omega (arith, ints))
-                    | inr (p, turn) ↦
-                        elim (order reads calm s x behind) [
-                          | inl ordered ↦ absurd (omega (arith, ints))
-                          | inr (q, other) ↦
-                              let a = turn.low in
-                              let b = turn.high in
-                              let c = turn.near in
-                              let d = other.low in
-                              let g = other.high in
-                              let far : (p +ℤ pos apart_limit) <ℤ q = calm.apart p q turn.breaks other.breaks (omega (arith, ints)) in absurd (omega (arith, ints))
-                        ]
-                  ]
+              | inl behind ↦ absurd (put_back_once reads calm t j s x under (omega (arith, ints)) h behind (omega (arith, ints)) (omega (arith, ints)))
               | inr ahead ↦
                   let k : x ≤ℤ t = most x ahead (omega (arith, ints)) in
                   absurd (omega (arith, ints))

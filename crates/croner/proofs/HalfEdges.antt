@@ -3,7 +3,7 @@ use Rattle.std.proofs.Common.{◌≡◌, ℕ, ◌+◌, ◌≤◌, ◌<◌, ℤ, 
 use Rattle.std.proofs.lemmas.Int.{ints}
 use Rattle.croner_base.specs.declared.time.Direction.{Direction}
 use Rattle.croner_base.specs.declared.time.Direction.TheVariants.{Forward, Backward}
-use Rattle.croner.proofs.ZoneOrder.{cases_lt_z, order, before_break, after_break}
+use Rattle.croner.proofs.ZoneOrder.{cases_lt_z, put_back, put_back_once, before_break, after_break}
 use Rattle.croner.proofs.TwoHalves.{forward_found, backward_found, forward_before_edge, backward_before_edge, forward_first, forward_second, backward_first, backward_second}
 use Rattle.croner.proofs.RunsOfSeconds.{true_or_false}
 use Rattle.croner.proofs.WalkLoop.{never_true}
@@ -24,36 +24,30 @@ use Rattle.croner.specs.Walk.{Walked, WalkedFrom}
 module _ (reads : ℤ → ℤ) (calm : Calm reads) where
   edge_after : (i : ℤ) → HasTwin Forward reads i → (HasTwin Forward reads (i +ℤ pos 1) → ⊥) → Break reads i
   edge_after i (x, same, past) none =
-      elim (order reads calm i x past) [
-        | inl lt ↦ absurd (omega (arith, ints))
-        | inr (q, turn) ↦
-            let low = turn.low in
-            let near = turn.near in
-            let high = turn.high in
-            elim (cases_lt_z i q) [
-              | inl lt ↦
-                  let a = before_break reads calm q i (i +ℤ pos 1) turn.breaks (omega (arith, ints)) (omega (arith, ints)) (omega (arith, ints)) in
-                  let b = after_break reads calm q x (x +ℤ pos 1) turn.breaks high (omega (arith, ints)) (omega (arith, ints)) in
-                  absurd (none (x +ℤ pos 1, omega (arith, ints), omega (arith, ints)))
-              | inr le ↦ let at : q ≡ i = omega (arith, ints) in subst (Break reads) at turn.breaks
-            ]
+      let (q, turn) = put_back reads calm i x past (omega (arith, ints)) in
+      let low = turn.low in
+      let near = turn.near in
+      let high = turn.high in
+      elim (cases_lt_z i q) [
+        | inl lt ↦
+            let a = before_break reads calm q i (i +ℤ pos 1) turn.breaks (omega (arith, ints)) (omega (arith, ints)) (omega (arith, ints)) in
+            let b = after_break reads calm q x (x +ℤ pos 1) turn.breaks high (omega (arith, ints)) (omega (arith, ints)) in
+            absurd (none (x +ℤ pos 1, omega (arith, ints), omega (arith, ints)))
+        | inr le ↦ let at : q ≡ i = omega (arith, ints) in subst (Break reads) at turn.breaks
       ]
 
   edge_before : (i j : ℤ) → i ≡ j +ℤ pos 1 → HasTwin Backward reads i → (HasTwin Backward reads j → ⊥) → Break reads j
   edge_before i j e (x, same, past) none =
-      elim (order reads calm x i past) [
-        | inl lt ↦ absurd (omega (arith, ints))
-        | inr (q, turn) ↦
-            let low = turn.low in
-            let near = turn.near in
-            let high = turn.high in
-            elim (cases_lt_z q j) [
-              | inl lt ↦
-                  let a = after_break reads calm q j i turn.breaks lt (omega (arith, ints)) (omega (arith, ints)) in
-                  let b = before_break reads calm q (x -ℤ pos 1) x turn.breaks low (omega (arith, ints)) (omega (arith, ints)) in
-                  absurd (none (x -ℤ pos 1, omega (arith, ints), omega (arith, ints)))
-              | inr le ↦ let at : q ≡ j = omega (arith, ints) in subst (Break reads) at turn.breaks
-            ]
+      let (q, turn) = put_back reads calm x i past (omega (arith, ints)) in
+      let low = turn.low in
+      let near = turn.near in
+      let high = turn.high in
+      elim (cases_lt_z q j) [
+        | inl lt ↦
+            let a = after_break reads calm q j i turn.breaks lt (omega (arith, ints)) (omega (arith, ints)) in
+            let b = before_break reads calm q (x -ℤ pos 1) x turn.breaks low (omega (arith, ints)) (omega (arith, ints)) in
+            absurd (none (x -ℤ pos 1, omega (arith, ints), omega (arith, ints)))
+        | inr le ↦ let at : q ≡ j = omega (arith, ints) in subst (Break reads) at turn.breaks
       ]
 
 pub edge_between : (direction : Direction) (reads : ℤ → ℤ) → Calm reads → (s : ℤ) (k n : ℕ) → n ≡ k + 1 → k < edge_limit → HasTwin direction reads (offset_from direction s k) → (HasTwin direction reads (offset_from direction s n) → ⊥) → EdgeOf direction reads s (offset_from direction s n)
@@ -117,47 +111,13 @@ no_twin_of_gap direction reads i none twin = none i refl
 
 -- ---- the margin of a day is past the repeated range
 
-pub twin_far_forward : (reads : ℤ → ℤ) → Calm reads → (s far : ℤ) → far ≡ s +ℤ pos edge_limit → HasTwin Forward reads s → HasTwin Forward reads far → ⊥
-twin_far_forward reads calm s far e (x, same, past) (y, same2, past2) =
-    elim (order reads calm s x past) [
-      | inl lt ↦ omega (arith, ints)
-      | inr (p, turn) ↦
-          elim (order reads calm far y past2) [
-            | inl lt ↦ omega (arith, ints)
-            | inr (q, turn2) ↦
-                let a = turn.low in
-                let b = turn.high in
-                let c = turn.near in
-                let d = turn2.low in
-                let f = turn2.high in
-                let h = turn2.near in
-                let apart = calm.apart p q turn.breaks turn2.breaks (omega (arith, ints)) in
-                omega (arith, ints)
-          ]
-    ]
-
-pub twin_far_backward : (reads : ℤ → ℤ) → Calm reads → (s far : ℤ) → far ≡ s -ℤ pos edge_limit → HasTwin Backward reads s → HasTwin Backward reads far → ⊥
-twin_far_backward reads calm s far e (x, same, past) (y, same2, past2) =
-    elim (order reads calm x s past) [
-      | inl lt ↦ omega (arith, ints)
-      | inr (p, turn) ↦
-          elim (order reads calm y far past2) [
-            | inl lt ↦ omega (arith, ints)
-            | inr (q, turn2) ↦
-                let a = turn.low in
-                let b = turn.high in
-                let c = turn.near in
-                let d = turn2.low in
-                let f = turn2.high in
-                let h = turn2.near in
-                let apart = calm.apart q p turn2.breaks turn.breaks (omega (arith, ints)) in
-                omega (arith, ints)
-          ]
-    ]
-
 pub twin_far : (direction : Direction) (reads : ℤ → ℤ) → Calm reads → (s : ℤ) → HasTwin direction reads s → HasTwin direction reads (offset_from direction s edge_limit) → ⊥
-twin_far Forward reads calm s a b = twin_far_forward reads calm s (s +ℤ pos edge_limit) refl a b
-twin_far Backward reads calm s a b = twin_far_backward reads calm s (s -ℤ pos edge_limit) refl a b
+twin_far Forward reads calm s (x, same, past) (y, same2, past2) =
+    let near = (put_back reads calm s x past (omega (arith, ints))).1.near in
+    put_back_once reads calm s x (s +ℤ pos edge_limit) y past (omega (arith, ints)) (omega (arith, ints)) past2 (omega (arith, ints)) (omega (arith, ints))
+twin_far Backward reads calm s (x, same, past) (y, same2, past2) =
+    let near = (put_back reads calm x s past (omega (arith, ints))).1.near in
+    put_back_once reads calm y (s -ℤ pos edge_limit) x s past2 (omega (arith, ints)) (omega (arith, ints)) past (omega (arith, ints)) (omega (arith, ints))
 
 -- ---- as the code has them
 

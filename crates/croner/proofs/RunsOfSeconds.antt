@@ -1,8 +1,7 @@
 -- Each run is the run of a scheduled second, and each run of one is a run.
 use Rattle.std.proofs.Common.{◌≡◌, ℤ, pos, ◌+ℤ◌, ◌-ℤ◌, ◌<ℤ◌, ◌≤ℤ◌, ◌⊎◌, arith, refl, sym, ◌∙◌, inl, inr, ap, subst, Bool, true, false}
 use Rattle.std.proofs.lemmas.Int.{ints}
-use Rattle.croner_base.specs.Limits.{apart_limit}
-use Rattle.croner.proofs.ZoneOrder.{cases_lt_z, order}
+use Rattle.croner.proofs.ZoneOrder.{cases_lt_z, below_before}
 use Rattle.croner.proofs.FirstInstants.{first_if_least}
 use Rattle.croner.specs.Halves.{Break}
 use Rattle.croner.proofs.ZoneOrder.{Calm}
@@ -24,20 +23,7 @@ gap_end_is_first reads calm w i below above =
       before = λ j h.
           elim (cases_lt_z (reads j) w) [
             | inl lt ↦ lt
-            | inr le ↦
-                elim (cases_lt_z j p) [
-                  | inl under ↦
-                      elim (order reads calm j p under) [
-                        | inl ordered ↦ absurd (omega (arith, ints))
-                        | inr (q, turn) ↦
-                            let a = turn.low in
-                            let b = turn.high in
-                            let c = turn.near in
-                            let apart : (q +ℤ pos apart_limit) <ℤ p = calm.apart q p turn.breaks breaks b in
-                            absurd (omega (arith, ints))
-                      ]
-                  | inr at ↦ let same : reads j ≡ reads p = ap reads (omega (arith, ints)) in absurd (omega (arith, ints))
-                ]
+            | inr le ↦ let low = below_before reads calm p j breaks (omega (arith, ints)) in absurd (omega (arith, ints))
           ];
     }
 

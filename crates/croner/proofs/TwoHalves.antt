@@ -3,7 +3,7 @@ use Rattle.std.proofs.Common.{◌≡◌, ℤ, pos, ◌+ℤ◌, ◌<ℤ◌, ◌�
 use Rattle.std.proofs.lemmas.Int.{ints}
 use Rattle.croner_base.specs.declared.time.Direction.{Direction}
 use Rattle.croner_base.specs.declared.time.Direction.TheVariants.{Forward, Backward}
-use Rattle.croner.proofs.ZoneOrder.{cases_lt_z, order, before_break, after_break}
+use Rattle.croner.proofs.ZoneOrder.{cases_lt_z, before_break, after_break, below_before, above_after}
 use Rattle.croner.proofs.FirstInstants.{earlier_twin, later_twin, first_if_least}
 use Rattle.croner.proofs.RunsOfSeconds.{true_or_false, run_has_second, second_gives_run, own_of_first}
 use Rattle.croner.specs.Halves.{EdgeAfter, EdgeBefore}
@@ -126,20 +126,7 @@ module _ (job : Job) (calm : Calm job.zone.reads) (inclusive : Bool) where
                         let line = before_break job.zone.reads calm p s i edge.breaks le (omega (arith, ints)) (omega (arith, ints)) in
                         inl (le, (w, past_start inclusive (job.zone.reads s) w (omega (arith, ints)), own, inl (each2, e), inl past))
                     | inl lt ↦
-                        let line : job.zone.reads (p +ℤ pos 1) ≤ℤ job.zone.reads i =
-                        elim (cases_lt_z (p +ℤ pos 1) i) [
-                          | inl above ↦
-                              elim (order job.zone.reads calm (p +ℤ pos 1) i above) [
-                                | inl ordered ↦ omega (arith, ints)
-                                | inr (q, turn) ↦
-                                    let a = turn.low in
-                                    let b = turn.high in
-                                    let c = turn.near in
-                                    let apart = calm.apart p q edge.breaks turn.breaks (omega (arith, ints)) in
-                                    absurd (omega (arith, ints))
-                              ]
-                          | inr le ↦ let same : job.zone.reads (p +ℤ pos 1) ≡ job.zone.reads i = ap job.zone.reads (omega (arith, ints)) in omega (arith, ints)
-                        ] in
+                        let line = above_after job.zone.reads calm p i edge.breaks lt in
                         let there : Ahead Forward true (p +ℤ pos 1) i = elim (cases_lt_z (p +ℤ pos 1) i) [ inl above ↦ inl above | inr le ↦ inr (refl, omega (arith, ints)) ] in
                         inr (lt, (w, omega (arith, ints), own, inl (each2, e), there))
                   ]
@@ -159,22 +146,9 @@ module _ (job : Job) (calm : Calm job.zone.reads) (inclusive : Bool) where
                   let line = after_break job.zone.reads calm p i s edge.breaks lt (omega (arith, ints)) near in
                   inl (lt, (w, under_start inclusive (job.zone.reads s) w (omega (arith, ints)), own, of, inl past))
               | inr le ↦
-                  elim (cases_lt_z i p) [
-                    | inl under ↦
-                        elim (order job.zone.reads calm i p under) [
-                          | inl ordered ↦ inr (le, (w, omega (arith, ints), own, of, inl under))
-                          | inr (q, turn) ↦
-                              let a = turn.low in
-                              let b = turn.high in
-                              let c = turn.near in
-                              let apart = calm.apart q p turn.breaks edge.breaks (omega (arith, ints)) in
-                              absurd (omega (arith, ints))
-                        ]
-                    | inr at ↦
-                        let e : i ≡ p = omega (arith, ints) in
-                        let same : job.zone.reads i ≡ job.zone.reads p = ap job.zone.reads e in
-                        inr (le, (w, omega (arith, ints), own, of, inr (refl, e)))
-                  ]
+                  let line = below_before job.zone.reads calm p i edge.breaks le in
+                  let there : Ahead Backward true p i = elim (cases_lt_z i p) [ inl under ↦ inl under | inr at ↦ inr (refl, omega (arith, ints)) ] in
+                  inr (le, (w, omega (arith, ints), own, of, there))
             ]
         | inr (is, e, run) ↦
             let (w, own, of, low) = run_has_second job calm s run in

@@ -1,5 +1,5 @@
 -- How many passes a walk can take: those in gaps, and those of one repeated range.
-use Rattle.std.proofs.Common.{◌≡◌, ℕ, zero, suc, ◌+◌, ◌≤◌, ◌<◌, ℤ, pos, negsuc, neg_ℤ, ◌+ℤ◌, ◌-ℤ◌, ◌<ℤ◌, ◌≤ℤ◌, ◌⊎◌, arith, inl, inr, ap, subst, List, [], ◌∷◌, int_lt, if◌then◌else◌, unsigned_abs, true}
+use Rattle.std.proofs.Common.{◌≡◌, ℕ, zero, suc, ◌+◌, ◌≤◌, ◌<◌, ℤ, pos, negsuc, neg_ℤ, ◌+ℤ◌, ◌-ℤ◌, ◌<ℤ◌, ◌≤ℤ◌, ◌⊎◌, arith, inl, inr, ap, subst, sym, List, [], ◌∷◌, int_lt, if◌then◌else◌, unsigned_abs, true}
 use Rattle.std.proofs.lemmas.Int.{ints}
 use Rattle.std.specs.List.{All}
 use Rattle.std.proofs.lemmas.List.Elements.{All-nil, All-cons, All-weaker}
@@ -9,12 +9,12 @@ use Rattle.croner_base.specs.declared.time.Direction.TheVariants.{Forward, Backw
 use Rattle.croner_base.specs.declared.time.value.Resolution.TheVariants.{Gap}
 use Rattle.croner_base.specs.Zone.{Zone}
 use Rattle.croner_base.specs.Calm.{IsCalm, IsSearched, IsMet, Rises, gap_seconds, jump}
-use Rattle.croner_base.specs.Limits.{fold_limit}
+use Rattle.croner_base.specs.Limits.{fold_limit, most_gap_seconds}
 use Rattle.croner.specs.Runs.{Precedes, Reaches}
 use Rattle.croner.specs.Halves.{Break}
 use Rattle.croner.specs.Walk.{one_on, Onward, Paces}
 use Rattle.croner.proofs.CalmZone.{Exactly, change_of_break}
-use Rattle.croner.proofs.ZoneOrder.{Calm, cases_lt_z, nonnegative, order}
+use Rattle.croner.proofs.ZoneOrder.{Calm, cases_lt_z, nonnegative, put_back, below_before, above_after}
 use Rattle.croner.proofs.GapSides.{unread_is_in_gap}
 
 -- how many seconds the clock skips after p: none where it is put back
@@ -43,16 +43,30 @@ abbrev pub LastFirst : Direction → (ℤ → ℤ) → List ℤ → Type 0
 LastFirst direction reads [] = Unit {0}
 LastFirst direction reads (p ∷ ps) = Break reads p × Heads direction p ps × LastFirst direction reads ps
 
+-- how far it is from one wall second to another in the direction
+abbrev pub way : Direction → ℤ → ℤ → ℤ
+way Forward from to = to -ℤ from
+way Backward from to = from -ℤ to
+
+-- the wall second is past the near side of the gap after p
+abbrev pub Entered : Direction → (ℤ → ℤ) → ℤ → ℤ → Type 0
+Entered Forward reads p wall = reads p <ℤ wall
+Entered Backward reads p wall = wall <ℤ reads (p +ℤ pos 1)
+
+-- what the clock shows at the far side of the gap after p
+abbrev pub far_side : Direction → (ℤ → ℤ) → ℤ → ℤ
+far_side Forward reads p = reads (p +ℤ pos 1)
+far_side Backward reads p = reads p
+
 -- after k passes the walk stands at `wall`, past the near sides of the gaps after ps
 abbrev pub Met : Direction → (ℤ → ℤ) → List ℤ → ℤ → ℕ → ℕ → Type 0
 Met direction reads [] wall k slack = k ≤ slack
-Met Forward reads (p ∷ ps) wall k slack = (reads p <ℤ wall) × (k + up (reads (p +ℤ pos 1) -ℤ wall) ≤ all_skipped reads (p ∷ ps) + slack)
-Met Backward reads (p ∷ ps) wall k slack = (wall <ℤ reads (p +ℤ pos 1)) × (k + up (wall -ℤ reads p) ≤ all_skipped reads (p ∷ ps) + slack)
+Met direction reads (p ∷ ps) wall k slack =
+    Entered direction reads p wall × (k + up (way direction wall (far_side direction reads p)) ≤ all_skipped reads (p ∷ ps) + slack)
 
 -- how far the walk has come from what s shows
 abbrev pub come : Direction → ℤ → ℤ → ℕ
-come Forward shown wall = up (wall -ℤ shown)
-come Backward shown wall = up (shown -ℤ wall)
+come direction shown wall = up (way direction shown wall)
 
 -- the count of a walk from s that has made k passes and stands at `wall`
 pub record Paced (direction : Direction) (reads : ℤ → ℤ) (s wall : ℤ) (k : ℕ) : Type 0 where
@@ -64,154 +78,111 @@ pub record Paced (direction : Direction) (reads : ℤ → ℤ) (s wall : ℤ) (k
   pub below : slack ≤ come direction (reads s) wall
   pub met : Met direction reads gaps wall k slack
 
-new_gap : (reads : ℤ → ℤ) (q w next : ℤ) (k total slack : ℕ) → reads q <ℤ w → w <ℤ next → next ≤ℤ reads (q +ℤ pos 1) → k ≤ total + slack → k + 1 + up (reads (q +ℤ pos 1) -ℤ next) ≤ skipped reads q + total + slack
-new_gap reads q w next k total slack below on upto room =
-    let a = nonnegative (reads (q +ℤ pos 1) -ℤ next) (omega (arith, ints)) in
-    let b = nonnegative (reads (q +ℤ pos 1) -ℤ reads q -ℤ pos 1) (omega (arith, ints)) in
-    omega (arith, ints)
-
-same_gap : (reads : ℤ → ℤ) (p wall w next : ℤ) (k room : ℕ) → wall ≤ℤ w → w <ℤ next → next ≤ℤ reads (p +ℤ pos 1) → k + up (reads (p +ℤ pos 1) -ℤ wall) ≤ room → k + 1 + up (reads (p +ℤ pos 1) -ℤ next) ≤ room
-same_gap reads p wall w next k room on on2 upto h =
-    let a = nonnegative (reads (p +ℤ pos 1) -ℤ next) (omega (arith, ints)) in
-    let b = nonnegative (reads (p +ℤ pos 1) -ℤ wall) (omega (arith, ints)) in
-    omega (arith, ints)
-
 up_less : (a b : ℤ) → a ≤ℤ b → up a ≤ up b
 up_less (pos a) (pos b) h = omega (arith, ints)
 up_less (pos a) (negsuc b) h = omega (arith, ints)
-up_less (negsuc a) (pos b) h = omega (arith, ints)
-up_less (negsuc a) (negsuc b) h = omega (arith, ints)
+up_less (negsuc a) b h = omega arith
 
-less_left : (reads : ℤ → ℤ) (p wall next : ℤ) (k total slack : ℕ) → wall ≤ℤ next → k + up (reads (p +ℤ pos 1) -ℤ wall) ≤ total + slack → k + 1 + up (reads (p +ℤ pos 1) -ℤ next) ≤ total + (slack + 1)
-less_left reads p wall next k total slack on room =
-    let a = up_less (reads (p +ℤ pos 1) -ℤ next) (reads (p +ℤ pos 1) -ℤ wall) (omega (arith, ints)) in
-    omega arith
+up_more : (a b : ℤ) → pos 0 ≤ℤ a → (a +ℤ pos 1) ≤ℤ b → up a + 1 ≤ up b
+up_more a b h more =
+    let x = nonnegative a h in
+    let y = nonnegative b (omega (arith, ints)) in
+    omega (arith, ints)
+
+way_on : (direction : Direction) (from to further : ℤ) → Reaches direction to further → way direction from to ≤ℤ way direction from further
+way_on Forward from to further on = omega (arith, ints)
+way_on Backward from to further on = omega (arith, ints)
+
+way_left : (direction : Direction) (from further to : ℤ) → Reaches direction from further → way direction further to ≤ℤ way direction from to
+way_left Forward from further to on = omega (arith, ints)
+way_left Backward from further to on = omega (arith, ints)
+
+way_ahead : (direction : Direction) (from to : ℤ) → Reaches direction from to → pos 0 ≤ℤ way direction from to
+way_ahead Forward from to on = omega (arith, ints)
+way_ahead Backward from to on = omega (arith, ints)
+
+way_one : (direction : Direction) (from to next : ℤ) → next ≡ one_on direction to → way direction from next ≡ way direction from to +ℤ pos 1
+way_one Forward from to next e = omega (arith, ints)
+way_one Backward from to next e = omega (arith, ints)
+
+one_past : (direction : Direction) (wall next : ℤ) → next ≡ one_on direction wall → Precedes direction wall next
+one_past Forward wall next e = omega (arith, ints)
+one_past Backward wall next e = omega (arith, ints)
+
+reaches_past : (direction : Direction) (wall w next : ℤ) → Reaches direction wall w → Precedes direction w next → Reaches direction wall next
+reaches_past Forward wall w next a b = omega (arith, ints)
+reaches_past Backward wall w next a b = omega (arith, ints)
+
+entered_on : (direction : Direction) (reads : ℤ → ℤ) (p wall next : ℤ) → Entered direction reads p wall → Reaches direction wall next → Entered direction reads p next
+entered_on Forward reads p wall next entered on = omega (arith, ints)
+entered_on Backward reads p wall next entered on = omega (arith, ints)
 
 -- ---- how many passes gaps can take
 
-module _ (reads : ℤ → ℤ) (calm : Calm reads) where
-  -- gaps that hold ordered seconds are in order
-  gaps_ordered : (p q wall w : ℤ) → reads p <ℤ wall → wall ≤ℤ w → reads q <ℤ w → w <ℤ reads (q +ℤ pos 1) → (p <ℤ q) ⊎ (p ≡ q)
-  gaps_ordered p q wall w a b c d =
-      elim (cases_lt_z p q) [
-        | inl lt ↦ inl lt
-        | inr le ↦
-            elim (cases_lt_z q p) [
-              | inr ge ↦ inr (omega (arith, ints))
-              | inl under ↦
-                  elim (cases_lt_z (q +ℤ pos 1) p) [
-                    | inr at ↦ let same : reads (q +ℤ pos 1) ≡ reads p = ap reads (omega (arith, ints)) in absurd (omega (arith, ints))
-                    | inl between ↦
-                        elim (order reads calm (q +ℤ pos 1) p between) [
-                          | inl ordered ↦ absurd (omega (arith, ints))
-                          | inr (r, turn) ↦
-                              let low = turn.low in
-                              let high = turn.high in
-                              let near = turn.near in
-                              let breaks : Break reads q = λ (e : reads (q +ℤ pos 1) ≡ reads q +ℤ pos 1). omega (arith, ints) in
-                              let far = calm.apart q r breaks turn.breaks (omega (arith, ints)) in
-                              absurd (omega (arith, ints))
-                        ]
-                  ]
-            ]
-      ]
+-- gaps that hold ordered seconds are in order
+gaps_ordered : (direction : Direction) (reads : ℤ → ℤ) → Calm reads → (p q wall w : ℤ) → Break reads q → Entered direction reads p wall → Reaches direction wall w → reads q <ℤ w → w <ℤ reads (q +ℤ pos 1) → Precedes direction p q ⊎ (p ≡ q)
+gaps_ordered Forward reads calm p q wall w breaks entered on below above =
+    elim (cases_lt_z q p) [
+      | inl under ↦ let high = above_after reads calm q p breaks under in absurd (omega (arith, ints))
+      | inr le ↦ elim (cases_lt_z p q) [ inl lt ↦ inl lt | inr ge ↦ inr (omega (arith, ints)) ]
+    ]
+gaps_ordered Backward reads calm p q wall w breaks entered on below above =
+    elim (cases_lt_z p q) [
+      | inl under ↦ let low = below_before reads calm q (p +ℤ pos 1) breaks (omega (arith, ints)) in absurd (omega (arith, ints))
+      | inr le ↦ elim (cases_lt_z q p) [ inl lt ↦ inl lt | inr ge ↦ inr (omega (arith, ints)) ]
+    ]
 
-  -- a pass in a gap, which moves on by a second or more and not past the gap's end
-  pub gap_pass : (ps : List ℤ) (wall w next q : ℤ) (k slack : ℕ) → LastFirst Forward reads ps → Touching reads ps → Met Forward reads ps wall k slack → wall ≤ℤ w → reads q <ℤ w → w <ℤ reads (q +ℤ pos 1) → w <ℤ next → next ≤ℤ reads (q +ℤ pos 1) → Touches reads q → (qs : List ℤ) × LastFirst Forward reads qs × Touching reads qs × Met Forward reads qs next (k + 1) slack
-  gap_pass [] wall w next q k slack latest touching met on below above on2 upto touch =
-      let breaks : Break reads q = λ (e : reads (q +ℤ pos 1) ≡ reads q +ℤ pos 1). omega (arith, ints) in
-      (q ∷ [], (breaks, tt, tt), (touch, tt), (omega (arith, ints), new_gap reads q w next k 0 slack below on2 upto (omega arith)))
-  gap_pass (p ∷ ps) wall w next q k slack latest touching met on below above on2 upto touch =
-      let breaks : Break reads q = λ (e : reads (q +ℤ pos 1) ≡ reads q +ℤ pos 1). omega (arith, ints) in
-      let room = met.1 in
-      elim (gaps_ordered p q wall w met.0 on below above) [
-        | inl later ↦
-            (q ∷ (p ∷ ps), (breaks, later, latest), (touch, touching), (omega (arith, ints), new_gap reads q w next k (all_skipped reads (p ∷ ps)) slack below on2 upto (omega arith)))
-        | inr same ↦
-            let end : reads (p +ℤ pos 1) ≡ reads (q +ℤ pos 1) = ap reads (omega (arith, ints)) in
-            let first = met.0 in
-            (p ∷ ps, latest, touching, (omega (arith, ints), same_gap reads p wall w next k (all_skipped reads (p ∷ ps) + slack) on on2 (omega (arith, ints)) room))
-      ]
+-- from w in the gap after q the walk goes on to `next` in it
+record InGap (direction : Direction) (reads : ℤ → ℤ) (q w next : ℤ) : Type 0 where
+  entered : Entered direction reads q next
+  some : pos 0 ≤ℤ way direction next (far_side direction reads q)
+  fewer : (way direction next (far_side direction reads q) +ℤ pos 1) ≤ℤ way direction w (far_side direction reads q)
+  skips : (way direction next (far_side direction reads q) +ℤ pos 1) ≤ℤ (reads (q +ℤ pos 1) -ℤ reads q -ℤ pos 1)
 
-  -- a pass outside gaps, which uses up one of the slack
-  pub other_pass : (ps : List ℤ) (wall next : ℤ) (k slack : ℕ) → Met Forward reads ps wall k slack → wall ≤ℤ next → Met Forward reads ps next (k + 1) (slack + 1)
-  other_pass [] wall next k slack met on = omega arith
-  other_pass (p ∷ ps) wall next k slack met on =
-      let first = met.0 in
-      let room = met.1 in
-      (omega (arith, ints), less_left reads p wall next k (all_skipped reads (p ∷ ps)) slack on room)
+in_gap : (direction : Direction) (reads : ℤ → ℤ) (q w next : ℤ) → reads q <ℤ w → w <ℤ reads (q +ℤ pos 1) → Onward direction reads w next → InGap direction reads q w next
+in_gap Forward reads q w next below above onward =
+    let on = onward.on in
+    let (low, high) = onward.within q below above in
+    record { entered = omega (arith, ints); some = omega (arith, ints); fewer = omega (arith, ints); skips = omega (arith, ints) }
+in_gap Backward reads q w next below above onward =
+    let on = onward.on in
+    let (low, high) = onward.within q below above in
+    record { entered = omega (arith, ints); some = omega (arith, ints); fewer = omega (arith, ints); skips = omega (arith, ints) }
 
-new_back : (reads : ℤ → ℤ) (q w next : ℤ) (k total slack : ℕ) → w <ℤ reads (q +ℤ pos 1) → next <ℤ w → reads q ≤ℤ next → k ≤ total + slack → k + 1 + up (next -ℤ reads q) ≤ skipped reads q + total + slack
-new_back reads q w next k total slack above on upto room =
-    let a = nonnegative (next -ℤ reads q) (omega (arith, ints)) in
-    let b = nonnegative (reads (q +ℤ pos 1) -ℤ reads q -ℤ pos 1) (omega (arith, ints)) in
-    omega (arith, ints)
-
-same_back : (reads : ℤ → ℤ) (p wall w next : ℤ) (k room : ℕ) → w ≤ℤ wall → next <ℤ w → reads p ≤ℤ next → k + up (wall -ℤ reads p) ≤ room → k + 1 + up (next -ℤ reads p) ≤ room
-same_back reads p wall w next k room on on2 upto h =
-    let a = nonnegative (next -ℤ reads p) (omega (arith, ints)) in
-    let b = nonnegative (wall -ℤ reads p) (omega (arith, ints)) in
-    omega (arith, ints)
-
-module _ (reads : ℤ → ℤ) (calm : Calm reads) where
-  gaps_ordered_back : (p q wall w : ℤ) → wall <ℤ reads (p +ℤ pos 1) → w ≤ℤ wall → reads q <ℤ w → w <ℤ reads (q +ℤ pos 1) → (q <ℤ p) ⊎ (p ≡ q)
-  gaps_ordered_back p q wall w a b c d =
-      elim (cases_lt_z q p) [
-        | inl lt ↦ inl lt
-        | inr le ↦
-            elim (cases_lt_z p q) [
-              | inr ge ↦ inr (omega (arith, ints))
-              | inl under ↦
-                  elim (cases_lt_z (p +ℤ pos 1) q) [
-                    | inr at ↦ let same : reads (p +ℤ pos 1) ≡ reads q = ap reads (omega (arith, ints)) in absurd (omega (arith, ints))
-                    | inl between ↦
-                        elim (order reads calm (p +ℤ pos 1) q between) [
-                          | inl ordered ↦ absurd (omega (arith, ints))
-                          | inr (r, turn) ↦
-                              let low = turn.low in
-                              let high = turn.high in
-                              let near = turn.near in
-                              let breaks : Break reads q = λ (e : reads (q +ℤ pos 1) ≡ reads q +ℤ pos 1). omega (arith, ints) in
-                              let far = calm.apart r q turn.breaks breaks (omega (arith, ints)) in
-                              absurd (omega (arith, ints))
-                        ]
-                  ]
-            ]
-      ]
-
-  pub gap_pass_back : (ps : List ℤ) (wall w next q : ℤ) (k slack : ℕ) → LastFirst Backward reads ps → Touching reads ps → Met Backward reads ps wall k slack → w ≤ℤ wall → reads q <ℤ w → w <ℤ reads (q +ℤ pos 1) → next <ℤ w → reads q ≤ℤ next → Touches reads q → (qs : List ℤ) × LastFirst Backward reads qs × Touching reads qs × Met Backward reads qs next (k + 1) slack
-  gap_pass_back [] wall w next q k slack earliest touching met on below above on2 upto touch =
-      let breaks : Break reads q = λ (e : reads (q +ℤ pos 1) ≡ reads q +ℤ pos 1). omega (arith, ints) in
-      (q ∷ [], (breaks, tt, tt), (touch, tt), (omega (arith, ints), new_back reads q w next k 0 slack above on2 upto (omega arith)))
-  gap_pass_back (p ∷ ps) wall w next q k slack earliest touching met on below above on2 upto touch =
-      let breaks : Break reads q = λ (e : reads (q +ℤ pos 1) ≡ reads q +ℤ pos 1). omega (arith, ints) in
-      let room = met.1 in
-      elim (gaps_ordered_back p q wall w met.0 on below above) [
-        | inl sooner ↦
-            (q ∷ (p ∷ ps), (breaks, sooner, earliest), (touch, touching), (omega (arith, ints), new_back reads q w next k (all_skipped reads (p ∷ ps)) slack above on2 upto (omega arith)))
-        | inr same ↦
-            let front : reads p ≡ reads q = ap reads same in
-            let first = met.0 in
-            (p ∷ ps, earliest, touching, (omega (arith, ints), same_back reads p wall w next k (all_skipped reads (p ∷ ps) + slack) on on2 (omega (arith, ints)) room))
-      ]
-
-less_back : (reads : ℤ → ℤ) (p wall next : ℤ) (k total slack : ℕ) → next ≤ℤ wall → k + up (wall -ℤ reads p) ≤ total + slack → k + 1 + up (next -ℤ reads p) ≤ total + (slack + 1)
-less_back reads p wall next k total slack on room =
-    let a = up_less (next -ℤ reads p) (wall -ℤ reads p) (omega (arith, ints)) in
-    omega arith
-
--- a pass outside gaps, backward
-other_back : (reads : ℤ → ℤ) (ps : List ℤ) (wall next : ℤ) (k slack : ℕ) → Met Backward reads ps wall k slack → next ≤ℤ wall → Met Backward reads ps next (k + 1) (slack + 1)
-other_back reads [] wall next k slack met on = omega arith
-other_back reads (p ∷ ps) wall next k slack met on =
-    let first = met.0 in
+-- a pass in a gap, which moves on by a second or more and not past the gap's far side
+gap_pass : (direction : Direction) (reads : ℤ → ℤ) → Calm reads → (ps : List ℤ) (wall w next q : ℤ) (k slack : ℕ) → LastFirst direction reads ps → Touching reads ps → Met direction reads ps wall k slack → Reaches direction wall w → reads q <ℤ w → w <ℤ reads (q +ℤ pos 1) → Onward direction reads w next → Touches reads q → (qs : List ℤ) × LastFirst direction reads qs × Touching reads qs × Met direction reads qs next (k + 1) slack
+gap_pass direction reads calm [] wall w next q k slack sorted touching met on below above onward touch =
+    let breaks : Break reads q = λ (e : reads (q +ℤ pos 1) ≡ reads q +ℤ pos 1). omega (arith, ints) in
+    let here = in_gap direction reads q w next below above onward in
+    let less = up_more (way direction next (far_side direction reads q)) (reads (q +ℤ pos 1) -ℤ reads q -ℤ pos 1) here.some here.skips in
+    (q ∷ [], (breaks, tt, tt), (touch, tt), (here.entered, omega arith))
+gap_pass direction reads calm (p ∷ ps) wall w next q k slack sorted touching met on below above onward touch =
+    let breaks : Break reads q = λ (e : reads (q +ℤ pos 1) ≡ reads q +ℤ pos 1). omega (arith, ints) in
+    let here = in_gap direction reads q w next below above onward in
     let room = met.1 in
-    (omega (arith, ints), less_back reads p wall next k (all_skipped reads (p ∷ ps)) slack on room)
+    elim (gaps_ordered direction reads calm p q wall w breaks met.0 on below above) [
+      | inl later ↦
+          let less = up_more (way direction next (far_side direction reads q)) (reads (q +ℤ pos 1) -ℤ reads q -ℤ pos 1) here.some here.skips in
+          (q ∷ (p ∷ ps), (breaks, later, sorted), (touch, touching), (here.entered, omega arith))
+      | inr same ↦
+          let there : InGap direction reads p w next = subst (λ (r : ℤ). InGap direction reads r w next) (sym same) here in
+          let left = way_left direction wall w (far_side direction reads p) on in
+          let fewer = there.fewer in
+          let less = up_more (way direction next (far_side direction reads p)) (way direction wall (far_side direction reads p)) there.some (omega (arith, ints)) in
+          (p ∷ ps, sorted, touching, (there.entered, omega arith))
+    ]
+
+-- a pass outside gaps, which uses up one of the slack
+other_pass : (direction : Direction) (reads : ℤ → ℤ) (ps : List ℤ) (wall next : ℤ) (k slack : ℕ) → Met direction reads ps wall k slack → Reaches direction wall next → Met direction reads ps next (k + 1) (slack + 1)
+other_pass direction reads [] wall next k slack met on = omega arith
+other_pass direction reads (p ∷ ps) wall next k slack met on =
+    let less = up_less (way direction next (far_side direction reads p)) (way direction wall (far_side direction reads p)) (way_left direction wall next (far_side direction reads p) on) in
+    let room = met.1 in
+    (entered_on direction reads p wall next met.0 on, omega arith)
 
 bounded : (direction : Direction) (reads : ℤ → ℤ) (ps : List ℤ) (wall : ℤ) (k slack : ℕ) → Met direction reads ps wall k slack → k ≤ all_skipped reads ps + slack
 bounded direction reads [] wall k slack met = omega arith
-bounded Forward reads (p ∷ ps) wall k slack met = let room = met.1 in omega arith
-bounded Backward reads (p ∷ ps) wall k slack met = let room = met.1 in omega arith
+bounded direction reads (p ∷ ps) wall k slack met = let room = met.1 in omega arith
 
 touches : (reads : ℤ → ℤ) → Calm reads → (q w : ℤ) → reads q <ℤ w → w <ℤ reads (q +ℤ pos 1) → IsSearched w → Touches reads q
 touches reads calm q w below above years =
@@ -229,63 +200,40 @@ pub paced_start : (direction : Direction) (reads : ℤ → ℤ) (s wall : ℤ) �
 paced_start direction reads s wall =
     record { gaps = []; sorted = tt; touching = tt; slack = 0; margin = omega arith; below = omega arith; met = omega arith }
 
-come_more : (direction : Direction) (shown wall next : ℤ) → Reaches direction wall next → come direction shown wall ≤ come direction shown next
-come_more Forward shown wall next on = up_less (wall -ℤ shown) (next -ℤ shown) (omega (arith, ints))
-come_more Backward shown wall next on = up_less (shown -ℤ wall) (shown -ℤ next) (omega (arith, ints))
-
-gap_met : (direction : Direction) (reads : ℤ → ℤ) → Calm reads → (ps : List ℤ) (wall w next q : ℤ) (k slack : ℕ) → LastFirst direction reads ps → Touching reads ps → Met direction reads ps wall k slack → Reaches direction wall w → reads q <ℤ w → w <ℤ reads (q +ℤ pos 1) → Onward direction reads w next → Touches reads q → (qs : List ℤ) × LastFirst direction reads qs × Touching reads qs × Met direction reads qs next (k + 1) slack
-gap_met Forward reads calm ps wall w next q k slack sorted touching met on below above onward touch =
-    gap_pass reads calm ps wall w next q k slack sorted touching met on below above onward.on (onward.within q below above).1 touch
-gap_met Backward reads calm ps wall w next q k slack sorted touching met on below above onward touch =
-    gap_pass_back reads calm ps wall w next q k slack sorted touching met on below above onward.on (onward.within q below above).0 touch
-
-reaches_past : (direction : Direction) (wall w next : ℤ) → Reaches direction wall w → Precedes direction w next → Reaches direction wall next
-reaches_past Forward wall w next a b = omega (arith, ints)
-reaches_past Backward wall w next a b = omega (arith, ints)
-
 paced_gap : (direction : Direction) (reads : ℤ → ℤ) → Calm reads → (s wall w next : ℤ) (k : ℕ) → Paced direction reads s wall k → Reaches direction wall w → Exactly reads w Gap → IsSearched w → Onward direction reads w next → Paced direction reads s next (k + 1)
 paced_gap direction reads calm s wall w next k paced on unread years onward =
     let (q, below, above) = unread_is_in_gap reads calm w unread in
-    let (qs, sorted, touching, met) = gap_met direction reads calm paced.gaps wall w next q k paced.slack paced.sorted paced.touching paced.met on below above onward (touches reads calm q w below above years) in
-    let more = come_more direction (reads s) wall next (reaches_past direction wall w next on onward.on) in
+    let (qs, sorted, touching, met) = gap_pass direction reads calm paced.gaps wall w next q k paced.slack paced.sorted paced.touching paced.met on below above onward (touches reads calm q w below above years) in
+    let more = up_less (way direction (reads s) wall) (way direction (reads s) next) (way_on direction (reads s) wall next (reaches_past direction wall w next on onward.on)) in
     let under = paced.below in
     record { gaps = qs; sorted = sorted; touching = touching; slack = paced.slack; margin = paced.margin; below = omega arith; met = met }
 
--- a second whose nearer instant is behind lies within the longest step back of what the start shows
-near_forward : (reads : ℤ → ℤ) → Calm reads → (e s w : ℤ) → e <ℤ s → reads e ≡ w → reads s ≤ℤ w → w <ℤ (reads s +ℤ pos fold_limit)
-near_forward reads calm e s w lt same le =
-    elim (order reads calm e s lt) [
-      | inl ordered ↦ absurd (omega (arith, ints))
-      | inr (p, turn) ↦
-          let small = calm.back p in
-          let a = turn.earlier in
-          let b = turn.later in
-          let c = turn.low in
-          let d = turn.high in
-          omega (arith, ints)
-    ]
+-- the clock is put back by the longest step back at most
+turned_little : (reads : ℤ → ℤ) → Calm reads → (i j : ℤ) → i <ℤ j → reads j ≤ℤ reads i → reads i <ℤ (reads j +ℤ pos fold_limit)
+turned_little reads calm i j h le =
+    let (p, turn) = put_back reads calm i j h le in
+    let small = calm.back p in
+    let a = turn.earlier in
+    let b = turn.later in
+    let c = turn.low in
+    let d = turn.high in
+    omega (arith, ints)
 
-near_backward : (reads : ℤ → ℤ) → Calm reads → (e s w : ℤ) → s <ℤ e → reads e ≡ w → w ≤ℤ reads s → reads s <ℤ (w +ℤ pos fold_limit)
-near_backward reads calm e s w lt same le =
-    elim (order reads calm s e lt) [
-      | inl ordered ↦ absurd (omega (arith, ints))
-      | inr (p, turn) ↦
-          let small = calm.back p in
-          let a = turn.earlier in
-          let b = turn.later in
-          let c = turn.low in
-          let d = turn.high in
-          omega (arith, ints)
-    ]
+-- so a second whose nearer instant is behind lies near what the start shows
+behind_near : (direction : Direction) (reads : ℤ → ℤ) → Calm reads → (e s w : ℤ) → Precedes direction e s → reads e ≡ w → Reaches direction (reads s) w → way direction (reads s) w <ℤ pos fold_limit
+behind_near Forward reads calm e s w behind at from = let little = turned_little reads calm e s behind (omega (arith, ints)) in omega (arith, ints)
+behind_near Backward reads calm e s w behind at from = let little = turned_little reads calm s e behind (omega (arith, ints)) in omega (arith, ints)
 
 paced_behind : (direction : Direction) (reads : ℤ → ℤ) → Calm reads → (s wall w next e : ℤ) (k : ℕ) → Paced direction reads s wall k → Reaches direction wall w → Reaches direction (reads s) w → Precedes direction e s → reads e ≡ w → next ≡ one_on direction w → Paced direction reads s next (k + 1)
-paced_behind Forward reads calm s wall w next e k paced on from behind at moved =
-    let near = near_forward reads calm e s w behind at from in
+paced_behind direction reads calm s wall w next e k paced on from behind at moved =
+    let near = behind_near direction reads calm e s w behind at from in
     let under = paced.below in
     let margin = paced.margin in
-    let a = up_less (wall -ℤ reads s) (w -ℤ reads s) (omega (arith, ints)) in
-    let b = nonnegative (w -ℤ reads s) (omega (arith, ints)) in
-    let c = nonnegative (next -ℤ reads s) (omega (arith, ints)) in
+    let ahead = way_ahead direction (reads s) w from in
+    let one = way_one direction (reads s) w next moved in
+    let a = up_less (way direction (reads s) wall) (way direction (reads s) w) (way_on direction (reads s) wall w on) in
+    let b = nonnegative (way direction (reads s) w) ahead in
+    let c = nonnegative (way direction (reads s) next) (omega (arith, ints)) in
     record {
       gaps = paced.gaps;
       sorted = paced.sorted;
@@ -293,23 +241,7 @@ paced_behind Forward reads calm s wall w next e k paced on from behind at moved 
       slack = paced.slack + 1;
       margin = omega (arith, ints);
       below = omega (arith, ints);
-      met = other_pass reads calm paced.gaps wall next k paced.slack paced.met (omega (arith, ints));
-    }
-paced_behind Backward reads calm s wall w next e k paced on from behind at moved =
-    let near = near_backward reads calm e s w behind at from in
-    let under = paced.below in
-    let margin = paced.margin in
-    let a = up_less (reads s -ℤ wall) (reads s -ℤ w) (omega (arith, ints)) in
-    let b = nonnegative (reads s -ℤ w) (omega (arith, ints)) in
-    let c = nonnegative (reads s -ℤ next) (omega (arith, ints)) in
-    record {
-      gaps = paced.gaps;
-      sorted = paced.sorted;
-      touching = paced.touching;
-      slack = paced.slack + 1;
-      margin = omega (arith, ints);
-      below = omega (arith, ints);
-      met = other_back reads paced.gaps wall next k paced.slack paced.met (omega (arith, ints));
+      met = other_pass direction reads paced.gaps wall next k paced.slack paced.met (reaches_past direction wall w next on (one_past direction w next moved));
     }
 
 pub paced_on : (direction : Direction) (reads : ℤ → ℤ) → Calm reads → (s wall w next : ℤ) (k : ℕ) → Paced direction reads s wall k → Reaches direction wall w → Reaches direction (reads s) w → IsSearched w → Paces direction reads s w next → Paced direction reads s next (k + 1)
@@ -382,7 +314,7 @@ seconds_of z (p ∷ ps) =
     let rest = seconds_of z ps in
     omega arith
 
-skip_few : (z : Zone) → IsCalm z → (direction : Direction) (ps : List ℤ) → LastFirst direction z.reads ps → Touching z.reads ps → all_skipped z.reads ps ≤ 20_000_000
+skip_few : (z : Zone) → IsCalm z → (direction : Direction) (ps : List ℤ) → LastFirst direction z.reads ps → Touching z.reads ps → all_skipped z.reads ps ≤ most_gap_seconds
 skip_few z calm Backward ps sorted touching =
     let few = (calm.few (ends ps) (rises_of z.reads ps sorted) (met_of z ps sorted touching)).1 in
     let less = seconds_of z ps in

@@ -137,30 +137,75 @@ module _ (reads : ℤ → ℤ) (calm : Calm reads) where
   far i j h =
       let d = distance i j (omega (arith, ints)) in far_within (up (j -ℤ i)) i j h (omega (arith, ints))
 
-  pub order : (i j : ℤ) → i <ℤ j → (reads i <ℤ reads j) ⊎ ((p : ℤ) × Turned reads i j p)
-  order i j h =
-      elim (cases_lt_z (reads i) (reads j)) [
-        | inl lt ↦ inl lt
-        | inr le ↦
-            elim (cases_lt_z (i +ℤ pos fold_limit) j) [
-              | inl away ↦ let r : reads i <ℤ reads j = far i j away in absurd (omega (arith, ints))
-              | inr near ↦
-                  elim (window i j (omega (arith, ints)) (omega (arith, ints))) [
-                    | inl e ↦ absurd (omega (arith, ints))
-                    | inr (p, low, high, b, first, second) ↦
-                        inr (
-                          p,
-                          record {
-                            low = low;
-                            high = high;
-                            breaks = b;
-                            earlier = omega (arith, ints);
-                            later = second;
-                            near = near;
-                            not_above = le;
-                          },
-                        )
-                  ]
+  -- two readings that are not in order: the clock was put back between them
+  pub put_back : (i j : ℤ) → i <ℤ j → reads j ≤ℤ reads i → (p : ℤ) × Turned reads i j p
+  put_back i j h le =
+      elim (cases_lt_z (i +ℤ pos fold_limit) j) [
+        | inl away ↦ let r : reads i <ℤ reads j = far i j away in absurd (omega (arith, ints))
+        | inr near ↦
+            elim (window i j (omega (arith, ints)) (omega (arith, ints))) [
+              | inl e ↦ absurd (omega (arith, ints))
+              | inr (p, low, high, b, first, second) ↦ (
+                p,
+                record {
+                  low = low;
+                  high = high;
+                  breaks = b;
+                  earlier = omega (arith, ints);
+                  later = second;
+                  near = near;
+                  not_above = le;
+                },
+              )
+            ]
+      ]
+
+  -- the clock is not put back twice within a window
+  pub put_back_once : (a b c d : ℤ) → a <ℤ b → reads b ≤ℤ reads a → b ≤ℤ c → c <ℤ d → reads d ≤ℤ reads c → (c +ℤ pos (2 * fold_limit)) ≤ℤ (b +ℤ pos apart_limit) → ⊥
+  put_back_once a b c d h le on k le2 close =
+      let (p, turn) = put_back a b h le in
+      let (q, other) = put_back c d k le2 in
+      let from = turn.low in
+      let to = turn.high in
+      let near = turn.near in
+      let from2 = other.low in
+      let to2 = other.high in
+      let near2 = other.near in
+      let apart = calm.apart p q turn.breaks other.breaks (omega (arith, ints)) in
+      omega (arith, ints)
+
+  -- before a change all readings are lower than right before it, and after it none is lower than at it
+  pub below_before : (p i : ℤ) → Break reads p → i ≤ℤ p → reads i ≤ℤ reads p
+  below_before p i breaks h =
+      elim (cases_lt_z (reads p) (reads i)) [
+        | inr le ↦ le
+        | inl lt ↦
+            elim (cases_lt_z i p) [
+              | inr at ↦ let same : reads i ≡ reads p = ap reads (omega (arith, ints)) in absurd (omega (arith, ints))
+              | inl under ↦
+                  let (q, turn) = put_back i p under (omega (arith, ints)) in
+                  let a = turn.low in
+                  let b = turn.high in
+                  let c = turn.near in
+                  let apart = calm.apart q p turn.breaks breaks b in
+                  absurd (omega (arith, ints))
+            ]
+      ]
+
+  pub above_after : (p i : ℤ) → Break reads p → p <ℤ i → reads (p +ℤ pos 1) ≤ℤ reads i
+  above_after p i breaks h =
+      elim (cases_lt_z (reads i) (reads (p +ℤ pos 1))) [
+        | inr le ↦ le
+        | inl lt ↦
+            elim (cases_lt_z (p +ℤ pos 1) i) [
+              | inr at ↦ let same : reads i ≡ reads (p +ℤ pos 1) = ap reads (omega (arith, ints)) in absurd (omega (arith, ints))
+              | inl above ↦
+                  let (q, turn) = put_back (p +ℤ pos 1) i above (omega (arith, ints)) in
+                  let a = turn.low in
+                  let b = turn.high in
+                  let c = turn.near in
+                  let apart = calm.apart p q breaks turn.breaks (omega (arith, ints)) in
+                  absurd (omega (arith, ints))
             ]
       ]
 
