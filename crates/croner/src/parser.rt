@@ -153,6 +153,11 @@ impl CronParser {
     /// The first fault is the answer: `EmptyPattern` for a text of white space alone, `InvalidPattern` for a count of
     /// fields that the settings don't accept, `IllegalCharacters` for a character that is not legal in its field,
     /// `ComponentError` for a field that can't be read. `OutOfMemory` where memory runs out.
+    ///
+    /// ```
+    /// let parser = CronParser::builder().seconds(Seconds::Required).build();
+    /// let job = parser.parse(alloc, "0 30 9 * * MON-FRI")?; // the text that is kept: 0 30 9 * * 1-5
+    /// ```
     pub fn parse(&self, alloc: Global, pattern: &str) -> Result<Cron, CronError>
         ensures meaning { Gives job_of result (outcome self.now pattern.now) }
         ensures shapes { IfOk result (λ job. has_field_shapes (job_of job) ≡ true) }
@@ -304,6 +309,16 @@ impl CronParser {
     }
 
     /// A builder that stands at the default settings.
+    ///
+    /// ```
+    /// // Seven fields with Quartz weekdays, in which both day fields have to match.
+    /// let parser = CronParser::builder()
+    ///     .seconds(Seconds::Required)
+    ///     .year(Year::Required)
+    ///     .alternative_weekdays(true)
+    ///     .dom_and_dow(true)
+    ///     .build();
+    /// ```
     pub fn builder() -> CronParserBuilder
         ensures { result ≡ default_settings }
     {
