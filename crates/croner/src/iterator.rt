@@ -17,8 +17,9 @@ use std::alloc::AllocError;
 /// Each item is the position from which the next search starts. A call of `next` that gives no item leaves the iterator
 /// where it stands, so a later call can go on; `fault` says why it gave none where the end of the searched years is not the reason.
 ///
-/// In a calm zone and from a whole second, no item and no fault says that no run is left in the searched years, over whatever
-/// backend.
+/// In a calm zone (one whose clock is moved by at most two hours at a time, seldom, at moments more than two days apart; see
+/// [`Cron::find_next_occurrence`]) and from a whole second, no item and no fault says that no run is left in the searched years,
+/// over whatever backend.
 #[derive(Debug, Drop)]
 pub struct CronIterator<T> {
     cron: Cron,
@@ -36,7 +37,8 @@ impl<T: CronDateTime> CronIterator<T> {
     ghost use Rattle.croner.specs.Listing.{standing_of, new_standing, counts_position, moved, Settles};
     ghost use Rattle.croner.specs.Refusal.{IsRefusal};
 
-    /// An iterator from a start: it counts the start where it is inclusive and the start is a run.
+    /// An iterator from a start: it counts the start where it is inclusive and the start is a run. The fields of the pattern must
+    /// have the shapes of their places, as those of every parsed pattern have.
     pub fn new(cron: Cron, start: T, inclusive: bool, direction: Direction) -> Self
         requires { has_field_shapes (meaning_of cron.pattern) ≡ true }
         ensures { standing_of T.moment result ≡ new_standing (meaning_of cron.pattern) (T.moment start) inclusive direction }

@@ -19,12 +19,16 @@ use std::alloc::Global;
 use std::fmt;
 
 /// How a job meets changes of the clock.
+///
+/// A clock that is put forward skips a range of seconds, and one that is put back shows a range twice.
 #[derive(Debug, Drop, PartialEq, Eq)]
 pub enum JobType {
     /// It runs at one time of the day: seconds, minutes and hours each name exactly one value, with step 1 and without a
-    /// star.
+    /// star. Where the clock shows that second twice it runs once, at the earlier instant. Where the clock skips it, it runs at
+    /// the first instant after the skipped range, if the date that the clock shows there matches.
     FixedTime,
-    /// Any other job.
+    /// Any other job. It runs at each instant whose clock shows a scheduled second: both times where the clock shows it twice,
+    /// and not at all where the clock skips it.
     IntervalWildcard,
 }
 
@@ -37,6 +41,12 @@ pub struct Cron {
 
 impl Cron {
     /// Reads a pattern with the default settings; see [`CronParser::parse`] for the errors.
+    ///
+    /// ```
+    /// let job = Cron::from_str(alloc, "30 9 * * MON-FRI")?;
+    /// let monday = DateTime::new(2024, 7, 1, 9, 30, 0, 0)?;
+    /// let is_run = job.is_time_matching(&monday)?; // true
+    /// ```
     pub fn from_str(alloc: Global, text: &str) -> Result<Cron, CronError>
         ensures meaning { Gives job_of result (outcome default_settings text.now) }
         ensures shapes { IfOk result (λ job. has_field_shapes (job_of job) ≡ true) }

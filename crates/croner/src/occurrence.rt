@@ -31,8 +31,15 @@ impl Cron {
     ///   left. Neither comes in a calm zone from a whole second where the years 0 to 5001 and two days around the start are held.
     /// - `OutOfMemory`, only over a backend that can lack memory.
     ///
-    /// Nothing is changed by a search. The fields of the pattern must have the shapes of their places, as those of every parsed
-    /// pattern have.
+    /// Nothing is changed by a search. The fields of the pattern must have the shapes of their places (their bounds, and the
+    /// modifiers that they know), as those of every parsed pattern have.
+    ///
+    /// ```
+    /// let job = Cron::from_str(alloc, "30 9,17 * * MON")?;
+    /// let monday = DateTime::new(2024, 7, 1, 9, 30, 0, 0)?;
+    /// let next = job.find_next_occurrence(&monday, false)?; // 2024-07-01T17:30:00
+    /// let same = job.find_next_occurrence(&monday, true)?; // 2024-07-01T09:30:00
+    /// ```
     pub fn find_next_occurrence<T: CronDateTime>(
         &self,
         start: &T,
@@ -49,6 +56,12 @@ impl Cron {
     /// [`find_next_occurrence`](Self::find_next_occurrence), the other way. A run that is only carried to the start counts here
     /// where the search is inclusive. `TimeSearchLimitExceeded` says there that no run is left after year 1, and always comes from a
     /// start that reads year 1 or earlier with nothing scheduled ahead, as each start of year 0 or earlier.
+    ///
+    /// ```
+    /// let job = Cron::from_str(alloc, "30 9,17 * * MON")?;
+    /// let monday = DateTime::new(2024, 7, 1, 9, 30, 0, 0)?;
+    /// let previous = job.find_previous_occurrence(&monday, false)?; // 2024-06-24T17:30:00
+    /// ```
     pub fn find_previous_occurrence<T: CronDateTime>(
         &self,
         start: &T,
@@ -77,7 +90,17 @@ impl Cron {
     }
 
     /// The runs from a start on, the start itself included where it is a run, in a direction. The pattern is copied for the
-    /// iterator, and the only error is `OutOfMemory`; the start is let go then.
+    /// iterator, and the only error is `OutOfMemory`; the start is let go then. The fields of the pattern must have the shapes of
+    /// their places, as those of every parsed pattern have.
+    ///
+    /// ```
+    /// let job = Cron::from_str(alloc, "*/20 9 * * *")?;
+    /// let start = DateTime::new(2024, 3, 1, 9, 20, 0, 0)?;
+    /// let mut runs = job.iter_from(start, Direction::Backward)?;
+    /// let first = runs.next(); // 2024-03-01T09:20:00
+    /// let second = runs.next(); // 2024-03-01T09:00:00
+    /// let third = runs.next(); // 2024-02-29T09:40:00
+    /// ```
     pub fn iter_from<T: CronDateTime>(
         &self,
         start: T,
@@ -90,7 +113,14 @@ impl Cron {
         self.iter(start, true, direction)
     }
 
-    /// The runs after a start, forward, without the start. Errors as for [`iter_from`](Self::iter_from).
+    /// The runs after a start, forward, without the start. Errors, and the condition on the pattern, as for
+    /// [`iter_from`](Self::iter_from).
+    ///
+    /// ```
+    /// let job = Cron::from_str(alloc, "0 0 29 2 *")?;
+    /// let mut runs = job.iter_after(DateTime::new(2096, 2, 29, 0, 0, 0, 0)?)?;
+    /// let next = runs.next(); // 2104-02-29T00:00:00
+    /// ```
     pub fn iter_after<T: CronDateTime>(&self, start: T) -> Result<CronIterator<T>, CronError>
         requires { has_field_shapes (job_of self.now) ≡ true }
         ensures ok { IfOk result (λ it. standing_of T.moment it ≡ new_standing (job_of self.now) (T.moment start) false Direction.Forward) }
@@ -99,7 +129,14 @@ impl Cron {
         self.iter(start, false, Direction::Forward)
     }
 
-    /// The runs before a start, backward, without the start. Errors as for [`iter_from`](Self::iter_from).
+    /// The runs before a start, backward, without the start. Errors, and the condition on the pattern, as for
+    /// [`iter_from`](Self::iter_from).
+    ///
+    /// ```
+    /// let job = Cron::from_str(alloc, "0 0 29 2 *")?;
+    /// let mut runs = job.iter_before(DateTime::new(2104, 2, 29, 0, 0, 0, 0)?)?;
+    /// let previous = runs.next(); // 2096-02-29T00:00:00
+    /// ```
     pub fn iter_before<T: CronDateTime>(&self, start: T) -> Result<CronIterator<T>, CronError>
         requires { has_field_shapes (job_of self.now) ≡ true }
         ensures ok { IfOk result (λ it. standing_of T.moment it ≡ new_standing (job_of self.now) (T.moment start) false Direction.Backward) }

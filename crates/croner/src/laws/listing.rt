@@ -1,4 +1,8 @@
 //! Laws of iterators, and of searches one after the other.
+//!
+//! A zone is calm where its clock is moved by at most two hours at a time, seldom, at moments more than two days apart, and the
+//! backend resolves each second that it holds to just the instants that show it. Where a law takes a job or a pattern, its fields
+//! must have the shapes of their places, as those of every parsed pattern have.
 ghost use Rattle.std.specs.Prelude.{◌≡◌, ◌≤◌, ◌<◌, ◌+◌, ◌↔◌, ◌⊎◌, ℤ, true, false, [], IfOk, IfErr, IsTrue, length, vec_len, vec_capacity};
 ghost use Rattle.std.specs.List.{All, AllPairs};
 ghost use Rattle.croner_pattern.specs.Meaning.{meaning_of};
