@@ -8,7 +8,7 @@ use Rattle.croner_base.specs.Civil.{wall_second}
 use Rattle.croner_base.specs.Zone.{Zone}
 use Rattle.croner_base.specs.Calm.{IsChange, IsCalm, NamesAll}
 use Rattle.croner_base.specs.Limits.{gap_limit, fold_limit}
-use Rattle.croner.specs.Halves.{Break}
+use Rattle.croner.specs.search.Halves.{Break}
 use Rattle.croner.proofs.ZoneOrder.{Calm, same_or_not}
 
 -- these are exactly the instants that show w, in order

@@ -12,8 +12,8 @@ use Rattle.croner_base.specs.Calm.{IsCalm, IsSearched, IsInReach}
 use Rattle.croner_base.specs.Limits.{gap_limit, fold_limit, apart_limit}
 use Rattle.croner.specs.Premises.{HoldsYears, HasOneInstantEach}
 use Rattle.croner.specs.Refusal.{IsBackendError}
-use Rattle.croner.specs.Wall.{IsLastYear}
-use Rattle.croner.specs.Walk.{GapEnd, Unread, InGapUpTo, InGapDownTo, one_on}
+use Rattle.croner.specs.search.Wall.{IsLastYear}
+use Rattle.croner.specs.search.Walk.{GapEnd, Unread, InGapUpTo, InGapDownTo, one_on}
 use Rattle.croner.proofs.CalmZone.{Exactly, calm_of, exact_of}
 use Rattle.croner.proofs.ZoneOrder.{Calm, cases_lt_z, distance, gains, read_or_skipped}
 use Rattle.croner.proofs.WalkArms.{first_of_one, first_of_two}

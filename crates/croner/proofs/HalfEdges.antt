@@ -9,7 +9,7 @@ use Rattle.croner.proofs.RunsOfSeconds.{true_or_false}
 use Rattle.croner.proofs.WalkLoop.{never_true}
 use Rattle.croner_base.specs.Zone.{Zone, Moment, reading, nanos_of, IsUnheld}
 use Rattle.croner_base.specs.Calm.{IsCalm, HoldsAround, IsNear}
-use Rattle.croner.specs.Halves.{edge_limit, Break, HasTwin, EdgeOf, offset_from, CountsBoth, Bisected, moment_from, IsEdge}
+use Rattle.croner.specs.search.Halves.{edge_limit, Break, HasTwin, EdgeOf, offset_from, CountsBoth, Bisected, moment_from, IsEdge}
 use Rattle.croner.proofs.CalmZone.{Exactly, calm_of, exact_of}
 use Rattle.croner.proofs.ZoneOrder.{Calm, window}
 use Rattle.croner_base.specs.declared.time.civil.CivilDateTime.{CivilDateTime}
@@ -19,7 +19,7 @@ use Rattle.croner.specs.Refusal.{IsBackendError}
 use Rattle.croner_base.specs.declared.errors.CronError.{CronError}
 use Rattle.croner_base.specs.declared.time.value.Resolution.TheVariants.{Single, Ambiguous, Gap}
 use Rattle.croner.specs.Runs.{Job, Nearest, Precedes}
-use Rattle.croner.specs.Walk.{Walked, WalkedFrom}
+use Rattle.croner.specs.search.Walk.{Walked, WalkedFrom}
 
 module _ (reads : ℤ → ℤ) (calm : Calm reads) where
   edge_after : (i : ℤ) → HasTwin Forward reads i → (HasTwin Forward reads (i +ℤ pos 1) → ⊥) → Break reads i

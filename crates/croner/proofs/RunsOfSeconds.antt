@@ -3,9 +3,9 @@ use Rattle.std.proofs.Common.{◌≡◌, ℤ, pos, ◌+ℤ◌, ◌-ℤ◌, ◌<�
 use Rattle.std.proofs.lemmas.Int.{ints}
 use Rattle.croner.proofs.ZoneOrder.{cases_lt_z, below_before}
 use Rattle.croner.proofs.FirstInstants.{first_if_least}
-use Rattle.croner.specs.Halves.{Break}
+use Rattle.croner.specs.search.Halves.{Break}
 use Rattle.croner.proofs.ZoneOrder.{Calm}
-use Rattle.croner.specs.Walk.{First, RunOf}
+use Rattle.croner.specs.search.Walk.{First, RunOf}
 use Rattle.croner.specs.Runs.{Job, Run, OwnRun}
 
 pub true_or_false : (b : Bool) → (b ≡ true) ⊎ (b ≡ false)

@@ -10,12 +10,12 @@ use Rattle.croner_base.specs.Calm.{IsCalm, IsNear}
 use Rattle.croner_base.specs.Limits.{gap_limit}
 use Rattle.croner.specs.Runs.{Timetable, Job, job_in, Nearest, Counts, Precedes, Reaches}
 use Rattle.croner.specs.Limit.{IsWithin, NoneInSpan, IsPast}
-use Rattle.croner.specs.Schedule.{IsCovered, NoneScheduled}
+use Rattle.croner.specs.search.Schedule.{IsCovered, NoneScheduled}
 use Rattle.croner.specs.Premises.{IsSearchable, IsCalmStart, StartsCalm, HoldsYears, HoldsSecond}
 use Rattle.croner.specs.Refusal.{IsBackendError, IsRefusal}
-use Rattle.croner.specs.Walk.{RunOf, NoneOf, Walked, WalkedFrom, walk_start, one_on, OutFrom, IsWalked, IsWalkRefused}
+use Rattle.croner.specs.search.Walk.{RunOf, NoneOf, Walked, WalkedFrom, walk_start, one_on, OutFrom, IsWalked, IsWalkRefused}
 use Rattle.croner.specs.Searches.{IsFound, IsRefused}
-use Rattle.croner.specs.Halves.{edge_limit, EdgeOf, HasTwin, CountsBoth, IsEdge, HasOtherHalf, opposite_way, offset_from, moment_from}
+use Rattle.croner.specs.search.Halves.{edge_limit, EdgeOf, HasTwin, CountsBoth, IsEdge, HasOtherHalf, opposite_way, offset_from, moment_from}
 use Rattle.croner.proofs.ZoneOrder.{Calm, cases_lt_z, before_break, after_break}
 use Rattle.croner.proofs.CalmZone.{calm_of}
 use Rattle.croner.proofs.RunsOfSeconds.{true_or_false}

@@ -6,9 +6,9 @@ use Rattle.croner_base.specs.declared.time.Direction.TheVariants.{Forward, Backw
 use Rattle.croner.proofs.ZoneOrder.{cases_lt_z, before_break, after_break, below_before, above_after}
 use Rattle.croner.proofs.FirstInstants.{earlier_twin, later_twin, first_if_least}
 use Rattle.croner.proofs.RunsOfSeconds.{true_or_false, run_has_second, second_gives_run, own_of_first}
-use Rattle.croner.specs.Halves.{EdgeAfter, EdgeBefore}
+use Rattle.croner.specs.search.Halves.{EdgeAfter, EdgeBefore}
 use Rattle.croner.proofs.ZoneOrder.{Calm}
-use Rattle.croner.specs.Walk.{RunOf, Walked, walk_start}
+use Rattle.croner.specs.search.Walk.{RunOf, Walked, walk_start}
 use Rattle.croner.specs.Runs.{Job, Run, OwnRun, Nearest, Counts, Reaches, Ahead}
 use Rattle.croner.proofs.WalkSteps.{Seen}
 

@@ -10,7 +10,7 @@ use Rattle.croner.proofs.WalkSteps.{above_start, below_start, ahead_forward, ahe
 use Rattle.croner.proofs.CalmZone.{Exactly}
 use Rattle.croner.proofs.ZoneOrder.{Calm}
 use Rattle.croner_base.specs.declared.time.value.Resolution.TheVariants.{Single, Ambiguous, Gap}
-use Rattle.croner.specs.Walk.{First, RunOf, NoneOf, Walked, walk_start, one_on, Unread, ChosenOf}
+use Rattle.croner.specs.search.Walk.{First, RunOf, NoneOf, Walked, walk_start, one_on, Unread, ChosenOf}
 use Rattle.croner_base.specs.Zone.{Moment}
 use Rattle.croner.specs.Runs.{Job, Precedes, Reaches, Ahead}
 

@@ -11,11 +11,11 @@ use Rattle.croner_base.specs.Zone.{Zone, Moment, Names}
 use Rattle.croner_base.specs.Calm.{IsCalm, IsSearched, IsInReach}
 use Rattle.croner.specs.Limit.{NoneAhead}
 use Rattle.croner.specs.Runs.{Job, Precedes, Reaches, Ahead}
-use Rattle.croner.specs.Schedule.{NextScheduled, NoneScheduled}
+use Rattle.croner.specs.search.Schedule.{NextScheduled, NoneScheduled}
 use Rattle.croner.specs.Premises.{IsCalmStart, HoldsYears, HasOneInstantEach, Shows}
 use Rattle.croner.specs.Refusal.{IsBackendError}
-use Rattle.croner.specs.Wall.{IsLastYear}
-use Rattle.croner.specs.Walk.{NoneOf, WalkedFrom, Walking, walk_start, one_on, ChosenOf, IsOneOf, GapEnd, Unread, Onward, Paces, CannotMove, IsWalked, OutFrom, HasGapEnd, HasGapFront}
+use Rattle.croner.specs.search.Wall.{IsLastYear}
+use Rattle.croner.specs.search.Walk.{NoneOf, WalkedFrom, Walking, walk_start, one_on, ChosenOf, IsOneOf, GapEnd, Unread, Onward, Paces, CannotMove, IsWalked, OutFrom, HasGapEnd, HasGapFront}
 use Rattle.croner.proofs.CalmZone.{calm_of, exact_of}
 use Rattle.croner.proofs.ZoneOrder.{cases_lt_z}
 use Rattle.croner.proofs.RunsOfSeconds.{true_or_false}

@@ -4,7 +4,6 @@ pub mod Equality
 pub mod Faults
 pub mod Gives
 pub mod Grammar
-pub mod Halves
 pub mod IteratorOrder
 pub mod Json
 pub mod Limit
@@ -14,11 +13,9 @@ pub mod PatternJob
 pub mod Premises
 pub mod Refusal
 pub mod Runs
-pub mod Schedule
 pub mod Searches
 pub mod SearchedYears
 pub mod Settings
 pub mod Views
-pub mod Walk
-pub mod Wall
 pub mod Words
+pub mod search

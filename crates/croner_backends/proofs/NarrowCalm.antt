@@ -8,7 +8,7 @@ use Rattle.croner_base.specs.Calm.{IsCalm}
 use Rattle.croner_base.specs.Civil.{wall_second}
 use Rattle.croner_base.specs.Zone.{Zone}
 use Rattle.croner_base.proofs.TableTests.{both_parts, le_of, lt_of, le_test, lt_test}
-use Rattle.croner.specs.Halves.{Break}
+use Rattle.croner.specs.search.Halves.{Break}
 use Rattle.croner.proofs.CalmZone.{Exactly, calm_of, exact_of}
 use Rattle.croner.proofs.GapSides.{unread_is_in_gap}
 use Rattle.croner.proofs.ZoneOrder.{Calm, order}

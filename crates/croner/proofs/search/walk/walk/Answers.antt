@@ -1,7 +1,7 @@
 use Rattle.std.proofs.Common.{◌∙◌, ap, arith}
 use Rattle.croner_base.specs.Civil.{wall_second}
 use Rattle.croner.specs.Runs.{job_in}
-use Rattle.croner.specs.Walk.{walk_start}
+use Rattle.croner.specs.search.Walk.{walk_start}
 use Rattle.croner.proofs.CalmZone.{calm_of}
 use Rattle.croner.proofs.WalkPace.{paced_start, paced_on, paced_ends}
 use Rattle.croner.proofs.WalkLoop.{walking_start, walking_next, walk_reaches, something_ahead, out_far}

@@ -1,6 +1,6 @@
 use Rattle.croner.specs.Runs.{job_in}
 use Rattle.croner.specs.Premises.{IsCalmStart}
-use Rattle.croner.specs.Walk.{Walking}
+use Rattle.croner.specs.search.Walk.{Walking}
 use Rattle.croner_base.specs.Civil.{wall_second}
 use Rattle.croner.proofs.WalkPace.{Paced}
 use Rattle.croner.proofs.search.walk.walk.Given as goal
