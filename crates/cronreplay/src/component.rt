@@ -73,14 +73,19 @@ fn enabled(component: &CronComponent) -> u8 {
 /// The answers of calls of one field, and what it holds afterwards.
 pub fn component(alloc: Global, question: &Value) -> Result<Value, Fault> {
     let mut component = made(alloc, member(question, "new")?)?;
-    let mut results = Vec::new(alloc);
-    for call in list(question, "calls")? {
-        results.push(result(alloc, &mut component, items(call)?)?)?;
-    }
+    let results = results(alloc, &mut component, list(question, "calls")?)?;
     let mut answer = Map::new(alloc);
-    put(&mut answer, alloc, "results", Value::Array(results))?;
+    put(&mut answer, alloc, "results", results)?;
     put(&mut answer, alloc, "after", field(alloc, &component)?)?;
     Ok(Value::Object(answer))
+}
+
+fn results(alloc: Global, component: &mut CronComponent, calls: &[Value]) -> Result<Value, Fault> {
+    let mut results = Vec::new(alloc);
+    for call in calls {
+        results.push(result(alloc, component, items(call)?)?)?;
+    }
+    Ok(Value::Array(results))
 }
 
 // A new field of `[min, max, features, offset]`, or the empty one.

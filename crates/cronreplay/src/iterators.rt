@@ -1,15 +1,12 @@
 //! Iterators: the answers of their calls.
-ghost use Rattle.std.specs.Prelude.{◌≡◌, true};
-ghost use Rattle.croner_pattern.specs.Shapes.{has_field_shapes};
-ghost use Rattle.croner.specs.Views.{job_of};
 
 use crate::fault::Fault;
+use crate::job::Job;
 use crate::member::{number_at, text};
-use crate::pattern::cron;
 use crate::shown::Shown;
+use croner::CronIterator;
 use croner::errors::CronError;
 use croner::time::Direction;
-use croner::{Cron, CronIterator};
 use serde_json::Value;
 use std::alloc::Global;
 
@@ -22,13 +19,25 @@ enum How {
 }
 
 /// The answers of so many calls of `next`, null for None.
-pub fn items<T: Shown>(alloc: Global, question: &Value, start: T) -> Result<Value, Fault> {
-    let (how, count): (How, u64) = (how_made(question)?, number_at(question, "count")?);
-    let cron = cron(alloc, question)?;
-    let mut iterator = iterator(&cron, start, how)?;
+pub fn items<T: Shown>(
+    alloc: Global,
+    question: &Value,
+    job: &Job,
+    start: T,
+) -> Result<Value, Fault> {
+    let (how, count) = (how_made(question)?, number_at(question, "count")?);
+    let mut iterator = iterator(job, start, how)?;
+    listed(alloc, &mut iterator, count)
+}
+
+fn listed<T: Shown>(
+    alloc: Global,
+    iterator: &mut CronIterator<T>,
+    count: u64,
+) -> Result<Value, Fault> {
     let mut items = Vec::new(alloc);
     for _ in 0..count {
-        items.push(item(alloc, &mut iterator)?)?;
+        items.push(item(alloc, iterator)?)?;
     }
     Ok(Value::Array(items))
 }
@@ -43,13 +52,11 @@ fn how_made(question: &Value) -> Result<How, Fault> {
     }
 }
 
-fn iterator<T: Shown>(cron: &Cron, start: T, how: How) -> Result<CronIterator<T>, CronError>
-    requires { has_field_shapes (job_of cron.now) ≡ true }
-{
+fn iterator<T: Shown>(job: &Job, start: T, how: How) -> Result<CronIterator<T>, CronError> {
     match how {
-        How::From(direction) => cron.iter_from(start, direction),
-        How::After => cron.iter_after(start),
-        How::Before => cron.iter_before(start),
+        How::From(direction) => job.cron.iter_from(start, direction),
+        How::After => job.cron.iter_after(start),
+        How::Before => job.cron.iter_before(start),
     }
 }
 

@@ -9,6 +9,7 @@ mod component;
 mod day;
 mod fault;
 mod iterators;
+mod job;
 mod member;
 mod pattern;
 mod question;

@@ -1,75 +1,16 @@
-//! Patterns: the parser of a question's settings, and what it reads.
-ghost use Rattle.std.specs.Prelude.{◌≡◌, true, IfOk};
-ghost use Rattle.croner_pattern.specs.Shapes.{has_field_shapes};
-ghost use Rattle.croner.specs.Views.{job_of};
+//! What a job holds: its text, its flags, its kind and its fields.
 
 use crate::component::field;
 use crate::fault::Fault;
-use crate::member::text;
+use crate::job::Job;
 use crate::shown;
-use croner::parser::{CronParser, Seconds, Year};
 use croner::{Cron, CronPattern, JobType};
 use serde_json::{Map, Value, put};
 use std::alloc::Global;
 
-/// The pattern of a question: its text, read by the parser of its settings.
-pub fn cron(alloc: Global, question: &Value) -> Result<Cron, Fault>
-    ensures { IfOk result (λ cron. has_field_shapes (job_of cron) ≡ true) }
-{
-    let parser = parser(question)?;
-    Ok(parser.parse(alloc, text(question, "text")?)?)
-}
-
-/// What is read, or the refusal.
-pub fn parse(alloc: Global, question: &Value) -> Result<Value, Fault> {
-    shown_pattern(alloc, &cron(alloc, question)?)
-}
-
-// The parser of the settings; those that a question leaves out are the parser's own.
-fn parser(question: &Value) -> Result<CronParser, Fault> {
-    let Some(settings) = question.get("settings") else {
-        return Ok(CronParser::new());
-    };
-    if !settings.is_object() {
-        return Err(Fault::Malformed);
-    }
-    let builder = CronParser::builder()
-        .seconds(seconds(settings)?)
-        .year(year(settings)?)
-        .dom_and_dow(switch(settings, "dom_and_dow")?)
-        .alternative_weekdays(switch(settings, "alternative_weekdays")?)
-        .sloppy_ranges(switch(settings, "sloppy_ranges")?);
-    Ok(builder.build())
-}
-
-fn seconds(settings: &Value) -> Result<Seconds, Fault> {
-    match settings.get("seconds").map(Value::as_str) {
-        None | Some(Some("optional")) => Ok(Seconds::Optional),
-        Some(Some("required")) => Ok(Seconds::Required),
-        Some(Some("disallowed")) => Ok(Seconds::Disallowed),
-        Some(_) => Err(Fault::Malformed),
-    }
-}
-
-fn year(settings: &Value) -> Result<Year, Fault> {
-    match settings.get("year").map(Value::as_str) {
-        None | Some(Some("optional")) => Ok(Year::Optional),
-        Some(Some("required")) => Ok(Year::Required),
-        Some(Some("disallowed")) => Ok(Year::Disallowed),
-        Some(_) => Err(Fault::Malformed),
-    }
-}
-
-/// A yes or no that may be left out, which is no.
-pub fn switch(settings: &Value, name: &str) -> Result<bool, Fault> {
-    match settings.get(name) {
-        None => Ok(false),
-        Some(switch) => switch.as_bool().ok_or(Fault::Malformed),
-    }
-}
-
-fn shown_pattern(alloc: Global, cron: &Cron) -> Result<Value, Fault> {
-    let pattern = &cron.pattern;
+/// What was read.
+pub fn parsed(alloc: Global, job: &Job) -> Result<Value, Fault> {
+    let (cron, pattern) = (&job.cron, &job.cron.pattern);
     let mut shown = Map::new(alloc);
     put(
         &mut shown,

@@ -5,8 +5,9 @@ use crate::compare::compare;
 use crate::component::{component, component_compare};
 use crate::day::{closest_weekday, day_mask, day_match, find, matching};
 use crate::fault::Fault;
+use crate::job::Job;
 use crate::member::text;
-use crate::pattern::parse;
+use crate::pattern::parsed;
 use crate::time::{Ask, answer_from_start};
 use crate::words::described;
 use crate::zone::clock_table;
@@ -17,24 +18,72 @@ use std::alloc::Global;
 /// The answer of a question.
 pub fn answer(alloc: Global, question: &Value) -> Result<Value, Fault> {
     match text(question, "op")? {
-        "parse" => parse(alloc, question),
         "component" => component(alloc, question),
         "compare" => compare(alloc, question),
         "component_compare" => component_compare(alloc, question),
-        "match" => matching(alloc, question),
-        "find" => find(alloc, question),
-        "day_match" => day_match(alloc, question),
-        "closest_weekday" => closest_weekday(alloc, question),
-        "day_mask" => day_mask(alloc, question),
-        "next" => answer_from_start(alloc, question, Ask::Search(Direction::Forward)),
-        "prev" => answer_from_start(alloc, question, Ask::Search(Direction::Backward)),
-        "iter" => answer_from_start(alloc, question, Ask::Items),
         "resolve" => answer_from_start(alloc, question, Ask::Resolve),
         "reading" => answer_from_start(alloc, question, Ask::Reading),
         "add" => answer_from_start(alloc, question, Ask::Add),
         "clock_table" => clock_table(alloc, question),
-        "describe" => described(alloc, question),
         "cronrun" => cronrun(alloc, question),
+        op => answer_of_job(alloc, question, job_operation(op)?),
+    }
+}
+
+// An operation on one job.
+#[derive(Clone, Copy)]
+enum JobOperation {
+    Parse,
+    Match,
+    Find,
+    DayMatch,
+    ClosestWeekday,
+    DayMask,
+    Describe,
+    Search(Direction),
+    Items,
+}
+
+fn job_operation(op: &str) -> Result<JobOperation, Fault> {
+    match op {
+        "parse" => Ok(JobOperation::Parse),
+        "match" => Ok(JobOperation::Match),
+        "find" => Ok(JobOperation::Find),
+        "day_match" => Ok(JobOperation::DayMatch),
+        "closest_weekday" => Ok(JobOperation::ClosestWeekday),
+        "day_mask" => Ok(JobOperation::DayMask),
+        "describe" => Ok(JobOperation::Describe),
+        "next" => Ok(JobOperation::Search(Direction::Forward)),
+        "prev" => Ok(JobOperation::Search(Direction::Backward)),
+        "iter" => Ok(JobOperation::Items),
         _ => Err(Fault::Unsupported),
+    }
+}
+
+// No other function of this program lets a job go: the proof of each one that does goes through its seven fields at every
+// exit.
+fn answer_of_job(alloc: Global, question: &Value, operation: JobOperation) -> Result<Value, Fault> {
+    let job = Job::read(alloc, question)?;
+    answer_on(alloc, question, operation, &job)
+}
+
+fn answer_on(
+    alloc: Global,
+    question: &Value,
+    operation: JobOperation,
+    job: &Job,
+) -> Result<Value, Fault> {
+    match operation {
+        JobOperation::Parse => parsed(alloc, job),
+        JobOperation::Match => matching(question, job),
+        JobOperation::Find => find(question, job),
+        JobOperation::DayMatch => day_match(question, job),
+        JobOperation::ClosestWeekday => closest_weekday(question, job),
+        JobOperation::DayMask => day_mask(question, job),
+        JobOperation::Describe => described(question, job),
+        JobOperation::Search(direction) => {
+            answer_from_start(alloc, question, Ask::Search(job, direction))
+        }
+        JobOperation::Items => answer_from_start(alloc, question, Ask::Items(job)),
     }
 }

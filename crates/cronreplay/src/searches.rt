@@ -1,13 +1,9 @@
 //! Searches: the runs that they find, each search from the answer of the one before.
-ghost use Rattle.std.specs.Prelude.{◌≡◌, true};
-ghost use Rattle.croner_pattern.specs.Shapes.{has_field_shapes};
-ghost use Rattle.croner.specs.Views.{job_of};
 
 use crate::fault::Fault;
+use crate::job::Job;
 use crate::member::{flag, number_at};
-use crate::pattern::cron;
 use crate::shown::{Shown, refusal};
-use croner::Cron;
 use croner::errors::CronError;
 use croner::time::Direction;
 use serde_json::Value;
@@ -17,6 +13,7 @@ use std::alloc::Global;
 pub fn runs<T: Shown>(
     alloc: Global,
     question: &Value,
+    job: &Job,
     start: T,
     direction: Direction,
 ) -> Result<Value, Fault> {
@@ -24,11 +21,10 @@ pub fn runs<T: Shown>(
         flag(question, "inclusive")?,
         number_at(question, "count")?,
     );
-    let cron = cron(alloc, question)?;
     let mut position = start;
     let mut runs = Vec::new(alloc);
     for _ in 0..count {
-        match run_from(&cron, &position, inclusive, direction) {
+        match run_from(job, &position, inclusive, direction) {
             Ok(run) => {
                 runs.push(run.shown(alloc)?)?;
                 position = run;
@@ -44,15 +40,13 @@ pub fn runs<T: Shown>(
 }
 
 fn run_from<T: Shown>(
-    cron: &Cron,
+    job: &Job,
     position: &T,
     inclusive: bool,
     direction: Direction,
-) -> Result<T, CronError>
-    requires { has_field_shapes (job_of cron.now) ≡ true }
-{
+) -> Result<T, CronError> {
     match direction {
-        Direction::Forward => cron.find_next_occurrence(position, inclusive),
-        Direction::Backward => cron.find_previous_occurrence(position, inclusive),
+        Direction::Forward => job.cron.find_next_occurrence(position, inclusive),
+        Direction::Backward => job.cron.find_previous_occurrence(position, inclusive),
     }
 }

@@ -2,6 +2,7 @@
 
 use crate::fault::Fault;
 use crate::iterators::items;
+use crate::job::Job;
 use crate::member::{civil, number_at};
 use crate::searches::runs;
 use crate::shown;
@@ -15,19 +16,19 @@ use serde_json::Value;
 use std::alloc::Global;
 
 /// What is asked of a start.
-#[derive(Clone, Copy, PartialEq, Eq)]
-pub enum Ask {
-    /// Searches in a direction.
-    Search(Direction),
-    /// The items of an iterator.
-    Items,
+#[derive(Clone, Copy)]
+pub enum Ask<'j> {
+    /// Searches of a job in a direction.
+    Search(&'j Job, Direction),
+    /// The items of an iterator over the runs of a job.
+    Items(&'j Job),
     Resolve,
     Reading,
     Add,
 }
 
 /// Answers a question on the clock that it names.
-pub fn answer_from_start(alloc: Global, question: &Value, ask: Ask) -> Result<Value, Fault> {
+pub fn answer_from_start(alloc: Global, question: &Value, ask: Ask<'_>) -> Result<Value, Fault> {
     match zone_of(alloc, question)? {
         Zone::Civil => answer_at(alloc, question, ask, civil_start(question, ask)?),
         Zone::Table(table) => {
@@ -42,14 +43,14 @@ pub fn answer_from_start(alloc: Global, question: &Value, ask: Ask) -> Result<Va
 }
 
 // The start in civil time. A resolution has none, and any value of the clock will do.
-fn civil_start(question: &Value, ask: Ask) -> Result<DateTime, Fault> {
+fn civil_start(question: &Value, ask: Ask<'_>) -> Result<DateTime, Fault> {
     match ask {
         Ask::Resolve => Ok(DateTime::MIN),
         _ => civil_value(civil(question, "start")?),
     }
 }
 
-fn start_second(question: &Value, ask: Ask) -> Result<i64, Fault> {
+fn start_second(question: &Value, ask: Ask<'_>) -> Result<i64, Fault> {
     match ask {
         Ask::Resolve => Ok(0),
         _ => number_at(question, "start"),
@@ -59,12 +60,12 @@ fn start_second(question: &Value, ask: Ask) -> Result<i64, Fault> {
 fn answer_at<T: Shown>(
     alloc: Global,
     question: &Value,
-    ask: Ask,
+    ask: Ask<'_>,
     start: T,
 ) -> Result<Value, Fault> {
     match ask {
-        Ask::Search(direction) => runs(alloc, question, start, direction),
-        Ask::Items => items(alloc, question, start),
+        Ask::Search(job, direction) => runs(alloc, question, job, start, direction),
+        Ask::Items(job) => items(alloc, question, job, start),
         Ask::Resolve => resolve(alloc, question, &start),
         Ask::Reading => reading(alloc, &start),
         Ask::Add => add(alloc, question, &start),

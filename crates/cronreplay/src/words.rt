@@ -1,19 +1,17 @@
-//! Descriptions of a pattern in words.
+//! Descriptions of a job in words.
 
 use crate::fault::Fault;
+use crate::job::Job;
 use crate::member::text;
-use crate::pattern::cron;
 use croner::describe::lang::english::English;
 use croner::describe::lang::swedish::Swedish;
 use serde_json::Value;
-use std::alloc::Global;
 
-/// The description of a question's pattern in its language.
-pub fn described(alloc: Global, question: &Value) -> Result<Value, Fault> {
-    let cron = cron(alloc, question)?;
+/// The description of a job in the language of a question.
+pub fn described(question: &Value, job: &Job) -> Result<Value, Fault> {
     match text(question, "language")? {
-        "english" => Ok(Value::String(cron.describe_lang(English)?)),
-        "swedish" => Ok(Value::String(cron.describe_lang(Swedish)?)),
+        "english" => Ok(Value::String(job.cron.describe_lang(English)?)),
+        "swedish" => Ok(Value::String(job.cron.describe_lang(Swedish)?)),
         _ => Err(Fault::Malformed),
     }
 }

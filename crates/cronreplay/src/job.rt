@@ -1,0 +1,70 @@
+//! Jobs: the pattern of a question, read by the parser of its settings.
+ghost use Rattle.std.specs.Prelude.{◌≡◌, true};
+ghost use Rattle.croner_pattern.specs.Shapes.{has_field_shapes};
+ghost use Rattle.croner.specs.Views.{job_of};
+
+use crate::fault::Fault;
+use crate::member::text;
+use croner::Cron;
+use croner::parser::{CronParser, Seconds, Year};
+use serde_json::Value;
+use std::alloc::Global;
+
+/// A job that was read from a text.
+#[derive(Drop)]
+pub struct Job {
+    pub cron: Cron,
+    ghost shaped: { has_field_shapes (job_of cron) ≡ true },
+}
+
+impl Job {
+    /// The job of a question: its text, read by the parser of its settings.
+    pub fn read(alloc: Global, question: &Value) -> Result<Job, Fault> {
+        let parser = parser(question)?;
+        let cron = parser.parse(alloc, text(question, "text")?)?;
+        Ok(Job { cron })
+    }
+}
+
+// The parser of the settings; those that a question leaves out are the parser's own.
+fn parser(question: &Value) -> Result<CronParser, Fault> {
+    let Some(settings) = question.get("settings") else {
+        return Ok(CronParser::new());
+    };
+    if !settings.is_object() {
+        return Err(Fault::Malformed);
+    }
+    let builder = CronParser::builder()
+        .seconds(seconds(settings)?)
+        .year(year(settings)?)
+        .dom_and_dow(switch(settings, "dom_and_dow")?)
+        .alternative_weekdays(switch(settings, "alternative_weekdays")?)
+        .sloppy_ranges(switch(settings, "sloppy_ranges")?);
+    Ok(builder.build())
+}
+
+fn seconds(settings: &Value) -> Result<Seconds, Fault> {
+    match settings.get("seconds").map(Value::as_str) {
+        None | Some(Some("optional")) => Ok(Seconds::Optional),
+        Some(Some("required")) => Ok(Seconds::Required),
+        Some(Some("disallowed")) => Ok(Seconds::Disallowed),
+        Some(_) => Err(Fault::Malformed),
+    }
+}
+
+fn year(settings: &Value) -> Result<Year, Fault> {
+    match settings.get("year").map(Value::as_str) {
+        None | Some(Some("optional")) => Ok(Year::Optional),
+        Some(Some("required")) => Ok(Year::Required),
+        Some(Some("disallowed")) => Ok(Year::Disallowed),
+        Some(_) => Err(Fault::Malformed),
+    }
+}
+
+/// A yes or no that may be left out, which is no.
+pub fn switch(settings: &Value, name: &str) -> Result<bool, Fault> {
+    match settings.get(name) {
+        None => Ok(false),
+        Some(switch) => switch.as_bool().ok_or(Fault::Malformed),
+    }
+}
