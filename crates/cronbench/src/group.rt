@@ -1,8 +1,10 @@
 //! The groups of calls that are measured.
 
 use crate::answers::Answers;
-use crate::passes::{compare, copy, iterate, limit, matching, next, parse, previous};
+use crate::passes::{compare, copy, describe, iterate, limit, matching, next, parse, previous};
 use crate::subjects::Subjects;
+use croner::describe::lang::english::English;
+use croner::describe::lang::swedish::Swedish;
 use croner::errors::CronError;
 use std::alloc::Global;
 use std::fmt;
@@ -18,6 +20,8 @@ pub enum Group {
     NextZoned,
     IterateCivil,
     IterateTable,
+    DescribeEnglish,
+    DescribeSwedish,
     Compare,
     Copy,
     NoDate,
@@ -26,7 +30,7 @@ pub enum Group {
 
 impl Group {
     /// Every group, in the order in which they are shown.
-    pub const ALL: [Group; 12] = [
+    pub const ALL: [Group; 14] = [
         Group::Parse,
         Group::MatchCivil,
         Group::NextCivil,
@@ -35,6 +39,8 @@ impl Group {
         Group::NextZoned,
         Group::IterateCivil,
         Group::IterateTable,
+        Group::DescribeEnglish,
+        Group::DescribeSwedish,
         Group::Compare,
         Group::Copy,
         Group::NoDate,
@@ -55,6 +61,8 @@ impl Group {
             Group::NextZoned => next(jobs, times.zoned.as_slice()),
             Group::IterateCivil => iterate(jobs, times.civil.as_slice()),
             Group::IterateTable => iterate(jobs, times.table.as_slice()),
+            Group::DescribeEnglish => describe(jobs, English),
+            Group::DescribeSwedish => describe(jobs, Swedish),
             Group::Compare => compare(jobs),
             Group::Copy => copy(jobs),
             Group::NoDate => limit(&never.no_date, &never.first),
@@ -74,6 +82,8 @@ impl fmt::Display for Group {
             Group::NextZoned => "next run, time zone",
             Group::IterateCivil => "1,000 runs, civil time",
             Group::IterateTable => "1,000 runs, table",
+            Group::DescribeEnglish => "describe, English",
+            Group::DescribeSwedish => "describe, Swedish",
             Group::Compare => "clone and compare",
             Group::Copy => "clone",
             Group::NoDate => "next run of 0 0 31 2 *",

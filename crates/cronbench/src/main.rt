@@ -48,8 +48,12 @@ fn bench(rt: &HostRuntime, rounds: u32) -> Result<(), Stop> {
     let zone = paris::zone()?;
     let patterns = given::patterns(rt)?;
     let subjects = Subjects::new(rt.alloc(), patterns, &table, &zone)?;
+    bench_on(rt, &subjects, rounds)
+}
+
+fn bench_on(rt: &HostRuntime, subjects: &Subjects<'_>, rounds: u32) -> Result<(), Stop> {
     for group in Group::ALL {
-        let measured = measure(rt, group, &subjects, rounds)?;
+        let measured = measure(rt, group, subjects, rounds)?;
         show(rt, group, measured)?;
     }
     Ok(())

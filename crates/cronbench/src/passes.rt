@@ -3,6 +3,7 @@
 use crate::answers::Answers;
 use crate::job::Job;
 use crate::moment::Moment;
+use croner::describe::Language;
 use croner::errors::CronError;
 use croner::time::Direction;
 use croner::{Cron, CronIterator};
@@ -83,6 +84,19 @@ fn add_run<T: Moment>(answers: &mut Answers, runs: &mut CronIterator<T>) -> bool
         }
         None => false,
     }
+}
+
+/// Describes each job in a language. An answer is the text.
+pub fn describe<L: Language + Copy + Drop>(
+    jobs: &[Job],
+    language: L,
+) -> Result<Answers, CronError> {
+    let mut answers = Answers::default();
+    for job in jobs {
+        let description = job.cron.describe_lang(language)?;
+        answers.add_text(description.as_str());
+    }
+    Ok(answers)
 }
 
 /// Compares each job with its clone. An answer is 1 where they are equal, else 0; the time of the clone is in it.

@@ -38,8 +38,8 @@ impl<'t> Subjects<'t> {
         zone: &TimeZone<'static>,
     ) -> Result<Subjects<'t>, Stop> {
         let jobs = jobs(alloc, patterns.as_slice())?;
-        let never = Never::new(alloc)?;
         let times = Times::new(alloc, table, zone)?;
+        let never = Never::new(alloc)?;
         Ok(Subjects {
             patterns,
             jobs,
