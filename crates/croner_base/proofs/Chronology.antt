@@ -14,7 +14,7 @@ use Rattle.croner_base.specs.declared.time.civil.CivilTime.{CivilTime}
 use Rattle.croner_base.specs.declared.time.civil.CivilDateTime.{CivilDateTime}
 use Rattle.croner_base.specs.declared.time.civil.Weekday.{Weekday}
 use Rattle.croner_base.specs.declared.time.civil.Weekday.TheVariants.{Sunday, Monday, Tuesday, Wednesday, Thursday, Friday, Saturday}
-use Rattle.croner_base.specs.Calendar.{IsRealDate, day_number, weekday_of_day}
+use Rattle.croner_base.specs.Calendar.{IsRealDate, day_number, weekday_of_day, day_seconds}
 use Rattle.croner_base.specs.Civil.{wall_second, day_of_date, seconds_of_time, weekday_index}
 use Rattle.croner_base.specs.Calm.{IsSearched, IsInReach, IsStart}
 use Rattle.croner_base.proofs.ExamplesCalendar.{year_0, year_1, year_5001, year_5002, year_before_9996, year_9998}
@@ -150,7 +150,7 @@ first_of_year : (y : ℤ) (d : CivilDate) → y ≡ d.year → day_number y 1 1 
 first_of_year y d e = rw e (day_number-first d.year d.month d.day d.real)
 
 -- a year is reached with the first second of its first day
-pub year_reached : (c : CivilDateTime) (y : ℤ) → (y ≤ℤ c.date.year) ↔ ((day_number y 1 1 *ℤ pos 86_400) ≤ℤ wall_second c)
+pub year_reached : (c : CivilDateTime) (y : ℤ) → (y ≤ℤ c.date.year) ↔ ((day_number y 1 1 *ℤ pos day_seconds) ≤ℤ wall_second c)
 year_reached c y =
     let first : IsRealDate y 1 1 = ((omega arith, omega arith), (omega arith, omega arith)) in (
       λ le. by_lt_z y c.date.year
@@ -195,7 +195,7 @@ pub weekday_index-injective : (a b : Weekday) → weekday_index a ≡ weekday_in
 weekday_index-injective a b e = sym (of_number-index a) ∙ ap of_number e ∙ of_number-index b
 
 -- years from one to another are the wall seconds from the first of the one to the last of the other
-years_between : (c : CivilDateTime) (y z a b : ℤ) → day_number y 1 1 *ℤ pos 86_400 ≡ a → day_number (z +ℤ pos 1) 1 1 *ℤ pos 86_400 ≡ b +ℤ pos 1 → ((a ≤ℤ wall_second c) × (wall_second c ≤ℤ b)) ↔ ((y ≤ℤ c.date.year) × (c.date.year ≤ℤ z))
+years_between : (c : CivilDateTime) (y z a b : ℤ) → day_number y 1 1 *ℤ pos day_seconds ≡ a → day_number (z +ℤ pos 1) 1 1 *ℤ pos day_seconds ≡ b +ℤ pos 1 → ((a ≤ℤ wall_second c) × (wall_second c ≤ℤ b)) ↔ ((y ≤ℤ c.date.year) × (c.date.year ≤ℤ z))
 years_between c y z a b first next =
     let low = year_reached c y in
     let high = year_reached c (z +ℤ pos 1) in (

@@ -1,9 +1,10 @@
 -- Tables that are accepted and refused, and what their clocks read, computed from the definitions.
-use Rattle.std.proofs.Common.{◌≡◌, refl, true, false, ℤ, pos, neg_ℤ, ◌+ℤ◌, ◌-ℤ◌, ◌*ℤ◌, List, [], ◌∷◌}
+use Rattle.std.proofs.Common.{◌≡◌, refl, true, false, ℕ, ◌+◌, ℤ, pos, neg_ℤ, ◌+ℤ◌, ◌-ℤ◌, ◌*ℤ◌, List, [], ◌∷◌}
 use Rattle.jiff_core.specs.Calendar.{days_of_months}
 use Rattle.croner_base.specs.declared.time.value.Resolution.TheVariants.{Single, Ambiguous, Gap}
-use Rattle.croner_base.specs.Calendar.{day_number, year_start, days_since_zero}
-use Rattle.croner_base.specs.Table.{is_calm_table, met_count, met_gaps}
+use Rattle.croner_base.specs.Calendar.{day_number, year_start, days_since_zero, day_seconds}
+use Rattle.croner_base.specs.Limits.{gap_limit, fold_limit, apart_limit}
+use Rattle.croner_base.specs.Table.{offset_limit, is_calm_table, met_count, met_gaps}
 use Rattle.croner_base.specs.TableZone.{clock_reads, instants_of}
 
 -- Paris in 2024
@@ -24,14 +25,14 @@ unfolding day_number year_start days_since_zero days_of_months
 october = refl
 
 -- half past two in the gap, at 2024-03-31T02:30:00
-paris_gap : instants_of (pos 3_600) paris (pos 19_813 *ℤ pos 86_400 +ℤ pos 9_000) ≡ Gap
+paris_gap : instants_of (pos 3_600) paris (pos 19_813 *ℤ pos day_seconds +ℤ pos 9_000) ≡ Gap
 paris_gap = refl
 
 -- half past two twice, at 2024-10-27T02:30:00, and three o'clock once
-paris_twice : instants_of (pos 3_600) paris (pos 20_023 *ℤ pos 86_400 +ℤ pos 9_000) ≡ Ambiguous (pos 1_729_989_000) (pos 1_729_992_600)
+paris_twice : instants_of (pos 3_600) paris (pos 20_023 *ℤ pos day_seconds +ℤ pos 9_000) ≡ Ambiguous (pos 1_729_989_000) (pos 1_729_992_600)
 paris_twice = refl
 
-paris_once : instants_of (pos 3_600) paris (pos 20_023 *ℤ pos 86_400 +ℤ pos 10_800) ≡ Single (pos 1_729_994_400)
+paris_once : instants_of (pos 3_600) paris (pos 20_023 *ℤ pos day_seconds +ℤ pos 10_800) ≡ Single (pos 1_729_994_400)
 paris_once = refl
 
 -- the second before a change reads with the offset before it
@@ -51,58 +52,58 @@ one_second_before = refl
 one_second_after : instants_of (pos 7_200) ((pos 0, pos 7_199) ∷ []) (pos 7_200) ≡ Single (pos 1)
 one_second_after = refl
 
--- offsets of a day either way
-day_ahead : is_calm_table (pos 86_400) [] ≡ true
+-- offsets of the limit either way
+most_ahead : is_calm_table (pos offset_limit) [] ≡ true
 unfolding is_calm_table
-day_ahead = refl
+most_ahead = refl
 
-past_a_day : is_calm_table (pos 86_401) [] ≡ false
+past_most_ahead : is_calm_table (pos (offset_limit + 1)) [] ≡ false
 unfolding is_calm_table
-past_a_day = refl
+past_most_ahead = refl
 
-day_behind : is_calm_table (neg_ℤ (pos 86_400)) [] ≡ true
+most_behind : is_calm_table (neg_ℤ (pos offset_limit)) [] ≡ true
 unfolding is_calm_table
-day_behind = refl
+most_behind = refl
 
-past_a_day_behind : is_calm_table (neg_ℤ (pos 86_401)) [] ≡ false
+past_most_behind : is_calm_table (neg_ℤ (pos (offset_limit + 1))) [] ≡ false
 unfolding is_calm_table
-past_a_day_behind = refl
+past_most_behind = refl
 
-past_a_day_later : is_calm_table (pos 86_400) ((pos 0, pos 86_401) ∷ []) ≡ false
+past_most_later : is_calm_table (pos offset_limit) ((pos 0, pos (offset_limit + 1)) ∷ []) ≡ false
 unfolding is_calm_table
-past_a_day_later = refl
+past_most_later = refl
 
 -- how far a change moves the clock
-two_hours : is_calm_table (pos 0) ((pos 0, pos 7_200) ∷ []) ≡ true
+at_gap_limit : is_calm_table (pos 0) ((pos 0, pos gap_limit) ∷ []) ≡ true
 unfolding is_calm_table
-two_hours = refl
+at_gap_limit = refl
 
-past_two_hours : is_calm_table (pos 0) ((pos 0, pos 7_201) ∷ []) ≡ false
+past_gap_limit : is_calm_table (pos 0) ((pos 0, pos (gap_limit + 1)) ∷ []) ≡ false
 unfolding is_calm_table
-past_two_hours = refl
+past_gap_limit = refl
 
-two_hours_back : is_calm_table (pos 0) ((pos 0, neg_ℤ (pos 7_200)) ∷ []) ≡ true
+at_fold_limit : is_calm_table (pos 0) ((pos 0, neg_ℤ (pos fold_limit)) ∷ []) ≡ true
 unfolding is_calm_table
-two_hours_back = refl
+at_fold_limit = refl
 
-past_two_hours_back : is_calm_table (pos 0) ((pos 0, neg_ℤ (pos 7_201)) ∷ []) ≡ false
+past_fold_limit : is_calm_table (pos 0) ((pos 0, neg_ℤ (pos (fold_limit + 1))) ∷ []) ≡ false
 unfolding is_calm_table
-past_two_hours_back = refl
+past_fold_limit = refl
 
 no_move : is_calm_table (pos 0) ((pos 0, pos 0) ∷ []) ≡ false
 unfolding is_calm_table
 no_move = refl
 
 -- how far changes lie apart
-two_days : is_calm_table (pos 0) ((pos 0, pos 3_600) ∷ (pos 172_800, pos 0) ∷ []) ≡ false
+at_apart_limit : is_calm_table (pos 0) ((pos 0, pos 3_600) ∷ (pos apart_limit, pos 0) ∷ []) ≡ false
 unfolding is_calm_table
-two_days = refl
+at_apart_limit = refl
 
-past_two_days : is_calm_table (pos 0) ((pos 0, pos 3_600) ∷ (pos 172_801, pos 0) ∷ []) ≡ true
+past_apart_limit : is_calm_table (pos 0) ((pos 0, pos 3_600) ∷ (pos (apart_limit + 1), pos 0) ∷ []) ≡ true
 unfolding is_calm_table
-past_two_days = refl
+past_apart_limit = refl
 
-descending : is_calm_table (pos 0) ((pos 172_801, pos 3_600) ∷ (pos 0, pos 0) ∷ []) ≡ false
+descending : is_calm_table (pos 0) ((pos (apart_limit + 1), pos 3_600) ∷ (pos 0, pos 0) ∷ []) ≡ false
 unfolding is_calm_table
 descending = refl
 

@@ -12,7 +12,7 @@ use Rattle.jiff_core.proofs.CalendarLemmas.{days_of_months-zero, days_of_months_
 use Rattle.jiff_core.proofs.DateLemmas.{days_from_civil-min, days_from_civil-max}
 use Rattle.croner_base.specs.declared.time.civil.CivilDateTime.{CivilDateTime}
 use Rattle.croner_base.specs.declared.time.civil.CivilDate.{CivilDate}
-use Rattle.croner_base.specs.Calendar.{IsRealDate, day_number, weekday_of_day}
+use Rattle.croner_base.specs.Calendar.{IsRealDate, day_number, weekday_of_day, day_seconds}
 use Rattle.croner_base.specs.declared.time.civil.CivilTime.{CivilTime}
 use Rattle.croner_base.specs.Civil.{HasYmd, wall_second, day_of_date, seconds_of_time, weekday_of_second}
 use Rattle.croner_base.specs.CivilZone.{is_jiff_second}
@@ -23,7 +23,7 @@ pub epoch_day-day_number : (d : Date) → epoch_day d ≡ day_number d.year d.mo
 epoch_day-day_number d =
     days_from_civil-day_number d.year d.month d.day (omega (arith, signed_arith, d.year_in)) d.day_in.0
 
-pub wall_second-parts : (c : CivilDateTime) → wall_second c ≡ day_of_date c.date *ℤ pos 86_400 +ℤ pos (seconds_of_time c.time)
+pub wall_second-parts : (c : CivilDateTime) → wall_second c ≡ day_of_date c.date *ℤ pos day_seconds +ℤ pos (seconds_of_time c.time)
 unfolding wall_second
 wall_second-parts c = refl
 
@@ -43,7 +43,7 @@ wall_second-civil_seconds c dt h =
     omega (arith, signed_arith, wall_second-parts c, e, h.hour, h.minute, h.second)
 
 -- the date of a wall second
-pub wall_second-day : (c : CivilDateTime) → int_div_euclid (wall_second c) (pos 86_400) ≡ day_of_date c.date
+pub wall_second-day : (c : CivilDateTime) → int_div_euclid (wall_second c) (pos day_seconds) ≡ day_of_date c.date
 wall_second-day c =
     omega (arith, signed_arith, wall_second-parts c, c.time.hour_in, c.time.minute_in, c.time.second_in)
 
@@ -95,7 +95,7 @@ unheld_year c h =
     )))
 
 -- the weekday of jiff's date, from Sunday, is that of its second
-civil_seconds-day : (dt : DateTime) → int_div_euclid (civil_seconds dt) (pos 86_400) ≡ epoch_day dt.date
+civil_seconds-day : (dt : DateTime) → int_div_euclid (civil_seconds dt) (pos day_seconds) ≡ epoch_day dt.date
 unfolding civil_seconds
 civil_seconds-day dt = omega (arith, signed_arith, dt.time.hour_in, dt.time.minute_in, dt.time.second_in)
 
@@ -152,7 +152,7 @@ day_before = omega (arith, signed_arith, first_day, day_number-next_year (neg_�
 pub day_after : day_number (pos 10_000) 1 1 ≡ pos 2_932_897
 day_after = omega (arith, signed_arith, last_day, day_number-next_year (pos 9999))
 
-pub wall_second-of : (c : CivilDateTime) (d : CivilDate) (t : CivilTime) (y : ℤ) (m n s : ℕ) (day : ℤ) → c.date ≡ d → c.time ≡ t → HasYmd y m n d → seconds_of_time t ≡ s → day_number y m n ≡ day → wall_second c ≡ day *ℤ pos 86_400 +ℤ pos s
+pub wall_second-of : (c : CivilDateTime) (d : CivilDate) (t : CivilTime) (y : ℤ) (m n s : ℕ) (day : ℤ) → c.date ≡ d → c.time ≡ t → HasYmd y m n d → seconds_of_time t ≡ s → day_number y m n ≡ day → wall_second c ≡ day *ℤ pos day_seconds +ℤ pos s
 wall_second-of c d t y m n s day p q h e f =
     let same : day_of_date d ≡ day = rw (h.year_is, h.month_is, h.day_is) f in
     wall_second-parts c ∙ rw (p, q, same, e)

@@ -11,7 +11,7 @@ use Rattle.croner_base.specs.Civil.{wall_second}
 use Rattle.croner_base.specs.Zone.{Zone, reading}
 use Rattle.croner_base.specs.Calm.{IsChange, IsMet, IsSearched, IsCalm, NamesAll, Rises, HoldsAround, jump, gap_seconds}
 use Rattle.croner_base.specs.ZonedZone.{is_near_year}
-use Rattle.croner_base.specs.Table.{offset_at, is_met, are_steps, is_step, met_at, gap_at, met_count, met_gaps, is_calm_table}
+use Rattle.croner_base.specs.Table.{offset_at, is_met, are_steps, is_step, met_at, gap_at, met_count, met_gaps, is_calm_table, offset_limit}
 use Rattle.croner_base.specs.TableZone.{clock, clock_reads, instants_of, table_zone, table_moment}
 use Rattle.croner_base.proofs.JiffSeconds.{wall_second-parts, year_of_near}
 use Rattle.croner_base.proofs.TableTests.{Step, both_parts, step_parts, searched_test, lt_test, instant_test}
@@ -19,6 +19,7 @@ use Rattle.croner_base.proofs.TableCheck.{rules_from_calm}
 use Rattle.croner_base.proofs.TableOffsets.{IsSpread, int_le-true, int_le-false, offset_within, stays}
 use Rattle.croner_base.proofs.TableReadings.{calm_spread, calm_offsets}
 use Rattle.croner_base.proofs.TableMoments.{names_instants, near_year-true}
+use Rattle.croner_base.specs.Limits.{apart_limit}
 
 -- the offset in force changes at d
 abbrev pub Moves : ℤ → List (ℤ × ℤ) → ℤ → Type 0
@@ -58,16 +59,16 @@ moved_by o (c ∷ cs) d s h m =
           rw (x, y) (moved_by c.1 cs d s.1 p.1 q.1)
     ]
 
-after_first : (c : ℤ × ℤ) (cs : List (ℤ × ℤ)) (e : ℤ) → IsSpread (c ∷ cs) → Moves c.1 cs e → (c.0 +ℤ pos 172_800) <ℤ e
+after_first : (c : ℤ × ℤ) (cs : List (ℤ × ℤ)) (e : ℤ) → IsSpread (c ∷ cs) → Moves c.1 cs e → (c.0 +ℤ pos apart_limit) <ℤ e
 after_first c [] e s m = absurd (m refl)
 after_first c (d ∷ ds) e s m =
-    let a : (c.0 +ℤ pos 172_800) <ℤ d.0 = s.0 in
+    let a : (c.0 +ℤ pos apart_limit) <ℤ d.0 = s.0 in
     elim (place c.1 d ds e m) [
       | inl h ↦ omega (arith, signed_arith, a, h)
       | inr q ↦ omega (arith, signed_arith, a, q.0)
     ]
 
-far_apart : (o : ℤ) (cs : List (ℤ × ℤ)) (d e : ℤ) → IsSpread cs → Moves o cs d → Moves o cs e → d <ℤ e → (d +ℤ pos 172_800) <ℤ e
+far_apart : (o : ℤ) (cs : List (ℤ × ℤ)) (d e : ℤ) → IsSpread cs → Moves o cs d → Moves o cs e → d <ℤ e → (d +ℤ pos apart_limit) <ℤ e
 far_apart o [] d e s m n lt = absurd (m refl)
 far_apart o (c ∷ cs) d e s m n lt =
     elim (place o c cs d m) [
@@ -198,10 +199,10 @@ held : (t : ClockTable) (i : ℤ) → neg_ℤ (pos 377_705_116_800) ≤ℤ i →
 unfolding clock
 held t i low high = instant_test i low high
 
-within_plain : (i x : ℤ) → (neg_ℤ (pos 86_400) ≤ℤ x) × (x ≤ℤ pos 86_400) → ((i -ℤ pos 86_400) ≤ℤ (i +ℤ x)) × ((i +ℤ x) ≤ℤ (i +ℤ pos 86_400))
+within_plain : (i x : ℤ) → (neg_ℤ (pos offset_limit) ≤ℤ x) × (x ≤ℤ pos offset_limit) → ((i -ℤ pos offset_limit) ≤ℤ (i +ℤ x)) × ((i +ℤ x) ≤ℤ (i +ℤ pos offset_limit))
 within_plain i x h = (omega (arith, signed_arith, h), omega (arith, signed_arith, h))
 
-reads_within : (t : ClockTable) (i : ℤ) → ((i -ℤ pos 86_400) ≤ℤ (table_zone t).reads i) × ((table_zone t).reads i ≤ℤ (i +ℤ pos 86_400))
+reads_within : (t : ClockTable) (i : ℤ) → ((i -ℤ pos offset_limit) ≤ℤ (table_zone t).reads i) × ((table_zone t).reads i ≤ℤ (i +ℤ pos offset_limit))
 unfolding clock
 reads_within t i =
     within_plain i (offset_at t.first_offset t.changes.items i) (offset_within t.first_offset t.changes.items i (calm_offsets t.first_offset t.changes.items t.calm))

@@ -31,12 +31,12 @@ pub int_le-false : (a b : ℤ) → b <ℤ a → int_le a b ≡ false
 int_le-false a b h = grind (arith, ints)
 
 -- before the next change the offset stays
-pub stays : (c : ℤ × ℤ) (cs : List (ℤ × ℤ)) (i : ℤ) → IsAfter c cs → i ≤ℤ (c.0 +ℤ pos 172_800) → offset_at c.1 cs i ≡ c.1
+pub stays : (c : ℤ × ℤ) (cs : List (ℤ × ℤ)) (i : ℤ) → IsAfter c cs → i ≤ℤ (c.0 +ℤ pos apart_limit) → offset_at c.1 cs i ≡ c.1
 stays c [] i h le = refl
 stays c (d ∷ ds) i h le = let t : int_le d.0 i ≡ false = int_le-false d.0 i (omega (arith, signed_arith)) in rw t
 
 -- within two days the offset changes at most once
-pub between : (o : ℤ) (cs : List (ℤ × ℤ)) (x i y : ℤ) → IsSpread cs → x ≤ℤ i → i ≤ℤ y → y ≤ℤ (x +ℤ pos 172_800) → (offset_at o cs i ≡ offset_at o cs x) ⊎ (offset_at o cs i ≡ offset_at o cs y)
+pub between : (o : ℤ) (cs : List (ℤ × ℤ)) (x i y : ℤ) → IsSpread cs → x ≤ℤ i → i ≤ℤ y → y ≤ℤ (x +ℤ pos apart_limit) → (offset_at o cs i ≡ offset_at o cs x) ⊎ (offset_at o cs i ≡ offset_at o cs y)
 between o [] x i y s low high near = inl refl
 between o (c ∷ cs) x i y s low high near =
     by_lt_z i c.0
@@ -51,7 +51,7 @@ between o (c ∷ cs) x i y s low high near =
     let b : int_le c.0 x ≡ true = int_le-true c.0 x after in
     rw (a, b, e) (between c.1 cs x i y s.1 low high near)))
 
-pub offset_within : (o : ℤ) (cs : List (ℤ × ℤ)) (i : ℤ) → AreOffsets o cs → (neg_ℤ (pos 86_400) ≤ℤ offset_at o cs i) × (offset_at o cs i ≤ℤ pos 86_400)
+pub offset_within : (o : ℤ) (cs : List (ℤ × ℤ)) (i : ℤ) → AreOffsets o cs → (neg_ℤ (pos offset_limit) ≤ℤ offset_at o cs i) × (offset_at o cs i ≤ℤ pos offset_limit)
 offset_within o [] i h = h
 offset_within o (c ∷ cs) i h =
     by_lt_z i c.0
@@ -59,10 +59,10 @@ offset_within o (c ∷ cs) i h =
     (λ late. let a : int_le c.0 i ≡ true = int_le-true c.0 i late in rw a (offset_within c.1 cs i h.1))
 
 -- so an instant that shows w is w less the offset a day before w or a day after it
-pub candidates : (o : ℤ) (cs : List (ℤ × ℤ)) (w i : ℤ) → IsSpread cs → AreOffsets o cs → i +ℤ offset_at o cs i ≡ w → (i ≡ w -ℤ offset_at o cs (w -ℤ pos 86_400)) ⊎ (i ≡ w -ℤ offset_at o cs (w +ℤ pos 86_400))
+pub candidates : (o : ℤ) (cs : List (ℤ × ℤ)) (w i : ℤ) → IsSpread cs → AreOffsets o cs → i +ℤ offset_at o cs i ≡ w → (i ≡ w -ℤ offset_at o cs (w -ℤ pos offset_limit)) ⊎ (i ≡ w -ℤ offset_at o cs (w +ℤ pos offset_limit))
 candidates o cs w i s a e =
     let b = offset_within o cs i a in
-    elim (between o cs (w -ℤ pos 86_400) i (w +ℤ pos 86_400) s (omega (arith, signed_arith, e, b)) (omega (arith, signed_arith, e, b)) (omega (arith, signed_arith))) [
+    elim (between o cs (w -ℤ pos offset_limit) i (w +ℤ pos offset_limit) s (omega (arith, signed_arith, e, b)) (omega (arith, signed_arith, e, b)) (omega (arith, signed_arith))) [
       | inl p ↦ inl (omega (arith, signed_arith, e, p))
       | inr p ↦ inr (omega (arith, signed_arith, e, p))
     ]

@@ -5,7 +5,7 @@ use Rattle.jiff_core.proofs.SignedLemmas.{signed_arith}
 use Rattle.croner_base.specs.declared.time.value.Resolution.TheVariants.{Single, Ambiguous, Gap}
 use Rattle.croner_base.specs.Calm.{NamesAll}
 use Rattle.croner_base.specs.Limits.{apart_limit}
-use Rattle.croner_base.specs.Table.{offset_at, is_offset, is_apart, are_offsets, are_instants, is_calm_table}
+use Rattle.croner_base.specs.Table.{offset_at, is_offset, is_apart, are_offsets, are_instants, is_calm_table, offset_limit}
 use Rattle.croner_base.specs.TableSteps.{offset_past, IsCountUntil}
 use Rattle.croner_base.specs.TableZone.{clock, clock_reads}
 use Rattle.croner_base.proofs.TableTests.{both_parts, lt_of, le_of, gt_of, offset_bounds, offset_test}
@@ -36,16 +36,16 @@ calm_spread o cs h = spread_from cs (rules_from_calm o cs h).instants
 pub calm_offsets : (o : ℤ) (cs : List (ℤ × ℤ)) → is_calm_table o cs ≡ true → AreOffsets o cs
 calm_offsets o cs h = offsets_from o cs (rules_from_calm o cs h).offsets
 
-later_than : (c : ℤ × ℤ) (cs : List (ℤ × ℤ)) (k : ℕ) → IsSpread (c ∷ cs) → k < length cs → (c.0 +ℤ pos 172_800) <ℤ (get_or cs k (pos 0, pos 0)).0
+later_than : (c : ℤ × ℤ) (cs : List (ℤ × ℤ)) (k : ℕ) → IsSpread (c ∷ cs) → k < length cs → (c.0 +ℤ pos apart_limit) <ℤ (get_or cs k (pos 0, pos 0)).0
 later_than c [] k s h = absurd (omega arith)
 later_than c (d ∷ ds) zero s h = s.0
 later_than c (d ∷ ds) (suc k) s h =
     let r = later_than d ds k s.1 (omega arith) in
-    let a : (c.0 +ℤ pos 172_800) <ℤ d.0 = s.0 in
+    let a : (c.0 +ℤ pos apart_limit) <ℤ d.0 = s.0 in
     omega (arith, signed_arith, r, a)
 
 -- so do changes that are not neighbours
-pub spread_index : (cs : List (ℤ × ℤ)) (j k : ℕ) → IsSpread cs → j < k → k < length cs → ((get_or cs j (pos 0, pos 0)).0 +ℤ pos 172_800) <ℤ (get_or cs k (pos 0, pos 0)).0
+pub spread_index : (cs : List (ℤ × ℤ)) (j k : ℕ) → IsSpread cs → j < k → k < length cs → ((get_or cs j (pos 0, pos 0)).0 +ℤ pos apart_limit) <ℤ (get_or cs k (pos 0, pos 0)).0
 spread_index [] j k s lt h = absurd (omega arith)
 spread_index (c ∷ cs) zero zero s lt h = absurd (omega arith)
 spread_index (c ∷ cs) (suc j) zero s lt h = absurd (omega arith)
@@ -76,12 +76,12 @@ pub record Sides (o : ℤ) (cs : List (ℤ × ℤ)) (w d early late : ℤ) : Typ
   pub at_late : d ≤ℤ late → clock_reads o cs late ≡ w
 
 -- the readings of a wall second are at most a day from it
-near : (o : ℤ) (cs : List (ℤ × ℤ)) (w i : ℤ) → AreOffsets o cs → clock_reads o cs i ≡ w → ((w -ℤ pos 86_400) ≤ℤ i) × (i ≤ℤ (w +ℤ pos 86_400))
+near : (o : ℤ) (cs : List (ℤ × ℤ)) (w i : ℤ) → AreOffsets o cs → clock_reads o cs i ≡ w → ((w -ℤ pos offset_limit) ≤ℤ i) × (i ≤ℤ (w +ℤ pos offset_limit))
 near o cs w i a e =
     let b = offset_within o cs i a in
     (omega (arith, signed_arith, e, b), omega (arith, signed_arith, e, b))
 
-past_within : (o : ℤ) (cs : List (ℤ × ℤ)) (n : ℕ) → n ≤ length cs → AreOffsets o cs → (neg_ℤ (pos 86_400) ≤ℤ offset_past o cs n) × (offset_past o cs n ≤ℤ pos 86_400)
+past_within : (o : ℤ) (cs : List (ℤ × ℤ)) (n : ℕ) → n ≤ length cs → AreOffsets o cs → (neg_ℤ (pos offset_limit) ≤ℤ offset_past o cs n) × (offset_past o cs n ≤ℤ pos offset_limit)
 past_within o [] zero h a = a
 past_within o [] (suc n) h a = absurd (omega arith)
 past_within o (c ∷ cs) zero h a = a.0
@@ -94,14 +94,14 @@ ascending (c ∷ cs) (suc j) zero s le h = absurd (omega arith)
 ascending (c ∷ cs) zero (suc k) s le h = let r = later_than c cs k s (omega arith) in omega (arith, signed_arith, r)
 ascending (c ∷ cs) (suc j) (suc k) s le h = ascending cs j k s.1 (omega arith) (omega arith)
 
-on_late : (o : ℤ) (cs : List (ℤ × ℤ)) (w i : ℤ) (n m : ℕ) → n ≡ m + 1 → IsSpread cs → n ≤ length cs → IsCountUntil cs (w +ℤ pos 86_400) n → (get_or cs m (pos 0, pos 0)).0 ≤ℤ i → i ≤ℤ (w +ℤ pos 86_400) → offset_at o cs i ≡ offset_past o cs n
+on_late : (o : ℤ) (cs : List (ℤ × ℤ)) (w i : ℤ) (n m : ℕ) → n ≡ m + 1 → IsSpread cs → n ≤ length cs → IsCountUntil cs (w +ℤ pos offset_limit) n → (get_or cs m (pos 0, pos 0)).0 ≤ℤ i → i ≤ℤ (w +ℤ pos offset_limit) → offset_at o cs i ≡ offset_past o cs n
 on_late o cs w i n m e s h u low high =
     offset_by_count o cs i n h (record {
       passed = λ k l. let a = ascending cs k m s (omega arith) (omega arith) in omega (arith, signed_arith, a, low);
       ahead = λ k l r. let f = u.ahead k l r in omega (arith, signed_arith, f, high);
     })
 
-on_early : (o : ℤ) (cs : List (ℤ × ℤ)) (w i : ℤ) (n m : ℕ) → n ≡ m + 1 → IsSpread cs → n ≤ length cs → IsCountUntil cs (w +ℤ pos 86_400) n → (w -ℤ pos 86_400) ≤ℤ i → i <ℤ (get_or cs m (pos 0, pos 0)).0 → offset_at o cs i ≡ offset_past o cs m
+on_early : (o : ℤ) (cs : List (ℤ × ℤ)) (w i : ℤ) (n m : ℕ) → n ≡ m + 1 → IsSpread cs → n ≤ length cs → IsCountUntil cs (w +ℤ pos offset_limit) n → (w -ℤ pos offset_limit) ≤ℤ i → i <ℤ (get_or cs m (pos 0, pos 0)).0 → offset_at o cs i ≡ offset_past o cs m
 on_early o cs w i n m e s h u low high =
     let last = u.passed m (omega arith) in
     offset_by_count o cs i m (omega arith) (record {
@@ -109,7 +109,7 @@ on_early o cs w i n m e s h u low high =
       ahead = λ k l r. let a = ascending cs m k s l r in omega (arith, signed_arith, a, high);
     })
 
-pub sides : (o : ℤ) (cs : List (ℤ × ℤ)) (w : ℤ) (n m : ℕ) → n ≡ m + 1 → IsSpread cs → AreOffsets o cs → n ≤ length cs → IsCountUntil cs (w +ℤ pos 86_400) n → Sides o cs w (get_or cs m (pos 0, pos 0)).0 (w -ℤ offset_past o cs m) (w -ℤ offset_past o cs n)
+pub sides : (o : ℤ) (cs : List (ℤ × ℤ)) (w : ℤ) (n m : ℕ) → n ≡ m + 1 → IsSpread cs → AreOffsets o cs → n ≤ length cs → IsCountUntil cs (w +ℤ pos offset_limit) n → Sides o cs w (get_or cs m (pos 0, pos 0)).0 (w -ℤ offset_past o cs m) (w -ℤ offset_past o cs n)
 sides o cs w n m e s a h u =
     let d = (get_or cs m (pos 0, pos 0)).0 in
     let last = u.passed m (omega arith) in
@@ -126,11 +126,11 @@ sides o cs w n m e s a h u =
     }
 
 -- the readings before all changes
-pub names_first : (o : ℤ) (cs : List (ℤ × ℤ)) (w : ℤ) → AreOffsets o cs → IsCountUntil cs (w +ℤ pos 86_400) 0 → NamesAll (clock o cs) w (Single (w -ℤ offset_past o cs 0))
+pub names_first : (o : ℤ) (cs : List (ℤ × ℤ)) (w : ℤ) → AreOffsets o cs → IsCountUntil cs (w +ℤ pos offset_limit) 0 → NamesAll (clock o cs) w (Single (w -ℤ offset_past o cs 0))
 unfolding clock
 names_first o cs w a u =
     let within = past_within o cs 0 (omega arith) a in
-    let first : (i : ℤ) → i ≤ℤ (w +ℤ pos 86_400) → offset_at o cs i ≡ o = λ i le. offset_by_count o cs i 0 (omega arith) (record {
+    let first : (i : ℤ) → i ≤ℤ (w +ℤ pos offset_limit) → offset_at o cs i ≡ o = λ i le. offset_by_count o cs i 0 (omega arith) (record {
       passed = λ k l. absurd (omega arith);
       ahead = λ k l r. let f = u.ahead k l r in omega (arith, signed_arith, f, le);
     }) in
@@ -171,7 +171,7 @@ names_gap o cs w d x y s no_early no_late = λ i r. elim (s.cover i r) [
 ]
 
 -- the changes of a table around a wall second
-pub sides_of : (o : ℤ) (cs : List (ℤ × ℤ)) (w d b a : ℤ) (n m : ℕ) → is_calm_table o cs ≡ true → n ≡ m + 1 → n ≤ length cs → IsCountUntil cs (w +ℤ pos 86_400) n → d ≡ (get_or cs m (pos 0, pos 0)).0 → b ≡ offset_past o cs m → a ≡ offset_past o cs n → Sides o cs w d (w -ℤ b) (w -ℤ a)
+pub sides_of : (o : ℤ) (cs : List (ℤ × ℤ)) (w d b a : ℤ) (n m : ℕ) → is_calm_table o cs ≡ true → n ≡ m + 1 → n ≤ length cs → IsCountUntil cs (w +ℤ pos offset_limit) n → d ≡ (get_or cs m (pos 0, pos 0)).0 → b ≡ offset_past o cs m → a ≡ offset_past o cs n → Sides o cs w d (w -ℤ b) (w -ℤ a)
 sides_of o cs w d b a n m h e le u p q r =
     rw (p, q, r) (sides o cs w n m e (calm_spread o cs h) (calm_offsets o cs h) le u)
 

@@ -2,7 +2,7 @@
 use Rattle.std.proofs.Common.{◌≡◌, Bool, true, false, refl, arith, ◌&&◌, not, ℕ, ◌≤◌, nat_le, ℤ, pos, neg_ℤ, ◌-ℤ◌, ◌<ℤ◌, ◌≤ℤ◌, int_le, int_lt, int_eq}
 use Rattle.std.proofs.lemmas.Int.{ints}
 use Rattle.croner_base.specs.Limits.{gap_limit, fold_limit, first_searched, last_searched}
-use Rattle.croner_base.specs.Table.{first_instant, last_instant, is_offset, is_table_second, is_step, is_searched}
+use Rattle.croner_base.specs.Table.{first_instant, last_instant, is_offset, is_table_second, is_step, is_searched, offset_limit}
 
 pub both_parts : (a b : Bool) → (a && b) ≡ true → (a ≡ true) × (b ≡ true)
 both_parts true true h = (refl, refl)
@@ -43,12 +43,12 @@ pub instant_test : (i : ℤ) → first_instant ≤ℤ i → i ≤ℤ last_instan
 instant_test i low high = let a = le_test _ _ low in let b = le_test _ _ high in rw (a, b)
 
 -- an offset of at most a day
-pub offset_bounds : (o : ℤ) → is_offset o ≡ true → (neg_ℤ (pos 86_400) ≤ℤ o) × (o ≤ℤ pos 86_400)
+pub offset_bounds : (o : ℤ) → is_offset o ≡ true → (neg_ℤ (pos offset_limit) ≤ℤ o) × (o ≤ℤ pos offset_limit)
 offset_bounds o h =
     let p = both_parts _ _ h in
     (le_of _ _ p.0, le_of _ _ p.1)
 
-pub offset_test : (o : ℤ) → neg_ℤ (pos 86_400) ≤ℤ o → o ≤ℤ pos 86_400 → is_offset o ≡ true
+pub offset_test : (o : ℤ) → neg_ℤ (pos offset_limit) ≤ℤ o → o ≤ℤ pos offset_limit → is_offset o ≡ true
 offset_test o low high = let a = le_test _ _ low in let b = le_test _ _ high in rw (a, b)
 
 -- what a change does to the clock

@@ -6,7 +6,7 @@ use Rattle.croner_base.specs.declared.time.civil.Weekday.TheVariants.{Sunday, Mo
 use Rattle.croner_base.specs.declared.time.civil.CivilDate.{CivilDate}
 use Rattle.croner_base.specs.declared.time.civil.CivilTime.{CivilTime}
 use Rattle.croner_base.specs.declared.time.civil.CivilDateTime.{CivilDateTime}
-use Rattle.croner_base.specs.Calendar.{day_number, weekday_of_day}
+use Rattle.croner_base.specs.Calendar.{day_number, weekday_of_day, day_seconds}
 
 -- how many days after Sunday
 abbrev pub weekday_index : Weekday → ℕ
@@ -44,7 +44,7 @@ seconds_of_time t = t.hour * 3600 + t.minute * 60 + t.second
 
 -- the wall second: seconds since 1970-01-01T00:00:00 on a clock whose days have 24 hours
 unfoldable pub wall_second : CivilDateTime → ℤ
-wall_second c = day_of_date c.date *ℤ pos 86_400 +ℤ pos (seconds_of_time c.time)
+wall_second c = day_of_date c.date *ℤ pos day_seconds +ℤ pos (seconds_of_time c.time)
 
 -- the weekday of a wall second's date, from 0 for Sunday
 abbrev pub weekday_of_date : CivilDate → ℕ
@@ -52,4 +52,4 @@ weekday_of_date d = weekday_of_day (day_of_date d)
 
 -- the weekday of the date of a wall second, from 0 for Sunday
 abbrev pub weekday_of_second : ℤ → ℕ
-weekday_of_second w = weekday_of_day (int_div_euclid w (pos 86_400))
+weekday_of_second w = weekday_of_day (int_div_euclid w (pos day_seconds))

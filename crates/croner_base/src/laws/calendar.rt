@@ -3,7 +3,7 @@
 ghost use Rattle.std.specs.Prelude.{◌≡◌, ◌↔◌, ℕ, ◌+◌, ◌%◌, ◌≤◌, ℤ, pos, ◌+ℤ◌, ◌*ℤ◌, ◌≤ℤ◌};
 ghost use Rattle.std.specs.Ordering.{int_cmp, nat_cmp};
 ghost use Rattle.jiff_core.specs.Calendar.{days_in_month, IsBetween, IsWithin};
-ghost use Rattle.croner_base.specs.Calendar.{day_number, weekday_of_day};
+ghost use Rattle.croner_base.specs.Calendar.{day_number, weekday_of_day, day_seconds};
 ghost use Rattle.croner_base.specs.Calm.{IsSearched, IsInReach, IsStart};
 ghost use Rattle.croner_base.specs.Civil.{wall_second, day_of_date, seconds_of_time, weekday_index};
 
@@ -74,7 +74,7 @@ pub fn wall_second_has_one_date_time(left: CivilDateTime, right: CivilDateTime)
 /// A civil date-time is of a year or a later one exactly from the year's first second on.
 pub fn year_begins_on_its_first_day(civil: CivilDateTime)
     ensures { (year : ℤ)
-        → (year ≤ℤ civil.date.year) ↔ ((day_number year 1 1 *ℤ pos 86_400) ≤ℤ wall_second civil) }
+        → (year ≤ℤ civil.date.year) ↔ ((day_number year 1 1 *ℤ pos day_seconds) ≤ℤ wall_second civil) }
 {}
 
 /// The wall seconds that a pattern can name are those of the years 1 to 5000, a search needs those of the years 0 to

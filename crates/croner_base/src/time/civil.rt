@@ -3,7 +3,7 @@ ghost use Rattle.std.specs.Prelude.{◌≡◌, ◌↔◌, ◌+◌, ◌*◌, ◌<
 ghost use Rattle.std.specs.Int.{IsInRange, int_rem_euclid};
 ghost use mir.Syntax.{w32};
 ghost use Rattle.jiff_core.specs.Calendar.{days_in_month as month_days};
-ghost use Rattle.croner_base.specs.Calendar.{IsRealDate, place_in_year};
+ghost use Rattle.croner_base.specs.Calendar.{IsRealDate, place_in_year, day_seconds};
 
 use crate::errors::CronError;
 use crate::time::{day_of_year, days_in_month};
@@ -239,7 +239,7 @@ impl CivilTime {
 
     /// The time so many seconds after midnight.
     pub(crate) fn from_seconds_of_day(seconds: u32) -> CivilTime
-        requires { seconds < 86_400 }
+        requires { seconds < day_seconds }
         ensures { seconds_of_time result ≡ seconds }
     {
         let minutes = seconds / 60;

@@ -4,6 +4,7 @@ use Rattle.croner_base.specs.TableSteps.{offset_past}
 use Rattle.croner_base.proofs.TableTests.{offset_bounds}
 use Rattle.croner_base.proofs.TableReadings.{sides_of, names_first, names_early, names_late, names_both, names_gap, calm_offsets}
 use Rattle.croner_base.proofs.time.table.ClockTable.instants_of.Goals as goal
+use Rattle.croner_base.specs.Table.{offset_limit}
 
 pub returns-then-passed-eq0 : goal.returns-then-passed-eq0
 returns-then-passed-eq0 c =
@@ -11,7 +12,7 @@ returns-then-passed-eq0 c =
     let n = c.changes_until-passed.result in
     let u = offset_bounds c.offset_past-after.result c.offset_past-after.ensures.bound in
     let fw : FitsSigned w64 c.args.wall = c.ranges.wall in
-    let fd : FitsSigned w64 (c.args.wall +ℤ pos 86_400) = omega (arith, ints) in
+    let fd : FitsSigned w64 (c.args.wall +ℤ pos offset_limit) = omega (arith, ints) in
     let fa : FitsSigned w64 c.offset_past-after.result = omega (arith, ints, u) in
     let fl : FitsSigned w64 (c.args.wall -ℤ c.offset_past-after.result) = omega (arith, ints, u) in
     let le : n ≤ length t.changes.items = omega (arith, t.changes.ok.0, c.changes_until-passed.ensures.bound) in
@@ -26,7 +27,7 @@ returns-then-later-change c =
     let n = c.changes_until-passed.result in
     let u = offset_bounds c.offset_past-after.result c.offset_past-after.ensures.bound in
     let fw : FitsSigned w64 c.args.wall = c.ranges.wall in
-    let fd : FitsSigned w64 (c.args.wall +ℤ pos 86_400) = omega (arith, ints) in
+    let fd : FitsSigned w64 (c.args.wall +ℤ pos offset_limit) = omega (arith, ints) in
     let fa : FitsSigned w64 c.offset_past-after.result = omega (arith, ints, u) in
     let fl : FitsSigned w64 (c.args.wall -ℤ c.offset_past-after.result) = omega (arith, ints, u) in
     let le : n ≤ length t.changes.items = omega (arith, t.changes.ok.0, c.changes_until-passed.ensures.bound) in
@@ -43,7 +44,7 @@ returns-else-later-change c =
     let n = c.changes_until-passed.result in
     let u = offset_bounds c.offset_past-after.result c.offset_past-after.ensures.bound in
     let fw : FitsSigned w64 c.args.wall = c.ranges.wall in
-    let fd : FitsSigned w64 (c.args.wall +ℤ pos 86_400) = omega (arith, ints) in
+    let fd : FitsSigned w64 (c.args.wall +ℤ pos offset_limit) = omega (arith, ints) in
     let fa : FitsSigned w64 c.offset_past-after.result = omega (arith, ints, u) in
     let fl : FitsSigned w64 (c.args.wall -ℤ c.offset_past-after.result) = omega (arith, ints, u) in
     let le : n ≤ length t.changes.items = omega (arith, t.changes.ok.0, c.changes_until-passed.ensures.bound) in
@@ -60,7 +61,7 @@ returns-then-later-change-2 c =
     let n = c.changes_until-passed.result in
     let u = offset_bounds c.offset_past-after.result c.offset_past-after.ensures.bound in
     let fw : FitsSigned w64 c.args.wall = c.ranges.wall in
-    let fd : FitsSigned w64 (c.args.wall +ℤ pos 86_400) = omega (arith, ints) in
+    let fd : FitsSigned w64 (c.args.wall +ℤ pos offset_limit) = omega (arith, ints) in
     let fa : FitsSigned w64 c.offset_past-after.result = omega (arith, ints, u) in
     let fl : FitsSigned w64 (c.args.wall -ℤ c.offset_past-after.result) = omega (arith, ints, u) in
     let le : n ≤ length t.changes.items = omega (arith, t.changes.ok.0, c.changes_until-passed.ensures.bound) in
@@ -77,7 +78,7 @@ returns-else-later-change-2 c =
     let n = c.changes_until-passed.result in
     let u = offset_bounds c.offset_past-after.result c.offset_past-after.ensures.bound in
     let fw : FitsSigned w64 c.args.wall = c.ranges.wall in
-    let fd : FitsSigned w64 (c.args.wall +ℤ pos 86_400) = omega (arith, ints) in
+    let fd : FitsSigned w64 (c.args.wall +ℤ pos offset_limit) = omega (arith, ints) in
     let fa : FitsSigned w64 c.offset_past-after.result = omega (arith, ints, u) in
     let fl : FitsSigned w64 (c.args.wall -ℤ c.offset_past-after.result) = omega (arith, ints, u) in
     let le : n ≤ length t.changes.items = omega (arith, t.changes.ok.0, c.changes_until-passed.ensures.bound) in
