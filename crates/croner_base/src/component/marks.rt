@@ -100,6 +100,7 @@ impl Marks {
     }
 
     /// Whether the value has one of the modifiers of `bits`.
+    #[inline]
     pub fn is_set(&self, value: u16, bits: u8) -> bool
         requires { value < room self.now.max }
         ensures { result ≡ is_set bits self.now value }

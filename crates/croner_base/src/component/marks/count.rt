@@ -38,6 +38,7 @@ impl Marks {
     }
 
     /// The first 64 values that have one of the modifiers of `bits`, as a word.
+    #[inline]
     pub fn low_word(&self, bits: u8) -> u64
         ensures { (v : ℕ) → v < word_bits → (bit_at result v == 1) ≡ is_set bits self.now v }
     {
@@ -48,6 +49,7 @@ impl Marks {
     }
 
     // The values of word `i`, from the given one on, that have one of the modifiers of `bits`.
+    #[inline]
     fn marked(&self, first: u16, bits: u8, i: usize) -> u64
         requires here { i < width self.now.max }
         requires from { first / word_bits ≤ i }
@@ -57,6 +59,7 @@ impl Marks {
     }
 
     /// The values of word `i` that have one of the modifiers of `bits`. Bits past the maximum say nothing.
+    #[inline]
     pub(super) fn any(&self, bits: u8, i: usize) -> u64
         requires { i < width self.now.max }
         ensures { ShowsMarked self.now bits i result }

@@ -12,6 +12,7 @@ use super::row;
 use super::words::WORD_BITS;
 
 /// How many supported modifiers stand below modifier `k`.
+#[inline(always)]
 fn rows_below(supported: u8, k: u8) -> u8
     requires { k < 8 }
     ensures { result ≡ rows_below supported k }
@@ -28,6 +29,7 @@ pub fn rows(supported: u8) -> u8
 }
 
 /// How many values there are.
+#[inline(always)]
 pub fn room(max: u16) -> usize
     ensures { result ≡ room max }
 {
@@ -35,6 +37,7 @@ pub fn room(max: u16) -> usize
 }
 
 /// How many words a row has.
+#[inline(always)]
 pub fn width(max: u16) -> usize
     ensures { result ≡ width max }
 {
@@ -42,6 +45,7 @@ pub fn width(max: u16) -> usize
 }
 
 /// Where the word of a modifier and a value stands.
+#[inline(always)]
 pub fn place(max: u16, supported: u8, k: u8, value: u16) -> usize
     requires { k < 8 }
     ensures { result ≡ rows_below supported k * width max + value / word_bits }
@@ -61,6 +65,7 @@ fn has(words: &[u64], max: u16, supported: u8, k: u8, value: u16) -> bool
 }
 
 /// Word `i` of the modifier's row, and 0 where it isn't supported.
+#[inline(always)]
 pub fn word(words: &[u64], max: u16, supported: u8, k: u8, i: usize) -> u64
     requires modifier { k < 8 }
     requires within { i < width max }
@@ -99,6 +104,7 @@ pub fn unmark(words: &mut [u64], max: u16, supported: u8, k: u8, value: u16)
 }
 
 /// The values of word `i` that have one of the modifiers of `bits`. Bits past the maximum say nothing.
+#[inline(always)]
 pub fn any(words: &[u64], max: u16, supported: u8, bits: u8, i: usize) -> u64
     requires within { i < width max }
     requires rows { length words.now ≡ rows_below supported 8 * width max }
