@@ -21,7 +21,16 @@ const LAST_YEAR: i32 = 9998;
 
 /// A clock that is some seconds ahead of UTC, up to its first change and from each change on.
 ///
-/// Every `ClockTable` is a calm clock: it changes seldom and by little.
+/// Every `ClockTable` is calm, as a search wants a clock to be: a change moves it by at most two hours, changes lie more
+/// than two days apart, those with a reading in the years 1 to 5000 are at most 20,000 and skip at most 20,000,000 seconds
+/// together, and each second that is asked for is resolved to exactly the instants that show it.
+///
+/// Paris in 2024 is one hour ahead of UTC, and two from 2024-03-31T01:00:00 UTC to 2024-10-27T01:00:00 UTC:
+///
+/// ```
+/// let changes = vec![in alloc; (1_711_846_800, 7_200), (1_729_990_800, 3_600)]?;
+/// let paris = ClockTable::new(3_600, changes)?;
+/// ```
 #[derive(Debug, Drop)]
 pub struct ClockTable {
     first_offset: i32,
@@ -131,6 +140,13 @@ impl ClockTable {
 }
 
 /// A second on the clock of a table, counted from 1970-01-01T00:00:00 UTC.
+///
+/// Noon of 2024-07-01 in Paris, with the clock `paris` of [`ClockTable`], and the next run of a job after it:
+///
+/// ```
+/// let noon = TableTime::new(&paris, 1_719_828_000)?;
+/// let run = cron.find_next_occurrence(&noon, false)?;
+/// ```
 #[derive(Debug, Clone, Copy)]
 pub struct TableTime<'t> {
     table: &'t ClockTable,
