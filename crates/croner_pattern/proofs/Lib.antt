@@ -8,7 +8,6 @@ pub mod NearestDays
 pub mod Known
 pub mod Firsts
 pub mod Masks
-pub mod Once
 pub mod DescriptionExamples
 pub mod ListsWritten
 pub mod RunsWritten

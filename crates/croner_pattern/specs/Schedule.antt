@@ -42,10 +42,6 @@ is_day_side days len first day =
 abbrev pub bit_of_nth : ℕ → ℕ
 bit_of_nth n = 2 ^ n
 
--- LAST_BIT, or nothing
-abbrev pub last_bit : Bool → ℕ
-last_bit last = if last then 64 else 0
-
 -- the weekday fits: plain, as the nth of the month, or as its last
 abbrev pub is_weekday_side : Field → ℕ → ℕ → ℕ → Bool
 is_weekday_side weekdays len first day =

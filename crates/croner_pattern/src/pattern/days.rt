@@ -9,23 +9,23 @@ ghost use Rattle.jiff_core.specs.Calendar.{days_in_month as month_days};
 ghost use Rattle.croner_pattern.specs.Days.{weekday_of, occurrence, is_last_weekday, is_last_working, is_nearest, resolved_day};
 ghost use Rattle.croner_pattern.specs.Meaning.{meaning_of};
 ghost use Rattle.croner_pattern.specs.Questions.{first_from, first_target, last_target, near_answer, near_answers, is_named_last, last_answer, day_answer, weekday_answer, date_answer};
-ghost use Rattle.croner_pattern.specs.Schedule.{bit_of_nth, last_bit, are_joined, is_near_target, is_day_side, is_weekday_side, is_day_matching};
+ghost use Rattle.croner_pattern.specs.Schedule.{bit_of_nth, are_joined, is_near_target, is_day_matching};
 ghost use Rattle.croner_pattern.specs.Shapes.{has_field_shapes};
 
 use super::{CronPattern, ask};
 use croner_base::component::{
-    ALL_BIT, CLOSEST_WEEKDAY_BIT, CronComponent, LAST_BIT, NONE_BIT, NTH_1ST_BIT, NTH_2ND_BIT,
-    NTH_3RD_BIT, NTH_4TH_BIT, NTH_5TH_BIT,
+    ALL_BIT, CLOSEST_WEEKDAY_BIT, CronComponent, LAST_BIT, NTH_1ST_BIT, NTH_2ND_BIT, NTH_3RD_BIT,
+    NTH_4TH_BIT, NTH_5TH_BIT,
 };
 use croner_base::errors::CronError;
 use croner_base::time::{CivilDate, Weekday, days_in_month};
 
 /// The days of a week.
-const WEEK: u32 = 7;
+pub(super) const WEEK: u32 = 7;
 
-const SUNDAY: u32 = 0;
+pub(super) const SUNDAY: u32 = 0;
 
-const SATURDAY: u32 = 6;
+pub(super) const SATURDAY: u32 = 6;
 
 /// A nearest working day lies at most two days from its target.
 const NEAREST_REACH: u32 = 2;
@@ -91,37 +91,7 @@ impl CronPattern {
         requires day { IsInRange 1 length day }
         ensures { result ≡ is_day_matching (meaning_of self.now) length first day }
     {
-        if self.star_day && !self.star_weekday {
-            return self.names_weekday(length, first, day);
-        }
-        if self.star_weekday && !self.star_day {
-            return self.names_day(length, first, day);
-        }
-        let day_fits = self.names_day(length, first, day);
-        self.joined(day_fits, self.names_weekday(length, first, day))
-    }
-
-    /// Whether the day of month fits. With the shapes of a pattern's fields nothing is refused.
-    fn names_day(&self, length: u32, first: u32, day: u32) -> bool
-        requires shapes { has_field_shapes (meaning_of self.now) ≡ true }
-        requires length { IsInRange 28 31 length }
-        requires first { first < 7 }
-        requires day { IsInRange 1 length day }
-        ensures { result ≡ is_day_side (meaning_of self.now).days length first day }
-    {
-        fits_days(&self.days, length, first, day).unwrap_or(false)
-    }
-
-    /// Whether the weekday fits, by one question. With the shapes of a pattern's fields it isn't refused.
-    fn names_weekday(&self, length: u32, first: u32, day: u32) -> bool
-        requires shapes { has_field_shapes (meaning_of self.now) ≡ true }
-        requires length { IsInRange 28 31 length }
-        requires first { first < 7 }
-        requires day { IsInRange 1 length day }
-        ensures { result ≡ is_weekday_side (meaning_of self.now).days_of_week length first day }
-    {
-        let bits = ALL_BIT | occurrence_bit(day) | last_bit(length, day);
-        ask(&self.days_of_week, weekday_of(first, day) as u16, bits).unwrap_or(false)
+        self.days_of_month(length, first) >> (day - 1) & 1 == 1
     }
 
     pub(super) fn fits(&self, length: u32, first: u32, day: u32) -> Result<bool, CronError>
@@ -359,19 +329,6 @@ fn occurrence_bit(day: u32) -> u8
         2 => NTH_3RD_BIT,
         3 => NTH_4TH_BIT,
         _ => NTH_5TH_BIT,
-    }
-}
-
-/// The bit of the last weekday of a month, where the day is the last of its weekday.
-fn last_bit(length: u32, day: u32) -> u8
-    requires length { IsInRange 28 31 length }
-    requires day { IsInRange 1 length day }
-    ensures { (first : ℕ) → first < 7 → result ≡ last_bit (is_last_weekday length first day) }
-{
-    if is_last_weekday(length, day) {
-        LAST_BIT
-    } else {
-        NONE_BIT
     }
 }
 

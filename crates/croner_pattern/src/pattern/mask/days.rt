@@ -10,19 +10,19 @@ ghost use Rattle.croner_pattern.specs.Questions.{is_named_last};
 ghost use Rattle.croner_pattern.specs.Schedule.{is_day_side};
 ghost use Rattle.croner_pattern.specs.Shapes.{day_shape, is_like};
 
-use super::month::{days_of_weekdays, whole_month};
-use crate::pattern::days::last_working;
+use super::month::{WEEK_BITS, days_of_weekdays, whole_month};
+use crate::pattern::days::{SATURDAY, SUNDAY, last_working};
 use croner_base::component::{ALL_BIT, CLOSEST_WEEKDAY_BIT, CronComponent, LAST_BIT};
 
 /// Bits 0 to 30, for the days 1 to 31.
 const MONTH_BITS: u64 = 0x7FFF_FFFF;
 
 /// Sets of weekdays, from bit 0 for Sunday.
-const SUNDAYS: u32 = 0b000_0001;
+const SUNDAYS: u32 = 1 << SUNDAY;
 
-const SATURDAYS: u32 = 0b100_0000;
+const SATURDAYS: u32 = 1 << SATURDAY;
 
-const WORKING_DAYS: u32 = 0b011_1110;
+const WORKING_DAYS: u32 = WEEK_BITS - SUNDAYS - SATURDAYS;
 
 /// The days that fit the field.
 pub fn days_named(days: &CronComponent, length: u32, first: u32) -> u32

@@ -5,8 +5,7 @@ ghost use Rattle.std.specs.Int.{IsInRange};
 ghost use Rattle.croner_pattern.specs.Days.{weekday_of};
 ghost use Rattle.croner_pattern.specs.Private.DayBits.{has_bit, ShowsDays};
 
-/// The days of a week.
-pub const WEEK: u32 = 7;
+use crate::pattern::days::WEEK;
 
 /// The seven days of a week, from the lowest bit.
 pub const WEEK_BITS: u32 = 0x7F;

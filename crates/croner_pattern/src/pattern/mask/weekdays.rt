@@ -8,7 +8,8 @@ ghost use Rattle.croner_pattern.specs.Private.DayBits.{ShowsDays};
 ghost use Rattle.croner_pattern.specs.Schedule.{bit_of_nth, is_weekday_side};
 ghost use Rattle.croner_pattern.specs.Shapes.{weekday_shape, is_like};
 
-use super::month::{WEEK, WEEK_BITS, days_of_weekdays, last_week};
+use super::month::{WEEK_BITS, days_of_weekdays, last_week};
+use crate::pattern::days::WEEK;
 use croner_base::component::{
     ALL_BIT, CronComponent, LAST_BIT, NTH_1ST_BIT, NTH_2ND_BIT, NTH_3RD_BIT, NTH_4TH_BIT,
     NTH_5TH_BIT, NTH_ALL,
