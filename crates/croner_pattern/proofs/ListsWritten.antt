@@ -6,7 +6,7 @@ use Rattle.std.proofs.lemmas.List.{at_drop_more, append-nil, length-drop, length
 use Rattle.std.proofs.Math.Nat.{mod-lt}
 use Rattle.croner_pattern.specs.Description.{name_at}
 use Rattle.croner_pattern.specs.Lists.{but_last, last_of, each_behind, joined, text_list}
-use Rattle.croner_pattern.specs.ListSteps.{is_empty, separator, comma, from_place}
+use Rattle.croner_pattern.specs.Private.Lists.{is_empty, separator, comma, from_place}
 
 is_empty-length : {X : Type 0} (xs : List X) → is_empty xs ≡ eqb (length xs) 0
 is_empty-length [] = refl

@@ -1,14 +1,19 @@
 -- Runs of consecutive values: where one ends, what a list of them covers, and how one is written.
-use Rattle.std.proofs.Common.{◌≡◌, ℕ, suc, ◌+◌, ◌-◌, ◌<◌, ◌≤◌, Bool, true, false, ◌&&◌, eqb, ltb, leb, List, [], ◌∷◌, ◌++◌, length, drop, get_or, map, refl, ap, sym, subst, ◌∙◌, append_assoc, arith, inl, inr}
+use Rattle.std.proofs.Common.{◌≡◌, ℕ, suc, ◌+◌, ◌-◌, ◌<◌, ◌≤◌, Bool, true, false, eqb, leb, List, [], ◌∷◌, ◌++◌, length, drop, get_or, map, refl, ap, sym, subst, ◌∙◌, append_assoc, arith, inl, inr}
 use Rattle.std.specs.Prelude.{decimal}
 use Rattle.std.specs.List.{flat_map}
-use Rattle.std.proofs.lemmas.Bool.{cases_Bool, cases_lt, eqb-true, false≢true}
+use Rattle.std.proofs.lemmas.Bool.{cases_Bool, cases_lt, eqb-true}
 use Rattle.std.proofs.lemmas.Bool.Decides.{nat_tests}
 use Rattle.std.proofs.lemmas.List.{at_drop_more, at_drop_all, append-nil, map-append}
 use Rattle.std.proofs.lemmas.Grind.{flat_map-append}
 use Rattle.croner_base.specs.Field.{values_between}
 use Rattle.croner_pattern.specs.Lists.{Run, with_value, runs_of, Item, number, items_of, item_text, number_items, covered}
-use Rattle.croner_pattern.specs.ListSteps.{is_empty, separator, from_place, begun_at, goes_on, RunWritten}
+use Rattle.croner_pattern.specs.Private.Lists.{is_empty, separator, from_place, RunWritten}
+
+-- the runs, the first of which begins at another value
+abbrev pub begun_at : ℕ → List Run → List Run
+begun_at value [] = []
+begun_at value (run ∷ more) = record { first = value; last = run.last } ∷ more
 
 -- the runs begin at a value
 pub record Begins (value : ℕ) (runs : List Run) : Type 0 where
@@ -28,17 +33,6 @@ pub begins : (value : ℕ) (more : List ℕ) → Begins value (runs_of (value �
 begins value [] = record { last = value; more = []; ordered = omega arith; is = refl }
 begins value (next ∷ more) = with_begun value next (runs_of (next ∷ more)) (begins next more)
 
--- a value in a row with the next lengthens its run
-lengthened : (begin value next : ℕ) (runs : List Run) → next ≡ value + 1 → Begins next runs → begun_at begin (with_value value runs) ≡ begun_at begin runs
-lengthened begin value next runs e b =
-    let hit : eqb next (value + 1) ≡ true = grind (arith, nat_tests) in
-    ap (λ r. begun_at begin (with_value value r)) b.is ∙ rw hit refl ∙ ap (begun_at begin) (sym b.is)
-
--- and one that isn't ends it
-ended : (value next : ℕ) (runs : List Run) → eqb next (value + 1) ≡ false → Begins next runs → with_value value runs ≡ record { first = value; last = value } ∷ runs
-ended value next runs miss b =
-    ap (with_value value) b.is ∙ rw miss refl ∙ ap (λ r. record { first = value; last = value } ∷ r) (sym b.is)
-
 at_next : {Y : Type 0} (F : List ℕ → Y) (values : List ℕ) (i : ℕ) → i < length values → F (drop i values) ≡ F (get_or values i 0 ∷ drop (i + 1) values)
 at_next F values i h = at_drop_more F values i 0 h
 
@@ -46,32 +40,6 @@ begins_at : (values : List ℕ) (i : ℕ) → i < length values → Begins (get_
 begins_at values i h =
     let P : List Run → Type 0 = λ runs. Begins (get_or values i 0) runs in
     subst P (sym (at_next runs_of values i h)) (begins (get_or values i 0) (drop (i + 1) values))
-
-both_true : (a b : Bool) → (a && b) ≡ true → (a ≡ true) × (b ≡ true)
-both_true true b h = (refl, h)
-both_true false b h = absurd (false≢true h)
-
-pub run_goes_on : (begin : ℕ) (values : List ℕ) (end : ℕ) → end < length values → goes_on values end ≡ true
-    → begun_at begin (runs_of (drop end values)) ≡ begun_at begin (runs_of (drop (end + 1) values))
-run_goes_on begin values end h g =
-    let p = both_true (ltb (end + 1) (length values)) (eqb (get_or values (end + 1) 0) (get_or values end 0 + 1)) g in
-    let within : end + 1 < length values = grind (arith, nat_tests, p.0) in
-    let e = eqb-true (get_or values (end + 1) 0) (get_or values end 0 + 1) p.1 in
-    at_next (λ l. begun_at begin (runs_of l)) values end h
-    ∙ lengthened begin (get_or values end 0) (get_or values (end + 1) 0) (runs_of (drop (end + 1) values)) e (begins_at values (end + 1) within)
-
-pub run_ends : (values : List ℕ) (end : ℕ) → end < length values → goes_on values end ≡ false
-    → runs_of (drop end values) ≡ record { first = get_or values end 0; last = get_or values end 0 } ∷ runs_of (drop (end + 1) values)
-run_ends values end h g =
-    at_next runs_of values end h ∙ elim (cases_lt (end + 1) (length values)) [
-      | inl within ↦
-          let low : ltb (end + 1) (length values) ≡ true = grind (arith, nat_tests) in
-          let miss : eqb (get_or values (end + 1) 0) (get_or values end 0 + 1) ≡ false = rw low at g in
-          ended (get_or values end 0) (get_or values (end + 1) 0) (runs_of (drop (end + 1) values)) miss (begins_at values (end + 1) within)
-      | inr past ↦
-          at_drop_all (λ l. with_value (get_or values end 0) (runs_of l)) values (end + 1) past
-          ∙ sym (at_drop_all (λ l. record { first = get_or values end 0; last = get_or values end 0 } ∷ runs_of l) values (end + 1) past)
-    ]
 
 -- a run has an item
 items_some : (first last : ℕ) → first ≤ last → (rest : List Item) → is_empty (map item_text (items_of (record { first = first; last = last }) ++ rest)) ≡ false

@@ -13,5 +13,4 @@ pub mod Order
 pub mod Written
 pub mod Lists
 pub mod Description
-pub mod ListSteps
 pub mod Private

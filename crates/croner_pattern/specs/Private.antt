@@ -1,2 +1,3 @@
--- Words of private contracts: nobody else cites them.
+-- Words of the steps in which lists and masks are made. Private contracts alone cite these definitions.
 pub mod DayBits
+pub mod Lists

@@ -3,7 +3,7 @@
 ghost use Rattle.std.specs.Prelude.{◌≡◌, ◌∷◌, [], codes, map, string_bytes};
 ghost use Rattle.std.specs.List.{filter};
 ghost use Rattle.croner_pattern.specs.Description.{day_text, description, is_some_text, month_text, sentence, time_text, year_text};
-ghost use Rattle.croner_pattern.specs.ListSteps.{AddsTexts, ListsTexts};
+ghost use Rattle.croner_pattern.specs.Private.Lists.{AddsTexts, ListsTexts};
 ghost use Rattle.croner_pattern.specs.Meaning.{meaning_of};
 ghost use Rattle.croner_words.specs.English.{english};
 ghost use Rattle.croner_words.specs.Writes.{Writes};

@@ -3,7 +3,7 @@
 ghost use Rattle.std.specs.Prelude.{◌≡◌, ◌++◌, codes, map, string_bytes};
 ghost use Rattle.croner_base.specs.Field.{marked_values};
 ghost use Rattle.croner_pattern.specs.Description.{day_parts, day_text, days_text, if_also, last_weekdays, nth_weekdays, plain_values, plain_weekdays, texts, weekday_names, weekday_parts, where_any, numbers};
-ghost use Rattle.croner_pattern.specs.ListSteps.{AddsTexts, ListsTexts};
+ghost use Rattle.croner_pattern.specs.Private.Lists.{AddsTexts, ListsTexts};
 ghost use Rattle.croner_pattern.specs.Meaning.{meaning_of};
 ghost use Rattle.croner_pattern.specs.Schedule.{bit_of_nth};
 ghost use Rattle.croner_words.specs.Writes.{Writes};

@@ -4,7 +4,7 @@ ghost use Rattle.std.specs.Prelude.{true, ◌≡◌, ◌+◌, ◌-◌, ◌<◌, 
 ghost use Rattle.croner_base.specs.declared.errors.CronError.TheVariants.{OutOfMemory};
 ghost use Rattle.croner_pattern.specs.Description.{name_at};
 ghost use Rattle.croner_pattern.specs.Lists.{item_text, items_of, joined, number_list, runs_of, text_list};
-ghost use Rattle.croner_pattern.specs.ListSteps.{AddsTexts, Appends, comma, from_place, is_empty, goes_on, separator, WritesRun, EndsRun};
+ghost use Rattle.croner_pattern.specs.Private.Lists.{AddsTexts, Appends, comma, from_place, is_empty, goes_on, separator, WritesRun, EndsRun};
 ghost use Rattle.croner_words.specs.Writes.{Writes};
 
 use croner_base::errors::CronError;

@@ -2,7 +2,7 @@
 
 ghost use Rattle.std.specs.Prelude.{◌≡◌, ◌&&◌, not, map, string_bytes};
 ghost use Rattle.croner_pattern.specs.Description.{at_one_minute, hours_part, is_all, is_one_value, is_stepped, is_zero, minutes_part, minutes_text, parts_text, past_hours, seconds_part, stand_alone, time_parts, time_text, value_of};
-ghost use Rattle.croner_pattern.specs.ListSteps.{AddsTexts, ListsTexts};
+ghost use Rattle.croner_pattern.specs.Private.Lists.{AddsTexts, ListsTexts};
 ghost use Rattle.croner_pattern.specs.Meaning.{meaning_of};
 ghost use Rattle.croner_words.specs.Writes.{Writes};
 

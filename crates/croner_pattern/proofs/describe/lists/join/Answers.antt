@@ -1,7 +1,7 @@
 use Rattle.std.proofs.Common.{◌≡◌, rules, ◌<◌, [], get_or, map, length, string_bytes}
 use Rattle.std.specs.Prelude.{codes}
 use Rattle.std.proofs.lemmas.List.{get_or-map, length-map}
-use Rattle.croner_pattern.specs.ListSteps.{comma}
+use Rattle.croner_pattern.specs.Private.Lists.{comma}
 use Rattle.croner_pattern.specs.Lists.{joined}
 use Rattle.croner_pattern.proofs.ListsWritten.{joined-begun, item_more}
 use Rattle.croner_pattern.proofs.describe.lists.join.Goals as goal

@@ -1,7 +1,7 @@
 use Rattle.std.proofs.Common.{◌≡◌, ◌++◌, drop, map, string_bytes}
 use Rattle.std.specs.Prelude.{codes}
 use Rattle.croner_pattern.specs.Lists.{joined}
-use Rattle.croner_pattern.specs.ListSteps.{from_place, comma}
+use Rattle.croner_pattern.specs.Private.Lists.{from_place, comma}
 use Rattle.croner_pattern.proofs.describe.lists.join.Given as goal
 
 abbrev pub invariant-loop-place : goal.invariant-loop-place

@@ -1,7 +1,7 @@
 use Rattle.std.proofs.Common.{◌≡◌, ◌-◌, ◌++◌, drop, map, string_bytes}
 use Rattle.croner_pattern.specs.Description.{name_at}
 use Rattle.croner_pattern.specs.Lists.{text_list}
-use Rattle.croner_pattern.specs.ListSteps.{from_place, separator}
+use Rattle.croner_pattern.specs.Private.Lists.{from_place, separator}
 use Rattle.croner_pattern.proofs.describe.lists.name_list.Given as goal
 
 abbrev pub invariant-loop-place : goal.invariant-loop-place

@@ -1,7 +1,7 @@
 use Rattle.std.proofs.Common.{◌≡◌, ◌-◌, ◌≤◌, ◌++◌, length, drop, map, string_bytes}
 use Rattle.std.specs.List.{flat_map}
 use Rattle.croner_pattern.specs.Lists.{number_list, item_text, items_of, runs_of}
-use Rattle.croner_pattern.specs.ListSteps.{from_place, separator}
+use Rattle.croner_pattern.specs.Private.Lists.{from_place, separator}
 use Rattle.croner_pattern.proofs.describe.lists.number_list.Given as goal
 
 abbrev pub invariant-loop-start : goal.invariant-loop-start

@@ -1,6 +1,6 @@
 use Rattle.std.proofs.Common.{◌≡◌, ◌+◌, ◌-◌, ◌<◌, ◌≤◌, length, drop, get_or}
 use Rattle.croner_pattern.specs.Lists.{runs_of}
-use Rattle.croner_pattern.specs.ListSteps.{begun_at}
+use Rattle.croner_pattern.proofs.RunsWritten.{begun_at}
 use Rattle.croner_pattern.proofs.describe.lists.run_end.Given as goal
 
 abbrev pub invariant-loop-end : goal.invariant-loop-end

@@ -1,6 +1,6 @@
 use Rattle.std.proofs.Common.{◌≡◌, rules, ◌<◌, [], get_or, map, length, string_bytes}
 use Rattle.std.proofs.lemmas.List.{get_or-map, length-map}
-use Rattle.croner_pattern.specs.ListSteps.{separator}
+use Rattle.croner_pattern.specs.Private.Lists.{separator}
 use Rattle.croner_pattern.specs.Lists.{text_list}
 use Rattle.croner_pattern.proofs.ListsWritten.{text_list-begun, item_more}
 use Rattle.croner_pattern.proofs.describe.lists.text_list.Goals as goal

@@ -1,6 +1,6 @@
 use Rattle.std.proofs.Common.{◌≡◌, ◌++◌, drop, map, string_bytes}
 use Rattle.croner_pattern.specs.Lists.{text_list}
-use Rattle.croner_pattern.specs.ListSteps.{from_place, separator}
+use Rattle.croner_pattern.specs.Private.Lists.{from_place, separator}
 use Rattle.croner_pattern.proofs.describe.lists.text_list.Given as goal
 
 abbrev pub invariant-loop-place : goal.invariant-loop-place

@@ -1,11 +1,11 @@
--- Words for the steps in which a list is written. They are cited by private contracts alone.
+-- The steps in which a list is written. Private contracts alone cite these definitions.
 use Rattle.std.specs.Prelude.{◌≡◌, ℕ, ◌+◌, ◌-◌, ◌<◌, ◌≤◌, Bool, true, false, ◌&&◌, ◌==◌, nat_lt, List, [], ◌∷◌, ◌++◌, map, drop, length, slice_index, codes, Result, MatchResult, string_bytes, if◌then◌else◌}
 use Rattle.std.specs.declared.string.String.{String}
 use Rattle.std.specs.declared.vec.Vec.{Vec}
 use Rattle.std.specs.declared.alloc.Global.{Global}
 use Rattle.croner_base.specs.declared.errors.CronError.{CronError}
 use Rattle.croner_base.specs.declared.errors.CronError.TheVariants.{OutOfMemory}
-use Rattle.croner_pattern.specs.Lists.{Run, runs_of, item_text, items_of}
+use Rattle.croner_pattern.specs.Lists.{runs_of, item_text, items_of}
 
 -- a text is written behind another, or memory was wanted
 abbrev pub Appends : {X : Type 0} → List ℕ → String Global → String Global → Result X CronError → Type 0
@@ -39,11 +39,6 @@ AddsTexts texts old new answer =
 -- what a list of texts is, or want of memory
 abbrev pub ListsTexts : List (List ℕ) → Result (Vec (String Global) Global) CronError → Type 0
 ListsTexts texts answer = MatchResult answer (λ v. map string_bytes v.items ≡ texts) (λ e. e ≡ OutOfMemory)
-
--- the runs, the first of which begins at another value
-abbrev pub begun_at : ℕ → List Run → List Run
-begun_at value [] = []
-begun_at value (run ∷ more) = record { first = value; last = run.last } ∷ more
 
 -- the value behind an index is the next number
 abbrev pub goes_on : List ℕ → ℕ → Bool
