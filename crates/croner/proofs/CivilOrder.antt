@@ -1,7 +1,7 @@
 -- The order of civil date-times: that of their parts, from the year down to the second.
-use Rattle.std.proofs.Common.{◌≡◌, ℕ, ◌+◌, ◌*◌, ◌<◌, ◌≤◌, inl, inr, refl, arith, ℤ, pos, ◌+ℤ◌, ◌*ℤ◌, ◌<ℤ◌, ◌≤ℤ◌, true, false}
-use Rattle.std.proofs.lemmas.Int.{by_lt_z, ints}
-use Rattle.std.proofs.lemmas.Bool.{cases_lt}
+use Rattle.std.proofs.Common.{◌≡◌, ℕ, ◌+◌, ◌*◌, ◌<◌, ◌≤◌, inl, inr, refl, arith, ℤ, pos, ◌+ℤ◌, ◌*ℤ◌, ◌<ℤ◌, ◌≤ℤ◌, Bool, true, false, IsTrue, ◌↔◌}
+use Rattle.std.proofs.lemmas.Int.{by_lt_z}
+use Rattle.std.proofs.lemmas.Bool.{cases_lt, false≢true}
 use Rattle.jiff_core.proofs.SignedLemmas.{signed_arith}
 use Rattle.jiff_core.proofs.CalendarLemmas.{days_in_month_bounds}
 use Rattle.croner_base.specs.declared.time.civil.CivilDate.{CivilDate}
@@ -12,7 +12,7 @@ use Rattle.croner_base.specs.Civil.{wall_second, day_of_date, seconds_of_time}
 use Rattle.croner_base.specs.declared.time.Direction.{Direction}
 use Rattle.croner_base.specs.declared.time.Direction.TheVariants.{Forward, Backward}
 use Rattle.croner.specs.Runs.{Precedes, Reaches}
-use Rattle.croner.specs.Cursor.{has_room, edge_day, place_in_day, IsSameMonth}
+use Rattle.croner.specs.Cursor.{has_room, edge_day, place_in_day}
 use Rattle.croner_base.proofs.Days.{day_number-day, day_number-lt_year, day_number-lt_month}
 use Rattle.croner_base.proofs.JiffSeconds.{wall_second-parts}
 
@@ -96,10 +96,6 @@ pub rank-le_day : (a b : CivilDate) → day_of_date a ≤ℤ day_of_date b → r
 rank-le_day a b h =
     by_lt_z (rank b) (rank a) (λ lt. absurd (omega (arith, signed_arith, day-lt_rank b a lt))) (λ le. le)
 
-pub rank-lt_day : (a b : CivilDate) → day_of_date a <ℤ day_of_date b → rank a <ℤ rank b
-rank-lt_day a b h =
-    by_lt_z (rank a) (rank b) (λ lt. lt) (λ ge. absurd (omega (arith, signed_arith, day-le_rank b a ge)))
-
 pub record SameDate (a b : CivilDate) : Type 0 where
   pub year : a.year ≡ b.year
   pub month : a.month ≡ b.month
@@ -130,24 +126,21 @@ pub day-reach : (dir : Direction) (a b : CivilDate) → b.year ≡ a.year → b.
 day-reach Forward a b y m h = day-le_rank a b (omega (arith, signed_arith))
 day-reach Backward a b y m h = day-le_rank b a (omega (arith, signed_arith))
 
--- between two dates of a month lie dates of that month
-pub month-between : (dir : Direction) (a b c : CivilDate) → IsSameMonth a b → Reaches dir (day_of_date a) (day_of_date c) → Reaches dir (day_of_date c) (day_of_date b) → IsSameMonth a c
-month-between Forward a b c s h k =
-    let x = rank-le_day a c h in
-    let y = rank-le_day c b k in
-    let p = date_bounds a in
-    let q = date_bounds b in
-    let r = date_bounds c in
-    let years : c.year ≡ a.year = omega (arith, signed_arith) in
-    record { same_year = years; same_month = omega (arith, signed_arith) }
-month-between Backward a b c s h k =
-    let x = rank-le_day c a h in
-    let y = rank-le_day b c k in
-    let p = date_bounds a in
-    let q = date_bounds b in
-    let r = date_bounds c in
-    let years : c.year ≡ a.year = omega (arith, signed_arith) in
-    record { same_year = years; same_month = omega (arith, signed_arith) }
+pub reach-month : (dir : Direction) (a b : CivilDate) → b.year ≡ a.year → Reaches dir (day_of_date a) (day_of_date b) → Reaches dir (pos a.month) (pos b.month)
+reach-month Forward a b y h = omega (arith, signed_arith, rank-le_day a b h, date_bounds a, date_bounds b)
+reach-month Backward a b y h = omega (arith, signed_arith, rank-le_day b a h, date_bounds a, date_bounds b)
+
+pub year-ahead : (dir : Direction) (a b : CivilDate) → Precedes dir a.year b.year → Precedes dir (day_of_date a) (day_of_date b)
+year-ahead Forward a b h = day-lt_rank a b (omega (arith, signed_arith, date_bounds a, date_bounds b))
+year-ahead Backward a b h = day-lt_rank b a (omega (arith, signed_arith, date_bounds a, date_bounds b))
+
+pub month-ahead : (dir : Direction) (a b : CivilDate) → b.year ≡ a.year → Precedes dir (pos a.month) (pos b.month) → Precedes dir (day_of_date a) (day_of_date b)
+month-ahead Forward a b y h = day-lt_rank a b (omega (arith, signed_arith, date_bounds a, date_bounds b))
+month-ahead Backward a b y h = day-lt_rank b a (omega (arith, signed_arith, date_bounds a, date_bounds b))
+
+pub day-ahead : (dir : Direction) (a b : CivilDate) → b.year ≡ a.year → b.month ≡ a.month → Precedes dir (pos a.day) (pos b.day) → Precedes dir (day_of_date a) (day_of_date b)
+day-ahead Forward a b y m h = day-lt_rank a b (omega (arith, signed_arith))
+day-ahead Backward a b y m h = day-lt_rank b a (omega (arith, signed_arith))
 
 -- ---- the first day of the last year
 
@@ -157,11 +150,36 @@ first_real = ((omega arith, omega arith), (omega arith, omega arith))
 last_real : IsRealDate (pos 1) 12 31
 last_real = ((omega arith, omega arith), (omega arith, omega arith))
 
-pub edge-after : (d : CivilDate) → rank d ≤ℤ rank_at (pos 5000) 1 1 → day_of_date d ≤ℤ day_number (pos 5000) 1 1
-edge-after d h = day_number-le_rank d.year d.month d.day (pos 5000) 1 1 d.real first_real h
+-- whether a date lies no later than the last day that a search comes to, by its place
+abbrev pub IsRankReached : Direction → CivilDate → Type 0
+IsRankReached Forward d = rank d ≤ℤ rank_at (pos 5000) 1 1
+IsRankReached Backward d = rank_at (pos 1) 12 31 ≤ℤ rank d
 
-pub edge-before : (d : CivilDate) → rank_at (pos 1) 12 31 ≤ℤ rank d → day_number (pos 1) 12 31 ≤ℤ day_of_date d
-edge-before d h = day_number-le_rank (pos 1) 12 31 d.year d.month d.day last_real d.real h
+abbrev pub IsRankPast : Direction → CivilDate → Type 0
+IsRankPast Forward d = rank_at (pos 5000) 1 1 <ℤ rank d
+IsRankPast Backward d = rank d <ℤ rank_at (pos 1) 12 31
+
+reached_rank : (dir : Direction) (d : CivilDate) → IsRankReached dir d → Reaches dir (day_of_date d) (edge_day dir)
+reached_rank Forward d h = day_number-le_rank d.year d.month d.day (pos 5000) 1 1 d.real first_real h
+reached_rank Backward d h = day_number-le_rank (pos 1) 12 31 d.year d.month d.day last_real d.real h
+
+past_rank : (dir : Direction) (d : CivilDate) → IsRankPast dir d → Reaches dir (day_of_date d) (edge_day dir) → ⊥
+past_rank Forward d h r =
+    omega (arith, signed_arith, r, day_number-lt_rank (pos 5000) 1 1 d.year d.month d.day first_real d.real h)
+past_rank Backward d h r =
+    omega (arith, signed_arith, r, day_number-lt_rank d.year d.month d.day (pos 1) 12 31 d.real last_real h)
+
+pub edge-reached : (dir : Direction) (d : CivilDate) (b : Bool) → (b ≡ true → IsRankReached dir d) → (b ≡ false → IsRankPast dir d) → IsTrue b ↔ Reaches dir (day_of_date d) (edge_day dir)
+edge-reached dir d true hit miss = (λ t. reached_rank dir d (hit refl), λ r. refl)
+edge-reached dir d false hit miss = (λ t. absurd (false≢true t), λ r. absurd (past_rank dir d (miss refl) r))
+
+pub forward-reached : (dir : Direction) (d : CivilDate) (b : Bool) → dir ≡ Forward → (b ≡ true → IsRankReached Forward d) → (b ≡ false → IsRankPast Forward d) → IsTrue b ↔ Reaches dir (day_of_date d) (edge_day dir)
+forward-reached Forward d b is hit miss = edge-reached Forward d b hit miss
+forward-reached Backward d b is hit miss = absurd cc
+
+pub backward-reached : (dir : Direction) (d : CivilDate) (b : Bool) → dir ≡ Backward → (b ≡ true → IsRankReached Backward d) → (b ≡ false → IsRankPast Backward d) → IsTrue b ↔ Reaches dir (day_of_date d) (edge_day dir)
+backward-reached Backward d b is hit miss = edge-reached Backward d b hit miss
+backward-reached Forward d b is hit miss = absurd cc
 
 pub room-before : (dir : Direction) (d : CivilDate) → has_room dir d.year ≡ true → Precedes dir (day_of_date d) (edge_day dir)
 room-before Forward d h =
@@ -174,10 +192,6 @@ no_room-past Forward d h =
     day_number-le_rank (pos 5000) 1 1 d.year d.month d.day first_real d.real (omega (arith, signed_arith, date_bounds d))
 no_room-past Backward d h =
     day_number-le_rank d.year d.month d.day (pos 1) 12 31 d.real last_real (omega (arith, signed_arith, date_bounds d))
-
-pub room-reach : (dir : Direction) (y later : ℤ) → Reaches dir y later → has_room dir later ≡ true → has_room dir y ≡ true
-room-reach Forward y later h r = grind (arith, ints)
-room-reach Backward y later h r = grind (arith, ints)
 
 -- ---- wall seconds: by the date, and on one date by the time
 

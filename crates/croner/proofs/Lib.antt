@@ -3,6 +3,7 @@ pub mod CalmZone
 pub mod CivilOrder
 pub mod Covered
 pub mod Cuts
+pub mod DayBits
 pub mod Dates
 pub mod EqualJobs
 pub mod Examples
@@ -10,6 +11,7 @@ pub mod ExamplesCursor
 pub mod Faults
 pub mod FieldReads
 pub mod FirstInstants
+pub mod Foremost
 pub mod GapSides
 pub mod HalfEdges
 pub mod HeldRuns
@@ -17,9 +19,9 @@ pub mod ItemsGiven
 pub mod InOrder
 pub mod Iterating
 pub mod JsonTexts
+pub mod MonthKinds
 pub mod Listings
 pub mod Matching
-pub mod Months
 pub mod Names
 pub mod NoTexts
 pub mod RunsOfSeconds

@@ -9,10 +9,10 @@ use Rattle.croner_base.specs.Civil.{wall_second, day_of_date}
 use Rattle.croner_pattern.specs.Meaning.{Meaning}
 use Rattle.croner_pattern.specs.Schedule.{is_date_matching, is_scheduled}
 use Rattle.croner.specs.Runs.{Precedes, Reaches}
-use Rattle.croner.specs.Cursor.{one_on, has_room, edge_day, last_day, place_in_day, IsMatchingTime, IsMove, IsOpenTime, IsFirstTime, IsReached, IsOpen, IsOnSchedule, IsNearest, NoneOn}
-use Rattle.croner.proofs.Ahead.{reaches-trans, precedes-reaches, precedes-trans, either, same_or_ahead, both_ways, one_on-ahead, one_on-next}
-use Rattle.croner.proofs.CivilOrder.{same_date, reach-date, reach-time, wall-reach_date, wall-reach_time, room-before, no_room-past}
-use Rattle.croner.proofs.Dates.{bool_cases, and-split, and-join, same_match, last_day-room, last_day-no_room, walking-start}
+use Rattle.croner.specs.Cursor.{has_room, last_day, place_in_day, IsMatchingTime, IsMove, IsOpenTime, IsFirstTime, IsAfter, IsForemost, IsOpen, IsOnSchedule, IsNearest, NoneOn}
+use Rattle.croner.proofs.Ahead.{reaches-trans, precedes-reaches, either, same_or_ahead, both_ways}
+use Rattle.croner.proofs.CivilOrder.{same_date, reach-date, reach-time, wall-reach_date, wall-reach_time}
+use Rattle.croner.proofs.Dates.{and-split, and-join, same_match, last_day-room, last_day-no_room, start-within}
 use Rattle.croner.proofs.Times.{first-least, first-matches, move-between}
 
 -- what is scheduled has a matching time on a matching date
@@ -51,12 +51,11 @@ module _ (m : Meaning) (dir : Direction) (from : CivilDateTime) where
   pub today-reached : (room : Bool) (t : CivilTime) (c : CivilDateTime) → room ≡ has_room dir from.date.year → is_date_matching m from.date ≡ true → IsNearest place_in_day (IsOpenTime m room from.time) dir (place_in_day from.time) t → c.date ≡ from.date → c.time ≡ t → IsNearest wall_second (IsOpen m dir from) dir (wall_second from) c
   today-reached room t c has date n e f =
       let same : day_of_date c.date ≡ day_of_date from.date = ap day_of_date e in
-      let start = walking-start m dir from.date in
       record {
         on = wall-reach_time dir from c same (subst (λ z. Reaches dir (place_in_day from.time) (place_in_day z)) (sym f) n.on);
         is = record {
           scheduled = parts_scheduled m c (parts_of m c from.date t e f date n.is.matches);
-          within = subst (λ z. Reaches dir z (last_day dir from.date)) (sym same) start.within;
+          within = subst (λ z. Reaches dir z (last_day dir from.date)) (sym same) (start-within dir from.date);
           move = λ lacks. subst (IsMove m from.time) (sym f) (n.is.move (has ∙ lacks));
         };
         first = λ y r is.
@@ -89,10 +88,9 @@ module _ (m : Meaning) (dir : Direction) (from : CivilDateTime) where
       let p = scheduled_parts m y is in
       let back : Reaches dir (day_of_date y.date) (day_of_date from.date) = subst (λ z. Reaches dir (day_of_date y.date) z) same (reach-date dir y c k) in
       let today : day_of_date y.date ≡ day_of_date from.date = both_ways dir (day_of_date y.date) (day_of_date from.date) back (reach-date dir from y r) in
-      let start = walking-start m dir from.date in
       record {
         scheduled = is;
-        within = subst (λ z. Reaches dir z (last_day dir from.date)) (sym today) start.within;
+        within = subst (λ z. Reaches dir z (last_day dir from.date)) (sym today) (start-within dir from.date);
         move = λ lacks. move-between m dir from.time y.time c.time (n.is.move lacks) p.time (reach-time dir from y today r) (reach-time dir y c (same ∙ sym today) k);
       })
 
@@ -107,11 +105,11 @@ module _ (m : Meaning) (dir : Direction) (from : CivilDateTime) where
         h y.time (reach-time dir from y today r) is_open;
   }
 
-  pub today-no_date : is_date_matching m from.date ≡ false → NoneToday
+  pub today-no_date : ¬ (is_date_matching m from.date ≡ true) → NoneToday
   today-no_date h = record {
     none = λ y r today is.
         let p = scheduled_parts m y is.scheduled in
-        false≢true (sym h ∙ same_match m from.date y.date (same_date from.date y.date (sym today)) p.date);
+        h (same_match m from.date y.date (same_date from.date y.date (sym today)) p.date);
   }
 
   -- there is no room for a step
@@ -121,54 +119,43 @@ module _ (m : Meaning) (dir : Direction) (from : CivilDateTime) where
       let today : day_of_date y.date ≡ day_of_date from.date = both_ways dir (day_of_date y.date) (day_of_date from.date) last (reach-date dir from y r) in
       t.none y r today is
 
-  -- ---- from the next day on
+  -- ---- after the start's day
 
-  module _ (next : CivilDate) (step : day_of_date next ≡ one_on dir (day_of_date from.date)) (has : has_room dir from.date.year ≡ true) where
-    last_day-next : last_day dir next ≡ last_day dir from.date
-    last_day-next =
-        let far = last_day-room dir from.date has in
-        elim (bool_cases (has_room dir next.year)) [
-          | inl room ↦ last_day-room dir next room ∙ sym far
-          | inr none ↦
-              let up_to : Reaches dir (day_of_date next) (edge_day dir) = subst (λ z. Reaches dir z (edge_day dir)) (sym step) (one_on-next dir (day_of_date from.date) (edge_day dir) (room-before dir from.date has)) in
-              last_day-no_room dir next none ∙ both_ways dir (day_of_date next) (edge_day dir) up_to (no_room-past dir next none) ∙ sym far
-        ]
-
-    -- what is open on a later day lies on a date that the search comes to
-    later_date : (y : CivilDateTime) → IsOpen m dir from y → Precedes dir (day_of_date from.date) (day_of_date y.date) → Reaches dir (day_of_date next) (day_of_date y.date) × IsReached m dir (last_day dir next) y.date
+  module _ (has : has_room dir from.date.year ≡ true) where
+    -- what is open on a later day lies on a date after the start's
+    later_date : (y : CivilDateTime) → IsOpen m dir from y → Precedes dir (day_of_date from.date) (day_of_date y.date) → IsAfter m dir from.date y.date
     later_date y is later =
-        let p = scheduled_parts m y is.scheduled in (
-          subst (λ z. Reaches dir z (day_of_date y.date)) (sym step) (one_on-next dir (day_of_date from.date) (day_of_date y.date) later),
-          record { matches = p.date; within = subst (λ z. Reaches dir (day_of_date y.date) z) (sym last_day-next) is.within },
-        )
+        let p = scheduled_parts m y is.scheduled in
+        record {
+          ahead = later;
+          within = subst (λ z. Reaches dir (day_of_date y.date) z) (last_day-room dir from.date has) is.within;
+          matches = p.date;
+        }
 
-    pub later-none : NoneToday → NoneOn day_of_date (IsReached m dir (last_day dir next)) dir (day_of_date next) → NoneOn wall_second (IsOpen m dir from) dir (wall_second from)
+    pub later-none : NoneToday → ((d : CivilDate) → ¬ (IsAfter m dir from.date d)) → NoneOn wall_second (IsOpen m dir from) dir (wall_second from)
     later-none t none y r is =
         elim (same_or_ahead dir (day_of_date from.date) (day_of_date y.date) (reach-date dir from y r)) [
           | inl today ↦ t.none y r (sym today) is
-          | inr later ↦ let there = later_date y is later in none y.date there.0 there.1
+          | inr later ↦ none y.date (later_date y is later)
         ]
 
-    pub later-reached : NoneToday → (d : CivilDate) (first : CivilTime) (c : CivilDateTime) → IsNearest day_of_date (IsReached m dir (last_day dir next)) dir (day_of_date next) d → IsFirstTime m dir first → c.date ≡ d → c.time ≡ first → IsNearest wall_second (IsOpen m dir from) dir (wall_second from) c
+    pub later-reached : NoneToday → (d : CivilDate) (first : CivilTime) (c : CivilDateTime) → IsForemost day_of_date (IsAfter m dir from.date) dir d → IsFirstTime m dir first → c.date ≡ d → c.time ≡ first → IsNearest wall_second (IsOpen m dir from) dir (wall_second from) c
     later-reached t d first c n f e g =
         let same : day_of_date c.date ≡ day_of_date d = ap day_of_date e in
-        let ahead : Precedes dir (day_of_date from.date) (day_of_date c.date) = precedes-trans dir (day_of_date from.date) (day_of_date next) (day_of_date c.date)
-        (subst (λ z. Precedes dir (day_of_date from.date) z) (sym step) (one_on-ahead dir (day_of_date from.date)))
-        (subst (λ z. Reaches dir (day_of_date next) z) (sym same) n.on) in
+        let ahead : Precedes dir (day_of_date from.date) (day_of_date c.date) = subst (λ z. Precedes dir (day_of_date from.date) z) (sym same) n.is.ahead in
         record {
           on = wall-reach_date dir from c ahead;
           is = record {
             scheduled = parts_scheduled m c (parts_of m c d first e g n.is.matches (first-matches m dir first f));
-            within = subst (λ z. Reaches dir z (last_day dir from.date)) (sym same) (subst (λ z. Reaches dir (day_of_date d) z) last_day-next n.is.within);
+            within = subst (λ z. Reaches dir z (last_day dir from.date)) (sym same) (subst (λ z. Reaches dir (day_of_date d) z) (sym (last_day-room dir from.date has)) n.is.within);
             move = λ lacks. absurd (false≢true (sym lacks ∙ has));
           };
           first = λ y r is.
               elim (same_or_ahead dir (day_of_date from.date) (day_of_date y.date) (reach-date dir from y r)) [
                 | inl today ↦ absurd (t.none y r (sym today) is)
                 | inr later ↦
-                    let there = later_date y is later in
                     let p = scheduled_parts m y is.scheduled in
-                    let on : Reaches dir (day_of_date c.date) (day_of_date y.date) = subst (λ z. Reaches dir z (day_of_date y.date)) (sym same) (n.first y.date there.0 there.1) in
+                    let on : Reaches dir (day_of_date c.date) (day_of_date y.date) = subst (λ z. Reaches dir z (day_of_date y.date)) (sym same) (n.first y.date (later_date y is later)) in
                     elim (same_or_ahead dir (day_of_date c.date) (day_of_date y.date) on) [
                       | inl that_day ↦
                           wall-reach_time dir c y (sym that_day)

@@ -1,17 +1,18 @@
 -- How a search goes over the wall clock, before any zone: what it looks for, and how far it goes. The source is this
 -- crate's documentation.
-use Rattle.std.specs.Prelude.{◌≡◌, ℕ, ◌+◌, ◌≤◌, Bool, true, false, ℤ, pos, ◌+ℤ◌, ◌-ℤ◌, int_lt, Option, MatchOption, if◌then◌else◌}
+use Rattle.std.specs.Prelude.{◌≡◌, ◌↔◌, ℕ, ◌+◌, ◌-◌, ◌*◌, ◌<◌, ◌≤◌, Bool, true, false, ℤ, pos, ◌+ℤ◌, ◌-ℤ◌, int_lt, Option, MatchOption, if◌then◌else◌}
+use Rattle.std.specs.Int.{IsInRange, bit_at}
 use Rattle.croner_base.specs.declared.time.Direction.{Direction}
 use Rattle.croner_base.specs.declared.time.Direction.TheVariants.{Forward, Backward}
 use Rattle.croner_base.specs.declared.time.civil.CivilDate.{CivilDate}
 use Rattle.croner_base.specs.declared.time.civil.CivilTime.{CivilTime}
 use Rattle.croner_base.specs.declared.time.civil.CivilDateTime.{CivilDateTime}
-use Rattle.jiff_core.specs.Calendar.{days_in_month}
+use Rattle.jiff_core.specs.Calendar.{is_leap_year, days_in_month}
 use Rattle.croner_base.specs.Calendar.{day_number}
-use Rattle.croner_base.specs.Civil.{HasYmd, day_of_date, seconds_of_time}
+use Rattle.croner_base.specs.Civil.{day_of_date, seconds_of_time}
 use Rattle.croner_base.specs.Field.{Field}
 use Rattle.croner_pattern.specs.Meaning.{Meaning}
-use Rattle.croner_pattern.specs.Schedule.{is_plain, is_day_matching, is_date_matching, is_scheduled}
+use Rattle.croner_pattern.specs.Schedule.{is_plain, is_day_matching, is_year_matching, is_date_matching, is_scheduled, first_weekday}
 use Rattle.croner.specs.Runs.{Precedes, Reaches}
 
 -- the next whole number in the direction
@@ -34,6 +35,16 @@ abbrev pub Finds : {X : Type 0} → (X → ℤ) → (X → Type 0) → Direction
 Finds place matches direction from result =
     MatchOption result (NoneOn place matches direction from) (IsNearest place matches direction from)
 
+-- x is the first in the direction of those that are meant
+pub record IsForemost {X : Type 0} (place : X → ℤ) (Among : X → Type 0) (direction : Direction) (x : X) : Type 0 where
+  pub is : Among x
+  pub first : (y : X) → Among y → Reaches direction (place x) (place y)
+
+-- the first of them, or None where there is none
+abbrev pub FindsForemost : {X : Type 0} → (X → ℤ) → (X → Type 0) → Direction → Option X → Type 0
+FindsForemost {X} place Among direction result =
+    MatchOption result ((y : X) → ¬ (Among y)) (IsForemost place Among direction)
+
 -- a plain value of the field, between bounds
 pub record IsPlainWithin (field : Field) (min max value : ℕ) : Type 0 where
   pub low : min ≤ value
@@ -45,11 +56,52 @@ abbrev pub IsOnTheWay : Direction → ℕ → ℕ → ℕ → Type 0
 IsOnTheWay Forward min max value = (min ≤ value) × (value ≤ max + 1)
 IsOnTheWay Backward min max value = value ≤ max
 
--- a day of a month that matches
-pub record IsMatchingDay (m : Meaning) (length first day : ℕ) : Type 0 where
+-- ---- days of a month as bits
+
+-- the day is one of the days: the lowest bit is that of the 1st
+pub record HasDay (days day : ℕ) : Type 0 where
+  pub low : 1 ≤ day
+  pub bit : bit_at days (day - 1) ≡ 1
+
+-- the days are those of the month that match
+pub record IsMonthDays (m : Meaning) (year : ℤ) (month days : ℕ) : Type 0 where
+  pub within : (day : ℕ) → HasDay days day → day ≤ days_in_month year month
+  pub dates : (d : CivilDate) → d.year ≡ year → d.month ≡ month → (is_date_matching m d ≡ true) ↔ HasDay days d.day
+
+-- a month of this length, whose first day has this weekday, has a day that fits
+pub record HasOpenDay (m : Meaning) (length first : ℕ) : Type 0 where
+  pub day : ℕ
   pub low : 1 ≤ day
   pub high : day ≤ length
-  pub matches : is_day_matching m length first day ≡ true
+  pub fits : is_day_matching m length first day ≡ true
+
+-- the year has a named month with a day that fits
+pub record HasOpenMonth (m : Meaning) (year : ℤ) : Type 0 where
+  pub month : ℕ
+  pub low : 1 ≤ month
+  pub high : month ≤ 12
+  pub named : is_plain m.months month ≡ true
+  pub has_open : HasOpenDay m (days_in_month year month) (first_weekday year month)
+
+-- a length and the weekday of the first day are one of 28 kinds of month
+abbrev pub month_kind : ℕ → ℕ → ℕ
+month_kind length first = (length - 28) * 7 + first
+
+-- the weekday of the first day, and whether it is a leap year, are one of 14 kinds of year
+abbrev pub kind_of : Bool → ℕ → ℕ
+kind_of leap first = if leap then first + 7 else first
+
+abbrev pub year_kind : ℤ → ℕ
+year_kind year = kind_of (is_leap_year year) (first_weekday year 1)
+
+-- which kinds of month have a day that fits, one bit a kind
+abbrev pub AreMonthKinds : Meaning → ℕ → Type 0
+AreMonthKinds m kinds =
+    (length first : ℕ) → IsInRange 28 31 length → first < 7 → (bit_at kinds (month_kind length first) ≡ 1) ↔ HasOpenDay m length first
+
+-- which kinds of year have a named month with such a day
+abbrev pub AreYearKinds : Meaning → ℕ → Type 0
+AreYearKinds m kinds = (year : ℤ) → (bit_at kinds (year_kind year) ≡ 1) ↔ HasOpenMonth m year
 
 -- ---- dates
 
@@ -67,11 +119,6 @@ edge_day Backward = day_number (pos 1) 12 31
 abbrev pub last_day : Direction → CivilDate → ℤ
 last_day direction from = if has_room direction from.year then edge_day direction else day_of_date from
 
--- the first day of a year in the direction
-abbrev pub IsYearEdge : Direction → ℤ → CivilDate → Type 0
-IsYearEdge Forward year d = HasYmd year 1 1 d
-IsYearEdge Backward year d = HasYmd year 12 31 d
-
 -- the first year in the direction after a year, of those that a pattern can name
 pub record IsYearBeyond (direction : Direction) (year : ℤ) (beyond : ℕ) : Type 0 where
   pub low : 1 ≤ beyond
@@ -79,44 +126,40 @@ pub record IsYearBeyond (direction : Direction) (year : ℤ) (beyond : ℕ) : Ty
   pub on : Reaches direction (one_on direction year) (pos beyond)
   pub first : (y : ℕ) → 1 ≤ y → y ≤ 5000 → Reaches direction (one_on direction year) (pos y) → Reaches direction (pos beyond) (pos y)
 
--- the date lies in the month of another
-pub record IsSameMonth (month d : CivilDate) : Type 0 where
-  pub same_year : d.year ≡ month.year
-  pub same_month : d.month ≡ month.month
+-- a number of a year that the pattern names
+pub record IsNamedYear (m : Meaning) (year : ℤ) (number : ℕ) : Type 0 where
+  pub is : pos number ≡ year
+  pub named : is_year_matching m year ≡ true
 
--- the last day of its month in the direction
-abbrev pub IsLastOfMonth : Direction → CivilDate → Type 0
-IsLastOfMonth Forward d = d.day ≡ days_in_month d.year d.month
-IsLastOfMonth Backward d = d.day ≡ 1
-
--- the first day of the next month in the direction: up to it all dates lie in this one, and it is no later than the first
--- day of the last year
-pub record IsNextMonth (direction : Direction) (month edge : CivilDate) : Type 0 where
-  pub ahead : Precedes direction (day_of_date month) (day_of_date edge)
-  pub within : Reaches direction (day_of_date edge) (edge_day direction)
-  pub none : (c : CivilDate) → Reaches direction (day_of_date month) (day_of_date c) → Precedes direction (day_of_date c) (day_of_date edge) → IsSameMonth month c
-  pub next : IsLastOfMonth direction month → day_of_date edge ≡ one_on direction (day_of_date month)
-
--- a date that matches, in the month of another
-pub record IsInMonth (m : Meaning) (month : CivilDate) (d : CivilDate) : Type 0 where
-  pub same : IsSameMonth month d
+-- a date that matches, in a month
+pub record IsInMonth (m : Meaning) (year : ℤ) (month : ℕ) (d : CivilDate) : Type 0 where
+  pub same_year : d.year ≡ year
+  pub same_month : d.month ≡ month
   pub matches : is_date_matching m d ≡ true
 
--- a date that matches, no later than the last day
-pub record IsReached (m : Meaning) (direction : Direction) (last : ℤ) (d : CivilDate) : Type 0 where
+-- a date that matches, in a year and there in the months from one on
+pub record IsInMonths (m : Meaning) (direction : Direction) (year : ℤ) (from : ℤ) (d : CivilDate) : Type 0 where
+  pub same_year : d.year ≡ year
+  pub on : Reaches direction from (pos d.month)
   pub matches : is_date_matching m d ≡ true
-  pub within : Reaches direction (day_of_date d) last
 
--- a date ahead of a month, and no later than the first day of the last year: up to it no date matches but in the month
-pub record IsNextStretch (m : Meaning) (direction : Direction) (month : CivilDate) (edge : CivilDate) : Type 0 where
-  pub ahead : Precedes direction (day_of_date month) (day_of_date edge)
-  pub within : Reaches direction (day_of_date edge) (edge_day direction)
-  pub none : (c : CivilDate) → Reaches direction (day_of_date month) (day_of_date c) → Precedes direction (day_of_date c) (day_of_date edge) → is_date_matching m c ≡ true → IsSameMonth month c
+-- a date that matches and that a search comes to, in a year
+pub record IsInYear (m : Meaning) (direction : Direction) (year : ℤ) (d : CivilDate) : Type 0 where
+  pub same_year : d.year ≡ year
+  pub within : Reaches direction (day_of_date d) (edge_day direction)
+  pub matches : is_date_matching m d ≡ true
 
--- from a date on no date matches but in its month
-abbrev pub IsLastStretch : Meaning → Direction → CivilDate → Type 0
-IsLastStretch m direction month =
-    (c : CivilDate) → Reaches direction (day_of_date month) (day_of_date c) → is_date_matching m c ≡ true → IsSameMonth month c
+-- the same, in the years from one on
+pub record IsInYears (m : Meaning) (direction : Direction) (from : ℤ) (d : CivilDate) : Type 0 where
+  pub on : Reaches direction from d.year
+  pub within : Reaches direction (day_of_date d) (edge_day direction)
+  pub matches : is_date_matching m d ≡ true
+
+-- the same, after a date
+pub record IsAfter (m : Meaning) (direction : Direction) (date d : CivilDate) : Type 0 where
+  pub ahead : Precedes direction (day_of_date date) (day_of_date d)
+  pub within : Reaches direction (day_of_date d) (edge_day direction)
+  pub matches : is_date_matching m d ≡ true
 
 -- ---- times of day
 

@@ -1,16 +1,16 @@
-//! Steps over the edges of days, months and years.
-ghost use Rattle.std.specs.Prelude.{◌≡◌, ◌<◌, true, ◌+ℤ◌, pos};
+//! Years and their limits, and the weekday of the first of a month.
+ghost use Rattle.std.specs.Prelude.{◌≡◌, ◌<◌, ◌↔◌, IsTrue, true, pos};
 ghost use Rattle.std.specs.Int.{IsInRange};
-ghost use Rattle.croner_base.specs.Civil.{day_of_date, HasYmd};
+ghost use Rattle.croner_base.specs.Civil.{day_of_date};
 ghost use Rattle.croner_pattern.specs.Schedule.{first_weekday};
-ghost use Rattle.croner.specs.Cursor.{one_on, has_room, IsYearEdge, IsYearBeyond, IsNextMonth};
+ghost use Rattle.croner.specs.Runs.{Reaches};
+ghost use Rattle.croner.specs.Cursor.{has_room, edge_day, IsYearBeyond};
 
-use croner_base::time::{
-    CivilDate, Direction, YEAR_LOWER_LIMIT, YEAR_UPPER_LIMIT, day_of_year, days_in_month,
-};
+use croner_base::time::{CivilDate, Direction, YEAR_LOWER_LIMIT, YEAR_UPPER_LIMIT, day_of_year};
 
-// So many years have whole weeks, 146,097 days.
-const YEARS_IN_CYCLE: i32 = 400;
+pub(crate) const FIRST_YEAR: u32 = YEAR_LOWER_LIMIT as u32;
+
+pub(crate) const LAST_YEAR: u32 = YEAR_UPPER_LIMIT as u32;
 
 // Whether a search steps on from the year.
 pub(crate) fn has_room(year: i32, direction: Direction) -> bool
@@ -22,59 +22,28 @@ pub(crate) fn has_room(year: i32, direction: Direction) -> bool
     }
 }
 
-// The weekday of the first of a month, from 0 for Sunday.
-pub(crate) fn first_weekday(year: i32, month: u32) -> u32
-    requires { IsInRange 1 12 month }
-    ensures value { result ≡ first_weekday year month }
+// Whether a search comes to a date of a year that a pattern can name: from the last year no step leads on, so of that year
+// it comes to the first day alone.
+pub(crate) fn is_reached(date: CivilDate, year: u32, direction: Direction) -> bool
+    requires { IsInRange 1 5000 year }
+    ensures { date.year ≡ pos year → IsTrue result ↔ Reaches direction (day_of_date date) (edge_day direction) }
+{
+    match direction {
+        Direction::Forward => year < LAST_YEAR || date.month() == 1 && date.day() == 1,
+        Direction::Backward => year > FIRST_YEAR || date.month() == 12 && date.day() == 31,
+    }
+}
+
+// The weekday of the first of a month of a year that a pattern can name, from 0 for Sunday.
+pub(crate) fn first_weekday(year: u32, month: u32) -> u32
+    requires year_in { IsInRange 1 5000 year }
+    requires month_in { IsInRange 1 12 month }
+    ensures value { result ≡ first_weekday (pos year) month }
     ensures bound { result < 7 }
 {
-    let place = year.rem_euclid(YEARS_IN_CYCLE) as u32;
-    let leap_days = (place + 3) / 4 + (place + 399) / 400 - (place + 99) / 100;
+    let leap_days = (year + 3) / 4 + (year + 399) / 400 - (year + 99) / 100;
     // The first of January of year 0 was a Saturday.
-    (place + leap_days + day_of_year(year, month, 1) + 5) % 7
-}
-
-// The first day of a year in the direction.
-pub(crate) fn year_edge(year: i32, direction: Direction) -> CivilDate
-    ensures { IsYearEdge direction year result }
-{
-    match direction {
-        Direction::Forward => CivilDate::from_parts_unchecked(year, 1, 1),
-        Direction::Backward => CivilDate::from_parts_unchecked(year, 12, 31),
-    }
-}
-
-// The first day of the next month in the direction.
-pub(crate) fn next_month(date: CivilDate, direction: Direction) -> CivilDate
-    requires { has_room direction date.year ≡ true }
-    ensures { IsNextMonth direction date result }
-{
-    let (year, month) = (date.year(), date.month());
-    match direction {
-        Direction::Forward if month == 12 => year_edge(year + 1, direction),
-        Direction::Forward => CivilDate::from_parts_unchecked(year, month + 1, 1),
-        Direction::Backward if month == 1 => year_edge(year - 1, direction),
-        Direction::Backward => {
-            let last = days_in_month(year, month - 1);
-            CivilDate::from_parts_unchecked(year, month - 1, last)
-        }
-    }
-}
-
-// The next day in the direction.
-pub(crate) fn next_day(date: CivilDate, direction: Direction) -> CivilDate
-    requires { has_room direction date.year ≡ true }
-    ensures { day_of_date result ≡ one_on direction (day_of_date date) }
-{
-    let (year, month, day) = (date.year(), date.month(), date.day());
-    match direction {
-        Direction::Forward if day < date.days_in_month() => {
-            CivilDate::from_parts_unchecked(year, month, day + 1)
-        }
-        Direction::Forward => next_month(date, direction),
-        Direction::Backward if day > 1 => CivilDate::from_parts_unchecked(year, month, day - 1),
-        Direction::Backward => next_month(date, direction),
-    }
+    (year + leap_days + day_of_year(year as i32, month, 1) + 5) % 7
 }
 
 // The first year after a year that lies in the years that a pattern can name.
@@ -83,9 +52,9 @@ pub(crate) fn year_beyond(year: i32, direction: Direction) -> u32
     ensures { IsYearBeyond direction year result }
 {
     match direction {
-        Direction::Forward if year < YEAR_LOWER_LIMIT => YEAR_LOWER_LIMIT as u32,
+        Direction::Forward if year < YEAR_LOWER_LIMIT => FIRST_YEAR,
         Direction::Forward => (year + 1) as u32,
-        Direction::Backward if year > YEAR_UPPER_LIMIT => YEAR_UPPER_LIMIT as u32,
+        Direction::Backward if year > YEAR_UPPER_LIMIT => LAST_YEAR,
         Direction::Backward => (year - 1) as u32,
     }
 }

@@ -1,153 +1,192 @@
 //! The nearest date that matches a pattern.
-ghost use Rattle.std.specs.Prelude.{◌≡◌, ◌<◌, ◌&&◌, ℤ, true, pos, MatchOption};
+ghost use Rattle.std.specs.Prelude.{◌≡◌, ◌≤◌, true, false, pos, MatchOption};
 ghost use Rattle.std.specs.Int.{IsInRange};
 ghost use Rattle.jiff_core.specs.Calendar.{days_in_month};
 ghost use Rattle.croner_base.specs.Civil.{day_of_date};
 ghost use Rattle.croner_pattern.specs.Meaning.{meaning_of};
 ghost use Rattle.croner_pattern.specs.Shapes.{has_field_shapes};
-ghost use Rattle.croner_pattern.specs.Schedule.{is_plain, is_day_matching, is_year_matching, is_date_matching, first_weekday};
-ghost use Rattle.croner.specs.Cursor.{one_on, has_room, last_day, Finds, IsMatchingDay, IsInMonth, IsLastStretch, IsNextStretch, IsReached};
+ghost use Rattle.croner_pattern.specs.Schedule.{is_plain, is_year_matching, first_weekday, IsDayMask};
+ghost use Rattle.croner.specs.Cursor.{one_on, has_room, FindsForemost, IsOnTheWay, IsNamedYear, IsMonthDays, IsInMonth, IsInMonths, IsInYear, IsInYears, IsAfter};
 
-use crate::cursor::calendar::{first_weekday, has_room, next_month, year_beyond, year_edge};
+use crate::cursor::calendar::{FIRST_YEAR, LAST_YEAR, first_weekday, is_reached, year_beyond};
+use crate::cursor::days::{days_after, first_day};
+use crate::cursor::kinds::{has_kind, year_kinds};
 use crate::cursor::values::{is_plain, nearest_value, neighbour};
-use croner_base::time::{CivilDate, Direction, YEAR_LOWER_LIMIT, YEAR_UPPER_LIMIT};
+use croner_base::time::{CivilDate, Direction, YEAR_LOWER_LIMIT, YEAR_UPPER_LIMIT, days_in_month};
 use croner_pattern::pattern::CronPattern;
 
-// The weekday of the first of a date's month, from 0 for Sunday.
-fn month_start(date: CivilDate) -> u32
-    ensures value { result ≡ first_weekday date.year date.month }
-    ensures bound { result < 7 }
-{
-    first_weekday(date.year(), date.month())
-}
+const MONTHS: u32 = 12;
 
-// Whether a day matches in the month of a date, whose first day has this weekday.
-fn has_day(pattern: &CronPattern, date: CivilDate, first: u32, day: u32) -> bool
-    requires shapes { has_field_shapes (meaning_of pattern.now) ≡ true }
-    requires first_is { first ≡ first_weekday date.year date.month }
-    requires first_in { first < 7 }
-    requires day_in { IsInRange 1 (days_in_month date.year date.month) day }
-    ensures { result
-        ≡ is_day_matching (meaning_of pattern.now) (days_in_month date.year date.month) (first_weekday date.year date.month) day }
-{
-    pattern.is_day_named(date.days_in_month(), first, day)
-}
-
-fn has_year(pattern: &CronPattern, year: i32) -> bool
+// The number of a year that the pattern names.
+fn named_year(pattern: &CronPattern, year: i32) -> Option<u32>
     requires { has_field_shapes (meaning_of pattern.now) ≡ true }
-    ensures { result ≡ is_year_matching (meaning_of pattern.now) year }
+    ensures { MatchOption result (is_year_matching (meaning_of pattern.now) year ≡ false)
+        (IsNamedYear (meaning_of pattern.now) year) }
 {
     if year < YEAR_LOWER_LIMIT || year > YEAR_UPPER_LIMIT {
-        return false;
+        return None;
     }
-    is_plain(&pattern.years, year as u32)
+    let year = year as u32;
+    if is_plain(&pattern.years, year) {
+        Some(year)
+    } else {
+        None
+    }
 }
 
-fn has_month(pattern: &CronPattern, month: u32) -> bool
+// The days of a month that the day fields name.
+fn named_days(pattern: &CronPattern, year: u32, month: u32) -> u32
     requires shapes { has_field_shapes (meaning_of pattern.now) ≡ true }
+    requires year_in { IsInRange 1 5000 year }
     requires month_in { IsInRange 1 12 month }
-    ensures { result ≡ is_plain (meaning_of pattern.now).months month }
+    ensures { IsDayMask (meaning_of pattern.now) (days_in_month (pos year) month) (first_weekday (pos year) month) result }
 {
-    is_plain(&pattern.months, month)
+    pattern.days_of_month(
+        days_in_month(year as i32, month),
+        first_weekday(year, month),
+    )
 }
 
-// Whether the year and the month of a date are plain values.
-fn has_month_of(pattern: &CronPattern, date: CivilDate) -> bool
+// The days that match in the month of a date.
+pub(crate) fn month_days(pattern: &CronPattern, date: CivilDate) -> u32
     requires { has_field_shapes (meaning_of pattern.now) ≡ true }
-    ensures { result
-        ≡ (is_year_matching (meaning_of pattern.now) date.year && is_plain (meaning_of pattern.now).months date.month) }
+    ensures { IsMonthDays (meaning_of pattern.now) date.year date.month result }
 {
-    has_year(pattern, date.year()) && has_month(pattern, date.month())
-}
-
-// Whether the date matches.
-pub(crate) fn matches(pattern: &CronPattern, date: CivilDate) -> bool
-    requires { has_field_shapes (meaning_of pattern.now) ≡ true }
-    ensures { result ≡ is_date_matching (meaning_of pattern.now) date }
-{
-    has_month_of(pattern, date) && has_day(pattern, date, month_start(date), date.day())
-}
-
-// The nearest day that matches in the month of a date, from the date on.
-fn nearest_day(pattern: &CronPattern, date: CivilDate, direction: Direction) -> Option<u32>
-    requires { has_field_shapes (meaning_of pattern.now) ≡ true }
-    ensures { let length = days_in_month date.year date.month in
-        let first = first_weekday date.year date.month in
-        Finds pos (IsMatchingDay (meaning_of pattern.now) length first) direction (pos date.day) result }
-{
-    let length = date.days_in_month();
-    let first = month_start(date);
-    let mut day = date.day();
-    while day >= 1 && day <= length {
-        if has_day(pattern, date, first, day) {
-            return Some(day);
+    match named_year(pattern, date.year()) {
+        Some(year) if is_plain(&pattern.months, date.month()) => {
+            named_days(pattern, year, date.month())
         }
-        day = neighbour(day, direction)?;
+        _ => 0,
+    }
+}
+
+// The first date that matches in a named month of a named year.
+fn in_month(pattern: &CronPattern, year: u32, month: u32, direction: Direction) -> Option<CivilDate>
+    requires shapes { has_field_shapes (meaning_of pattern.now) ≡ true }
+    requires year_in { IsInRange 1 5000 year }
+    requires month_in { IsInRange 1 12 month }
+    ensures { is_year_matching (meaning_of pattern.now) (pos year) ≡ true → is_plain (meaning_of pattern.now).months month ≡ true
+        → FindsForemost day_of_date (IsInMonth (meaning_of pattern.now) (pos year) month) direction result }
+{
+    let day = first_day(named_days(pattern, year, month), direction)?;
+    Some(CivilDate::from_parts_unchecked(year as i32, month, day))
+}
+
+// The first date that matches in the months of a named year from a month on.
+fn in_months(
+    pattern: &CronPattern,
+    year: u32,
+    month: u32,
+    direction: Direction,
+) -> Option<CivilDate>
+    requires shapes { has_field_shapes (meaning_of pattern.now) ≡ true }
+    requires year_in { IsInRange 1 5000 year }
+    requires month_in { IsOnTheWay direction 1 12 month }
+    ensures { is_year_matching (meaning_of pattern.now) (pos year) ≡ true
+        → FindsForemost day_of_date (IsInMonths (meaning_of pattern.now) direction (pos year) (pos month)) direction result }
+{
+    let mut from = month;
+    while let Some(month) = nearest_value(&pattern.months, 1, MONTHS, from, direction) {
+        if let Some(found) = in_month(pattern, year, month, direction) {
+            return Some(found);
+        }
+        from = neighbour(month, direction)?;
     }
     None
 }
 
-// The nearest date that matches in the month of a date, from the date on.
-fn in_month(pattern: &CronPattern, date: CivilDate, direction: Direction) -> Option<CivilDate>
-    requires { has_field_shapes (meaning_of pattern.now) ≡ true }
-    ensures { Finds day_of_date (IsInMonth (meaning_of pattern.now) date) direction (day_of_date date) result }
-{
-    if !has_month_of(pattern, date) {
-        return None;
-    }
-    let day = nearest_day(pattern, date, direction)?;
-    Some(CivilDate::from_parts_unchecked(date.year(), date.month(), day))
-}
-
-// The nearest plain year after a year.
-fn next_year(pattern: &CronPattern, year: i32, direction: Direction) -> Option<i32>
+// The first date of a named year that matches and that a search comes to.
+fn in_year(pattern: &CronPattern, year: u32, direction: Direction) -> Option<CivilDate>
     requires shapes { has_field_shapes (meaning_of pattern.now) ≡ true }
-    requires room { has_room direction year ≡ true }
-    ensures { Finds (λ (y : ℤ). y) (λ y. is_year_matching (meaning_of pattern.now) y ≡ true) direction
-        (one_on direction year) result }
+    requires year_in { IsInRange 1 5000 year }
+    ensures { is_year_matching (meaning_of pattern.now) (pos year) ≡ true
+        → FindsForemost day_of_date (IsInYear (meaning_of pattern.now) direction (pos year)) direction result }
 {
-    let from = year_beyond(year, direction);
-    let (low, high) = (YEAR_LOWER_LIMIT as u32, YEAR_UPPER_LIMIT as u32);
-    let found = nearest_value(&pattern.years, low, high, from, direction)?;
-    Some(found as i32)
-}
-
-// Where to look on, where nothing is left in the month of a date: at the edge of the next month, or of the nearest plain
-// year.
-fn next_stretch(pattern: &CronPattern, date: CivilDate, direction: Direction) -> Option<CivilDate>
-    requires shapes { has_field_shapes (meaning_of pattern.now) ≡ true }
-    requires room { has_room direction date.year ≡ true }
-    ensures { MatchOption result
-        (IsLastStretch (meaning_of pattern.now) direction date)
-        (IsNextStretch (meaning_of pattern.now) direction date) }
-{
-    if has_year(pattern, date.year()) {
-        return Some(next_month(date, direction));
-    }
-    let year = next_year(pattern, date.year(), direction)?;
-    Some(year_edge(year, direction))
-}
-
-// The nearest date that matches, from a date on, itself included, up to the last day that a search comes to.
-pub(crate) fn nearest_date(
-    pattern: &CronPattern,
-    from: CivilDate,
-    direction: Direction,
-) -> Option<CivilDate>
-    requires { has_field_shapes (meaning_of pattern.now) ≡ true }
-    ensures { Finds day_of_date (IsReached (meaning_of pattern.now) direction (last_day direction from)) direction
-        (day_of_date from) result }
-{
-    let mut date = from;
-    while has_room(date.year(), direction) {
-        if let Some(found) = in_month(pattern, date, direction) {
-            return Some(found);
-        }
-        date = next_stretch(pattern, date, direction)?;
-    }
-    if matches(pattern, date) {
-        Some(date)
+    let month = match direction {
+        Direction::Forward => 1,
+        Direction::Backward => MONTHS,
+    };
+    let found = in_months(pattern, year, month, direction)?;
+    if is_reached(found, year, direction) {
+        Some(found)
     } else {
         None
     }
+}
+
+// The first date that matches in the years from a year on, found by the kinds of the years.
+fn in_later_years(pattern: &CronPattern, year: u32, direction: Direction) -> Option<CivilDate>
+    requires shapes { has_field_shapes (meaning_of pattern.now) ≡ true }
+    requires year_in { IsOnTheWay direction 1 5000 year }
+    ensures { FindsForemost day_of_date (IsInYears (meaning_of pattern.now) direction (pos year)) direction result }
+{
+    let kinds = year_kinds(pattern);
+    if kinds == 0 {
+        return None;
+    }
+    let mut from = year;
+    while let Some(year) = nearest_value(&pattern.years, FIRST_YEAR, LAST_YEAR, from, direction) {
+        if has_kind(kinds, year) {
+            if let Some(found) = in_year(pattern, year, direction) {
+                return Some(found);
+            }
+        }
+        from = neighbour(year, direction)?;
+    }
+    None
+}
+
+// The first date that matches in the years from a year on: the first that is named is searched as it is, those after it by
+// their kinds.
+fn in_years(pattern: &CronPattern, year: u32, direction: Direction) -> Option<CivilDate>
+    requires shapes { has_field_shapes (meaning_of pattern.now) ≡ true }
+    requires year_in { IsOnTheWay direction 1 5000 year }
+    ensures { FindsForemost day_of_date (IsInYears (meaning_of pattern.now) direction (pos year)) direction result }
+{
+    let year = nearest_value(&pattern.years, FIRST_YEAR, LAST_YEAR, year, direction)?;
+    if let Some(found) = in_year(pattern, year, direction) {
+        return Some(found);
+    }
+    in_later_years(pattern, neighbour(year, direction)?, direction)
+}
+
+// The first date that matches in the year of a date, in the months after its own.
+fn in_rest_of_year(
+    pattern: &CronPattern,
+    date: CivilDate,
+    direction: Direction,
+) -> Option<CivilDate>
+    requires { has_field_shapes (meaning_of pattern.now) ≡ true }
+    ensures { FindsForemost day_of_date
+        (IsInMonths (meaning_of pattern.now) direction date.year (one_on direction (pos date.month))) direction result }
+{
+    let year = named_year(pattern, date.year())?;
+    in_months(
+        pattern,
+        year,
+        neighbour(date.month(), direction)?,
+        direction,
+    )
+}
+
+// The first date that matches after a date, up to the last day that a search comes to. `days` are those that match in the
+// month of the date.
+pub(crate) fn date_after(
+    pattern: &CronPattern,
+    date: CivilDate,
+    days: u32,
+    direction: Direction,
+) -> Option<CivilDate>
+    requires shapes { has_field_shapes (meaning_of pattern.now) ≡ true }
+    requires room { has_room direction date.year ≡ true }
+    requires days { IsMonthDays (meaning_of pattern.now) date.year date.month days }
+    ensures { FindsForemost day_of_date (IsAfter (meaning_of pattern.now) direction date) direction result }
+{
+    if let Some(day) = first_day(days_after(days, date.day(), direction), direction) {
+        return Some(CivilDate::from_parts_unchecked(date.year(), date.month(), day));
+    }
+    if let Some(found) = in_rest_of_year(pattern, date, direction) {
+        return Some(found);
+    }
+    in_years(pattern, year_beyond(date.year(), direction), direction)
 }

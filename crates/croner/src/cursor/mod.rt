@@ -7,11 +7,14 @@ ghost use Rattle.croner.specs.Cursor.{Finds, IsNearest, IsOpen, IsOnSchedule};
 
 mod calendar;
 mod dates;
+mod days;
+mod kinds;
 mod times;
 mod values;
 
-use crate::cursor::calendar::{has_room, next_day};
-use crate::cursor::dates::{matches, nearest_date};
+use crate::cursor::calendar::has_room;
+use crate::cursor::dates::{date_after, month_days};
+use crate::cursor::days::has_day;
 use crate::cursor::times::{first_time, in_day};
 use crate::search::Schedule;
 use croner_base::time::{CivilDateTime, Direction};
@@ -35,8 +38,9 @@ pub(crate) fn next_scheduled(
 {
     let first = first_time(pattern, direction)?;
     let date = from.date();
+    let days = month_days(pattern, date);
     let room = has_room(date.year(), direction);
-    if matches(pattern, date) {
+    if has_day(days, date.day()) {
         if let Some(time) = in_day(pattern, from.time(), direction, room, first) {
             return Some(CivilDateTime::new(date, time));
         }
@@ -44,8 +48,7 @@ pub(crate) fn next_scheduled(
     if !room {
         return None;
     }
-    let next = next_day(date, direction);
-    let date = nearest_date(pattern, next, direction)?;
+    let date = date_after(pattern, date, days, direction)?;
     Some(CivilDateTime::new(date, first))
 }
 
@@ -62,7 +65,8 @@ impl Schedule for CronPattern {
     }
 
     fn matches_date(&self, civil: CivilDateTime) -> bool {
-        matches(self, civil.date())
+        let date = civil.date();
+        has_day(month_days(self, date), date.day())
     }
 
     fn is_fixed_time(&self) -> bool {

@@ -1,14 +1,15 @@
-use Rattle.std.proofs.Common.{◌≡◌, true, sym, ap, ◌∙◌, subst, rules, FitsSigned, w32}
+use Rattle.std.proofs.Common.{◌≡◌, true, refl, sym, ap, ◌∙◌, subst, rules, FitsSigned, w32}
+use Rattle.std.proofs.lemmas.Bool.{false≢true}
 use Rattle.std.proofs.lemmas.Int.{to_z-of_z}
 use Rattle.croner_base.specs.declared.time.civil.CivilDate.{CivilDate}
 use Rattle.croner_base.specs.declared.time.civil.CivilTime.{CivilTime}
 use Rattle.croner_base.specs.Civil.{day_of_date}
 use Rattle.croner_pattern.specs.Meaning.{meaning_of}
 use Rattle.croner_pattern.specs.Schedule.{is_date_matching}
-use Rattle.croner.specs.Cursor.{one_on, has_room, place_in_day, IsOpenTime, IsNearest, NoneOn}
+use Rattle.croner.specs.Cursor.{has_room, place_in_day, HasDay, IsForemost, IsAfter, IsOpenTime, IsNearest, NoneOn}
 use Rattle.croner.proofs.Scheduled.{no_time, today-reached, today-nearest, NoneToday, today-no_time, today-no_date, stays, later-none, later-reached, later-nearest}
 use Rattle.croner.proofs.cursor.next_scheduled.Goals as goal
-use Rattle.croner.proofs.cursor.next_scheduled.Goals.{then-matches+in_default, else-matches}
+use Rattle.croner.proofs.cursor.next_scheduled.Goals.{then-has_day+in_default, else-has_day}
 
 pub returns-in_err-first-clause-reached : goal.returns-in_err-first-clause-reached
 returns-in_err-first-clause-reached c =
@@ -21,7 +22,8 @@ returns-in-Some-clause-reached c =
     let f : FitsSigned w32 c.year.result = search rules in
     let r = simp to_z-of_z at c.has_room-room.ensures in
     let has : c.has_room-room.result ≡ has_room dir c.args.from.date.year = r ∙ ap (has_room dir) (c.year.ensures ∙ ap (λ (d : CivilDate). d.year) c.date-date.ensures) in
-    let date : is_date_matching m c.args.from.date ≡ true = sym (ap (is_date_matching m) c.date-date.ensures) ∙ sym c.matches.ensures ∙ c.if-matches.true in
+    let day = subst (HasDay c.month_days-days.result) c.day.ensures (c.has_day.ensures.0 c.if-has_day.true) in
+    let date : is_date_matching m c.args.from.date ≡ true = sym (ap (is_date_matching m) c.date-date.ensures) ∙ (c.month_days-days.ensures.dates c.date-date.result refl refl).1 day in
     let n = subst (λ (t : CivilTime). IsNearest place_in_day (IsOpenTime m c.has_room-room.result t) dir (place_in_day t) c.in-Some.time) c.time.ensures c.in-Some.ensures in
     today-reached m dir c.args.from c.has_room-room.result c.in-Some.time c.new.result has date n (c.new.ensures.date ∙ c.date-date.ensures) c.new.ensures.time
 
@@ -32,7 +34,8 @@ returns-in-Some-clause-nearest c =
     let f : FitsSigned w32 c.year.result = search rules in
     let r = simp to_z-of_z at c.has_room-room.ensures in
     let has : c.has_room-room.result ≡ has_room dir c.args.from.date.year = r ∙ ap (has_room dir) (c.year.ensures ∙ ap (λ (d : CivilDate). d.year) c.date-date.ensures) in
-    let date : is_date_matching m c.args.from.date ≡ true = sym (ap (is_date_matching m) c.date-date.ensures) ∙ sym c.matches.ensures ∙ c.if-matches.true in
+    let day = subst (HasDay c.month_days-days.result) c.day.ensures (c.has_day.ensures.0 c.if-has_day.true) in
+    let date : is_date_matching m c.args.from.date ≡ true = sym (ap (is_date_matching m) c.date-date.ensures) ∙ (c.month_days-days.ensures.dates c.date-date.result refl refl).1 day in
     let n = subst (λ (t : CivilTime). IsNearest place_in_day (IsOpenTime m c.has_room-room.result t) dir (place_in_day t) c.in-Some.time) c.time.ensures c.in-Some.ensures in
     today-nearest m dir c.args.from c.new.result (c.new.ensures.date ∙ c.date-date.ensures)
     (today-reached m dir c.args.from c.has_room-room.result c.in-Some.time c.new.result has date n (c.new.ensures.date ∙ c.date-date.ensures) c.new.ensures.time)
@@ -44,12 +47,14 @@ returns-then-not-room-clause-reached c =
     let f : FitsSigned w32 c.year.result = search rules in
     let r = simp to_z-of_z at c.has_room-room.ensures in
     let has : c.has_room-room.result ≡ has_room dir c.args.from.date.year = r ∙ ap (has_room dir) (c.year.ensures ∙ ap (λ (d : CivilDate). d.year) c.date-date.ensures) in
-    let today : NoneToday m dir c.args.from = elim c.if-matches.branch [
-      | then-matches+in_default w ↦
+    let today : NoneToday m dir c.args.from = elim c.if-has_day.branch [
+      | then-has_day+in_default w ↦
           today-no_time m dir c.args.from c.has_room-room.result has
           (subst (λ (t : CivilTime). NoneOn place_in_day (IsOpenTime m c.has_room-room.result t) dir (place_in_day t)) w.time.ensures w.in_default.ensures)
-      | else-matches w ↦
-          today-no_date m dir c.args.from (sym (ap (is_date_matching m) c.date-date.ensures) ∙ sym c.matches.ensures ∙ w.if-matches.false)
+      | else-has_day w ↦
+          today-no_date m dir c.args.from (λ is.
+          let day = (c.month_days-days.ensures.dates c.date-date.result refl refl).0 (ap (is_date_matching m) c.date-date.ensures ∙ is) in
+          false≢true (sym w.if-has_day.false ∙ c.has_day.ensures.1 (subst (HasDay c.month_days-days.result) (sym c.day.ensures) day)))
     ] in
     stays m dir c.args.from (sym has ∙ c.if-not-room.true) today
 
@@ -60,16 +65,18 @@ returns-in_err-date-clause-reached c =
     let f : FitsSigned w32 c.year.result = search rules in
     let r = simp to_z-of_z at c.has_room-room.ensures in
     let has : c.has_room-room.result ≡ has_room dir c.args.from.date.year = r ∙ ap (has_room dir) (c.year.ensures ∙ ap (λ (d : CivilDate). d.year) c.date-date.ensures) in
-    let today : NoneToday m dir c.args.from = elim c.if-matches.branch [
-      | then-matches+in_default w ↦
+    let today : NoneToday m dir c.args.from = elim c.if-has_day.branch [
+      | then-has_day+in_default w ↦
           today-no_time m dir c.args.from c.has_room-room.result has
           (subst (λ (t : CivilTime). NoneOn place_in_day (IsOpenTime m c.has_room-room.result t) dir (place_in_day t)) w.time.ensures w.in_default.ensures)
-      | else-matches w ↦
-          today-no_date m dir c.args.from (sym (ap (is_date_matching m) c.date-date.ensures) ∙ sym c.matches.ensures ∙ w.if-matches.false)
+      | else-has_day w ↦
+          today-no_date m dir c.args.from (λ is.
+          let day = (c.month_days-days.ensures.dates c.date-date.result refl refl).0 (ap (is_date_matching m) c.date-date.ensures ∙ is) in
+          false≢true (sym w.if-has_day.false ∙ c.has_day.ensures.1 (subst (HasDay c.month_days-days.result) (sym c.day.ensures) day)))
     ] in
-    let step = c.next_day-next.ensures ∙ ap (λ (d : CivilDate). one_on dir (day_of_date d)) c.date-date.ensures in
     rw c.from_residual-in_err-date.ensures
-    (later-none m dir c.args.from c.next_day-next.result step (sym has ∙ c.if-not-room.false) today c.in_err-date.ensures)
+    (later-none m dir c.args.from (sym has ∙ c.if-not-room.false) today
+    (subst (λ (x : CivilDate). (d : CivilDate) → ¬ (IsAfter m dir x d)) c.date-date.ensures c.in_err-date.ensures))
 
 pub returns-clause-reached : goal.returns-clause-reached
 returns-clause-reached c =
@@ -78,15 +85,16 @@ returns-clause-reached c =
     let f : FitsSigned w32 c.year.result = search rules in
     let r = simp to_z-of_z at c.has_room-room.ensures in
     let has : c.has_room-room.result ≡ has_room dir c.args.from.date.year = r ∙ ap (has_room dir) (c.year.ensures ∙ ap (λ (d : CivilDate). d.year) c.date-date.ensures) in
-    let today : NoneToday m dir c.args.from = elim c.if-matches.branch [
-      | then-matches+in_default w ↦
+    let today : NoneToday m dir c.args.from = elim c.if-has_day.branch [
+      | then-has_day+in_default w ↦
           today-no_time m dir c.args.from c.has_room-room.result has
           (subst (λ (t : CivilTime). NoneOn place_in_day (IsOpenTime m c.has_room-room.result t) dir (place_in_day t)) w.time.ensures w.in_default.ensures)
-      | else-matches w ↦
-          today-no_date m dir c.args.from (sym (ap (is_date_matching m) c.date-date.ensures) ∙ sym c.matches.ensures ∙ w.if-matches.false)
+      | else-has_day w ↦
+          today-no_date m dir c.args.from (λ is.
+          let day = (c.month_days-days.ensures.dates c.date-date.result refl refl).0 (ap (is_date_matching m) c.date-date.ensures ∙ is) in
+          false≢true (sym w.if-has_day.false ∙ c.has_day.ensures.1 (subst (HasDay c.month_days-days.result) (sym c.day.ensures) day)))
     ] in
-    let step = c.next_day-next.ensures ∙ ap (λ (d : CivilDate). one_on dir (day_of_date d)) c.date-date.ensures in
-    later-reached m dir c.args.from c.next_day-next.result step (sym has ∙ c.if-not-room.false) today c.in_ok-date.date c.in_ok-first.first c.new-2.result c.in_ok-date.ensures c.in_ok-first.ensures c.new-2.ensures.date c.new-2.ensures.time
+    later-reached m dir c.args.from (sym has ∙ c.if-not-room.false) today c.in_ok-date.date c.in_ok-first.first c.new-2.result (subst (λ (x : CivilDate). IsForemost day_of_date (IsAfter m dir x) dir c.in_ok-date.date) c.date-date.ensures c.in_ok-date.ensures) c.in_ok-first.ensures c.new-2.ensures.date c.new-2.ensures.time
 
 pub returns-clause-nearest : goal.returns-clause-nearest
 returns-clause-nearest c =
@@ -95,13 +103,14 @@ returns-clause-nearest c =
     let f : FitsSigned w32 c.year.result = search rules in
     let r = simp to_z-of_z at c.has_room-room.ensures in
     let has : c.has_room-room.result ≡ has_room dir c.args.from.date.year = r ∙ ap (has_room dir) (c.year.ensures ∙ ap (λ (d : CivilDate). d.year) c.date-date.ensures) in
-    let today : NoneToday m dir c.args.from = elim c.if-matches.branch [
-      | then-matches+in_default w ↦
+    let today : NoneToday m dir c.args.from = elim c.if-has_day.branch [
+      | then-has_day+in_default w ↦
           today-no_time m dir c.args.from c.has_room-room.result has
           (subst (λ (t : CivilTime). NoneOn place_in_day (IsOpenTime m c.has_room-room.result t) dir (place_in_day t)) w.time.ensures w.in_default.ensures)
-      | else-matches w ↦
-          today-no_date m dir c.args.from (sym (ap (is_date_matching m) c.date-date.ensures) ∙ sym c.matches.ensures ∙ w.if-matches.false)
+      | else-has_day w ↦
+          today-no_date m dir c.args.from (λ is.
+          let day = (c.month_days-days.ensures.dates c.date-date.result refl refl).0 (ap (is_date_matching m) c.date-date.ensures ∙ is) in
+          false≢true (sym w.if-has_day.false ∙ c.has_day.ensures.1 (subst (HasDay c.month_days-days.result) (sym c.day.ensures) day)))
     ] in
-    let step = c.next_day-next.ensures ∙ ap (λ (d : CivilDate). one_on dir (day_of_date d)) c.date-date.ensures in
-    later-nearest m dir c.args.from c.next_day-next.result step (sym has ∙ c.if-not-room.false) c.new-2.result
-    (later-reached m dir c.args.from c.next_day-next.result step (sym has ∙ c.if-not-room.false) today c.in_ok-date.date c.in_ok-first.first c.new-2.result c.in_ok-date.ensures c.in_ok-first.ensures c.new-2.ensures.date c.new-2.ensures.time)
+    later-nearest m dir c.args.from (sym has ∙ c.if-not-room.false) c.new-2.result
+    (later-reached m dir c.args.from (sym has ∙ c.if-not-room.false) today c.in_ok-date.date c.in_ok-first.first c.new-2.result (subst (λ (x : CivilDate). IsForemost day_of_date (IsAfter m dir x) dir c.in_ok-date.date) c.date-date.ensures c.in_ok-date.ensures) c.in_ok-first.ensures c.new-2.ensures.date c.new-2.ensures.time)

@@ -1,28 +1,32 @@
-use Rattle.std.proofs.Common.{sym, ◌∙◌, rules, FitsSigned, w32}
-use Rattle.std.proofs.lemmas.Int.{to_z-of_z}
+use Rattle.std.proofs.Common.{◌≡◌, pos, sym, ◌∙◌, subst, ◌≤◌, arith, to_z, w32}
+use Rattle.jiff_core.specs.Calendar.{days_in_month}
+use Rattle.jiff_core.proofs.SignedLemmas.{signed_casts}
 use Rattle.croner_base.specs.Civil.{HasYmd}
 use Rattle.croner_pattern.specs.Meaning.{meaning_of}
-use Rattle.croner.proofs.Dates.{month-found, month-none_day, month-closed, month-named}
+use Rattle.croner_pattern.specs.Schedule.{first_weekday}
+use Rattle.croner.proofs.Dates.{mask-day, named-days, month-first, month-none}
 use Rattle.croner.proofs.cursor.dates.in_month.Goals as goal
 
+pub from_parts_unchecked-requires : goal.from_parts_unchecked-requires
+from_parts_unchecked-requires c =
+    let m = meaning_of c.args.pattern.now in
+    let y = c.args.year in
+    let mo = c.args.month in
+    let same : to_z w32 y ≡ pos y = omega (arith, signed_casts) in
+    let high = (mask-day m (days_in_month (pos y) mo) (first_weekday (pos y) mo) c.named_days.result c.in_ok-day.day c.named_days.ensures c.in_ok-day.ensures.is).0 in
+    (c.requires.month_in, (c.in_ok-day.ensures.is.low, subst (λ z. c.in_ok-day.day ≤ days_in_month z mo) (sym same) high))
+
 pub returns-in_err-day : goal.returns-in_err-day
-returns-in_err-day c =
+returns-in_err-day c = λ year month.
+    let m = meaning_of c.args.pattern.now in
     rw c.from_residual.ensures
-    (month-none_day (meaning_of c.args.pattern.now) c.args.direction c.args.date c.in_err-day.ensures)
+    (month-none m (pos c.args.year) c.args.month c.named_days.result (named-days m (pos c.args.year) c.args.month c.named_days.result year month c.named_days.ensures) c.in_err-day.ensures)
 
 pub returns : goal.returns
-returns c =
+returns c = λ year month.
     let m = meaning_of c.args.pattern.now in
-    let f : FitsSigned w32 c.year.result = search rules in
-    let named = month-named m c.args.date (sym c.has_month_of.ensures ∙ c.if-not-has_month_of.false) in
-    let h = simp to_z-of_z at c.from_parts_unchecked.ensures in
-    let ymd : HasYmd c.args.date.year c.args.date.month c.in_ok-day.day c.from_parts_unchecked.result = record {
-      year_is = h.year_is ∙ c.year.ensures;
-      month_is = h.month_is ∙ c.month.ensures;
-      day_is = h.day_is;
-    } in
-    month-found m c.args.direction c.args.date c.from_parts_unchecked.result c.in_ok-day.day named.0 named.1 c.in_ok-day.ensures ymd
-
-pub returns-then-not-has_month_of : goal.returns-then-not-has_month_of
-returns-then-not-has_month_of c =
-    month-closed (meaning_of c.args.pattern.now) c.args.direction c.args.date (sym c.has_month_of.ensures ∙ c.if-not-has_month_of.true)
+    let same : to_z w32 c.args.year ≡ pos c.args.year = omega (arith, signed_casts) in
+    let h = c.from_parts_unchecked.ensures in
+    let ymd : HasYmd (pos c.args.year) c.args.month c.in_ok-day.day c.from_parts_unchecked.result = record { year_is = h.year_is ∙ same; month_is = h.month_is; day_is = h.day_is } in
+    month-first m c.args.direction (pos c.args.year) c.args.month c.named_days.result c.in_ok-day.day c.from_parts_unchecked.result
+    (named-days m (pos c.args.year) c.args.month c.named_days.result year month c.named_days.ensures) c.in_ok-day.ensures ymd

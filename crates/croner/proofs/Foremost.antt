@@ -1,0 +1,48 @@
+-- The first in a direction, among what has a greater and a smaller unit: what lies in the first greater unit comes before
+-- the rest. It serves days after months, months after years, and times of day after days.
+use Rattle.std.proofs.Common.{◌⊎◌, inl, inr, Option, Some, None, ℤ}
+use Rattle.croner_base.specs.declared.time.Direction.{Direction}
+use Rattle.croner.specs.Runs.{Reaches}
+use Rattle.croner.specs.Cursor.{IsForemost, FindsForemost}
+
+-- all of them are the first part and the second, and no one of the second comes before one of the first
+pub record Split {X : Type 0} (place : X → ℤ) (dir : Direction) (All First Second : X → Type 0) : Type 0 where
+  pub parts : (y : X) → All y → First y ⊎ Second y
+  pub first : (y : X) → First y → All y
+  pub second : (y : X) → Second y → All y
+  pub order : (a b : X) → First a → Second b → Reaches dir (place a) (place b)
+
+-- the first of the first part is the first of all
+pub in_first : {X : Type 0} (place : X → ℤ) (dir : Direction) (All First Second : X → Type 0) (x : X) → Split place dir All First Second → IsForemost place First dir x → IsForemost place All dir x
+in_first place dir All First Second x s f = record {
+  is = s.first x f.is;
+  first = λ y a. elim (s.parts y a) [ inl h ↦ f.first y h | inr h ↦ s.order x y f.is h ];
+}
+
+-- the same ones
+pub record Same {X : Type 0} (All Now : X → Type 0) : Type 0 where
+  pub on : (y : X) → All y → Now y
+  pub back : (y : X) → Now y → All y
+
+pub same_all : {X : Type 0} (All : X → Type 0) → Same All All
+same_all All = record { on = λ y a. a; back = λ y a. a }
+
+pub same_again : {X : Type 0} (All Now Next : X → Type 0) → Same All Now → Same Now Next → Same All Next
+same_again All Now Next s t = record { on = λ y a. t.on y (s.on y a); back = λ y b. s.back y (t.back y b) }
+
+-- where the first part is empty, the second is all
+pub passed : {X : Type 0} (place : X → ℤ) (dir : Direction) (All First Second : X → Type 0) → Split place dir All First Second → ((y : X) → ¬ (First y)) → Same All Second
+passed place dir All First Second s none = record {
+  on = λ y a. elim (s.parts y a) [ inl h ↦ absurd (none y h) | inr h ↦ h ];
+  back = s.second;
+}
+
+pub same_none : {X : Type 0} (All Now : X → Type 0) → Same All Now → ((y : X) → ¬ (Now y)) → (y : X) → ¬ (All y)
+same_none All Now s none y a = none y (s.on y a)
+
+pub same_first : {X : Type 0} (place : X → ℤ) (dir : Direction) (All Now : X → Type 0) (x : X) → Same All Now → IsForemost place Now dir x → IsForemost place All dir x
+same_first place dir All Now x s f = record { is = s.back x f.is; first = λ y a. f.first y (s.on y a) }
+
+pub same_finds : {X : Type 0} (place : X → ℤ) (dir : Direction) (All Now : X → Type 0) (result : Option X) → Same All Now → FindsForemost place Now dir result → FindsForemost place All dir result
+same_finds place dir All Now None s none = same_none All Now s none
+same_finds place dir All Now (Some x) s f = same_first place dir All Now x s f
