@@ -13,11 +13,23 @@ use Rattle.croner_base.specs.Limits.{gap_limit, fold_limit, apart_limit}
 use Rattle.croner.specs.Premises.{HoldsYears, HasOneInstantEach}
 use Rattle.croner.specs.Refusal.{IsBackendError}
 use Rattle.croner.specs.search.Wall.{IsLastYear}
-use Rattle.croner.specs.search.Walk.{GapEnd, Unread, InGapUpTo, InGapDownTo, one_on}
+use Rattle.croner.specs.search.Walk.{GapEnd, Unread, one_on}
 use Rattle.croner.proofs.CalmZone.{Exactly, calm_of, exact_of}
 use Rattle.croner.proofs.ZoneOrder.{Calm, cases_lt_z, distance, gains, read_or_skipped}
 use Rattle.croner.proofs.WalkArms.{first_of_one, first_of_two}
 use Rattle.croner.proofs.WallSeconds.{last_year_far}
+
+-- ---- how far a search has come, its loop's invariant
+
+-- a search for the end of a gap has come to a wall second
+pub record InGapUpTo (z : Zone) (held wall : ℤ) : Type 0 where
+  pub from : held ≤ℤ wall
+  pub unread : IsCalm z → Unread z.reads held (wall +ℤ pos 1)
+
+-- a search for the second before a gap has come to a wall second
+pub record InGapDownTo (z : Zone) (held wall : ℤ) : Type 0 where
+  pub from : wall ≤ℤ held
+  pub unread : IsCalm z → Unread z.reads wall (held +ℤ pos 1)
 
 -- ---- each wall second is passed somewhere
 

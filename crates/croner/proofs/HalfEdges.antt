@@ -9,7 +9,7 @@ use Rattle.croner.proofs.RunsOfSeconds.{true_or_false}
 use Rattle.croner.proofs.WalkLoop.{never_true}
 use Rattle.croner_base.specs.Zone.{Zone, Moment, reading, nanos_of, IsUnheld}
 use Rattle.croner_base.specs.Calm.{IsCalm, HoldsAround, IsNear}
-use Rattle.croner.specs.search.Halves.{edge_limit, Break, HasTwin, EdgeOf, offset_from, CountsBoth, Bisected, moment_from, IsEdge}
+use Rattle.croner.specs.search.Halves.{edge_limit, Break, HasTwin, EdgeOf, offset_from, CountsBoth, moment_from, IsEdge}
 use Rattle.croner.proofs.CalmZone.{Exactly, calm_of, exact_of}
 use Rattle.croner.proofs.ZoneOrder.{Calm, window}
 use Rattle.croner_base.specs.declared.time.civil.CivilDateTime.{CivilDateTime}
@@ -224,6 +224,13 @@ shown P b e test = test.0 e
 no_offset : (direction : Direction) (s : ℤ) → offset_from direction s 0 ≡ s
 no_offset Forward s = omega (arith, ints)
 no_offset Backward s = omega (arith, ints)
+
+-- between these two offsets from s the half that s is on ends
+pub record Bisected (direction : Direction) (z : Zone) (s : ℤ) (fraction : ℕ) (inside outside : ℕ) : Type 0 where
+  pub ordered : inside < outside
+  pub margin : outside ≤ edge_limit
+  pub within : IsCalmStart z fraction → HasTwin direction z.reads s → HasTwin direction z.reads (offset_from direction s inside)
+  pub beyond : IsCalmStart z fraction → ¬ (HasTwin direction z.reads (offset_from direction s outside))
 
 module _ (direction : Direction) (m : Moment) (b : Bool) where
   pub bisect_start : b ≡ false → (IsCalmStart m.zone m.fraction → IsTrue b ↔ HasTwin direction m.zone.reads (offset_from direction m.instant edge_limit)) → Bisected direction m.zone m.instant m.fraction 0 edge_limit

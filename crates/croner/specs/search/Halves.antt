@@ -1,8 +1,8 @@
 -- The two halves of a repeated range of the wall clock.
-use Rattle.std.specs.Prelude.{◌≡◌, ⊤, ℕ, ◌+◌, ◌<◌, ◌≤◌, ℤ, pos, ◌+ℤ◌, ◌-ℤ◌, ◌<ℤ◌, ◌≤ℤ◌, Bool, false, Option, Some, None}
+use Rattle.std.specs.Prelude.{◌≡◌, ⊤, ℕ, ◌+◌, ◌≤◌, ℤ, pos, ◌+ℤ◌, ◌-ℤ◌, ◌<ℤ◌, ◌≤ℤ◌, Bool, false, Option, Some, None}
 use Rattle.croner_base.specs.declared.time.Direction.{Direction}
 use Rattle.croner_base.specs.declared.time.Direction.TheVariants.{Forward, Backward}
-use Rattle.croner_base.specs.Zone.{Zone, Moment}
+use Rattle.croner_base.specs.Zone.{Moment}
 use Rattle.croner_base.specs.Limits.{apart_limit}
 use Rattle.croner.specs.Runs.{Precedes}
 use Rattle.croner.specs.search.Walk.{one_on}
@@ -50,13 +50,6 @@ moment_from direction m n = record m { instant = offset_from direction m.instant
 abbrev pub CountsBoth : Direction → Bool → Type 0
 CountsBoth Forward fixed_time = fixed_time ≡ false
 CountsBoth Backward fixed_time = ⊤
-
--- between these two offsets from s the half that s is on ends
-pub record Bisected (direction : Direction) (z : Zone) (s : ℤ) (fraction : ℕ) (inside outside : ℕ) : Type 0 where
-  pub ordered : inside < outside
-  pub margin : outside ≤ edge_limit
-  pub within : IsCalmStart z fraction → HasTwin direction z.reads s → HasTwin direction z.reads (offset_from direction s inside)
-  pub beyond : IsCalmStart z fraction → ¬ (HasTwin direction z.reads (offset_from direction s outside))
 
 -- the value stands at the edge of the other half, or there is none within the margin
 abbrev pub IsEdge : {T : Type 0} → (T → Moment) → Direction → Moment → Option T → Type 0

@@ -153,13 +153,3 @@ HasGapFront z held (Some front) =
     (wall_second front <ℤ held)
     × (IsCalm z → Unread z.reads (wall_second front +ℤ pos 1) (held +ℤ pos 1) × ((t : ℤ) × (z.reads t ≡ wall_second front)))
 HasGapFront z held None = ¬ (IsCalm z)
-
--- a search for the end of a gap has come to a wall second
-pub record InGapUpTo (z : Zone) (held wall : ℤ) : Type 0 where
-  pub from : held ≤ℤ wall
-  pub unread : IsCalm z → Unread z.reads held (wall +ℤ pos 1)
-
--- a search for the second before a gap has come to a wall second
-pub record InGapDownTo (z : Zone) (held wall : ℤ) : Type 0 where
-  pub from : wall ≤ℤ held
-  pub unread : IsCalm z → Unread z.reads wall (held +ℤ pos 1)
