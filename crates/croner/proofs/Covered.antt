@@ -15,7 +15,7 @@ use Rattle.croner_pattern.specs.Shapes.{has_field_shapes}
 use Rattle.croner_pattern.specs.Schedule.{IsScheduled, DateMatches, is_scheduled, is_date_matching, is_fixed_time}
 use Rattle.croner.specs.Runs.{Precedes, Reaches}
 use Rattle.croner.specs.Limit.{year_5000, year_2}
-use Rattle.croner.specs.search.Schedule.{last_of_year_1, NextScheduled, NoneScheduled}
+use Rattle.croner.specs.zone.Schedule.{last_of_year_1, NextScheduled, NoneScheduled}
 use Rattle.croner.specs.Cursor.{has_room, edge_day, IsMatchingTime, IsMove, IsOpen, IsOnSchedule, IsNearest, NoneOn, Finds}
 use Rattle.croner.proofs.Ahead.{not_both, precedes-reaches, reaches-trans}
 use Rattle.croner.proofs.CivilOrder.{seconds_bound, same_date, reach-date, no_room-past}

@@ -18,4 +18,4 @@ pub mod SearchedYears
 pub mod Settings
 pub mod Views
 pub mod Words
-pub mod search
+pub mod zone

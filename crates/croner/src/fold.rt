@@ -3,7 +3,7 @@ ghost use Rattle.std.specs.Prelude.{◌≡◌, ◌↔◌, ◌≤◌, IsTrue, IfO
 ghost use Rattle.croner_base.specs.Zone.{reading};
 ghost use Rattle.croner_base.specs.Calm.{HoldsAround};
 ghost use Rattle.croner.specs.Premises.{IsCalmStart, HoldsSecond};
-ghost use Rattle.croner.specs.search.Halves.{edge_limit, HasTwin, IsEdge, offset_from};
+ghost use Rattle.croner.specs.zone.Halves.{edge_limit, HasTwin, IsEdge, offset_from};
 ghost use Rattle.croner.specs.Refusal.{IsBackendError};
 
 use crate::instant::{moved, precedes};

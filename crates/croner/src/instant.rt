@@ -2,8 +2,8 @@
 ghost use Rattle.std.specs.Prelude.{◌≡◌, ◌↔◌, ◌≤◌, ℤ, pos, IsTrue, IfOk, IfErr, false};
 ghost use Rattle.croner_base.specs.Zone.{nanos_of};
 ghost use Rattle.croner.specs.Runs.{Precedes, Reaches, Ahead};
-ghost use Rattle.croner.specs.search.Halves.{moment_from, offset_from};
-ghost use Rattle.croner.specs.search.Walk.{CannotMove};
+ghost use Rattle.croner.specs.zone.Halves.{moment_from, offset_from};
+ghost use Rattle.croner.specs.zone.Walk.{CannotMove};
 ghost use Rattle.croner.specs.Refusal.{IsBackendError};
 
 use croner_base::errors::CronError;

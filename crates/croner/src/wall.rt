@@ -1,8 +1,8 @@
 //! Moves of one second on the wall clock.
 ghost use Rattle.std.specs.Prelude.{◌≡◌, ◌+◌, ◌↔◌, ℤ, pos, ◌+ℤ◌, ◌-ℤ◌, MatchOption, IsTrue};
 ghost use Rattle.croner_base.specs.Civil.{wall_second, day_of_date, seconds_of_time};
-ghost use Rattle.croner.specs.search.Wall.{IsLastYear};
-ghost use Rattle.croner.specs.search.Walk.{one_on};
+ghost use Rattle.croner.specs.zone.Wall.{IsLastYear};
+ghost use Rattle.croner.specs.zone.Walk.{one_on};
 ghost use Rattle.croner.specs.Limit.{IsWithin};
 
 use croner_base::time::{

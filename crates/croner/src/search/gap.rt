@@ -4,7 +4,7 @@ ghost use Rattle.croner_base.specs.declared.time.value.Resolution.TheVariants.{G
 ghost use Rattle.croner_base.specs.Calm.{IsCalm, IsSearched};
 ghost use Rattle.croner_base.specs.Civil.{wall_second};
 ghost use Rattle.croner.specs.Premises.{HoldsYears};
-ghost use Rattle.croner.specs.search.Walk.{HasGapEnd, HasGapFront};
+ghost use Rattle.croner.specs.zone.Walk.{HasGapEnd, HasGapFront};
 ghost use Rattle.croner.specs.Refusal.{IsBackendError};
 
 use crate::wall::one_second_on;

@@ -10,8 +10,8 @@ ghost use Rattle.croner.specs.Runs.{job_in};
 ghost use Rattle.croner.specs.Limit.{IsWithin};
 ghost use Rattle.croner.specs.Premises.{IsSearchable};
 ghost use Rattle.croner.specs.Searches.{IsFound, IsRefused};
-ghost use Rattle.croner.specs.search.Walk.{IsWalked, HasWalked};
-ghost use Rattle.croner.specs.search.Halves.{CountsBoth, HasOtherHalf, opposite_way};
+ghost use Rattle.croner.specs.zone.Walk.{IsWalked, HasWalked};
+ghost use Rattle.croner.specs.zone.Halves.{CountsBoth, HasOtherHalf, opposite_way};
 ghost use Rattle.croner.specs.Refusal.{IsBackendError};
 
 use crate::fold::{is_on_first_half, other_edge};

@@ -2,12 +2,12 @@
 ghost use Rattle.std.specs.Prelude.{◌≡◌, ◌⊎◌, ℤ, IfOk, IfErr, MatchOption, Some};
 ghost use Rattle.croner_base.specs.declared.time.value.Resolution.TheVariants.{Ambiguous, Gap};
 ghost use Rattle.croner_base.specs.Zone.{IsResolved};
-ghost use Rattle.croner.specs.search.Wall.{IsLastYear};
+ghost use Rattle.croner.specs.zone.Wall.{IsLastYear};
 ghost use Rattle.croner_base.specs.Calm.{IsCalm};
 ghost use Rattle.croner_base.specs.Civil.{wall_second};
 ghost use Rattle.croner.specs.Runs.{job_in};
 ghost use Rattle.croner.specs.Premises.{HoldsYears};
-ghost use Rattle.croner.specs.search.Walk.{CannotMove, HasPassed, HasWalked, IsWalkRefused, Walking, walk_start, NearerOf, ChosenOf, IsOneOf};
+ghost use Rattle.croner.specs.zone.Walk.{CannotMove, HasPassed, HasWalked, IsWalkRefused, Walking, walk_start, NearerOf, ChosenOf, IsOneOf};
 ghost use Rattle.croner.specs.Refusal.{IsBackendError};
 
 use super::Schedule;

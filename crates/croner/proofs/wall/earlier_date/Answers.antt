@@ -1,6 +1,6 @@
 use Rattle.std.proofs.Common.{arith}
 use Rattle.std.proofs.lemmas.Int.{ints}
-use Rattle.croner.proofs.WallSeconds.{day_before, month_before, year_before}
+use Rattle.croner.proofs.zone.WallSeconds.{day_before, month_before, year_before}
 use Rattle.croner.proofs.wall.earlier_date.Goals as goal
 
 pub returns-then-day-gt1 : goal.returns-then-day-gt1

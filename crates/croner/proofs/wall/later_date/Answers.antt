@@ -1,6 +1,6 @@
 use Rattle.std.proofs.Common.{arith}
 use Rattle.std.proofs.lemmas.Int.{ints}
-use Rattle.croner.proofs.WallSeconds.{next_day, next_month, next_year}
+use Rattle.croner.proofs.zone.WallSeconds.{next_day, next_month, next_year}
 use Rattle.croner.proofs.wall.later_date.Goals as goal
 
 pub returns-then-day-days_in_month : goal.returns-then-day-days_in_month

@@ -1,6 +1,6 @@
 use Rattle.std.proofs.Common.{arith, ◌∙◌, refl, sym}
 use Rattle.std.proofs.lemmas.Int.{ints}
-use Rattle.croner.proofs.WallSeconds.{second_of}
+use Rattle.croner.proofs.zone.WallSeconds.{second_of}
 use Rattle.croner.proofs.wall.second_earlier.Goals as goal
 
 pub returns-in-Some : goal.returns-in-Some

@@ -1,10 +1,10 @@
 use Rattle.std.proofs.Common.{◌∙◌, ap, arith}
 use Rattle.croner_base.specs.Civil.{wall_second}
 use Rattle.croner.specs.Runs.{job_in}
-use Rattle.croner.specs.search.Walk.{walk_start}
-use Rattle.croner.proofs.CalmZone.{calm_of}
-use Rattle.croner.proofs.WalkPace.{paced_start, paced_on, paced_ends}
-use Rattle.croner.proofs.WalkLoop.{walking_start, walking_next, walk_reaches, something_ahead, out_far}
+use Rattle.croner.specs.zone.Walk.{walk_start}
+use Rattle.croner.proofs.zone.CalmZone.{calm_of}
+use Rattle.croner.proofs.zone.WalkPace.{paced_start, paced_on, paced_ends}
+use Rattle.croner.proofs.zone.WalkLoop.{walking_start, walking_next, walk_reaches, something_ahead, out_far}
 use Rattle.croner.proofs.ErrorsKept.{error_kept}
 use Rattle.croner.proofs.search.walk.walk.Goals as goal
 

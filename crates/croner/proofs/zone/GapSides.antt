@@ -12,12 +12,12 @@ use Rattle.croner_base.specs.Calm.{IsCalm, IsSearched, IsInReach}
 use Rattle.croner_base.specs.Limits.{gap_limit, fold_limit, apart_limit}
 use Rattle.croner.specs.Premises.{HoldsYears, HasOneInstantEach}
 use Rattle.croner.specs.Refusal.{IsBackendError}
-use Rattle.croner.specs.search.Wall.{IsLastYear}
-use Rattle.croner.specs.search.Walk.{GapEnd, Unread, one_on}
-use Rattle.croner.proofs.CalmZone.{Exactly, calm_of, exact_of}
-use Rattle.croner.proofs.ZoneOrder.{Calm, cases_lt_z, distance, gains, read_or_skipped}
-use Rattle.croner.proofs.WalkArms.{first_of_one, first_of_two}
-use Rattle.croner.proofs.WallSeconds.{last_year_far}
+use Rattle.croner.specs.zone.Wall.{IsLastYear}
+use Rattle.croner.specs.zone.Walk.{GapEnd, Unread, one_on}
+use Rattle.croner.proofs.zone.CalmZone.{Exactly, calm_of, exact_of}
+use Rattle.croner.proofs.zone.ZoneOrder.{Calm, cases_lt_z, distance, gains, read_or_skipped}
+use Rattle.croner.proofs.zone.WalkArms.{first_of_one, first_of_two}
+use Rattle.croner.proofs.zone.WallSeconds.{last_year_far}
 
 -- ---- how far a search has come, its loop's invariant
 

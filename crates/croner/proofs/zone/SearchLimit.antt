@@ -10,19 +10,19 @@ use Rattle.croner_base.specs.Calm.{IsCalm, IsNear}
 use Rattle.croner_base.specs.Limits.{gap_limit}
 use Rattle.croner.specs.Runs.{Timetable, Job, job_in, Nearest, Counts, Precedes, Reaches}
 use Rattle.croner.specs.Limit.{IsWithin, NoneInSpan, IsPast}
-use Rattle.croner.specs.search.Schedule.{IsCovered, NoneScheduled}
+use Rattle.croner.specs.zone.Schedule.{IsCovered, NoneScheduled}
 use Rattle.croner.specs.Premises.{IsSearchable, IsCalmStart, StartsCalm, HoldsYears, HoldsSecond}
 use Rattle.croner.specs.Refusal.{IsBackendError, IsRefusal}
-use Rattle.croner.specs.search.Walk.{RunOf, NoneOf, Walked, WalkedFrom, walk_start, one_on, OutFrom, IsWalked, IsWalkRefused}
+use Rattle.croner.specs.zone.Walk.{RunOf, NoneOf, Walked, WalkedFrom, walk_start, one_on, OutFrom, IsWalked, IsWalkRefused}
 use Rattle.croner.specs.Searches.{IsFound, IsRefused}
-use Rattle.croner.specs.search.Halves.{edge_limit, EdgeOf, HasTwin, CountsBoth, IsEdge, HasOtherHalf, opposite_way, offset_from, moment_from}
-use Rattle.croner.proofs.ZoneOrder.{Calm, cases_lt_z, before_break, after_break}
-use Rattle.croner.proofs.CalmZone.{calm_of}
-use Rattle.croner.proofs.RunsOfSeconds.{true_or_false}
-use Rattle.croner.proofs.WalkSteps.{Seen}
-use Rattle.croner.proofs.WalkLoop.{never_true, backend_error}
-use Rattle.croner.proofs.TwoHalves.{forward_seen, backward_seen, forward_seen_twice, backward_seen_twice, walked_counts, edge_counts_forward, edge_counts_backward}
-use Rattle.croner.proofs.HalfEdges.{found_alone, found_one_half, found_before_edge, found_second, found_first}
+use Rattle.croner.specs.zone.Halves.{edge_limit, EdgeOf, HasTwin, CountsBoth, IsEdge, HasOtherHalf, opposite_way, offset_from, moment_from}
+use Rattle.croner.proofs.zone.ZoneOrder.{Calm, cases_lt_z, before_break, after_break}
+use Rattle.croner.proofs.zone.CalmZone.{calm_of}
+use Rattle.croner.proofs.zone.RunsOfSeconds.{true_or_false}
+use Rattle.croner.proofs.zone.WalkSteps.{Seen}
+use Rattle.croner.proofs.zone.WalkLoop.{never_true, backend_error}
+use Rattle.croner.proofs.zone.TwoHalves.{forward_seen, backward_seen, forward_seen_twice, backward_seen_twice, walked_counts, edge_counts_forward, edge_counts_backward}
+use Rattle.croner.proofs.zone.HalfEdges.{found_alone, found_one_half, found_before_edge, found_second, found_first}
 
 -- ---- a run in the span is of a second that is covered
 

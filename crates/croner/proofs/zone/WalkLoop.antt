@@ -11,17 +11,17 @@ use Rattle.croner_base.specs.Zone.{Zone, Moment, Names}
 use Rattle.croner_base.specs.Calm.{IsCalm, IsSearched, IsInReach}
 use Rattle.croner.specs.Limit.{NoneAhead}
 use Rattle.croner.specs.Runs.{Job, Precedes, Reaches, Ahead}
-use Rattle.croner.specs.search.Schedule.{NextScheduled, NoneScheduled}
+use Rattle.croner.specs.zone.Schedule.{NextScheduled, NoneScheduled}
 use Rattle.croner.specs.Premises.{IsCalmStart, HoldsYears, HasOneInstantEach, Shows}
 use Rattle.croner.specs.Refusal.{IsBackendError}
-use Rattle.croner.specs.search.Wall.{IsLastYear}
-use Rattle.croner.specs.search.Walk.{NoneOf, WalkedFrom, Walking, walk_start, one_on, ChosenOf, IsOneOf, GapEnd, Unread, Onward, Paces, CannotMove, IsWalked, OutFrom, HasGapEnd, HasGapFront}
-use Rattle.croner.proofs.CalmZone.{calm_of, exact_of}
-use Rattle.croner.proofs.ZoneOrder.{cases_lt_z}
-use Rattle.croner.proofs.RunsOfSeconds.{true_or_false}
-use Rattle.croner.proofs.WalkSteps.{none_at_start, reaches_itself, none_to_next, on_reaches, one_on_reaches}
-use Rattle.croner.proofs.WalkArms.{single_answer, two_each_answer, two_each_past, gap_each_past, two_fixed_answer, two_fixed_past, gap_answer, gap_fixed_past_forward, gap_fixed_past_backward}
-use Rattle.croner.proofs.WallSeconds.{IsFar, last_year_far}
+use Rattle.croner.specs.zone.Wall.{IsLastYear}
+use Rattle.croner.specs.zone.Walk.{NoneOf, WalkedFrom, Walking, walk_start, one_on, ChosenOf, IsOneOf, GapEnd, Unread, Onward, Paces, CannotMove, IsWalked, OutFrom, HasGapEnd, HasGapFront}
+use Rattle.croner.proofs.zone.CalmZone.{calm_of, exact_of}
+use Rattle.croner.proofs.zone.ZoneOrder.{cases_lt_z}
+use Rattle.croner.proofs.zone.RunsOfSeconds.{true_or_false}
+use Rattle.croner.proofs.zone.WalkSteps.{none_at_start, reaches_itself, none_to_next, on_reaches, one_on_reaches}
+use Rattle.croner.proofs.zone.WalkArms.{single_answer, two_each_answer, two_each_past, gap_each_past, two_fixed_answer, two_fixed_past, gap_answer, gap_fixed_past_forward, gap_fixed_past_backward}
+use Rattle.croner.proofs.zone.WallSeconds.{IsFar, last_year_far}
 
 le_of_lt : (a b : ℤ) → a <ℤ b → a ≤ℤ b
 le_of_lt a b h = omega (arith, ints)

@@ -3,14 +3,14 @@ use Rattle.std.proofs.Common.{◌≡◌, ℤ, pos, ◌+ℤ◌, ◌<ℤ◌, ◌�
 use Rattle.std.proofs.lemmas.Int.{ints}
 use Rattle.croner_base.specs.declared.time.Direction.{Direction}
 use Rattle.croner_base.specs.declared.time.Direction.TheVariants.{Forward, Backward}
-use Rattle.croner.proofs.ZoneOrder.{cases_lt_z, before_break, after_break, below_before, above_after}
-use Rattle.croner.proofs.FirstInstants.{earlier_twin, later_twin, first_if_least}
-use Rattle.croner.proofs.RunsOfSeconds.{true_or_false, run_has_second, second_gives_run, own_of_first}
-use Rattle.croner.specs.search.Halves.{EdgeAfter, EdgeBefore}
-use Rattle.croner.proofs.ZoneOrder.{Calm}
-use Rattle.croner.specs.search.Walk.{RunOf, Walked, walk_start}
+use Rattle.croner.proofs.zone.ZoneOrder.{cases_lt_z, before_break, after_break, below_before, above_after}
+use Rattle.croner.proofs.zone.FirstInstants.{earlier_twin, later_twin, first_if_least}
+use Rattle.croner.proofs.zone.RunsOfSeconds.{true_or_false, run_has_second, second_gives_run, own_of_first}
+use Rattle.croner.specs.zone.Halves.{EdgeAfter, EdgeBefore}
+use Rattle.croner.proofs.zone.ZoneOrder.{Calm}
+use Rattle.croner.specs.zone.Walk.{RunOf, Walked, walk_start}
 use Rattle.croner.specs.Runs.{Job, Run, OwnRun, Nearest, Counts, Reaches, Ahead}
-use Rattle.croner.proofs.WalkSteps.{Seen}
+use Rattle.croner.proofs.zone.WalkSteps.{Seen}
 
 past_start : (inclusive : Bool) (r w : ℤ) → r <ℤ w → Reaches Forward (walk_start Forward inclusive r) w
 past_start true r w h = omega (arith, ints)

@@ -5,7 +5,7 @@ use Rattle.croner_base.specs.declared.time.Direction.TheVariants.{Forward, Backw
 use Rattle.croner_base.specs.Zone.{Moment}
 use Rattle.croner_base.specs.Limits.{apart_limit}
 use Rattle.croner.specs.Runs.{Precedes}
-use Rattle.croner.specs.search.Walk.{one_on}
+use Rattle.croner.specs.zone.Walk.{one_on}
 use Rattle.croner.specs.Premises.{IsCalmStart, StartsCalm}
 
 -- how many seconds on the edge of the other half is sought

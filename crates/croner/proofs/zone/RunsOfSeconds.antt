@@ -1,11 +1,11 @@
 -- Each run is the run of a scheduled second, and each run of one is a run.
 use Rattle.std.proofs.Common.{◌≡◌, ℤ, pos, ◌+ℤ◌, ◌-ℤ◌, ◌<ℤ◌, ◌≤ℤ◌, ◌⊎◌, arith, refl, sym, ◌∙◌, inl, inr, ap, subst, Bool, true, false}
 use Rattle.std.proofs.lemmas.Int.{ints}
-use Rattle.croner.proofs.ZoneOrder.{cases_lt_z, below_before}
-use Rattle.croner.proofs.FirstInstants.{first_if_least}
-use Rattle.croner.specs.search.Halves.{Break}
-use Rattle.croner.proofs.ZoneOrder.{Calm}
-use Rattle.croner.specs.search.Walk.{First, RunOf}
+use Rattle.croner.proofs.zone.ZoneOrder.{cases_lt_z, below_before}
+use Rattle.croner.proofs.zone.FirstInstants.{first_if_least}
+use Rattle.croner.specs.zone.Halves.{Break}
+use Rattle.croner.proofs.zone.ZoneOrder.{Calm}
+use Rattle.croner.specs.zone.Walk.{First, RunOf}
 use Rattle.croner.specs.Runs.{Job, Run, OwnRun}
 
 pub true_or_false : (b : Bool) → (b ≡ true) ⊎ (b ≡ false)

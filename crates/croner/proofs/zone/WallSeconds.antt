@@ -12,7 +12,7 @@ use Rattle.croner_base.specs.Civil.{HasYmd, wall_second, day_of_date, seconds_of
 use Rattle.croner_base.proofs.Days.{day_number-day, day_number-next_month, day_number-next_year, day_number-lt_year}
 use Rattle.croner_base.proofs.JiffSeconds.{wall_second-parts}
 use Rattle.croner.specs.Limit.{IsWithin, year_5000, year_2}
-use Rattle.croner.specs.search.Wall.{IsLastYear}
+use Rattle.croner.specs.zone.Wall.{IsLastYear}
 
 pub day_of_ymd : (r : CivilDate) (y : ℤ) (m d : ℕ) → HasYmd y m d r → day_of_date r ≡ day_number y m d
 day_of_ymd r y m d h = rw (h.year_is, h.month_is, h.day_is) refl

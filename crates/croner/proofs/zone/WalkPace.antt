@@ -11,11 +11,11 @@ use Rattle.croner_base.specs.Zone.{Zone}
 use Rattle.croner_base.specs.Calm.{IsCalm, IsSearched, IsMet, Rises, gap_seconds, jump}
 use Rattle.croner_base.specs.Limits.{fold_limit, most_gap_seconds}
 use Rattle.croner.specs.Runs.{Precedes, Reaches}
-use Rattle.croner.specs.search.Halves.{Break}
-use Rattle.croner.specs.search.Walk.{one_on, Onward, Paces}
-use Rattle.croner.proofs.CalmZone.{Exactly, change_of_break}
-use Rattle.croner.proofs.ZoneOrder.{Calm, cases_lt_z, nonnegative, put_back, below_before, above_after}
-use Rattle.croner.proofs.GapSides.{unread_is_in_gap}
+use Rattle.croner.specs.zone.Halves.{Break}
+use Rattle.croner.specs.zone.Walk.{one_on, Onward, Paces}
+use Rattle.croner.proofs.zone.CalmZone.{Exactly, change_of_break}
+use Rattle.croner.proofs.zone.ZoneOrder.{Calm, cases_lt_z, nonnegative, put_back, below_before, above_after}
+use Rattle.croner.proofs.zone.GapSides.{unread_is_in_gap}
 
 -- how many seconds the clock skips after p: none where it is put back
 abbrev pub skipped : (ℤ → ℤ) → ℤ → ℕ

@@ -3,7 +3,7 @@ use Rattle.std.proofs.Common.{◌≡◌, ℕ, zero, suc, ◌+◌, ◌*◌, ℤ, 
 use Rattle.std.proofs.lemmas.Int.{ints, by_lt_z}
 use borrow.Author.Differences.{up}
 use Rattle.croner_base.specs.Limits.{gap_limit, fold_limit, apart_limit}
-use Rattle.croner.specs.search.Halves.{Break}
+use Rattle.croner.specs.zone.Halves.{Break}
 
 -- changes are small and far apart
 pub record Calm (reads : ℤ → ℤ) : Type 0 where

@@ -2,9 +2,9 @@
 use Rattle.std.proofs.Common.{◌≡◌, ℤ, pos, ◌+ℤ◌, ◌-ℤ◌, ◌<ℤ◌, ◌≤ℤ◌, arith, refl, inl, inr}
 use Rattle.std.proofs.lemmas.Int.{ints}
 use Rattle.croner_base.specs.Limits.{fold_limit}
-use Rattle.croner.proofs.ZoneOrder.{cases_lt_z, put_back, put_back_once, before_break, after_break}
-use Rattle.croner.proofs.ZoneOrder.{Calm}
-use Rattle.croner.specs.search.Walk.{First}
+use Rattle.croner.proofs.zone.ZoneOrder.{cases_lt_z, put_back, put_back_once, before_break, after_break}
+use Rattle.croner.proofs.zone.ZoneOrder.{Calm}
+use Rattle.croner.specs.zone.Walk.{First}
 
 module _ (reads : ℤ → ℤ) (calm : Calm reads) where
   -- an instant before the change that reads what j reads after it

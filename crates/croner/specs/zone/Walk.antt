@@ -10,7 +10,7 @@ use Rattle.croner_base.specs.Calm.{IsCalm}
 use Rattle.croner.specs.Limit.{NoneAhead}
 use Rattle.croner.specs.Refusal.{IsBackendError}
 use Rattle.croner.specs.Runs.{Timetable, Job, Precedes, Reaches, Ahead}
-use Rattle.croner.specs.search.Schedule.{NoneScheduled}
+use Rattle.croner.specs.zone.Schedule.{NoneScheduled}
 use Rattle.croner.specs.Premises.{IsCalmStart, HasOneInstantEach, HoldsYears, Shows}
 use Rattle.croner.specs.declared.search.walk.Passed.{Passed}
 use Rattle.croner.specs.declared.search.walk.Passed.TheVariants.{Answer, GoOn, Limit}

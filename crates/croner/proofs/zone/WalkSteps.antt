@@ -3,11 +3,11 @@ use Rattle.std.proofs.Common.{◌≡◌, ℤ, ◌≤ℤ◌, ◌⊎◌, arith, re
 use Rattle.std.proofs.lemmas.Int.{ints}
 use Rattle.croner_base.specs.declared.time.Direction.{Direction}
 use Rattle.croner_base.specs.declared.time.Direction.TheVariants.{Forward, Backward}
-use Rattle.croner.proofs.ZoneOrder.{cases_lt_z}
-use Rattle.croner.proofs.FirstInstants.{first_ordered, forward_order, backward_order}
-use Rattle.croner.proofs.ZoneOrder.{Calm}
-use Rattle.croner.specs.search.Schedule.{NextScheduled}
-use Rattle.croner.specs.search.Walk.{First, RunOf, NoneOf, Walked, walk_start, one_on}
+use Rattle.croner.proofs.zone.ZoneOrder.{cases_lt_z}
+use Rattle.croner.proofs.zone.FirstInstants.{first_ordered, forward_order, backward_order}
+use Rattle.croner.proofs.zone.ZoneOrder.{Calm}
+use Rattle.croner.specs.zone.Schedule.{NextScheduled}
+use Rattle.croner.specs.zone.Walk.{First, RunOf, NoneOf, Walked, walk_start, one_on}
 use Rattle.croner.specs.Runs.{Job, Reaches, Ahead}
 
 -- i is a run ahead of s, of a scheduled second that a walk from a wall second visits
