@@ -1,32 +1,17 @@
 -- Jobs that are equal differ in their texts at most, and what does not look at the text is the same of both.
-use Rattle.std.proofs.Common.{◌≡◌, ◌↔◌, ℕ, ℤ, Bool, true, false, IsTrue, List, [], ◌∷◌, refl, ap, sym, ◌∙◌, subst, arith}
+use Rattle.std.proofs.Common.{◌≡◌, ◌↔◌, ℕ, ℤ, Bool, true, false, IsTrue, List, [], ◌∷◌, refl, ap, sym, ◌∙◌, subst}
 use Rattle.std.proofs.lemmas.Bool.{false≢true}
-use Rattle.std.proofs.lemmas.Bool.Decides.{nat_tests}
-use Rattle.std.specs.declared.cmp.Ordering.{Ordering}
-use Rattle.std.specs.declared.cmp.Ordering.TheVariants.{Less, Equal, Greater}
+use Rattle.std.specs.declared.cmp.Ordering.TheVariants.{Equal}
 use Rattle.std.specs.Cmp.{tied_itself}
 use Rattle.std.specs.Cmp.Lexicographic.{slice_cmp}
-use Rattle.std.specs.Ordering.{nat_cmp, bool_cmp, is_eq, ordering_then, eq_by_cmp}
+use Rattle.std.specs.Ordering.{nat_cmp, is_eq, eq_by_cmp}
 use Rattle.croner_base.specs.Field.{Field}
 use Rattle.croner_base.specs.Order.{field_cmp}
 use Rattle.croner_pattern.specs.Meaning.{Meaning}
 use Rattle.croner_pattern.specs.Order.{meaning_cmp, meaning_cmp_total}
 use Rattle.croner_pattern.specs.Schedule.{IsScheduled, DateMatches}
 use Rattle.croner.specs.Equality.{AreSameButTexts}
-
-tie : (a b : Ordering) → is_eq (ordering_then a b) ≡ true → (is_eq a ≡ true) × (is_eq b ≡ true)
-tie Less b h = absurd (false≢true h)
-tie Equal b h = (refl, h)
-tie Greater b h = absurd (false≢true h)
-
-nat_tie : (a b : ℕ) → is_eq (nat_cmp a b) ≡ true → a ≡ b
-nat_tie a b h = grind (arith, nat_tests)
-
-bool_tie : (a b : Bool) → is_eq (bool_cmp a b) ≡ true → a ≡ b
-bool_tie false false h = refl
-bool_tie false true h = absurd (false≢true h)
-bool_tie true false h = absurd (false≢true h)
-bool_tie true true h = refl
+use Rattle.croner.specs.IteratorOrder.{tie, nat_tie, bool_tie}
 
 list_tie : (xs ys : List ℕ) → is_eq (slice_cmp nat_cmp xs ys) ≡ true → xs ≡ ys
 list_tie [] [] h = refl

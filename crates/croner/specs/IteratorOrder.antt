@@ -63,15 +63,15 @@ iterator_po {T} o =
     (then_po (on_po (λ (i : CronIterator T). i.position) o) (partial_order_from_total marks_cmp_total))
 
 -- a tie of two orders is a tie of each
-tie : (a b : Ordering) → is_eq (ordering_then a b) ≡ true → (is_eq a ≡ true) × (is_eq b ≡ true)
+pub tie : (a b : Ordering) → is_eq (ordering_then a b) ≡ true → (is_eq a ≡ true) × (is_eq b ≡ true)
 tie Less b h = absurd (false≢true h)
 tie Equal b h = (refl, h)
 tie Greater b h = absurd (false≢true h)
 
-nat_tie : (a b : ℕ) → is_eq (nat_cmp a b) ≡ true → a ≡ b
+pub nat_tie : (a b : ℕ) → is_eq (nat_cmp a b) ≡ true → a ≡ b
 nat_tie a b h = grind (arith, nat_tests)
 
-bool_tie : (a b : Bool) → is_eq (bool_cmp a b) ≡ true → a ≡ b
+pub bool_tie : (a b : Bool) → is_eq (bool_cmp a b) ≡ true → a ≡ b
 bool_tie false false h = refl
 bool_tie false true h = absurd (false≢true h)
 bool_tie true false h = absurd (false≢true h)
