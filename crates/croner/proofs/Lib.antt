@@ -7,6 +7,8 @@ pub mod Dates
 pub mod EqualJobs
 pub mod Examples
 pub mod ExamplesCursor
+pub mod ExamplesJson
+pub mod Expanded
 pub mod Faults
 pub mod FieldReads
 pub mod Foremost
@@ -19,6 +21,8 @@ pub mod Listings
 pub mod Matching
 pub mod Names
 pub mod NoTexts
+pub mod OwnCuts
+pub mod Rereading
 pub mod Scheduled
 pub mod SearchLaws
 pub mod SearchedYears
@@ -27,6 +31,7 @@ pub mod Singles
 pub mod Starred
 pub mod ThereAndBack
 pub mod Times
+pub mod Trimmed
 pub mod Values
 pub mod Weekdays
 pub mod WordLists

@@ -4,6 +4,7 @@
 pub mod equality;
 pub mod grammar;
 pub mod listing;
+pub mod rereading;
 pub mod searches;
 
 pub use croner_base::laws::{calendar, clocks, marks, tables};

@@ -1,0 +1,33 @@
+//! The law of texts read again.
+ghost use Rattle.std.specs.Prelude.{◌≡◌, Ok, IfOk, IfErr, true};
+ghost use Rattle.std.specs.Ordering.{eq_by_cmp};
+ghost use Rattle.croner_pattern.specs.Meaning.{Meaning};
+ghost use Rattle.croner_pattern.specs.Order.{pattern_cmp};
+ghost use Rattle.croner.specs.Gives.{Fails};
+ghost use Rattle.croner.specs.Grammar.{outcome};
+ghost use Rattle.croner.specs.Views.{job_of};
+
+use crate::Cron;
+use crate::parser::CronParser;
+use croner_base::errors::CronError;
+use std::alloc::Global;
+
+/// A pattern, read, and the text of the job read again by the same parser.
+///
+/// Whatever the settings are, the second job is equal to the first and has the same text: the text that a job keeps is a fixed
+/// point of its parser. So there is an error only where the given text is refused, or `OutOfMemory`.
+pub fn read_twice(parser: &CronParser, alloc: Global, text: &str) -> Result<(Cron, Cron), CronError>
+    ensures first { IfOk result (λ r. outcome parser.now text.now ≡ Ok (job_of r.0)) }
+    ensures second { IfOk result (λ r. outcome parser.now (job_of r.0).text ≡ Ok (job_of r.1)) }
+    ensures same { IfOk result (λ r. job_of r.1 ≡ job_of r.0) }
+    ensures equal { IfOk result (λ r. eq_by_cmp pattern_cmp r.0.pattern r.1.pattern ≡ true) }
+    ensures err { IfErr result (λ e. Fails e (outcome parser.now text.now)) }
+{
+    match parser.parse(alloc, text) {
+        Ok(first) => match parser.parse(alloc, first.as_str()) {
+            Ok(second) => Ok((first, second)),
+            Err(refused) => Err(refused),
+        },
+        Err(refused) => Err(refused),
+    }
+}
