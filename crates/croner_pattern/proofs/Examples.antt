@@ -93,10 +93,27 @@ nearest_to_none_in_february : matching (day (codes "30W")) 28 3 ≡ []
 unfolding trim_start trim_end chars lib.Utf8.encode
 nearest_to_none_in_february = refl
 
+nearest_to_none_from_a_sunday : matching (day (codes "30W")) 28 0 ≡ []
+unfolding trim_start trim_end chars lib.Utf8.encode
+nearest_to_none_from_a_sunday = refl
+
+-- Saturday the 29th, of which the nearest working day would be the 28th, isn't in a month of 28 days
+nearest_to_none_behind_the_end : matching (day (codes "29W")) 28 6 ≡ []
+unfolding trim_start trim_end chars lib.Utf8.encode
+nearest_to_none_behind_the_end = refl
+
 -- two stars: every day, the leap day among them
 every_day : is_day_matching (of_days (codes "*") true (codes "*") true false) 29 4 29 ≡ true
 unfolding trim_start trim_end chars lib.Utf8.encode
 every_day = refl
+
+every_day_of_31 : matching (of_days (codes "*") true (codes "*") true false) 31 0 ≡ days_of 31
+unfolding trim_start trim_end chars lib.Utf8.encode
+every_day_of_31 = refl
+
+every_day_of_28 : matching (of_days (codes "*") true (codes "*") true false) 28 0 ≡ days_of 28
+unfolding trim_start trim_end chars lib.Utf8.encode
+every_day_of_28 = refl
 
 -- the second Sunday and the last one of September 2024
 second_sunday : matching (weekday (codes "0#2")) 30 0 ≡ 8 ∷ []
@@ -125,6 +142,11 @@ last_working_day : matching (day (codes "LW")) 30 5 ≡ 29 ∷ []
 unfolding trim_start trim_end chars lib.Utf8.encode
 last_working_day = refl
 
+-- where the last day is a Sunday, it is two days before
+last_working_day_on_friday : matching (day (codes "LW")) 30 6 ≡ 28 ∷ []
+unfolding trim_start trim_end chars lib.Utf8.encode
+last_working_day_on_friday = refl
+
 -- a lone L among the weekdays names nothing, in each kind of month
 lone_last : list_any (λ len. list_any (λ first. list_any (is_day_matching (weekday (codes "L")) len first) (days_of len)) (0 ∷ 1 ∷ 2 ∷ 3 ∷ 4 ∷ 5 ∷ 6 ∷ [])) (28 ∷ 29 ∷ 30 ∷ 31 ∷ []) ≡ false
 unfolding trim_start trim_end chars lib.Utf8.encode
@@ -147,6 +169,10 @@ either_side = refl
 both_sides : matching (of_days (codes "L") false (codes "5#L") false true) 30 4 ≡ 30 ∷ []
 unfolding trim_start trim_end chars lib.Utf8.encode
 both_sides = refl
+
+both_sides_of_the_thirteenth : matching (of_days (codes "13") false (codes "5") false true) 30 0 ≡ 13 ∷ []
+unfolding trim_start trim_end chars lib.Utf8.encode
+both_sides_of_the_thirteenth = refl
 
 every_weekday_named : matching (of_days (codes "13") false (codes "*/1") false false) 28 0 ≡ days_of 28
 unfolding trim_start trim_end chars lib.Utf8.encode
