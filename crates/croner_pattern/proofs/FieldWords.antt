@@ -1,13 +1,13 @@
 -- Tests of a field by counting and by its first value.
 use Rattle.std.proofs.Common.{◌≡◌, ℕ, zero, suc, ◌+◌, ◌-◌, ◌<◌, ◌≤◌, Bool, true, false, not, cond, ◌&&◌, eqb, leb, List, [], ◌∷◌, length, get_or, refl, ap, sym, ◌∙◌, arith, inl, inr}
 use Rattle.std.specs.List.{filter, list_all, range_with_len}
-use Rattle.std.proofs.lemmas.Bool.{cases_Bool, cases_eq, false≢true}
+use Rattle.std.proofs.lemmas.Bool.{and_parts, cases_Bool, cases_eq, false≢true}
 use Rattle.std.proofs.lemmas.Bool.Decides.{nat_tests}
 use Rattle.std.proofs.lemmas.List.{get_or_past}
 use Rattle.croner_base.specs.Field.{Field, has_all, has_any, is_in_bounds, is_marked, room, values_between}
-use Rattle.croner_base.specs.Marks.{IsWhole}
+use Rattle.croner_base.specs.Marks.{IsWhole, HasNoPlainFrom, IsLeastPlainValue}
 use Rattle.croner_pattern.specs.Schedule.{is_plain}
-use Rattle.croner_pattern.specs.Description.{plain_values, is_only, is_one, begins_with}
+use Rattle.croner_pattern.specs.Description.{plain_values, value_of, is_only, is_one, begins_with}
 
 -- values from a place on don't begin with an earlier one
 later : (p : ℕ → Bool) (n a value : ℕ) → value < a → begins_with value (filter p (range_with_len a n)) ≡ false
@@ -152,4 +152,50 @@ all_by_count f w =
           let other : eqb 0 ((f.shape.max - f.shape.min) + 1) ≡ false = grind (arith, nat_tests) in
           let none = not_plain f f.shape.min lacking in
           rw (lacking, other) (sym (ap (list_all (is_plain f)) (range_begins f.shape.min f.shape.max o) ∙ rw none refl))
+    ]
+
+-- the first of the values that pass, and none
+first_kept : (p : ℕ → Bool) (n a v : ℕ) → a ≤ v → v < a + n → p v ≡ true → ((x : ℕ) → a ≤ x → x < v → p x ≡ false) → get_or (filter p (range_with_len a n)) 0 0 ≡ v
+first_kept p zero a v low high hit before = absurd (omega arith)
+first_kept p (suc n) a v low high hit before =
+    elim (cases_eq a v) [
+      | inl e ↦ let here : p a ≡ true = ap p e ∙ hit in rw here e
+      | inr ne ↦
+          let here : p a ≡ false = before a (omega arith) (omega arith) in
+          rw here (first_kept p n (a + 1) v (omega arith) (omega arith) hit (λ x from to. before x (omega arith) to))
+    ]
+
+none_kept : (p : ℕ → Bool) (n a : ℕ) → ((x : ℕ) → a ≤ x → x < a + n → p x ≡ false) → get_or (filter p (range_with_len a n)) 0 0 ≡ 0
+none_kept p zero a h = refl
+none_kept p (suc n) a h = let here = h a (omega arith) (omega arith) in rw here (none_kept p n (a + 1) (λ x low high. h x (omega arith) (omega arith)))
+
+pub first_is : (f : Field) (v : ℕ) → eqb f.shape.max 0 ≡ false → IsLeastPlainValue f 0 v → value_of f ≡ v
+first_is f v some l =
+    let able = and_parts ((is_in_bounds f.shape v && has_all f.shape.supported 1) && not (eqb f.shape.max 0)) (is_marked 1 f v) l.plain in
+    let held = and_parts (is_in_bounds f.shape v && has_all f.shape.supported 1) (not (eqb f.shape.max 0)) able.0 in
+    let bounds = and_parts (is_in_bounds f.shape v) (has_all f.shape.supported 1) held.0 in
+    let ends = and_parts (leb f.shape.min v) (leb v f.shape.max) bounds.0 in
+    let given = bounds.1 in
+    let low : f.shape.min ≤ v = (let h = ends.0 in grind (arith, nat_tests)) in
+    let high : v ≤ f.shape.max = (let h = ends.1 in grind (arith, nat_tests)) in
+    rw given (first_kept (is_marked 1 f) ((f.shape.max + 1) - f.shape.min) f.shape.min v low (omega arith) able.1
+    (λ x from to.
+    elim (cases_Bool (is_marked 1 f x)) [
+      | inl hit ↦ absurd (let less = l.first x (omega arith) (plain-marked f x from (omega arith) given some ∙ hit) in omega arith)
+      | inr miss ↦ miss
+    ]))
+
+pub first_of_none : (f : Field) → eqb f.shape.max 0 ≡ false → HasNoPlainFrom f 0 → value_of f ≡ 0
+first_of_none f some h =
+    elim (cases_Bool (has_all f.shape.supported 1)) [
+      | inl given ↦ rw given (none_kept (is_marked 1 f) ((f.shape.max + 1) - f.shape.min) f.shape.min (λ x low high. sym (plain-marked f x low (omega arith) given some) ∙ h x (omega arith)))
+      | inr lacking ↦ rw lacking refl
+    ]
+
+-- a field whose greatest value is 0 has none
+pub first_of_zero : (f : Field) → IsWhole f → f.shape.max ≡ 0 → value_of f ≡ 0
+first_of_zero f w h =
+    elim (cases_Bool (has_all f.shape.supported 1)) [
+      | inl given ↦ rw given (none_kept (is_marked 1 f) ((f.shape.max + 1) - f.shape.min) f.shape.min (λ x _ _. no_mark f w h x))
+      | inr lacking ↦ rw lacking refl
     ]

@@ -7,11 +7,11 @@ use Rattle.croner_base.specs.Field.{Field, can_ask, is_marked, has_all}
 use Rattle.croner_pattern.specs.Days.{weekday_of, occurrence, is_last_weekday, is_nearest}
 use Rattle.croner_pattern.specs.Meaning.{Meaning}
 use Rattle.croner_pattern.specs.Questions.{asked, and_test, first_yes, first_target, last_target, near_answer, near_answers, is_named_last, last_answer, day_answer, weekday_answer, both_answers, date_answer}
-use Rattle.croner_pattern.specs.Schedule.{bit_of_nth, is_near_target, is_day_side, are_joined, is_day_matching}
+use Rattle.croner_pattern.specs.Schedule.{bit_of_nth, is_near_target, are_joined, is_day_matching}
 use Rattle.croner_pattern.specs.Shapes.{has_field_shapes, day_shape, weekday_shape}
 use Rattle.croner_pattern.proofs.DayTable.{occurrence_is}
 use Rattle.croner_pattern.proofs.Shaped.{Alike, Shaped, shaped, asks_day, asks_weekday}
-use Rattle.croner_pattern.proofs.Sides.{Kind, near_is, day_is, date_is, first_low, last_high}
+use Rattle.croner_pattern.proofs.Sides.{Kind, near_is, date_is, first_low, last_high}
 
 -- the question has an answer
 pub record Known (q : Option Bool) : Type 0 where
@@ -84,12 +84,6 @@ near_answered m len first day h k =
     let s = shaped m h in
     let a = known-near m.days len first day s.days k in
     a.is ∙ ap Some (near_is m.days len first day a.value k a.is)
-
-pub day_answered : (m : Meaning) (len first day : ℕ) → has_field_shapes m ≡ true → Kind len first day → day_answer m.days len first day ≡ Some (is_day_side m.days len first day)
-day_answered m len first day h k =
-    let s = shaped m h in
-    let a = known-day m.days len first day s.days k in
-    a.is ∙ ap Some (day_is m.days len first day a.value k a.is)
 
 pub date_answered : (m : Meaning) (len first day : ℕ) → has_field_shapes m ≡ true → Kind len first day → date_answer m len first day ≡ Some (is_day_matching m len first day)
 date_answered m len first day h k =

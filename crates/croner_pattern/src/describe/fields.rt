@@ -5,8 +5,6 @@ ghost use Rattle.croner_base.specs.Field.{marked_values};
 ghost use Rattle.croner_pattern.specs.Schedule.{is_plain};
 ghost use Rattle.croner_pattern.specs.Description.{begins_with, is_all, is_one, is_one_value, is_stepped, is_zero, numbers, plain_values, value_of};
 ghost use Rattle.croner_words.specs.Writes.{Writes};
-ghost use Rattle.std.specs.Prelude.{length, IfOk, IfErr, MatchResult};
-ghost use Rattle.croner_base.specs.declared.errors.CronError.TheVariants.{OutOfMemory};
 
 use crate::describe::lists::number_list;
 use croner_base::component::{ALL_BIT, CronComponent};
@@ -80,15 +78,17 @@ pub(crate) fn is_one_value(field: &CronComponent) -> bool
     field.step() == 1 && is_one(field)
 }
 
-/// The first plain value; 0 where there is none. The only error is `OutOfMemory`.
-pub(crate) fn first_value(field: &CronComponent) -> Result<u16, CronError>
-    ensures { MatchResult result (λ value. value ≡ value_of field.now) (λ e. e ≡ OutOfMemory) }
+/// The first plain value; 0 where there is none.
+pub(crate) fn first_value(field: &CronComponent) -> u16
+    ensures { result ≡ value_of field.now }
 {
-    let values = field.values()?;
-    if values.is_empty() {
-        return Ok(0);
+    if field.max() == 0 {
+        return 0;
     }
-    Ok(values[0])
+    match field.least_from(0) {
+        Some(value) => value,
+        None => 0,
+    }
 }
 
 /// The values that have a modifier, as a list in words.

@@ -13,6 +13,9 @@ use std::alloc::Global;
 /// How far apart the first and the last of a range are at least: three values in a row are one.
 const RANGE_DISTANCE: u16 = 2;
 
+/// The bytes that most lists fit in. Room for them is taken at once.
+const LIST_ROOM: usize = 64;
+
 /// Writes what goes before an item, at its place from 0.
 fn push_separator(
     text: &mut String,
@@ -52,7 +55,7 @@ fn push_item(
 pub(crate) fn text_list(alloc: Global, and: &str, items: &[String]) -> Result<String, CronError>
     ensures { Writes (text_list and.now (map string_bytes items.now)) result }
 {
-    let mut text = String::new(alloc);
+    let mut text = String::with_capacity(alloc, LIST_ROOM)?;
     for (place, item) in items.iter().enumerate() {
         push_item(
             &mut text,
@@ -79,7 +82,7 @@ fn push_joined(text: &mut String, place: usize, item: &str) -> Result<(), CronEr
 pub(crate) fn join(alloc: Global, items: &[String]) -> Result<String, CronError>
     ensures { Writes (joined (codes ", ") (map string_bytes items.now)) result }
 {
-    let mut text = String::new(alloc);
+    let mut text = String::with_capacity(alloc, LIST_ROOM)?;
     for (place, item) in items.iter().enumerate() {
         push_joined(&mut text, place, item.as_str())?;
     }
@@ -125,7 +128,7 @@ pub(crate) fn name_list(
     ensures { Writes (text_list and.now
         (map (λ value. name_at (map (λ name. name.now) names.now) (value - first)) values.now)) result }
 {
-    let mut text = String::new(alloc);
+    let mut text = String::with_capacity(alloc, LIST_ROOM)?;
     for (place, value) in values.iter().enumerate() {
         let name = name_at(names, usize::from(value.saturating_sub(first)));
         push_item(&mut text, and, place, place + 1 == values.len(), name)?;
@@ -212,7 +215,7 @@ fn push_run(
 pub(crate) fn number_list(alloc: Global, and: &str, values: &[u16]) -> Result<String, CronError>
     ensures { Writes (number_list and.now values.now) result }
 {
-    let mut text = String::new(alloc);
+    let mut text = String::with_capacity(alloc, LIST_ROOM)?;
     let mut place = 0;
     let mut start = 0;
     while start < values.len() {

@@ -95,7 +95,7 @@ fn at_one_minute<L: Language>(
         return language.at_time_and_every_x_seconds(alloc, time.as_str(), within.step());
     }
     if is_one(within) {
-        let second = first_value(within)?;
+        let second = first_value(within);
         let time = language.time_of_day(alloc, hour, minute, Some(second))?;
         return language.at_time(alloc, time.as_str());
     }
@@ -242,8 +242,8 @@ fn one_minute_text<L: Language>(
     ensures { let m = meaning_of pattern.now in
         Writes (at_one_minute (L.meaning language.now) m.seconds (value_of m.hours) (value_of m.minutes)) result }
 {
-    let hour = first_value(&pattern.hours)?;
-    let minute = first_value(&pattern.minutes)?;
+    let hour = first_value(&pattern.hours);
+    let minute = first_value(&pattern.minutes);
     at_one_minute(alloc, language, &pattern.seconds, hour, minute)
 }
 

@@ -7,7 +7,7 @@ use Rattle.croner_pattern.proofs.ListsWritten.{joined-begun, item_more}
 use Rattle.croner_pattern.proofs.describe.lists.join.Goals as goal
 
 pub loop-place-init : goal.loop-place-init
-loop-place-init c = joined-begun _ (map string_bytes c.args.items.now) c.new-text.ensures.bytes
+loop-place-init c = joined-begun _ (map string_bytes c.args.items.now) c.in_ok-text.ensures.bytes
 
 pub loop-place-preserved : goal.loop-place-preserved
 loop-place-preserved c =

@@ -8,7 +8,7 @@ use Rattle.croner_pattern.proofs.describe.lists.name_list.Goals as goal
 
 pub loop-place-init : goal.loop-place-init
 loop-place-init c =
-    text_list-begun c.args.and.now _ (map (λ value. name_at (map (λ name. name.now) c.args.names.now) (value - c.args.first)) c.args.values.now) c.new-text.ensures.bytes
+    text_list-begun c.args.and.now _ (map (λ value. name_at (map (λ name. name.now) c.args.names.now) (value - c.args.first)) c.args.values.now) c.in_ok-text.ensures.bytes
 
 pub loop-place-preserved : goal.loop-place-preserved
 loop-place-preserved c =

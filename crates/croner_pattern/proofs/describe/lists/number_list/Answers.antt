@@ -9,7 +9,7 @@ pub loop-start-init : goal.loop-start-init
 loop-start-init c = record {
   counted = omega arith;
   within = omega arith;
-  written = runs_begun c.args.and.now _ c.args.values.now _ c.new-text.ensures.bytes (text_list-from_place c.args.and.now (map item_text (number_items c.args.values.now)));
+  written = runs_begun c.args.and.now _ c.args.values.now _ c.in_ok-text.ensures.bytes (text_list-from_place c.args.and.now (map item_text (number_items c.args.values.now)));
 }
 
 pub loop-start-preserved : goal.loop-start-preserved

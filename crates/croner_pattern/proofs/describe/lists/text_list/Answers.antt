@@ -6,7 +6,7 @@ use Rattle.croner_pattern.proofs.ListsWritten.{text_list-begun, item_more}
 use Rattle.croner_pattern.proofs.describe.lists.text_list.Goals as goal
 
 pub loop-place-init : goal.loop-place-init
-loop-place-init c = text_list-begun c.args.and.now _ (map string_bytes c.args.items.now) c.new-text.ensures.bytes
+loop-place-init c = text_list-begun c.args.and.now _ (map string_bytes c.args.items.now) c.in_ok-text.ensures.bytes
 
 pub loop-place-preserved : goal.loop-place-preserved
 loop-place-preserved c =
