@@ -8,6 +8,7 @@ use Rattle.std.proofs.lemmas.Nat.Bits.{bit_at-lt, bit_at_or, bit_at_and, bit_at-
 use Rattle.croner_pattern.specs.Days.{weekday_of}
 use Rattle.croner_pattern.specs.Private.DayBits.{has_bit}
 use Rattle.croner_pattern.proofs.DayTable.{all_from, all_from-at, same, same-true}
+use Rattle.croner_pattern.proofs.Tests.{and_true, and_false}
 
 -- a bit of words that are joined or moved
 or_digit : (x y : ℕ) → x < 2 → y < 2 → eqb (max x y) 1 ≡ (eqb x 1 || eqb y 1)
@@ -109,10 +110,6 @@ has-nth_week before place a b =
     (all_from-at 0 5 (λ before. all_from 0 31 (λ place. same (has_bit (127 * 2 ^ (7 * before) % 2 ^ 32) place) (eqb (((place + 1) - 1) / 7) before))) before nth_table (omega arith) (omega arith)) (omega arith) (omega arith))
 
 -- a word that is cut to its lowest bits
-and_true : (b : Bool) → (b && true) ≡ b
-and_true true = refl
-and_true false = refl
-
 pub has-cut : (word k p : ℕ) → p < k → has_bit (bit_and word (2 ^ k - 1)) p ≡ has_bit word p
 has-cut word k p h = has-and word (2 ^ k - 1) p ∙ ap (λ x. has_bit word p && eqb x 1) (bit_at_ones k p h) ∙ and_true (has_bit word p)
 
@@ -128,10 +125,6 @@ bit-of word p = digit (bit_at word p) (bit_at-lt word p)
 -- the lowest bit two places up, and each bit one place up
 odd_only : (k : ℕ) → has_bit 1 (suc k) ≡ false
 odd_only k = ap (λ x. eqb x 1) (bit_at-pow_other 0 (suc k) (λ e. absurd (omega arith)))
-
-and_false : (b : Bool) → (b && false) ≡ false
-and_false true = refl
-and_false false = refl
 
 pub has-first : (word p : ℕ) → p < 32 → has_bit (bit_and word 1 * 2 ^ 2 % 2 ^ 32) p ≡ (eqb p 2 && has_bit word 0)
 has-first word zero h = has-shl_below (bit_and word 1) 2 0 h (omega arith)

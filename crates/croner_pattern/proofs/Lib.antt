@@ -1,3 +1,4 @@
+pub mod Tests
 pub mod DayTable
 pub mod DayBits
 pub mod Examples

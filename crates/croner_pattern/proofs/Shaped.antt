@@ -4,7 +4,7 @@ use Rattle.std.proofs.lemmas.Bool.{and_parts, eqb-true}
 use Rattle.std.proofs.lemmas.Bool.Decides.{nat_tests}
 use Rattle.croner_base.specs.declared.errors.CronError.{CronError}
 use Rattle.croner_base.specs.Answers.{Finds}
-use Rattle.croner_base.specs.Field.{Shape, Field, can_ask, has_all}
+use Rattle.croner_base.specs.Field.{Shape, Field, can_ask, has_all, is_marked}
 use Rattle.croner_pattern.specs.Meaning.{Meaning}
 use Rattle.croner_pattern.specs.Schedule.{is_named}
 use Rattle.croner_pattern.specs.Questions.{asked}
@@ -90,6 +90,9 @@ asks_weekday s v bits h has b = can_ask-alike s (weekday_shape 0) v bits h ∙ r
 -- the answer is membership
 pub asked-is : (bits : ℕ) (f : Field) (v : ℕ) → can_ask f.shape v bits ≡ true → asked bits f v ≡ Some (is_named bits f v)
 asked-is bits f v h = rw h refl
+
+pub marked-named : (bits : ℕ) (f : Field) (v : ℕ) → can_ask f.shape v bits ≡ true → is_marked bits f v ≡ is_named bits f v
+marked-named bits f v h = rw h refl
 
 pub some-same : {X : Type 0} (x y : X) → Some x ≡ Some y → x ≡ y
 some-same x y e = cc

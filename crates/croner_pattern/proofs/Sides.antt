@@ -1,5 +1,5 @@
 -- What the questions answer is what the schedule says, by counting.
-use Rattle.std.proofs.Common.{◌≡◌, ℕ, zero, suc, ◌+◌, ◌-◌, ◌<◌, ◌≤◌, ◌⊎◌, Bool, true, false, ◌&&◌, ◌||◌, eqb, nat_lt, List, [], ◌∷◌, map, Option, Some, None, if◌then◌else◌, refl, ap, sym, ◌∙◌, arith, inl, inr}
+use Rattle.std.proofs.Common.{◌≡◌, ℕ, zero, suc, ◌+◌, ◌-◌, ◌<◌, ◌≤◌, ◌⊎◌, Bool, true, false, not, ◌&&◌, ◌||◌, eqb, nat_lt, List, [], ◌∷◌, map, Option, Some, None, if◌then◌else◌, refl, ap, sym, ◌∙◌, arith, inl, inr}
 use Rattle.std.specs.List.{list_any, range_with_len}
 use Rattle.std.proofs.lemmas.Bool.{false≢true}
 use Rattle.std.proofs.lemmas.Bool.Decides.{nat_tests}
@@ -10,6 +10,7 @@ use Rattle.croner_pattern.specs.Questions.{asked, and_test, first_yes, first_tar
 use Rattle.croner_pattern.specs.Schedule.{is_named, is_plain, names_last_day, names_last_working_day, bit_of_nth, is_near_target, is_day_side, is_weekday_side, are_joined, is_day_matching}
 use Rattle.croner_pattern.proofs.DayTable.{nearest_is, resolved_near}
 use Rattle.croner_pattern.proofs.Shaped.{some-same, none-some}
+use Rattle.croner_pattern.proofs.Tests.{and_false, or_false}
 
 -- a kind of month, and a day of it
 pub record Kind (len first day : ℕ) : Type 0 where
@@ -96,10 +97,6 @@ apart : (day goal len target : ℕ) → (target < first_target day) ⊎ (last_ta
 apart day goal len target (inl h) a b c d e f = grind (arith, nat_tests)
 apart day goal len target (inr h) a b c d e f = grind (arith, nat_tests)
 
-and_false : (b : Bool) → (b && false) ≡ false
-and_false true = refl
-and_false false = refl
-
 -- a target that is far from the day doesn't go there
 far : (len first target day : ℕ) → Kind len first day → 1 ≤ target → target ≤ len → (target < first_target day) ⊎ (last_target len day < target) → is_nearest len first target day ≡ false
 far len first target day k low high off =
@@ -139,10 +136,6 @@ near_is days len first day true k h =
     sym (any-true (is_target days len first day) 1 len at.value low high (tested-of 128 days at.value (is_nearest len first at.value day) true at.hit))
 near_is days len first day false k h =
     sym (any-false (is_target days len first day) 1 len (λ x low high. misses days len first day k h x low high))
-
-or_false : (b : Bool) → (b || false) ≡ b
-or_false true = refl
-or_false false = refl
 
 or_true : (b : Bool) → (b || true) ≡ true
 or_true true = refl
@@ -196,3 +189,7 @@ pub date_is : (m : Meaning) (len first day : ℕ) (r : Bool) → Kind len first 
 date_is m len first day r k h =
     both (are_joined m.star_day m.star_weekday m.and) (day_answer m.days len first day) (weekday_answer m.days_of_week len first day) (is_day_side m.days len first day) (is_weekday_side m.days_of_week len first day) r
     (λ v e. day_is m.days len first day v k e) (λ v e. weekday_is m.days_of_week len first day v e) h
+
+-- where `LW` isn't named, the last day alone is
+pub last_alone : (last also b working : Bool) → last ≡ true → also ≡ false → b ≡ (((last && not also) && b) || ((last && also) && working))
+last_alone last also b working l n = rw (l, n) (sym (or_false b))

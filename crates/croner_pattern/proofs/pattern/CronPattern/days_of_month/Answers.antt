@@ -4,15 +4,8 @@ use Rattle.croner_pattern.specs.Meaning.{meaning_of}
 use Rattle.croner_pattern.specs.Private.DayBits.{has_bit}
 use Rattle.croner_pattern.specs.Schedule.{is_day_matching}
 use Rattle.croner_pattern.proofs.DayBits.{has-and, bit-of}
+use Rattle.croner_pattern.proofs.Tests.{and_true, and_false}
 use Rattle.croner_pattern.proofs.pattern.CronPattern.days_of_month.Goals as goal
-
-and_false : (b : Bool) → (b && false) ≡ false
-and_false true = refl
-and_false false = refl
-
-and_true : (b : Bool) → (b && true) ≡ b
-and_true true = refl
-and_true false = refl
 
 cut : (fits whole low is : Bool) → whole ≡ low → (low ≡ true → fits ≡ is) → (fits && whole) ≡ (low && is)
 cut fits whole true is e f = rw (e, f refl) (and_true is)

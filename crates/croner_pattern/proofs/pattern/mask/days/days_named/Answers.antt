@@ -1,12 +1,12 @@
 use Rattle.std.proofs.Common.{◌≡◌, ℕ, zero, suc, ◌+◌, ◌-◌, ◌≤◌, ◌<◌, Bool, true, false, ◌&&◌, ◌||◌, bit_or, refl, ap, ◌∙◌, arith}
 use Rattle.std.specs.List.{list_any, range_with_len}
-use Rattle.croner_base.specs.Field.{Field, can_ask, is_marked}
+use Rattle.croner_base.specs.Field.{Field, is_marked}
 use Rattle.croner_pattern.specs.Days.{days_of, is_last_day, is_last_working, is_nearest}
 use Rattle.croner_pattern.specs.Private.DayBits.{has_bit}
 use Rattle.croner_pattern.specs.Schedule.{is_named, is_plain, is_near_target, names_last_day, names_last_working_day}
 use Rattle.croner_pattern.specs.Shapes.{day_shape}
 use Rattle.croner_pattern.proofs.DayBits.{has-or}
-use Rattle.croner_pattern.proofs.Shaped.{Alike, alike, asks_day}
+use Rattle.croner_pattern.proofs.Shaped.{Alike, alike, asks_day, marked-named}
 use Rattle.croner_pattern.proofs.pattern.mask.days.days_named.Goals as goal
 
 any-same : (p q : ℕ → Bool) (a n : ℕ) → ((x : ℕ) → a ≤ x → x < a + n → p x ≡ q x) → list_any p (range_with_len a n) ≡ list_any q (range_with_len a n)
@@ -14,9 +14,6 @@ any-same p q a zero h = refl
 any-same p q a (suc n) h =
     let more = any-same p q (a + 1) n (λ x low high. h x (omega arith) (omega arith)) in
     (λ i. h a (omega arith) (omega arith) i || more i)
-
-named : (bits : ℕ) (f : Field) (v : ℕ) → can_ask f.shape v bits ≡ true → is_marked bits f v ≡ is_named bits f v
-named bits f v h = rw h refl
 
 or_assoc : (a b c d : Bool) → ((a || (b || c)) || d) ≡ (a || (b || (c || d)))
 or_assoc true b c d = refl
@@ -32,7 +29,7 @@ near_is f targets len first day s long h =
     (λ x low high.
     let back : (x - 1) + 1 ≡ x = omega arith in
     ap (λ b. b && is_nearest len first x day)
-    (h (x - 1) (omega arith) ∙ ap (is_marked 128 f) back ∙ named 128 f x (asks_day f.shape x 128 s refl low (omega arith))))
+    (h (x - 1) (omega arith) ∙ ap (is_marked 128 f) back ∙ marked-named 128 f x (asks_day f.shape x 128 s refl low (omega arith))))
 
 pub returns : goal.returns
 returns c place low =
@@ -43,7 +40,7 @@ returns c place low =
     let s = alike f.shape day_shape c.requires.shape in
     let long = c.requires.length.1 in
     let plain : has_bit c.marked-2.result place ≡ is_plain f day =
-    c.marked-2.ensures place (omega arith) ∙ named 1 f day (asks_day f.shape day 1 s refl (omega arith) (omega arith)) in
+    c.marked-2.ensures place (omega arith) ∙ marked-named 1 f day (asks_day f.shape day 1 s refl (omega arith) (omega arith)) in
     let near : has_bit c.nearest_working-nearest.result place ≡ is_near_target f len first day =
     c.nearest_working-nearest.ensures place low ∙ near_is f c.marked.result len first day s long c.marked.ensures in
     let two = has-or c.marked-2.result c.named_last.result place ∙ (λ i. plain i || c.named_last.ensures place low i) in

@@ -1,21 +1,15 @@
-use Rattle.std.proofs.Common.{◌≡◌, ℕ, ◌+◌, ◌*◌, ◌-◌, ◌%◌, ◌^◌, ◌≤◌, Bool, true, false, not, ◌&&◌, ◌||◌, eqb, refl, ap, sym, ◌∙◌, arith}
+use Rattle.std.proofs.Common.{◌≡◌, ℕ, ◌+◌, ◌*◌, ◌-◌, ◌%◌, ◌^◌, ◌≤◌, Bool, true, false, not, ◌&&◌, ◌||◌, eqb, refl, ap, ◌∙◌, arith}
 use Rattle.std.proofs.lemmas.Bool.Decides.{nat_tests}
 use Rattle.croner_base.specs.Field.{has_all}
 use Rattle.croner_pattern.specs.Days.{is_last_day, is_last_working}
 use Rattle.croner_pattern.specs.Private.DayBits.{has_bit}
 use Rattle.croner_pattern.proofs.DayBits.{has-one}
 use Rattle.croner_pattern.proofs.DayTable.{last_day_is}
+use Rattle.croner_pattern.proofs.Sides.{last_alone}
 use Rattle.croner_pattern.proofs.pattern.mask.days.named_last.Goals as goal
 use Rattle.croner_pattern.proofs.pattern.mask.days.named_last.Goals.{then-is_feature_enabled, else-is_feature_enabled}
 
-or_false : (b : Bool) → (b || false) ≡ b
-or_false true = refl
-or_false false = refl
-
--- the last day alone is named, and the last working day alone
-day_named : (last also b working : Bool) → last ≡ true → also ≡ false → b ≡ (((last && not also) && b) || ((last && also) && working))
-day_named last also b working l n = rw (l, n) (sym (or_false b))
-
+-- the last working day alone is named
 working_named : (last also b working : Bool) → last ≡ true → also ≡ true → working ≡ (((last && not also) && b) || ((last && also) && working))
 working_named last also b working l n = rw (l, n) refl
 
@@ -42,5 +36,5 @@ returns c place low =
           let also : has_all f.enabled 128 ≡ false = cc in
           bit_is c.if-is_feature_enabled.last len place w.last-is (omega (arith, c.requires.length.0)) c.requires.length.1
           ∙ last_day_is len (place + 1) c.requires.length.0 c.requires.length.1 (omega arith) (omega arith)
-          ∙ day_named (has_all f.enabled 64) (has_all f.enabled 128) (is_last_day len (place + 1)) (is_last_working len c.args.first (place + 1)) l also
+          ∙ last_alone (has_all f.enabled 64) (has_all f.enabled 128) (is_last_day len (place + 1)) (is_last_working len c.args.first (place + 1)) l also
     ]

@@ -1,4 +1,4 @@
-use Rattle.std.proofs.Common.{◌≡◌, ℕ, zero, suc, ◌+◌, ◌-◌, ◌/◌, ◌<◌, ◌^◌, Bool, true, false, ◌&&◌, ◌||◌, eqb, bit_or, refl, ap, sym, ◌∙◌, arith}
+use Rattle.std.proofs.Common.{◌≡◌, ℕ, zero, suc, ◌+◌, ◌-◌, ◌/◌, ◌<◌, ◌^◌, Bool, false, ◌&&◌, ◌||◌, eqb, bit_or, refl, ap, sym, ◌∙◌, arith}
 use Rattle.std.proofs.lemmas.Bool.{or_parts}
 use Rattle.croner_base.specs.Field.{has_any, is_marked}
 use Rattle.croner_base.proofs.MarkSets.{has_any-several}
@@ -6,6 +6,7 @@ use Rattle.croner_pattern.specs.Days.{weekday_of}
 use Rattle.croner_pattern.specs.Private.DayBits.{has_bit}
 use Rattle.croner_pattern.proofs.DayBits.{has-or, has-none}
 use Rattle.croner_pattern.proofs.DayTable.{occurrence_is}
+use Rattle.croner_pattern.proofs.Tests.{or_false}
 use Rattle.croner_pattern.proofs.pattern.mask.weekdays.nth_named.Goals as goal
 
 -- no place is marked
@@ -21,10 +22,6 @@ none_of sum (suc (suc (suc (suc zero)))) k h = one_of sum 32 30 refl h
 none_of sum (suc (suc (suc (suc (suc n))))) k h = absurd (omega arith)
 
 -- one of five places
-or_false : (b : Bool) → (b || false) ≡ b
-or_false true = refl
-or_false false = refl
-
 one_of_five : (m : ℕ → Bool) (k : ℕ) → k < 5
     → (((((eqb k 0 && m 1) || (eqb k 1 && m 2)) || (eqb k 2 && m 3)) || (eqb k 3 && m 4)) || (eqb k 4 && m 5)) ≡ m (k + 1)
 one_of_five m zero h = or_false _ ∙ or_false _ ∙ or_false _ ∙ or_false _
