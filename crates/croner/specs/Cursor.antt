@@ -179,13 +179,15 @@ pub record IsMove (m : Meaning) (from t : CivilTime) : Type 0 where
   pub hour : is_plain m.hours from.hour ≡ true → t.hour ≡ from.hour
   pub minute : t.hour ≡ from.hour → is_plain m.minutes from.minute ≡ true → t.minute ≡ from.minute
 
--- a time that matches, and that needs no step where there is no room for one
-pub record IsOpenTime (m : Meaning) (room : Bool) (from t : CivilTime) : Type 0 where
+-- a time that matches, from a time on, and that needs no step where there is no room for one
+pub record IsOpenTime (m : Meaning) (direction : Direction) (room : Bool) (from t : CivilTime) : Type 0 where
+  pub on : Reaches direction (place_in_day from) (place_in_day t)
   pub matches : IsMatchingTime m t
   pub move : room ≡ false → IsMove m from t
 
 -- the same within an hour
-pub record IsOpenInHour (m : Meaning) (room : Bool) (from t : CivilTime) : Type 0 where
+pub record IsOpenInHour (m : Meaning) (direction : Direction) (room : Bool) (from t : CivilTime) : Type 0 where
+  pub on : Reaches direction (place_in_day from) (place_in_day t)
   pub same_hour : t.hour ≡ from.hour
   pub minute : is_plain m.minutes t.minute ≡ true
   pub second : is_plain m.seconds t.second ≡ true

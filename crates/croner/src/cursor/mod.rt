@@ -36,18 +36,18 @@ pub(crate) fn next_scheduled(
     ensures nearest { IfSome result (IsNearest wall_second (IsOnSchedule (meaning_of pattern.now)) direction
         (wall_second from)) }
 {
-    let first = first_time(pattern, direction)?;
     let date = from.date();
     let days = month_days(pattern, date);
     let room = has_room(date.year(), direction);
     if has_day(days, date.day()) {
-        if let Some(time) = in_day(pattern, from.time(), direction, room, first) {
+        if let Some(time) = in_day(pattern, from.time(), direction, room) {
             return Some(CivilDateTime::new(date, time));
         }
     }
     if !room {
         return None;
     }
+    let first = first_time(pattern, direction)?;
     let date = date_after(pattern, date, days, direction)?;
     Some(CivilDateTime::new(date, first))
 }

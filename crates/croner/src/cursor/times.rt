@@ -3,9 +3,9 @@ ghost use Rattle.std.specs.Prelude.{◌≡◌, true, MatchOption};
 ghost use Rattle.croner_base.specs.declared.time.civil.CivilTime.{CivilTime};
 ghost use Rattle.croner_pattern.specs.Meaning.{meaning_of};
 ghost use Rattle.croner_pattern.specs.Shapes.{has_field_shapes};
-ghost use Rattle.croner.specs.Cursor.{Finds, place_in_day, IsMatchingTime, IsOpenTime, IsOpenInHour, IsFirstTime};
+ghost use Rattle.croner.specs.Cursor.{FindsForemost, place_in_day, IsMatchingTime, IsOpenTime, IsOpenInHour, IsFirstTime};
 
-use crate::cursor::values::{first_value, nearest_beyond, nearest_value};
+use crate::cursor::values::{first_value, is_plain, nearest_beyond, nearest_value};
 use croner_base::time::{CivilTime, Direction};
 use croner_pattern::pattern::CronPattern;
 
@@ -29,37 +29,34 @@ pub(crate) fn first_time(pattern: &CronPattern, direction: Direction) -> Option<
 }
 
 // The nearest time in the hour of a time, from it on, whose minute and second match. Where there is no room it goes over
-// no minute.
+// no minute: a plain one stays.
 fn in_hour(
     pattern: &CronPattern,
     from: CivilTime,
     direction: Direction,
     room: bool,
-    first: CivilTime,
 ) -> Option<CivilTime>
-    requires shapes { has_field_shapes (meaning_of pattern.now) ≡ true }
-    requires first { IsFirstTime (meaning_of pattern.now) direction first }
-    ensures { Finds place_in_day (IsOpenInHour (meaning_of pattern.now) room from) direction (place_in_day from) result }
+    requires { has_field_shapes (meaning_of pattern.now) ≡ true }
+    ensures { FindsForemost place_in_day (IsOpenInHour (meaning_of pattern.now) direction room from) direction result }
 {
-    let hour = from.hour();
-    let minute = nearest_value(&pattern.minutes, 0, LAST_MINUTE, from.minute(), direction)?;
-    if minute != from.minute() {
-        return Some(CivilTime::from_parts_unchecked(hour, minute, first.second()));
-    }
-    if let Some(second) = nearest_value(
-        &pattern.seconds,
-        0,
-        LAST_SECOND,
-        from.second(),
-        direction,
-    ) {
-        return Some(CivilTime::from_parts_unchecked(hour, minute, second));
-    }
-    if !room {
-        return None;
+    let (hour, minute) = (from.hour(), from.minute());
+    if is_plain(&pattern.minutes, minute) {
+        if let Some(second) = nearest_value(
+            &pattern.seconds,
+            0,
+            LAST_SECOND,
+            from.second(),
+            direction,
+        ) {
+            return Some(CivilTime::from_parts_unchecked(hour, minute, second));
+        }
+        if !room {
+            return None;
+        }
     }
     let minute = nearest_beyond(&pattern.minutes, LAST_MINUTE, minute, direction)?;
-    Some(CivilTime::from_parts_unchecked(hour, minute, first.second()))
+    let second = first_value(&pattern.seconds, LAST_SECOND, direction)?;
+    Some(CivilTime::from_parts_unchecked(hour, minute, second))
 }
 
 // The nearest time of the day that matches, from a time on, itself included. Where there is no room it goes over no hour
@@ -69,22 +66,21 @@ pub(crate) fn in_day(
     from: CivilTime,
     direction: Direction,
     room: bool,
-    first: CivilTime,
 ) -> Option<CivilTime>
-    requires shapes { has_field_shapes (meaning_of pattern.now) ≡ true }
-    requires first { IsFirstTime (meaning_of pattern.now) direction first }
-    ensures { Finds place_in_day (IsOpenTime (meaning_of pattern.now) room from) direction (place_in_day from) result }
+    requires { has_field_shapes (meaning_of pattern.now) ≡ true }
+    ensures { FindsForemost place_in_day (IsOpenTime (meaning_of pattern.now) direction room from) direction result }
 {
-    let hour = nearest_value(&pattern.hours, 0, LAST_HOUR, from.hour(), direction)?;
-    if hour != from.hour() {
-        return Some(CivilTime::from_parts_unchecked(hour, first.minute(), first.second()));
-    }
-    if let Some(time) = in_hour(pattern, from, direction, room, first) {
-        return Some(time);
-    }
-    if !room {
-        return None;
+    let hour = from.hour();
+    if is_plain(&pattern.hours, hour) {
+        if let Some(time) = in_hour(pattern, from, direction, room) {
+            return Some(time);
+        }
+        if !room {
+            return None;
+        }
     }
     let hour = nearest_beyond(&pattern.hours, LAST_HOUR, hour, direction)?;
-    Some(CivilTime::from_parts_unchecked(hour, first.minute(), first.second()))
+    let minute = first_value(&pattern.minutes, LAST_MINUTE, direction)?;
+    let second = first_value(&pattern.seconds, LAST_SECOND, direction)?;
+    Some(CivilTime::from_parts_unchecked(hour, minute, second))
 }

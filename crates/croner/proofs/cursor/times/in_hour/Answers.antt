@@ -1,54 +1,59 @@
-use Rattle.std.proofs.Common.{◌≡◌, true, refl, sym, ap, ◌∙◌}
+use Rattle.std.proofs.Common.{ℕ, pos, refl, sym, ap, ◌∙◌, subst}
 use Rattle.croner_pattern.specs.Meaning.{meaning_of}
 use Rattle.croner_pattern.specs.Schedule.{is_plain}
-use Rattle.croner.specs.Cursor.{IsPlainWithin}
-use Rattle.croner.proofs.Times.{none_at, none_after, nearest_at, nearest_after, same_hms, hour-no_minute, hour-move, hour-same_minute, hour-stays, hour-no_step, hour-step}
+use Rattle.croner.specs.Cursor.{one_on, IsPlainWithin, IsNearest, NoneOn}
+use Rattle.croner.proofs.Times.{same_hms, IsFree, free-room, free-other, NoSecond, no_second, other_minute, hour-here, hour-later, hour-none, hour-stays}
 use Rattle.croner.proofs.cursor.times.in_hour.Goals as goal
-
-pub returns-in_err-minute : goal.returns-in_err-minute
-returns-in_err-minute c =
-    let m = meaning_of c.args.pattern.now in
-    rw c.from_residual.ensures
-    (hour-no_minute m c.args.direction c.args.room c.args.from
-    (none_at (IsPlainWithin m.minutes 0 59) c.args.direction c.minute.result c.args.from.minute c.minute.ensures c.in_err-minute.ensures))
-
-pub returns-then-minute : goal.returns-then-minute
-returns-then-minute c =
-    let m = meaning_of c.args.pattern.now in
-    hour-move m c.args.direction c.args.room c.args.from c.in_ok-minute.minute c.args.first c.from_parts_unchecked.result c.requires.first.second
-    (nearest_at (IsPlainWithin m.minutes 0 59) c.args.direction c.minute.result c.args.from.minute c.in_ok-minute.minute c.minute.ensures c.in_ok-minute.ensures)
-    (λ e. c.if-minute.true (e ∙ sym c.minute-2.ensures))
-    (same_hms c.from_parts_unchecked.result _ _ _ _ _ _ c.hour-hour.ensures refl c.second.ensures c.from_parts_unchecked.ensures)
+use Rattle.croner.proofs.cursor.times.in_hour.Goals.{then-is_plain+in_default+else-not-room, else-is_plain}
 
 pub returns-in-Some : goal.returns-in-Some
 returns-in-Some c =
     let m = meaning_of c.args.pattern.now in
-    hour-same_minute m c.args.direction c.args.room c.args.from c.in_ok-minute.minute c.in-Some.second c.from_parts_unchecked-in-Some.result
-    (nearest_at (IsPlainWithin m.minutes 0 59) c.args.direction c.minute.result c.args.from.minute c.in_ok-minute.minute c.minute.ensures c.in_ok-minute.ensures)
-    (c.if-minute.false ∙ c.minute-2.ensures)
-    (nearest_at (IsPlainWithin m.seconds 0 59) c.args.direction c.second-2.result c.args.from.second c.in-Some.second c.second-2.ensures c.in-Some.ensures)
-    (same_hms c.from_parts_unchecked-in-Some.result _ _ _ _ _ _ c.hour-hour.ensures refl refl c.from_parts_unchecked-in-Some.ensures)
+    let same = c.minute-minute.ensures in
+    let plain = sym (ap (is_plain m.minutes) same) ∙ sym c.is_plain.ensures ∙ c.if-is_plain.true in
+    hour-here m c.args.direction c.args.room c.args.from c.in-Some.second c.from_parts_unchecked.result plain
+    (subst (λ (n : ℕ). IsNearest pos (IsPlainWithin m.seconds 0 59) c.args.direction (pos n) c.in-Some.second) c.second.ensures c.in-Some.ensures)
+    (same_hms c.from_parts_unchecked.result _ _ _ _ _ _ c.hour-hour.ensures same refl c.from_parts_unchecked.ensures)
 
 pub returns-then-not-room : goal.returns-then-not-room
 returns-then-not-room c =
     let m = meaning_of c.args.pattern.now in
-    let same = c.if-minute.false ∙ c.minute-2.ensures in
-    let plain : is_plain m.minutes c.args.from.minute ≡ true = sym (ap (is_plain m.minutes) same) ∙ c.in_ok-minute.ensures.is.plain in
+    let plain = sym (ap (is_plain m.minutes) c.minute-minute.ensures) ∙ sym c.is_plain.ensures ∙ c.if-is_plain.true in
     hour-stays m c.args.direction c.args.room c.args.from c.if-not-room.true plain
-    (none_at (IsPlainWithin m.seconds 0 59) c.args.direction c.second-2.result c.args.from.second c.second-2.ensures c.in_default.ensures)
+    (no_second m c.args.direction c.args.room c.args.from
+    (subst (λ (n : ℕ). NoneOn pos (IsPlainWithin m.seconds 0 59) c.args.direction (pos n)) c.second.ensures c.in_default.ensures))
 
-pub returns-in_err-minute-2 : goal.returns-in_err-minute-2
-returns-in_err-minute-2 c =
+pub returns-in_err-minute : goal.returns-in_err-minute
+returns-in_err-minute c =
     let m = meaning_of c.args.pattern.now in
-    rw c.from_residual-in_err-minute-2.ensures
-    (hour-no_step m c.args.direction c.args.room c.args.from
-    (none_at (IsPlainWithin m.seconds 0 59) c.args.direction c.second-2.result c.args.from.second c.second-2.ensures c.in_default.ensures)
-    (none_after (IsPlainWithin m.minutes 0 59) c.args.direction c.in_ok-minute.minute c.args.from.minute (c.if-minute.false ∙ c.minute-2.ensures) c.in_err-minute-2.ensures))
+    let dir = c.args.direction in
+    let same = c.minute-minute.ensures in
+    let rest : NoSecond m dir c.args.room c.args.from = elim c.if-is_plain.branch [
+      | then-is_plain+in_default+else-not-room w ↦
+          no_second m dir c.args.room c.args.from (subst (λ (n : ℕ). NoneOn pos (IsPlainWithin m.seconds 0 59) dir (pos n)) w.second.ensures w.in_default.ensures)
+      | else-is_plain w ↦
+          other_minute m dir c.args.room c.args.from (sym (ap (is_plain m.minutes) same) ∙ sym c.is_plain.ensures ∙ w.if-is_plain.false)
+    ] in
+    rw c.from_residual.ensures
+    (hour-none m dir c.args.room c.args.from rest
+    (subst (λ (n : ℕ). NoneOn pos (IsPlainWithin m.minutes 0 59) dir (one_on dir (pos n))) same c.in_err-minute.ensures))
 
 pub returns : goal.returns
 returns c =
     let m = meaning_of c.args.pattern.now in
-    hour-step m c.args.direction c.args.room c.args.from c.in_ok-minute-2.minute c.args.first c.from_parts_unchecked-2.result c.if-not-room.false c.requires.first.second
-    (none_at (IsPlainWithin m.seconds 0 59) c.args.direction c.second-2.result c.args.from.second c.second-2.ensures c.in_default.ensures)
-    (nearest_after (IsPlainWithin m.minutes 0 59) c.args.direction c.in_ok-minute.minute c.args.from.minute c.in_ok-minute-2.minute (c.if-minute.false ∙ c.minute-2.ensures) c.in_ok-minute-2.ensures)
-    (same_hms c.from_parts_unchecked-2.result _ _ _ _ _ _ c.hour-hour.ensures refl c.second-3.ensures c.from_parts_unchecked-2.ensures)
+    let dir = c.args.direction in
+    let same = c.minute-minute.ensures in
+    let t = c.from_parts_unchecked-2.result in
+    let rest : NoSecond m dir c.args.room c.args.from = elim c.if-is_plain.branch [
+      | then-is_plain+in_default+else-not-room w ↦
+          no_second m dir c.args.room c.args.from (subst (λ (n : ℕ). NoneOn pos (IsPlainWithin m.seconds 0 59) dir (pos n)) w.second.ensures w.in_default.ensures)
+      | else-is_plain w ↦
+          other_minute m dir c.args.room c.args.from (sym (ap (is_plain m.minutes) same) ∙ sym c.is_plain.ensures ∙ w.if-is_plain.false)
+    ] in
+    let free : IsFree c.args.room m.minutes c.args.from.minute = elim c.if-is_plain.branch [
+      | then-is_plain+in_default+else-not-room w ↦ free-room c.args.room m.minutes c.args.from.minute w.if-not-room.false
+      | else-is_plain w ↦ free-other c.args.room m.minutes c.args.from.minute (sym (ap (is_plain m.minutes) same) ∙ sym c.is_plain.ensures ∙ w.if-is_plain.false)
+    ] in
+    hour-later m dir c.args.room c.args.from c.in_ok-minute.minute c.in_ok-second.second t free rest
+    (subst (λ (n : ℕ). IsNearest pos (IsPlainWithin m.minutes 0 59) dir (one_on dir (pos n)) c.in_ok-minute.minute) same c.in_ok-minute.ensures)
+    c.in_ok-second.ensures (same_hms t _ _ _ _ _ _ c.hour-hour.ensures refl refl c.from_parts_unchecked-2.ensures)
