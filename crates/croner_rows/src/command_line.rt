@@ -115,6 +115,7 @@ const DESCRIPTIONS: &str = r#"
     describe | 0 0 1 * +FRI#L,MON#1 | 0 "At 00:00, on day 1 (if it is also one of: the last Friday of the month and the 1st Monday of the month).\n" ""
     describe | , * * * *            | 0 "At minute  past every hour.\n" ""
     describe | 60 * * * *           | 1 "" Component error
+    describe | 5/10 * * * *         | 1 "" Component error
     describe | * * * *              | 1 "" "Invalid pattern: The pattern has 4 fields, but 5, 6 or 7 are expected.\n"
     describe |                      | 1 "" "CronPattern cannot be an empty string.\n"
 

@@ -1,6 +1,6 @@
 //! Answering a call.
-ghost use Rattle.std.specs.Prelude.{◌≡◌, ◌↔◌, ◌⊎◌, ℤ, Ok, IsTrue, IfOk, IfErr, OnOk, string_bytes};
-ghost use Rattle.std.specs.Io.KnownBytes.{Keeps};
+ghost use Rattle.std.specs.Prelude.{◌≡◌, ◌↔◌, ◌⊎◌, ◌++◌, ◌∷◌, [], ℤ, Ok, IsTrue, IfOk, IfErr, OnOk, string_bytes};
+ghost use Rattle.std.specs.Io.KnownBytes.{Appends, Keeps};
 ghost use Rattle.croner_base.specs.Civil.{wall_second};
 ghost use Rattle.croner_base.specs.CivilZone.{civil_zone};
 ghost use Rattle.croner_pattern.specs.Description.{description};
@@ -25,6 +25,7 @@ use croner::time::CivilDateTime;
 use jiff::civil::DateTime;
 use jiff::{Timestamp, Zoned};
 use std::alloc::Global;
+use std::io;
 use std::io::Write;
 
 // A value of civil time. Any serves, to look a date and time up on its clock.
@@ -39,7 +40,7 @@ pub fn answer<W: Write>(alloc: Global, request: Request<'_>, out: &mut W) -> Res
     match request {
         Request::Describe { pattern } => {
             let description = described(alloc, pattern)?;
-            writeln!(out, "{description}")?;
+            write_line(description.as_str(), out)?;
             Ok(())
         }
         Request::Match { pattern, at } => {
@@ -57,14 +58,21 @@ pub fn answer<W: Write>(alloc: Global, request: Request<'_>, out: &mut W) -> Res
     }
 }
 
+// Writes a text as a line.
+fn write_line<W: Write>(text: &str, out: &mut W) -> io::Result<()>
+    ensures { OnOk result (Appends (W.contents out.old) (W.contents out.new) (text.now ++ 10 ∷ [])) }
+{
+    writeln!(out, "{text}")
+}
+
 // The description of a pattern in English.
 fn described(alloc: Global, pattern: &str) -> Result<String, CronError>
     ensures value { IfOk result (λ text. (m : Meaning) × (outcome default_settings pattern.now ≡ Ok m)
         × (string_bytes text ≡ description english m)) }
     ensures err { IfErr result (IsUnread (outcome default_settings pattern.now)) }
 {
-    let cron = Cron::from_str(alloc, pattern)?;
-    cron.describe()
+    let job = Cron::from_str(alloc, pattern)?;
+    job.describe()
 }
 
 // Whether a pattern names a date and time.
