@@ -1,3 +1,5 @@
 pub mod BoxedMoment
 pub mod Narrow
 pub mod NarrowMoment
+pub mod OwnYears
+pub mod TwelveHours

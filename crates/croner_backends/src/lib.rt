@@ -1,10 +1,14 @@
-//! Backends of the tests. Each does what a second on the clock of a table does, and refuses what that does not: one is
-//! refused memory, the other holds little.
+//! Backends and languages of the tests. Each backend does what a second on the clock of a table does, and refuses what that
+//! does not: one is refused memory, the other holds little. Each language is English but for a few of its functions.
 #![tactic(auto)]
 
 mod boxed;
 pub mod laws;
 mod narrow;
+mod own_years;
+mod twelve_hours;
 
 pub use boxed::BoxedTime;
 pub use narrow::NarrowTime;
+pub use own_years::OwnYears;
+pub use twelve_hours::TwelveHours;
