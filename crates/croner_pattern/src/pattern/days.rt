@@ -82,18 +82,6 @@ impl CronPattern {
         is_near_target(&self.days, month_length, first_weekday(day, weekday), day)
     }
 
-    /// Whether a day fits in a month of `length` days whose first has the weekday `first`, from 0 for Sunday. With the
-    /// shapes of a pattern's fields nothing is refused.
-    pub fn is_day_named(&self, length: u32, first: u32, day: u32) -> bool
-        requires shapes { has_field_shapes (meaning_of self.now) ≡ true }
-        requires length { IsInRange 28 31 length }
-        requires first { first < 7 }
-        requires day { IsInRange 1 length day }
-        ensures { result ≡ is_day_matching (meaning_of self.now) length first day }
-    {
-        self.days_of_month(length, first) >> (day - 1) & 1 == 1
-    }
-
     pub(super) fn fits(&self, length: u32, first: u32, day: u32) -> Result<bool, CronError>
         requires length { IsInRange 28 31 length }
         requires first { first < 7 }
