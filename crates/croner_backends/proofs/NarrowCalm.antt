@@ -11,7 +11,7 @@ use Rattle.croner_base.proofs.TableTests.{both_parts, le_of, lt_of, le_test, lt_
 use Rattle.croner.specs.zone.Halves.{Break}
 use Rattle.croner.proofs.zone.CalmZone.{Exactly, calm_of, exact_of}
 use Rattle.croner.proofs.zone.GapSides.{unread_is_in_gap}
-use Rattle.croner.proofs.zone.ZoneOrder.{Calm, order}
+use Rattle.croner.proofs.zone.ZoneOrder.{Calm, below_before, above_after}
 use Rattle.croner_backends.specs.Narrow.{is_between, is_held, narrowed, narrow, IsHeldBetween}
 
 -- ---- calm
@@ -43,35 +43,14 @@ module _ (reads : ℤ → ℤ) (calm : Calm reads) (w d : ℤ) (below : reads (d
 
   -- before the gap's end the clock shows less
   pub less_before : (i : ℤ) → i <ℤ d → reads i <ℤ w
-  less_before i lt =
-      by_lt_z i (d -ℤ pos 1)
-      (λ far.
-      elim (order reads calm i (d -ℤ pos 1) far) [
-        | inl less ↦ omega (arith, ints)
-        | inr (p, turned) ↦
-            let low = turned.low in
-            let high = turned.high in
-            let near = turned.near in
-            let away = calm.apart p (d -ℤ pos 1) turned.breaks ends high in
-            absurd (omega (arith, ints))
-      ])
-      (λ at. let same : reads i ≡ reads (d -ℤ pos 1) = ap reads (omega (arith, ints)) in omega (arith, ints))
+  less_before i lt = let low = below_before reads calm (d -ℤ pos 1) i ends (omega (arith, ints)) in omega (arith, ints)
 
   -- and from it on more
   pub more_after : (i : ℤ) → d ≤ℤ i → w <ℤ reads i
   more_after i le =
-      by_lt_z d i
-      (λ far.
-      elim (order reads calm d i far) [
-        | inl less ↦ omega (arith, ints)
-        | inr (p, turned) ↦
-            let low = turned.low in
-            let high = turned.high in
-            let near = turned.near in
-            let away = calm.apart (d -ℤ pos 1) p ends turned.breaks (omega (arith, ints)) in
-            absurd (omega (arith, ints))
-      ])
-      (λ at. let same : reads i ≡ reads d = ap reads (omega (arith, ints)) in omega (arith, ints))
+      let high = above_after reads calm (d -ℤ pos 1) i ends (omega (arith, ints)) in
+      let back : reads (d -ℤ pos 1 +ℤ pos 1) ≡ reads d = ap reads (omega (arith, ints)) in
+      omega (arith, ints)
 
   -- so no instant shows a second of the gap
   pub not_shown : (i : ℤ) → reads i ≡ w → ⊥
