@@ -48,8 +48,30 @@ fn answers<T: CronDateTime>(
     start: T,
     count: u32,
 ) -> Result<String, Fault> {
-    let runs = runs_of(&job(alloc, "", text)?, way, start)?;
-    listed(alloc, &mut runs.clone()?, count)
+    let job = job(alloc, "", text)?;
+    answers_of(alloc, &job, way, start, count)
+}
+
+fn answers_of<T: CronDateTime>(
+    alloc: Global,
+    job: &Cron,
+    way: &str,
+    start: T,
+    count: u32,
+) -> Result<String, Fault>
+    requires { has_field_shapes (job_of job.now) ≡ true }
+{
+    let runs = runs_of(job, way, start)?;
+    listed_by_a_copy(alloc, &runs, count)
+}
+
+fn listed_by_a_copy<T: CronDateTime>(
+    alloc: Global,
+    runs: &CronIterator<T>,
+    count: u32,
+) -> Result<String, Fault> {
+    let mut copy = runs.clone()?;
+    listed(alloc, &mut copy, count)
 }
 
 fn runs_of<T: CronDateTime>(job: &Cron, way: &str, start: T) -> Result<CronIterator<T>, Fault>

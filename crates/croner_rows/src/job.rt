@@ -17,6 +17,17 @@ pub fn job(alloc: Global, settings: &str, text: &str) -> Result<Cron, Fault>
     Ok(parser.parse(alloc, text)?)
 }
 
+/// The run that a search of a text's job finds, as `run_found` has it.
+pub fn run_of<T: CronDateTime>(
+    alloc: Global,
+    text: &str,
+    search: &str,
+    start: &T,
+) -> Result<T, Fault> {
+    let job = job(alloc, "", text)?;
+    run_found(&job, search, start)
+}
+
 fn parser(settings: &str) -> Result<CronParser, Fault> {
     let mut builder = CronParser::builder();
     for setting in settings.split(',') {

@@ -17,6 +17,8 @@ mod faults;
 #[cfg(test)]
 mod job;
 #[cfg(test)]
+mod languages;
+#[cfg(test)]
 mod limits;
 #[cfg(test)]
 mod long;

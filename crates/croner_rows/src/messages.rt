@@ -4,6 +4,7 @@ use crate::fault::Fault;
 use crate::job::job;
 use crate::table::{Question, Told, add_differing};
 use crate::words::number;
+use croner::Cron;
 use croner::component::{ALL_BIT, CronComponent, NONE_BIT, NTH_ALL};
 use croner::time::{Direction, TimeComponent};
 use std::alloc::{AllocError, Global};
@@ -63,9 +64,14 @@ impl Question for Pattern {
         let [settings, text] = cells else {
             return Err(Fault::Malformed);
         };
-        let _job = job(alloc, settings, text)?;
+        accept(alloc, settings, text)?;
         Ok(String::from_str(alloc, "accepted")?)
     }
+}
+
+fn accept(alloc: Global, settings: &str, text: &str) -> Result<(), Fault> {
+    let _job = job(alloc, settings, text)?;
+    Ok(())
 }
 
 const PATTERNS: &str = r#"
@@ -112,10 +118,19 @@ impl Question for Member {
             "hour" => TimeComponent::Hour,
             _ => TimeComponent::Day,
         };
-        let pattern = job(alloc, "", "* * * * *")?.pattern;
-        let member = pattern.find_match_in_component(number(value)?, part, Direction::Forward)?;
+        let member = member_from(alloc, number(value)?, part)?;
         Ok(format!(in alloc; "{member:?}")?)
     }
+}
+
+fn member_from(alloc: Global, value: u32, part: TimeComponent) -> Result<Option<u32>, Fault> {
+    let job = job(alloc, "", "* * * * *")?;
+    member_of(&job, value, part)
+}
+
+fn member_of(job: &Cron, value: u32, part: TimeComponent) -> Result<Option<u32>, Fault> {
+    let pattern = &job.pattern;
+    Ok(pattern.find_match_in_component(value, part, Direction::Forward)?)
 }
 
 const MEMBERS: &str = "

@@ -1,11 +1,8 @@
 //! Searches over a backend that holds what lies between two instants.
-ghost use Rattle.std.specs.Prelude.{◌≡◌, true};
-ghost use Rattle.croner_pattern.specs.Shapes.{has_field_shapes};
-ghost use Rattle.croner.specs.Views.{job_of};
 
 use crate::clock::clock;
 use crate::fault::Fault;
-use crate::job::{job, run_found};
+use crate::job::run_of;
 use crate::table::{Question, differing};
 use crate::words::number;
 use croner::time::table::TableTime;
@@ -24,7 +21,7 @@ impl Question for OverNarrowTime {
         let clock = clock(alloc, table)?;
         let start = TableTime::new(&clock, number(start)?)?;
         let start = NarrowTime::new(start, number(low)?, number(high)?)?;
-        let run = run_found(&job(alloc, "", text)?, search, &start)?;
+        let run = run_of(alloc, text, search, &start)?;
         Ok(run.time().second().to_string(alloc)?)
     }
 }

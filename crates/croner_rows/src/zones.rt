@@ -24,7 +24,9 @@ impl Question for InParis {
         let [text, asked, start] = cells else {
             return Err(Fault::Malformed);
         };
-        answered(alloc, &job(alloc, "", text)?, asked, &zoned(start)?)
+        let start = zoned(start)?;
+        let job = job(alloc, "", text)?;
+        answered(alloc, &job, asked, &start)
     }
 }
 
