@@ -1,0 +1,217 @@
+//! Iterators: their makers and their items.
+ghost use Rattle.std.specs.Prelude.{◌≡◌, true};
+ghost use Rattle.croner_pattern.specs.Shapes.{has_field_shapes};
+ghost use Rattle.croner.specs.Views.{job_of};
+
+use crate::case::Outcome;
+use crate::cells::number;
+use crate::clocks::clock;
+use crate::fault::Fault;
+use crate::jobs::job;
+use crate::marks::{begin, end};
+use crate::shown::{add_item, refusal, refused};
+use crate::times::{Shown, civil};
+use croner::errors::CronError;
+use croner::time::Direction;
+use croner::time::table::TableTime;
+use croner::{Cron, CronIterator};
+use croner_backends::BoxedTime;
+use std::alloc::Global;
+
+// How an iterator is made.
+#[derive(Clone, Copy)]
+enum How {
+    From(Direction),
+    After,
+    Before,
+}
+
+fn how_made(word: &str) -> Result<How, Fault> {
+    match word {
+        "from forward" => Ok(How::From(Direction::Forward)),
+        "from backward" => Ok(How::From(Direction::Backward)),
+        "after" => Ok(How::After),
+        "before" => Ok(How::Before),
+        _ => Err(Fault::Malformed),
+    }
+}
+
+fn made<T: Shown>(cron: &Cron, start: T, how: How) -> Result<CronIterator<T>, CronError>
+    requires { has_field_shapes (job_of cron.now) ≡ true }
+{
+    match how {
+        How::From(direction) => cron.iter_from(start, direction),
+        How::After => cron.iter_after(start),
+        How::Before => cron.iter_before(start),
+    }
+}
+
+/// An item, or null where a call gives none.
+pub fn shown_item<T: Shown>(alloc: Global, item: Option<T>) -> Result<String, Fault> {
+    match item {
+        Some(item) => item.shown(alloc),
+        None => Ok(String::from_str(alloc, "null")?),
+    }
+}
+
+fn lacks_memory<T: Shown>(iterator: &CronIterator<T>) -> bool {
+    matches!(iterator.fault(), Some(CronError::OutOfMemory))
+}
+
+// What so many calls gave: the items, where a call that lacked memory was made again with memory, and whether one was.
+#[derive(Drop)]
+struct Items {
+    items: String,
+    lacked: bool,
+}
+
+// One call between the marks. Where it lacks memory the call that comes next has memory.
+fn add_next<T: Shown>(
+    rt: &HostRuntime,
+    iterator: &mut CronIterator<T>,
+    items: &mut Items,
+) -> Result<(), Fault> {
+    begin(rt);
+    let mut item = iterator.next();
+    end(rt);
+    if item.is_none() && lacks_memory(iterator) {
+        items.lacked = true;
+        item = iterator.next();
+    }
+    let shown = shown_item(rt.alloc(), item)?;
+    add_item(&mut items.items, shown.as_str())?;
+    Ok(())
+}
+
+fn items_of<T: Shown>(
+    rt: &HostRuntime,
+    iterator: &mut CronIterator<T>,
+    count: u32,
+) -> Result<Items, Fault> {
+    let mut items = Items {
+        items: String::new(rt.alloc()),
+        lacked: false,
+    };
+    for _ in 0..count {
+        add_next(rt, iterator, &mut items)?;
+    }
+    Ok(items)
+}
+
+// The name of the fault that an iterator keeps.
+fn fault_of<T: Shown>(iterator: &CronIterator<T>) -> &'static str {
+    match iterator.fault() {
+        Some(error) => refusal(error),
+        None => "no fault",
+    }
+}
+
+// The iterator, or one that is made again with memory.
+fn made_at_last<T: Shown>(
+    first: Result<CronIterator<T>, CronError>,
+    cron: &Cron,
+    again: T,
+    how: How,
+) -> Result<CronIterator<T>, Fault>
+    requires { has_field_shapes (job_of cron.now) ≡ true }
+{
+    match first {
+        Ok(iterator) => Ok(iterator),
+        Err(_error) => Ok(made(cron, again, how)?),
+    }
+}
+
+// The items of an iterator, or want of memory where its maker or one of its calls lacked it; afterwards all of the items, and
+// the fault.
+fn outcome_of<T: Shown>(
+    rt: &HostRuntime,
+    iterator: &mut CronIterator<T>,
+    count: u32,
+    is_refused: bool,
+) -> Result<Outcome, Fault> {
+    let Items { items, lacked } = items_of(rt, iterator, count)?;
+    let fault = fault_of(iterator);
+    let after = format!(in rt.alloc(); "{items} {fault}")?;
+    let answer = if is_refused || lacked {
+        refused(rt.alloc(), &CronError::OutOfMemory)?
+    } else {
+        items
+    };
+    Ok(Outcome { answer, after })
+}
+
+// What an iterator is asked.
+#[derive(Clone, Copy)]
+struct Asked<'t> {
+    text: &'t str,
+    how: How,
+    count: u32,
+}
+
+// The items of an iterator that is made between the marks, and that is made again with memory where that was refused.
+fn listed_from<T: Shown>(
+    rt: &HostRuntime,
+    cron: &Cron,
+    start: T,
+    again: T,
+    asked: Asked<'_>,
+) -> Result<Outcome, Fault>
+    requires { has_field_shapes (job_of cron.now) ≡ true }
+{
+    begin(rt);
+    let first = made(cron, start, asked.how);
+    end(rt);
+    let is_refused = first.is_err();
+    let mut iterator = made_at_last(first, cron, again, asked.how)?;
+    outcome_of(rt, &mut iterator, asked.count, is_refused)
+}
+
+fn listed<T: Shown>(rt: &HostRuntime, asked: Asked<'_>, start: T) -> Result<Outcome, Fault> {
+    let cron = job(rt.alloc(), asked.text)?;
+    let again = start.clone()?;
+    listed_from(rt, &cron, start, again, asked)
+}
+
+fn listed_on(
+    rt: &HostRuntime,
+    asked: Asked<'_>,
+    backend: &str,
+    table: &str,
+    second: i64,
+) -> Result<Outcome, Fault> {
+    let clock = clock(rt.alloc(), table)?;
+    let time = TableTime::new(&clock, second)?;
+    match backend {
+        "table" => listed(rt, asked, time),
+        "boxed" => listed(rt, asked, BoxedTime::new(rt.alloc(), time)?),
+        _ => Err(Fault::Malformed),
+    }
+}
+
+/// The items of an iterator over civil time, over a table, or over the backend that takes memory: a clock, a text, a maker, a
+/// start, and how many calls.
+pub fn listing(rt: &HostRuntime, given: &[&str]) -> Result<Outcome, Fault> {
+    let [backend, table, text, maker, start, count] = given else {
+        return Err(Fault::Malformed);
+    };
+    let (how, count) = (how_made(maker)?, number(count)?);
+    let asked = Asked { text, how, count };
+    match *backend {
+        "civil" => listed(rt, asked, civil(start)?),
+        backend => listed_on(rt, asked, backend, table, number(start)?),
+    }
+}
+
+/// The items of an iterator that is handed its job, which makes no request over civil time: a text, a start, and how many
+/// calls.
+pub fn handed(rt: &HostRuntime, given: &[&str]) -> Result<Outcome, Fault> {
+    let [text, start, count] = given else {
+        return Err(Fault::Malformed);
+    };
+    let (start, count) = (civil(start)?, number(count)?);
+    let cron = job(rt.alloc(), text)?;
+    begin(rt);
+    let mut iterator = CronIterator::new(cron, start, false, Direction::Forward);
+    end(rt);
+    outcome_of(rt, &mut iterator, count, false)
+}
