@@ -1,5 +1,5 @@
 -- Comparing by the first difference.
-use Rattle.std.proofs.Common.{◌≡◌, ◌≢◌, ℕ, zero, suc, ◌+◌, ◌-◌, ◌*◌, ◌^◌, ◌<◌, ltb, List, [], ◌∷◌, length, get_or, bit_or, bit_xor, refl, ap, sym, ◌∙◌, arith, subst, inl, inr, w64}
+use Rattle.std.proofs.Common.{◌≡◌, ◌≢◌, ℕ, zero, suc, ◌+◌, ◌-◌, ◌*◌, ◌^◌, ◌<◌, ◌≤◌, ltb, List, [], ◌∷◌, length, get_or, bit_or, bit_xor, refl, ap, sym, ◌∙◌, arith, subst, inl, inr, w64}
 use Rattle.std.specs.declared.cmp.Ordering.{Ordering}
 use Rattle.std.specs.declared.cmp.Ordering.TheVariants.{Less, Equal, Greater}
 use Rattle.std.specs.Cmp.Lexicographic.{slice_cmp}
@@ -7,7 +7,8 @@ use Rattle.std.specs.Int.{bit_at, trailing_zeros}
 use Rattle.std.specs.Ordering.{nat_cmp, ordering_then}
 use Rattle.std.proofs.lemmas.Bool.{cases_eq, cases_lt, cases_Bool, ne_eqb}
 use Rattle.std.proofs.lemmas.Bool.Decides.{nat_tests}
-use Rattle.std.proofs.lemmas.Nat.Bits.{bit_at_or, bit_at_xor, bit_at-lt, bit_at-zero, bit_at-trailing_zeros, same_from_bits_below}
+use Rattle.std.proofs.lemmas.Nat.Bits.{bit_at_or, bit_at_xor, bit_at-lt, bit_at-zero, bit_at-trailing_zeros, same_from_bits, same_from_bits_below}
+use Rattle.std.proofs.lemmas.List.{ext_get_or}
 use Rattle.croner_base.specs.Words.Differences.{IsFirstDifference, ShowsDifferences}
 use Rattle.croner_base.specs.Field.{room}
 use Rattle.croner_base.specs.Words.Marked.{Marked}
@@ -49,6 +50,32 @@ cmp_lengths [] (y ∷ ys) same = nat_cmp_none (length ys)
 cmp_lengths (x ∷ xs) [] same = nat_cmp_some (length xs)
 cmp_lengths (x ∷ xs) (y ∷ ys) same =
     cmp_alike x y _ (same 0 (omega arith) (omega arith)) ∙ cmp_lengths xs ys (λ u h i. same (suc u) (omega arith) (omega arith)) ∙ nat_cmp_more (length xs) (length ys)
+
+-- ---- two lists of words
+
+none_differ : (found x y : ℕ) → bit_or found (bit_xor x y) ≡ 0 → (found ≡ 0) × (x ≡ y)
+none_differ found x y e = (
+  same_from_bits found 0 (λ b. omega (arith, bit_at_or found (bit_xor x y) b, ap (λ n. bit_at n b) e, bit_at-zero b)),
+  same_from_bits x y (λ b. omega (arith, bit_at_or found (bit_xor x y) b, bit_at_xor x y b, ap (λ n. bit_at n b) e, bit_at-zero b, bit_at-lt x b, bit_at-lt y b)),
+)
+
+-- where nothing was found, the first n words are the same
+abbrev pub SameUnless : List ℕ → List ℕ → ℕ → ℕ → Type 0
+SameUnless xs ys n found = found ≡ 0 → (i : ℕ) → i < n → get_or xs i 0 ≡ get_or ys i 0
+
+pub same_none : (xs ys : List ℕ) → SameUnless xs ys 0 0
+same_none xs ys _ i h = absurd (omega arith)
+
+pub same_one_more : (xs ys : List ℕ) (n found : ℕ) → SameUnless xs ys n found → SameUnless xs ys (n + 1) (bit_or found (bit_xor (get_or xs n 0) (get_or ys n 0)))
+same_one_more xs ys n found same none i h =
+    let both = none_differ found (get_or xs n 0) (get_or ys n 0) none in
+    elim (cases_eq i n) [
+      | inl e ↦ subst (λ j. get_or xs j 0 ≡ get_or ys j 0) (sym e) both.1
+      | inr ne ↦ same both.0 i (omega arith)
+    ]
+
+pub same_lists : (xs ys : List ℕ) (n found : ℕ) → length xs ≡ length ys → length xs ≤ n → SameUnless xs ys n found → found ≡ 0 → xs ≡ ys
+same_lists xs ys n found long all same none = ext_get_or 0 xs ys long (λ i h. same none i (omega arith))
 
 -- ---- one word: the first k modifiers have been looked at
 

@@ -26,9 +26,24 @@ impl Words {
         ensures { IsTrue result → IsSame self.now other.now }
     {
         match (self, other) {
-            (Words::InPlace(words), Words::InPlace(others)) => words == others,
-            (Words::OnHeap(words), Words::OnHeap(others)) => words.as_slice() == others.as_slice(),
+            (Words::InPlace(words), Words::InPlace(others)) => are_same(words, others),
+            (Words::OnHeap(words), Words::OnHeap(others)) => are_same(words, others),
             _ => false,
         }
     }
+}
+
+// Whether the words are the same. All are looked at, so that several can be at once.
+#[inline(always)]
+fn are_same(words: &[u64], others: &[u64]) -> bool
+    ensures { IsTrue result → words.now ≡ others.now }
+{
+    if words.len() != others.len() {
+        return false;
+    }
+    let mut differing = 0;
+    for i in 0..words.len() {
+        differing |= words[i] ^ others[i];
+    }
+    differing == 0
 }

@@ -1,0 +1,13 @@
+use Rattle.std.proofs.Common.{arith, ◌<◌, length}
+use Rattle.std.proofs.lemmas.Bool.{eqb-true}
+use Rattle.croner_base.proofs.Words.Differing.{same_none, same_one_more, same_lists}
+use Rattle.croner_base.proofs.component.marks.words.are_same.Goals as goal
+
+pub loop-i-init : goal.loop-i-init
+loop-i-init c = same_none c.args.words.now c.args.others.now
+
+pub loop-i-preserved : goal.loop-i-preserved
+loop-i-preserved c = same_one_more c.args.words.now c.args.others.now c.loop-i.i c.loop-i.differing c.loop-i.invariant
+
+pub returns : goal.returns
+returns c = λ none. same_lists c.args.words.now c.args.others.now c.loop-i.i c.loop-i.differing (omega arith) (omega arith) c.loop-i.invariant (eqb-true _ _ none)
