@@ -24,13 +24,15 @@ pub enum Group {
     DescribeSwedish,
     Compare,
     Copy,
+    LeapMonday,
     NoDate,
+    NoDateInOddYears,
     NoMinute,
 }
 
 impl Group {
     /// Every group, in the order in which they are shown.
-    pub const ALL: [Group; 14] = [
+    pub const ALL: [Group; 16] = [
         Group::Parse,
         Group::MatchCivil,
         Group::NextCivil,
@@ -43,7 +45,9 @@ impl Group {
         Group::DescribeSwedish,
         Group::Compare,
         Group::Copy,
+        Group::LeapMonday,
         Group::NoDate,
+        Group::NoDateInOddYears,
         Group::NoMinute,
     ];
 
@@ -65,7 +69,9 @@ impl Group {
             Group::DescribeSwedish => describe(jobs, Swedish),
             Group::Compare => compare(jobs),
             Group::Copy => copy(jobs),
+            Group::LeapMonday => next(subjects.rare.as_slice(), times.civil.as_slice()),
             Group::NoDate => limit(&never.no_date, &never.first),
+            Group::NoDateInOddYears => limit(&never.no_date_in_odd_years, &never.first),
             Group::NoMinute => limit(&never.no_minute, &never.first),
         }
     }
@@ -86,7 +92,9 @@ impl fmt::Display for Group {
             Group::DescribeSwedish => "describe, Swedish",
             Group::Compare => "clone and compare",
             Group::Copy => "clone",
+            Group::LeapMonday => "next run of 0 0 29 2 +MON",
             Group::NoDate => "next run of 0 0 31 2 *",
+            Group::NoDateInOddYears => "next run of 0 0 0 31 2 * */2",
             Group::NoMinute => "next run of , * * * *",
         };
         write!(f, "{name}")

@@ -10,8 +10,14 @@ use jiff::civil::DateTime;
 use jiff::tz::TimeZone;
 use std::alloc::Global;
 
+/// A pattern whose date is in 15 of 400 years.
+const LEAP_MONDAY: &str = "0 0 29 2 +MON";
+
 /// A pattern whose date is in no year.
 const NO_DATE: &str = "0 0 31 2 *";
+
+/// A pattern of every second year, from year 1 on, whose date is in no year.
+const NO_DATE_IN_ODD_YEARS: &str = "0 0 0 31 2 * */2";
 
 /// A pattern whose minutes name nothing.
 const NO_MINUTE: &str = ", * * * *";
@@ -23,6 +29,8 @@ pub struct Subjects<'t> {
     pub patterns: Vec<String>,
     /// A job for each pattern.
     pub jobs: Vec<Job>,
+    /// A job that runs in few years.
+    pub rare: Vec<Job>,
     /// The jobs that never run.
     pub never: Never,
     /// The times that searches start from.
@@ -39,21 +47,26 @@ impl<'t> Subjects<'t> {
     ) -> Result<Subjects<'t>, Stop> {
         let jobs = jobs(alloc, patterns.as_slice())?;
         let times = Times::new(alloc, table, zone)?;
+        let mut rare = Vec::new(alloc);
+        rare.push(Job::read(alloc, LEAP_MONDAY)?)?;
         let never = Never::new(alloc)?;
         Ok(Subjects {
             patterns,
             jobs,
+            rare,
             never,
             times,
         })
     }
 }
 
-/// Two jobs that never run, and where their searches start.
+/// Three jobs that never run, and where their searches start.
 #[derive(Drop)]
 pub struct Never {
     /// Its date is in no year.
     pub no_date: Job,
+    /// Its date is in no year, and it names every second year.
+    pub no_date_in_odd_years: Job,
     /// Its minutes name nothing.
     pub no_minute: Job,
     /// Where the searches start.
@@ -61,13 +74,15 @@ pub struct Never {
 }
 
 impl Never {
-    /// Reads the two patterns.
+    /// Reads the three patterns.
     fn new(alloc: Global) -> Result<Never, Stop> {
         let first = civil_at(FIRST_SECOND)?;
         let no_date = Job::read(alloc, NO_DATE)?;
+        let no_date_in_odd_years = Job::read(alloc, NO_DATE_IN_ODD_YEARS)?;
         let no_minute = Job::read(alloc, NO_MINUTE)?;
         Ok(Never {
             no_date,
+            no_date_in_odd_years,
             no_minute,
             first,
         })
