@@ -20,8 +20,19 @@ pub struct Job {
 impl Job {
     /// The job of a question: its text, read by the parser of its settings.
     pub fn read(alloc: Global, question: &Value) -> Result<Job, Fault> {
+        Job::of_text(alloc, question, text(question, "text")?)
+    }
+
+    /// The job of a text, read by the parser of a question's settings.
+    pub fn of_text(alloc: Global, question: &Value, text: &str) -> Result<Job, Fault> {
         let parser = parser(question)?;
-        let cron = parser.parse(alloc, text(question, "text")?)?;
+        let cron = parser.parse(alloc, text)?;
+        Ok(Job { cron })
+    }
+
+    /// The job of a JSON value.
+    pub fn from_json(alloc: Global, value: &Value) -> Result<Job, Fault> {
+        let cron = Cron::from_json(alloc, value)?;
         Ok(Job { cron })
     }
 }

@@ -10,6 +10,7 @@ mod day;
 mod fault;
 mod iterators;
 mod job;
+mod json;
 mod member;
 mod pattern;
 mod question;

@@ -6,6 +6,7 @@ use crate::component::{component, component_compare};
 use crate::day::{closest_weekday, day_mask, day_match, find, matching};
 use crate::fault::Fault;
 use crate::job::Job;
+use crate::json::{from_json, reread};
 use crate::member::text;
 use crate::pattern::parsed;
 use crate::time::{Ask, answer_from_start};
@@ -26,6 +27,7 @@ pub fn answer(alloc: Global, question: &Value) -> Result<Value, Fault> {
         "add" => answer_from_start(alloc, question, Ask::Add),
         "clock_table" => clock_table(alloc, question),
         "cronrun" => cronrun(alloc, question),
+        "from_json" => from_json(alloc, question),
         op => answer_of_job(alloc, question, job_operation(op)?),
     }
 }
@@ -40,6 +42,7 @@ enum JobOperation {
     ClosestWeekday,
     DayMask,
     Describe,
+    Reread,
     Search(Direction),
     Items,
 }
@@ -53,6 +56,7 @@ fn job_operation(op: &str) -> Result<JobOperation, Fault> {
         "closest_weekday" => Ok(JobOperation::ClosestWeekday),
         "day_mask" => Ok(JobOperation::DayMask),
         "describe" => Ok(JobOperation::Describe),
+        "reread" => Ok(JobOperation::Reread),
         "next" => Ok(JobOperation::Search(Direction::Forward)),
         "prev" => Ok(JobOperation::Search(Direction::Backward)),
         "iter" => Ok(JobOperation::Items),
@@ -81,6 +85,7 @@ fn answer_on(
         JobOperation::ClosestWeekday => closest_weekday(question, job),
         JobOperation::DayMask => day_mask(question, job),
         JobOperation::Describe => described(question, job),
+        JobOperation::Reread => reread(alloc, question, job),
         JobOperation::Search(direction) => {
             answer_from_start(alloc, question, Ask::Search(job, direction))
         }
