@@ -1,5 +1,6 @@
-//! What only a test can show of the library and of its program: messages, `Debug`, faults that an iterator keeps, memory
-//! that is found, and what the program answers to words. Other rows are lines of the program `cronreplay`.
+//! What only a test can show of the library and of its program: messages, `Debug`, faults that an iterator keeps, how
+//! iterators compare, JSON values, memory that is found, and what the program answers to words. Other rows are lines of
+//! the program `cronreplay`.
 //!
 //! A module a subject; its tables are texts, one row a line (`table`).
 #![tactic(auto)]
@@ -15,7 +16,11 @@ mod fault;
 #[cfg(test)]
 mod faults;
 #[cfg(test)]
+mod iterators;
+#[cfg(test)]
 mod job;
+#[cfg(test)]
+mod json;
 #[cfg(test)]
 mod languages;
 #[cfg(test)]
