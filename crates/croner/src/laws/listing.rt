@@ -3,7 +3,7 @@
 //! A zone is calm where its clock is moved by at most two hours at a time, seldom, at moments more than two days apart, and the
 //! backend resolves each second that it holds to just the instants that show it. Where a law takes a job or a pattern, its fields
 //! must have the shapes of their places, as those of every parsed pattern have.
-ghost use Rattle.std.specs.Prelude.{◌≡◌, ◌≤◌, ◌<◌, ◌+◌, ◌↔◌, ◌⊎◌, ℤ, true, false, [], IfOk, IfErr, IsTrue, length, vec_len, vec_capacity};
+ghost use Rattle.std.specs.Prelude.{◌≡◌, ◌≤◌, ◌<◌, ◌+◌, ◌↔◌, ◌⊎◌, ℤ, Bool, true, false, [], IfOk, IfErr, IsTrue, length, vec_len, vec_capacity};
 ghost use Rattle.std.specs.List.{All, AllPairs};
 ghost use Rattle.croner_pattern.specs.Meaning.{meaning_of};
 ghost use Rattle.croner_pattern.specs.Shapes.{has_field_shapes};
@@ -87,6 +87,8 @@ pub fn items_in_order<T: CronDateTime>(
         IfOk result (λ r. Gave (standing_of T.moment iterator.old) (standing_of T.moment iterator.new) (instants T.moment r.0.items)) }
     ensures counted { IsSearchable (standing_of T.moment iterator.old).position → T.can_lack_memory ≡ false →
         IfOk result (λ r. (length r.0.items ≡ calls) ⊎ GaveAll (standing_of T.moment iterator.old) (instants T.moment r.0.items)) }
+    ensures called { IfOk result
+        (λ r. (mark : Bool) × TakesInTurn T.moment T.can_lack_memory calls iterator.old iterator.new r.0.items mark) }
     ensures ordered { StartsCalm (standing_of T.moment iterator.old).position → IfOk result (λ r.
         AllPairs (Precedes (standing_of T.moment iterator.old).direction) (instants T.moment r.0.items)) }
     ensures compared { IfOk result (λ r. AreCompared T.moment r.0.items r.1.items) }

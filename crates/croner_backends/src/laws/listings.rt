@@ -1,7 +1,7 @@
 //! Iterators over the two backends: their items begin the listing of the runs on the clocks of their tables.
-ghost use Rattle.std.specs.Prelude.{◌≡◌, ◌≤◌, ◌⊎◌, IsTrue, IfOk, IfErr, length};
+ghost use Rattle.std.specs.Prelude.{◌≡◌, ◌≤◌, ◌⊎◌, true, false, IsTrue, IfOk, IfErr, length};
 ghost use Rattle.std.specs.List.{All};
-ghost use Rattle.croner.specs.Listing.{standing_of, instants, BeginsRest, Gave, GaveAll};
+ghost use Rattle.croner.specs.Listing.{standing_of, instants, BeginsRest, Gave, GaveAll, TakesInTurn};
 ghost use Rattle.croner.specs.Neighbours.{IsWholeIn};
 ghost use Rattle.croner.specs.Premises.{IsSearchable};
 ghost use Rattle.croner_backends.specs.BoxedMoment.{boxed_moment};
@@ -26,6 +26,7 @@ pub fn next_boxed_runs<'t>(
     ensures rest { IfOk result
         (λ r. Gave (standing_of boxed_moment iterator.old) (standing_of boxed_moment iterator.new) (instants boxed_moment r.0.items)) }
     ensures all { IfOk result (λ r. IsTrue r.1 → GaveAll (standing_of boxed_moment iterator.old) (instants boxed_moment r.0.items)) }
+    ensures called { IfOk result (λ r. TakesInTurn boxed_moment true calls iterator.old iterator.new r.0.items r.1) }
     ensures whole { IfOk result (λ r. All (λ t. IsWholeIn (standing_of boxed_moment iterator.old).position.zone (boxed_moment t)) r.0.items) }
     ensures most { IfOk result (λ r. length r.0.items ≤ calls) }
     ensures kept { IfErr result (λ e. standing_of boxed_moment iterator.new ≡ standing_of boxed_moment iterator.old) }
@@ -47,6 +48,7 @@ pub fn next_narrow_runs<'t>(
     ensures all { IfOk result (λ r. IsTrue r.1 → GaveAll (standing_of narrow_moment iterator.old) (instants narrow_moment r.0.items)) }
     ensures counted { IsSearchable (standing_of narrow_moment iterator.old).position →
         IfOk result (λ r. (length r.0.items ≡ calls) ⊎ GaveAll (standing_of narrow_moment iterator.old) (instants narrow_moment r.0.items)) }
+    ensures called { IfOk result (λ r. TakesInTurn narrow_moment false calls iterator.old iterator.new r.0.items r.1) }
     ensures whole { IfOk result (λ r. All (λ t. IsWholeIn (standing_of narrow_moment iterator.old).position.zone (narrow_moment t)) r.0.items) }
     ensures most { IfOk result (λ r. length r.0.items ≤ calls) }
     ensures kept { IfErr result (λ e. standing_of narrow_moment iterator.new ≡ standing_of narrow_moment iterator.old) }
