@@ -28,7 +28,8 @@ pub fn run_of<T: CronDateTime>(
     run_found(&job, search, start)
 }
 
-fn parser(settings: &str) -> Result<CronParser, Fault> {
+/// The parser of some settings, which commas part.
+pub fn parser(settings: &str) -> Result<CronParser, Fault> {
     let mut builder = CronParser::builder();
     for setting in settings.split(',') {
         builder = with(builder, setting.trim())?;

@@ -24,6 +24,8 @@ mod json;
 #[cfg(test)]
 mod languages;
 #[cfg(test)]
+mod laws;
+#[cfg(test)]
 mod limits;
 #[cfg(test)]
 mod long;
