@@ -1,17 +1,21 @@
 //! The kinds of cases by their names.
 
-use crate::calendar::{calendar, clock_table};
+use crate::calendar::{calendar, clock_face, clock_table, date_and_time, weekday};
 use crate::clones::{
-    error_clone, field_clone, iterator_clone, job_clone, pattern_clone, time_clone,
+    error_clone, field_clone, iterator_clone, job_clone, pattern_clone, resolution_clone,
+    time_clone,
 };
+use crate::comparisons;
 use crate::fault::Fault;
 use crate::field_calls::call_of_field;
 use crate::fields::new_field;
 use crate::iterators::{handed, listing};
+use crate::json::{from_json, to_json};
 use crate::pattern_calls::call_of_pattern;
 use crate::patterns::{new_pattern, parse, parser, questions};
-use crate::searches::search;
+use crate::searches::{matching, search};
 use crate::texts::{description, words_of_language};
+use crate::time_calls::{reading, resolution, sum};
 use std::alloc::Global;
 
 /// What the calls of a case gave.
@@ -35,26 +39,50 @@ impl Outcome {
 pub fn make_calls(rt: &HostRuntime, cells: &[&str]) -> Result<Outcome, Fault> {
     let (kind, given) = cells.split_first().ok_or(Fault::Malformed)?;
     match *kind {
-        "calendar" => calendar(rt, given),
-        "clock table" => clock_table(rt, given),
         "new field" => new_field(rt, given),
         "field" => call_of_field(rt, given),
-        "clone of a field" => field_clone(rt, given),
         "new pattern" => new_pattern(rt, given),
         "pattern" => call_of_pattern(rt, given),
-        "clone of a pattern" => pattern_clone(rt, given),
         "parse" => parse(rt, given),
         "parser" => parser(rt, given),
         "questions" => questions(rt, given),
-        "clone of a job" => job_clone(rt, given),
-        "clone of an error" => error_clone(rt, given),
-        "clone of a time" => time_clone(rt, given),
-        "clone of an iterator" => iterator_clone(rt, given),
+        "comparison of jobs" => comparisons::of_jobs(rt, given),
+        "to_json" => to_json(rt, given),
+        "from_json" => from_json(rt, given),
         "describe" => description(rt, given),
         "language" => words_of_language(rt, given),
+        kind => calls_with_times(rt, kind, given),
+    }
+}
+
+fn calls_with_times(rt: &HostRuntime, kind: &str, given: &[&str]) -> Result<Outcome, Fault> {
+    match kind {
+        "calendar" => calendar(rt, given),
+        "weekday" => weekday(rt, given),
+        "clock face" => clock_face(rt, given),
+        "date and time" => date_and_time(rt, given),
+        "clock table" => clock_table(rt, given),
+        "reading" => reading(rt, given),
+        "resolution" => resolution(rt, given),
+        "sum" => sum(rt, given),
+        "match" => matching(rt, given),
         "search" => search(rt, given),
         "list" => listing(rt, given),
         "list of a job handed over" => handed(rt, given),
+        "comparison of iterators" => comparisons::of_iterators(rt, given),
+        kind => copies(rt, kind, given),
+    }
+}
+
+fn copies(rt: &HostRuntime, kind: &str, given: &[&str]) -> Result<Outcome, Fault> {
+    match kind {
+        "clone of a field" => field_clone(rt, given),
+        "clone of a pattern" => pattern_clone(rt, given),
+        "clone of a job" => job_clone(rt, given),
+        "clone of an error" => error_clone(rt, given),
+        "clone of a time" => time_clone(rt, given),
+        "clone of a resolution" => resolution_clone(rt, given),
+        "clone of an iterator" => iterator_clone(rt, given),
         _ => Err(Fault::Malformed),
     }
 }

@@ -1,19 +1,17 @@
 //! Copies of each type that has memory.
 
 use crate::case::Outcome;
-use crate::cells::number;
-use crate::clocks::clock;
 use crate::fault::Fault;
 use crate::fields::read_field;
-use crate::iterators::shown_item;
+use crate::iterators::{fault_of, shown_item};
 use crate::jobs::job;
 use crate::marks::{begin, end};
 use crate::shown;
-use crate::times::Shown;
+use crate::time_calls::instants;
+use crate::times::{OverTime, Place, Shown, over_time};
 use croner::errors::CronError;
-use croner::time::table::TableTime;
+use croner::time::Resolution;
 use croner::{Cron, CronComponent, CronIterator, CronPattern};
-use croner_backends::BoxedTime;
 use std::alloc::{AllocError, Global};
 
 // A copy, or want of memory by its name in the library.
@@ -90,58 +88,125 @@ pub fn error_clone(rt: &HostRuntime, given: &[&str]) -> Result<Outcome, Fault> {
     Ok(Outcome { answer, after })
 }
 
-/// A copy of a time that has memory of its own, and the time afterwards.
-pub fn time_clone(rt: &HostRuntime, given: &[&str]) -> Result<Outcome, Fault> {
-    let [table, start] = given else {
-        return Err(Fault::Malformed);
-    };
-    let clock = clock(rt.alloc(), table)?;
-    let time = BoxedTime::new(rt.alloc(), TableTime::new(&clock, number(start)?)?)?;
-    begin(rt);
-    let copy: Result<BoxedTime<'_>, AllocError> = time.clone();
-    end(rt);
-    let answer = match copy {
-        Ok(copy) => copy.shown(rt.alloc())?,
-        Err(_) => no_memory(rt.alloc())?,
-    };
-    let after = time.shown(rt.alloc())?;
-    Ok(Outcome { answer, after })
+// A time that is copied.
+#[derive(Clone, Copy)]
+struct CopyOfTime;
+
+impl OverTime for CopyOfTime {
+    fn outcome<T: Shown>(&self, rt: &HostRuntime, time: T) -> Result<Outcome, Fault> {
+        begin(rt);
+        let copy: Result<T, AllocError> = time.clone();
+        end(rt);
+        let answer = match copy {
+            Ok(copy) => copy.shown(rt.alloc())?,
+            Err(_) => no_memory(rt.alloc())?,
+        };
+        let after = time.shown(rt.alloc())?;
+        Ok(Outcome { answer, after })
+    }
 }
 
-// An iterator that has given its first item.
-fn begun<'t>(
-    rt: &HostRuntime,
-    text: &str,
-    time: TableTime<'t>,
-) -> Result<CronIterator<BoxedTime<'t>>, Fault> {
-    let cron = job(rt.alloc(), text)?;
-    let mut iterator = cron.iter_after(BoxedTime::new(rt.alloc(), time)?)?;
+/// A copy of a time, and the time afterwards: a backend, a clock and a time.
+pub fn time_clone(rt: &HostRuntime, given: &[&str]) -> Result<Outcome, Fault> {
+    let [backend, clock, time] = given else {
+        return Err(Fault::Malformed);
+    };
+    let place = Place {
+        backend,
+        clock,
+        time,
+    };
+    over_time(rt, &CopyOfTime, place)
+}
+
+// The instants of what a time shows, which are copied.
+#[derive(Clone, Copy)]
+struct CopyOfResolution;
+
+impl OverTime for CopyOfResolution {
+    fn outcome<T: Shown>(&self, rt: &HostRuntime, time: T) -> Result<Outcome, Fault> {
+        let found = time.resolve_civil(rt.alloc(), time.to_civil())?;
+        begin(rt);
+        let copy: Result<Resolution<T>, AllocError> = found.clone();
+        end(rt);
+        let answer = match &copy {
+            Ok(copy) => instants(rt.alloc(), copy)?,
+            Err(_) => no_memory(rt.alloc())?,
+        };
+        let after = instants(rt.alloc(), &found)?;
+        Ok(Outcome { answer, after })
+    }
+}
+
+/// A copy of the instants that show what a time shows, and these afterwards: a backend, a clock and a time.
+pub fn resolution_clone(rt: &HostRuntime, given: &[&str]) -> Result<Outcome, Fault> {
+    let [backend, clock, time] = given else {
+        return Err(Fault::Malformed);
+    };
+    let place = Place {
+        backend,
+        clock,
+        time,
+    };
+    over_time(rt, &CopyOfResolution, place)
+}
+
+// An iterator over a text's runs, which is copied after its first call.
+#[derive(Clone, Copy)]
+struct CopyOfIterator<'t> {
+    text: &'t str,
+}
+
+impl<'t> OverTime for CopyOfIterator<'t> {
+    fn outcome<T: Shown>(&self, rt: &HostRuntime, start: T) -> Result<Outcome, Fault> {
+        let mut iterator = begun(rt.alloc(), self.text, start)?;
+        begin(rt);
+        let copy: Result<CronIterator<T>, AllocError> = iterator.clone();
+        end(rt);
+        let answer = copied(rt.alloc(), copy)?;
+        let after = fault_and_item(rt.alloc(), &mut iterator)?;
+        Ok(Outcome { answer, after })
+    }
+}
+
+// An iterator that was called once.
+fn begun<T: Shown>(alloc: Global, text: &str, start: T) -> Result<CronIterator<T>, Fault> {
+    let cron = job(alloc, text)?;
+    let mut iterator = cron.iter_after(start)?;
     let _ = iterator.next();
     Ok(iterator)
 }
 
-// The next item of a copy, or want of memory.
-fn copy_item(
+fn copied<T: Shown>(
     alloc: Global,
-    copy: Result<CronIterator<BoxedTime<'_>>, AllocError>,
+    copy: Result<CronIterator<T>, AllocError>,
 ) -> Result<String, Fault> {
     match copy {
-        Ok(mut copy) => shown_item(alloc, copy.next()),
+        Ok(mut copy) => fault_and_item(alloc, &mut copy),
         Err(_) => no_memory(alloc),
     }
 }
 
-/// A copy of an iterator after its first item: the next item of the copy, and afterwards that of the iterator.
+// The fault that an iterator keeps, and the item that it gives then.
+fn fault_and_item<T: Shown>(
+    alloc: Global,
+    iterator: &mut CronIterator<T>,
+) -> Result<String, Fault> {
+    let fault = fault_of(iterator);
+    let item = shown_item(alloc, iterator.next())?;
+    Ok(format!(in alloc; "{fault} {item}")?)
+}
+
+/// A copy of an iterator after its first call: its fault and next item, and afterwards those of the iterator: a backend, a clock,
+/// a text and a start.
 pub fn iterator_clone(rt: &HostRuntime, given: &[&str]) -> Result<Outcome, Fault> {
-    let [table, text, start] = given else {
+    let [backend, clock, text, time] = given else {
         return Err(Fault::Malformed);
     };
-    let clock = clock(rt.alloc(), table)?;
-    let mut iterator = begun(rt, text, TableTime::new(&clock, number(start)?)?)?;
-    begin(rt);
-    let copy: Result<CronIterator<BoxedTime<'_>>, AllocError> = iterator.clone();
-    end(rt);
-    let answer = copy_item(rt.alloc(), copy)?;
-    let after = shown_item(rt.alloc(), iterator.next())?;
-    Ok(Outcome { answer, after })
+    let place = Place {
+        backend,
+        clock,
+        time,
+    };
+    over_time(rt, &CopyOfIterator { text }, place)
 }

@@ -2,11 +2,13 @@
 
 use crate::case::Outcome;
 use crate::cells::{named, number, value_and_bit};
+use crate::comparisons::are_alike;
 use crate::fault::Fault;
 use crate::fields::read_field;
 use crate::marks::{begin, end};
 use crate::shown;
 use croner::CronComponent;
+use croner::component::{ALL_BIT, LAST_BIT};
 use croner::errors::CronError;
 use std::alloc::Global;
 
@@ -39,7 +41,7 @@ enum Answer {
     Count(usize),
     Value(Option<u16>),
     Values(Vec<u16>),
-    Readers(u16, u16, u8, u16),
+    Readers([i64; 8], u64),
 }
 
 fn read_call<'t>(cell: &'t str) -> Result<Call<'t>, Fault> {
@@ -109,7 +111,7 @@ fn asked(alloc: Global, field: &CronComponent, question: Call<'_>) -> Result<Ans
         Call::HasModifiers => Ok(Answer::Truth(field.has_modifiers())),
         Call::LeastFrom(value) => Ok(Answer::Value(field.least_from(value))),
         Call::GreatestTo(value) => Ok(Answer::Value(field.greatest_to(value))),
-        Call::Compare => Ok(Answer::Truth(field.cmp(field).is_eq() && *field == *field)),
+        Call::Compare => Ok(Answer::Truth(are_alike(field, field))),
         Call::Default => {
             let empty = CronComponent::default(alloc);
             Ok(Answer::Truth(empty == *field))
@@ -118,14 +120,24 @@ fn asked(alloc: Global, field: &CronComponent, question: Call<'_>) -> Result<Ans
     }
 }
 
-// What the reading functions and the questions on flags answer.
+// What the reading functions and the questions on modifiers answer.
 fn read(field: &CronComponent) -> Answer {
-    Answer::Readers(
-        field.min(),
-        field.max(),
-        field.features(),
-        field.input_offset(),
-    )
+    let answers = [
+        i64::from(field.min()),
+        i64::from(field.max()),
+        i64::from(field.step()),
+        i64::from(field.from_wildcard()),
+        i64::from(field.features()),
+        i64::from(field.input_offset()),
+        i64::from(field.is_feature_allowed(LAST_BIT)),
+        i64::from(field.is_feature_enabled(LAST_BIT)),
+    ];
+    Answer::Readers(answers, field.low_word(ALL_BIT))
+}
+
+fn shown_readers(alloc: Global, answers: &[i64], word: u64) -> Result<String, Fault> {
+    let answers = shown::numbers(alloc, answers)?;
+    Ok(format!(in alloc; "{answers} {word}")?)
 }
 
 fn shown(alloc: Global, answer: Answer) -> Result<String, Fault> {
@@ -136,9 +148,7 @@ fn shown(alloc: Global, answer: Answer) -> Result<String, Fault> {
         Answer::Value(Some(value)) => Ok(value.to_string(alloc)?),
         Answer::Value(None) => Ok(String::from_str(alloc, "null")?),
         Answer::Values(values) => shown::values(alloc, values.as_slice()),
-        Answer::Readers(min, max, features, offset) => {
-            Ok(format!(in alloc; "[{min},{max},{features},{offset}]")?)
-        }
+        Answer::Readers(answers, word) => shown_readers(alloc, &answers, word),
     }
 }
 

@@ -5,28 +5,26 @@ ghost use Rattle.croner.specs.Views.{job_of};
 
 use crate::case::Outcome;
 use crate::cells::number;
-use crate::clocks::clock;
 use crate::fault::Fault;
 use crate::jobs::job;
 use crate::marks::{begin, end};
 use crate::shown::{add_item, refusal, refused};
-use crate::times::{Shown, civil};
+use crate::times::{OverTime, Place, Shown, civil, over_time};
 use croner::errors::CronError;
 use croner::time::Direction;
-use croner::time::table::TableTime;
 use croner::{Cron, CronIterator};
-use croner_backends::BoxedTime;
 use std::alloc::Global;
 
-// How an iterator is made.
+/// How an iterator is made.
 #[derive(Clone, Copy)]
-enum How {
+pub enum How {
     From(Direction),
     After,
     Before,
 }
 
-fn how_made(word: &str) -> Result<How, Fault> {
+/// How an iterator is made, by its words.
+pub fn how_made(word: &str) -> Result<How, Fault> {
     match word {
         "from forward" => Ok(How::From(Direction::Forward)),
         "from backward" => Ok(How::From(Direction::Backward)),
@@ -36,7 +34,8 @@ fn how_made(word: &str) -> Result<How, Fault> {
     }
 }
 
-fn made<T: Shown>(cron: &Cron, start: T, how: How) -> Result<CronIterator<T>, CronError>
+/// An iterator over the runs of a job.
+pub fn made<T: Shown>(cron: &Cron, start: T, how: How) -> Result<CronIterator<T>, CronError>
     requires { has_field_shapes (job_of cron.now) ≡ true }
 {
     match how {
@@ -73,8 +72,9 @@ fn add_next<T: Shown>(
 ) -> Result<(), Fault> {
     begin(rt);
     let mut item = iterator.next();
+    let lacks = lacks_memory(iterator);
     end(rt);
-    if item.is_none() && lacks_memory(iterator) {
+    if item.is_none() && lacks {
         items.lacked = true;
         item = iterator.next();
     }
@@ -98,8 +98,8 @@ fn items_of<T: Shown>(
     Ok(items)
 }
 
-// The name of the fault that an iterator keeps.
-fn fault_of<T: Shown>(iterator: &CronIterator<T>) -> &'static str {
+/// The name of the fault that an iterator keeps.
+pub fn fault_of<T: Shown>(iterator: &CronIterator<T>) -> &'static str {
     match iterator.fault() {
         Some(error) => refusal(error),
         None => "no fault",
@@ -166,40 +166,26 @@ fn listed_from<T: Shown>(
     outcome_of(rt, &mut iterator, asked.count, is_refused)
 }
 
-fn listed<T: Shown>(rt: &HostRuntime, asked: Asked<'_>, start: T) -> Result<Outcome, Fault> {
-    let cron = job(rt.alloc(), asked.text)?;
-    let again = start.clone()?;
-    listed_from(rt, &cron, start, again, asked)
-}
-
-fn listed_on(
-    rt: &HostRuntime,
-    asked: Asked<'_>,
-    backend: &str,
-    table: &str,
-    second: i64,
-) -> Result<Outcome, Fault> {
-    let clock = clock(rt.alloc(), table)?;
-    let time = TableTime::new(&clock, second)?;
-    match backend {
-        "table" => listed(rt, asked, time),
-        "boxed" => listed(rt, asked, BoxedTime::new(rt.alloc(), time)?),
-        _ => Err(Fault::Malformed),
+impl<'t> OverTime for Asked<'t> {
+    fn outcome<T: Shown>(&self, rt: &HostRuntime, start: T) -> Result<Outcome, Fault> {
+        let cron = job(rt.alloc(), self.text)?;
+        let again = start.clone()?;
+        listed_from(rt, &cron, start, again, *self)
     }
 }
 
-/// The items of an iterator over civil time, over a table, or over the backend that takes memory: a clock, a text, a maker, a
-/// start, and how many calls.
+/// The items of an iterator over times of a backend: a backend, a clock, a text, a maker, a start, and how many calls.
 pub fn listing(rt: &HostRuntime, given: &[&str]) -> Result<Outcome, Fault> {
-    let [backend, table, text, maker, start, count] = given else {
+    let [backend, clock, text, maker, time, count] = given else {
         return Err(Fault::Malformed);
     };
     let (how, count) = (how_made(maker)?, number(count)?);
-    let asked = Asked { text, how, count };
-    match *backend {
-        "civil" => listed(rt, asked, civil(start)?),
-        backend => listed_on(rt, asked, backend, table, number(start)?),
-    }
+    let place = Place {
+        backend,
+        clock,
+        time,
+    };
+    over_time(rt, &Asked { text, how, count }, place)
 }
 
 /// The items of an iterator that is handed its job, which makes no request over civil time: a text, a start, and how many

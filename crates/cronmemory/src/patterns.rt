@@ -4,16 +4,18 @@ ghost use Rattle.croner_pattern.specs.Shapes.{has_field_shapes};
 ghost use Rattle.croner.specs.Views.{job_of};
 
 use crate::case::Outcome;
+use crate::comparisons::are_alike;
 use crate::fault::Fault;
 use crate::jobs::{job, parser_of};
 use crate::marks::{begin, end};
 use crate::shown;
 use crate::times::civil;
+use croner::errors::CronError;
 use croner::parser::CronParser;
 use croner::{Cron, CronPattern, JobType};
 use jiff::civil::DateTime;
+use std::alloc::Global;
 use std::cmp::Ordering;
-use std::hash::{DefaultHasher, Hash, Hasher};
 
 /// A text read by the parser of some settings.
 pub fn parse(rt: &HostRuntime, given: &[&str]) -> Result<Outcome, Fault> {
@@ -62,42 +64,72 @@ pub fn new_pattern(rt: &HostRuntime, given: &[&str]) -> Result<Outcome, Fault> {
     Ok(Outcome::of(rt.alloc(), answer))
 }
 
-fn hash_of(cron: &Cron) -> u64 {
-    let mut state = DefaultHasher::new();
-    cron.hash(&mut state);
-    state.finish()
+// What a job answers.
+#[derive(Drop)]
+struct Answers {
+    is_matching: bool,
+    kind: JobType,
+    has_shapes: bool,
+    flags: (bool, bool, bool),
+    is_same: bool,
 }
 
 fn is_itself(cron: &Cron) -> bool {
-    *cron == *cron && cron.cmp(cron).is_eq()
+    let pattern = &cron.pattern;
+    are_alike(pattern, pattern) && cron.as_str() == pattern.as_str()
+}
+
+fn flags(pattern: &CronPattern) -> (bool, bool, bool) {
+    let (day, weekday) = (pattern.is_dom_wildcard(), pattern.is_dow_wildcard());
+    (day, weekday, pattern.matches_dom_and_dow())
+}
+
+fn told(cron: &Cron, at: &DateTime) -> Answers
+    requires { has_field_shapes (job_of cron.now) ≡ true }
+{
+    let matching = cron.is_time_matching(at);
+    Answers {
+        is_matching: is_true(&matching),
+        kind: cron.determine_job_type(),
+        has_shapes: cron.pattern.has_field_shapes(),
+        flags: flags(&cron.pattern),
+        is_same: is_itself(cron),
+    }
+}
+
+fn is_true(answer: &Result<bool, CronError>) -> bool {
+    matches!(answer, Ok(true))
 }
 
 // What the questions answer, between the marks; then both day fields must match.
-fn asked(rt: &HostRuntime, cron: &mut Cron, at: &DateTime) -> (bool, JobType, bool, bool)
+fn asked(rt: &HostRuntime, cron: &mut Cron, at: &DateTime) -> Answers
     requires { has_field_shapes (job_of cron.old) ≡ true }
 {
-    let before = hash_of(cron);
     begin(rt);
-    let matching = matches!(cron.is_time_matching(at), Ok(true));
-    let kind = cron.determine_job_type();
-    let has_shapes = cron.pattern.has_field_shapes();
-    let same = is_itself(cron) && hash_of(cron) == before;
+    let answers = told(cron, at);
     cron.pattern.set_flags(false, false, true);
     end(rt);
-    (matching, kind, has_shapes, same)
+    answers
+}
+
+fn shown_answers(alloc: Global, answers: Answers) -> Result<String, Fault> {
+    let (matching, kind) = (answers.is_matching, shown::job_type(answers.kind));
+    let (shapes, same) = (answers.has_shapes, answers.is_same);
+    let (day, weekday, and) = answers.flags;
+    Ok(format!(in alloc; "[{matching},\"{kind}\",{shapes},{day},{weekday},{and},{same}]")?)
 }
 
 /// Questions of a job that make no request, about a date and time: whether it is named, the kind of job, whether the fields have
-/// their shapes, and whether the job is equal to itself and hashes as before. Then both day fields must match.
+/// their shapes, the three flags, and whether the pattern is equal to itself, hashes alike and has the job's text. Then both day
+/// fields must match.
 pub fn questions(rt: &HostRuntime, given: &[&str]) -> Result<Outcome, Fault> {
     let [text, at] = given else {
         return Err(Fault::Malformed);
     };
     let at = civil(at)?;
     let mut cron = job(rt.alloc(), text)?;
-    let (matching, kind, has_shapes, same) = asked(rt, &mut cron, &at);
-    let kind = shown::job_type(kind);
-    let answer = format!(in rt.alloc(); "[{matching},\"{kind}\",{has_shapes},{same}]")?;
+    let answers = asked(rt, &mut cron, &at);
+    let answer = shown_answers(rt.alloc(), answers)?;
     let after = shown::job(rt.alloc(), &cron)?;
     Ok(Outcome { answer, after })
 }

@@ -1,20 +1,16 @@
-//! Searches for one run.
+//! Searches for one run, and whether a time is named.
 ghost use Rattle.std.specs.Prelude.{◌≡◌, true};
 ghost use Rattle.croner_pattern.specs.Shapes.{has_field_shapes};
 ghost use Rattle.croner.specs.Views.{job_of};
 
 use crate::case::Outcome;
-use crate::cells::number;
-use crate::clocks::clock;
 use crate::fault::Fault;
 use crate::jobs::job;
 use crate::marks::{begin, end};
 use crate::shown;
-use crate::times::{Shown, civil};
+use crate::times::{OverTime, Place, Shown, over_time};
 use croner::Cron;
 use croner::errors::CronError;
-use croner::time::table::TableTime;
-use croner_backends::BoxedTime;
 use std::alloc::Global;
 
 // The run after a time or from it on, or the one before it or back from it.
@@ -47,13 +43,6 @@ fn run_found<T: Shown>(cron: &Cron, way: Way, start: &T) -> Result<T, CronError>
     }
 }
 
-// What a search is asked.
-#[derive(Clone, Copy)]
-struct Asked<'t> {
-    text: &'t str,
-    way: Way,
-}
-
 // The run or the refusal, and afterwards the start and the job.
 fn outcome_of<T: Shown>(
     alloc: Global,
@@ -74,39 +63,67 @@ fn start_and_job<T: Shown>(alloc: Global, start: &T, cron: &Cron) -> Result<Stri
     Ok(format!(in alloc; "{start} {job}")?)
 }
 
-fn searched<T: Shown>(rt: &HostRuntime, asked: Asked<'_>, start: &T) -> Result<Outcome, Fault> {
-    let cron = job(rt.alloc(), asked.text)?;
-    begin(rt);
-    let answer = run_found(&cron, asked.way, start);
-    end(rt);
-    outcome_of(rt.alloc(), &answer, start, &cron)
+// A search for a run of a text's job.
+#[derive(Clone, Copy)]
+struct Searching<'t> {
+    text: &'t str,
+    way: Way,
 }
 
-fn searched_on(
-    rt: &HostRuntime,
-    asked: Asked<'_>,
-    backend: &str,
-    table: &str,
-    second: i64,
-) -> Result<Outcome, Fault> {
-    let clock = clock(rt.alloc(), table)?;
-    let time = TableTime::new(&clock, second)?;
-    match backend {
-        "table" => searched(rt, asked, &time),
-        "boxed" => searched(rt, asked, &BoxedTime::new(rt.alloc(), time)?),
-        _ => Err(Fault::Malformed),
+impl<'t> OverTime for Searching<'t> {
+    fn outcome<T: Shown>(&self, rt: &HostRuntime, start: T) -> Result<Outcome, Fault> {
+        let cron = job(rt.alloc(), self.text)?;
+        begin(rt);
+        let answer = run_found(&cron, self.way, &start);
+        end(rt);
+        outcome_of(rt.alloc(), &answer, &start, &cron)
     }
 }
 
-/// A search over civil time, over a table, or over the backend that takes memory: a clock, a text, a way and a start.
+/// A search over times of a backend: a backend, a clock, a text, a way and a start.
 pub fn search(rt: &HostRuntime, given: &[&str]) -> Result<Outcome, Fault> {
-    let [backend, table, text, way, start] = given else {
+    let [backend, clock, text, way, time] = given else {
         return Err(Fault::Malformed);
     };
     let way = read_way(way)?;
-    let asked = Asked { text, way };
-    match *backend {
-        "civil" => searched(rt, asked, &civil(start)?),
-        backend => searched_on(rt, asked, backend, table, number(start)?),
+    let place = Place {
+        backend,
+        clock,
+        time,
+    };
+    over_time(rt, &Searching { text, way }, place)
+}
+
+// Whether a text's job names a time.
+#[derive(Clone, Copy)]
+struct Asking<'t> {
+    text: &'t str,
+}
+
+impl<'t> OverTime for Asking<'t> {
+    fn outcome<T: Shown>(&self, rt: &HostRuntime, time: T) -> Result<Outcome, Fault> {
+        let cron = job(rt.alloc(), self.text)?;
+        begin(rt);
+        let answer = cron.is_time_matching(&time);
+        end(rt);
+        let answer = match answer {
+            Ok(truth) => truth.to_string(rt.alloc())?,
+            Err(error) => shown::refused(rt.alloc(), &error)?,
+        };
+        let after = start_and_job(rt.alloc(), &time, &cron)?;
+        Ok(Outcome { answer, after })
     }
+}
+
+/// Whether a text's job names a time: a backend, a clock, a text and a time.
+pub fn matching(rt: &HostRuntime, given: &[&str]) -> Result<Outcome, Fault> {
+    let [backend, clock, text, time] = given else {
+        return Err(Fault::Malformed);
+    };
+    let place = Place {
+        backend,
+        clock,
+        time,
+    };
+    over_time(rt, &Asking { text }, place)
 }

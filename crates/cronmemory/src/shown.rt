@@ -65,6 +65,16 @@ pub fn values(alloc: Global, values: &[u16]) -> Result<String, Fault> {
     Ok(format!(in alloc; "[{list}]")?)
 }
 
+/// Numbers as a plain list.
+pub fn numbers(alloc: Global, numbers: &[i64]) -> Result<String, Fault> {
+    let mut list = String::new(alloc);
+    for number in numbers {
+        let number = number.to_string(alloc)?;
+        add_item(&mut list, number.as_str())?;
+    }
+    Ok(format!(in alloc; "[{list}]")?)
+}
+
 /// Ascending values as the list of their longest runs, each its first and its last value.
 fn runs(alloc: Global, values: &[u16]) -> Result<String, Fault> {
     let mut list = String::new(alloc);

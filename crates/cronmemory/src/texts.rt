@@ -10,6 +10,7 @@ use croner::describe::Language;
 use croner::describe::lang::english::English;
 use croner::describe::lang::swedish::Swedish;
 use croner::errors::CronError;
+use croner_backends::{OwnYears, TwelveHours};
 use std::alloc::Global;
 
 // A language of cases.
@@ -17,12 +18,16 @@ use std::alloc::Global;
 enum Tongue {
     English,
     Swedish,
+    TwelveHours,
+    OwnYears,
 }
 
 fn read_tongue(word: &str) -> Result<Tongue, Fault> {
     match word {
         "english" => Ok(Tongue::English),
         "swedish" => Ok(Tongue::Swedish),
+        "twelve hours" => Ok(Tongue::TwelveHours),
+        "own years" => Ok(Tongue::OwnYears),
         _ => Err(Fault::Malformed),
     }
 }
@@ -31,6 +36,8 @@ fn described(cron: &Cron, language: Tongue) -> Result<String, CronError> {
     match language {
         Tongue::English => cron.describe(),
         Tongue::Swedish => cron.describe_lang(Swedish),
+        Tongue::TwelveHours => cron.describe_lang(TwelveHours),
+        Tongue::OwnYears => cron.describe_lang(OwnYears),
     }
 }
 

@@ -1,0 +1,54 @@
+//! Jobs as JSON values, and jobs that are read from them.
+
+use crate::case::Outcome;
+use crate::fault::Fault;
+use crate::jobs::parser_of;
+use crate::marks::{begin, end};
+use crate::shown;
+use croner::Cron;
+use croner::errors::CronError;
+use serde_json::Value;
+use std::alloc::Global;
+
+/// The JSON of a text's job, which the parser of some settings reads, and the job afterwards.
+pub fn to_json(rt: &HostRuntime, given: &[&str]) -> Result<Outcome, Fault> {
+    let [settings, text] = given else {
+        return Err(Fault::Malformed);
+    };
+    let cron = parser_of(settings)?.parse(rt.alloc(), text)?;
+    begin(rt);
+    let json = cron.to_json();
+    end(rt);
+    let answer = printed_or_refusal(rt.alloc(), &json)?;
+    let after = shown::job(rt.alloc(), &cron)?;
+    Ok(Outcome { answer, after })
+}
+
+// A value as its text, or the name of its refusal.
+fn printed_or_refusal(alloc: Global, json: &Result<Value, CronError>) -> Result<String, Fault> {
+    match json {
+        Ok(value) => Ok(value.to_string(alloc)?),
+        Err(error) => shown::refused(alloc, error),
+    }
+}
+
+/// The job of a JSON value, and the value afterwards.
+pub fn from_json(rt: &HostRuntime, given: &[&str]) -> Result<Outcome, Fault> {
+    let [text] = given else {
+        return Err(Fault::Malformed);
+    };
+    let value = value_of(rt.alloc(), text)?;
+    begin(rt);
+    let answer = Cron::from_json(rt.alloc(), &value);
+    end(rt);
+    let answer = shown::job_or_refusal(rt.alloc(), &answer)?;
+    let after = value.to_string(rt.alloc())?;
+    Ok(Outcome { answer, after })
+}
+
+fn value_of(alloc: Global, text: &str) -> Result<Value, Fault> {
+    match Value::from_str(alloc, text) {
+        Ok(value) => Ok(value),
+        Err(_) => Err(Fault::Malformed),
+    }
+}
