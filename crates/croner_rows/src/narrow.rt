@@ -1,14 +1,24 @@
-//! Searches over a backend that holds what lies between two instants.
+//! Searches over a backend that holds what lies between two instants, and iterators over it, as the two come nearer.
+ghost use Rattle.std.specs.Prelude.{◌≡◌, true};
+ghost use Rattle.croner_pattern.specs.Shapes.{has_field_shapes};
+ghost use Rattle.croner.specs.Views.{job_of};
 
 use crate::clock::clock;
-use crate::fault::Fault;
-use crate::job::run_of;
-use crate::table::{Question, differing};
+use crate::fault::{Fault, refusal};
+use crate::job::{job, run_found, run_of};
+use crate::table::{Question, add_differing};
 use crate::words::number;
+use croner::time::Direction;
 use croner::time::table::TableTime;
+use croner::{Cron, CronIterator};
 use croner_backends::NarrowTime;
-use std::alloc::Global;
+use std::alloc::{AllocError, Global};
 use std::test::Fail;
+
+const PARIS: &str = "3600: 1711846800 7200, 1729990800 3600";
+
+/// By how many seconds both bounds come nearer, at most.
+const LAST_STEP: i64 = 3;
 
 /// A table of offsets, the first and the last instant that are held, a text, a search and its start: the second of the run.
 struct OverNarrowTime;
@@ -26,6 +36,116 @@ impl Question for OverNarrowTime {
     }
 }
 
+/// A text, a search and its start on the table of Paris in 2024, and the first and the last instant that are held: the
+/// answers as both come nearer, a second at a time.
+struct Shrinking;
+
+impl Question for Shrinking {
+    fn answer(&self, alloc: Global, cells: &[&str]) -> Result<String, Fault> {
+        let [text, search, start, low, high] = cells else {
+            return Err(Fault::Malformed);
+        };
+        let clock = clock(alloc, PARIS)?;
+        let start = TableTime::new(&clock, number(start)?)?;
+        let bounds = (number(low)?, number(high)?);
+        let job = job(alloc, "", text)?;
+        answers(alloc, &job, search, start, bounds)
+    }
+}
+
+fn answers(
+    alloc: Global,
+    job: &Cron,
+    search: &str,
+    start: TableTime<'_>,
+    bounds: (i64, i64),
+) -> Result<String, Fault>
+    requires { has_field_shapes (job_of job.now) ≡ true }
+{
+    let (low, high) = bounds;
+    let mut answers = String::new(alloc);
+    for step in 0..=LAST_STEP {
+        let start = NarrowTime::new(start, low.saturating_add(step), high.saturating_sub(step))?;
+        let answer = answer_between(alloc, job, search, start)?;
+        push(&mut answers, answer.as_str())?;
+    }
+    Ok(answers)
+}
+
+// The search's answer, and what an iterator gives instead, where it gives another.
+fn answer_between(
+    alloc: Global,
+    job: &Cron,
+    search: &str,
+    start: NarrowTime<'_>,
+) -> Result<String, Fault>
+    requires { has_field_shapes (job_of job.now) ≡ true }
+{
+    let answer = answer_of(alloc, run_found(job, search, &start))?;
+    let mut runs = runs_of(job, search, start)?;
+    compared(alloc, answer, &mut runs)
+}
+
+fn answer_of(alloc: Global, found: Result<NarrowTime<'_>, Fault>) -> Result<String, Fault> {
+    match found {
+        Ok(run) => Ok(run.time().second().to_string(alloc)?),
+        Err(Fault::Refused(error)) => Ok(String::from_str(alloc, refusal(&error))?),
+        Err(fault) => Err(fault),
+    }
+}
+
+fn runs_of<'t>(
+    job: &Cron,
+    search: &str,
+    start: NarrowTime<'t>,
+) -> Result<CronIterator<NarrowTime<'t>>, Fault>
+    requires { has_field_shapes (job_of job.now) ≡ true }
+{
+    match search {
+        "after" => Ok(job.iter_after(start)?),
+        "from" => Ok(job.iter_from(start, Direction::Forward)?),
+        "before" => Ok(job.iter_before(start)?),
+        "back from" => Ok(job.iter_from(start, Direction::Backward)?),
+        _ => Err(Fault::Malformed),
+    }
+}
+
+// The answer, where the iterator's first call gives it; and its second call too, where the first one gives no item.
+fn compared(
+    alloc: Global,
+    answer: String,
+    runs: &mut CronIterator<NarrowTime<'_>>,
+) -> Result<String, Fault> {
+    let given = next_shown(alloc, runs)?;
+    let again = match runs.fault() {
+        Some(_) => next_shown(alloc, runs)?,
+        None => given.clone()?,
+    };
+    if given == answer && again == answer {
+        return Ok(answer);
+    }
+    Ok(format!(in alloc; "{answer} (iterator: {given}, {again})")?)
+}
+
+// The second of the next item, or the fault that the iterator keeps; `limit` where it keeps none.
+fn next_shown(
+    alloc: Global,
+    runs: &mut CronIterator<NarrowTime<'_>>,
+) -> Result<String, AllocError> {
+    match runs.next() {
+        Some(run) => run.time().second().to_string(alloc),
+        None => String::from_str(alloc, runs.fault().map_or("limit", refusal)),
+    }
+}
+
+// Adds an answer, behind a comma where it isn't the first.
+fn push(answers: &mut String, answer: &str) -> Result<(), AllocError> {
+    if !answers.is_empty() {
+        answers.push_str(", ")?;
+    }
+    answers.push_str(answer)
+}
+
 // The table is that of Paris in 2024, whose clock shows 2:00:00 to 2:59:59 once more from 1729990800 on. The later half
 // has the run; where it isn't held, that refusal is the answer. Starts whose clock shows year 5000 or later have none
 // ahead, and those that show year 1 or earlier none behind, so nothing else has to be held.
@@ -34,13 +154,66 @@ const ROWS: &str = "
     3600: 1711846800 7200, 1729990800 3600 | 1729800000 | 1730200000 | 0 */30 2 27 10 ? 2024 | after | 1729989000 | 1729990800
     3600: 1711846800 7200, 1729990800 3600 | 1729800000 | 1729990799 | */30 * * * * | after | 1729989000 | InvalidTime
 
+    3600: 1711846800 7200, 1729990800 3600 | 1720000000 | 1720000001 | * * * * * * | after     | 1720000000 | 1720000001
+    3600: 1711846800 7200, 1729990800 3600 | 1720000000 | 1720000001 | 0 0 * * *   | after     | 1720000000 | InvalidTime
+    3600: 1711846800 7200, 1729990800 3600 | 1711846800 | 1711933199 | 30 2 * * *  | back from | 1711846800 | 1711846800
+
     0: | 253402300799 | 253402300799 | * * * * * | after  | 253402300799 | limit
     0: | 95649033600  | 95649033600  | * * * * * | after  | 95649033600  | limit
     0: | -62167219200 | -62167219200 | * * * * * | before | -62167219200 | limit
 ";
 
+// Around the gap that ends at 1711846800: the runs are those over the whole table.
+const AROUND_THE_GAP: &str = "
+    30 2 * * * | after | 1711846799 | 1711673999 | 1712019599 | 1711846800, 1711846800, 1711846800, 1711846800
+    30 2 * * * | after | 1711846799 | 1711846796 | 1711846803 | 1711846800, 1711846800, 1711846800, 1711846800
+    30 2 * * * | after | 1711846799 | 1711673999 | 1711846802 | 1711846800, 1711846800, 1711846800, InvalidTime
+
+    */30 * * * * | after | 1711845000 | 1711672200 | 1712017800 | 1711846800, 1711846800, 1711846800, 1711846800
+    */30 * * * * | after | 1711845000 | 1711844997 | 1711846802 | 1711846800, 1711846800, 1711846800, InvalidTime
+    */30 * * * * | after | 1711845000 | 1711844997 | 1711845003 | InvalidTime, InvalidTime, InvalidTime, InvalidTime
+
+    30 2 * * * | back from | 1711846800 | 1711674000 | 1712019600 | 1711846800, 1711846800, 1711846800, 1711846800
+    30 2 * * * | back from | 1711846800 | 1711846797 | 1711846803 | 1711846800, 1711846800, 1711846800, 1711846800
+    30 2 * * * | before    | 1711846800 | 1711762198 | 1712019600 | 1711762200, 1711762200, 1711762200, InvalidTime
+    30 2 * * * | before    | 1711846800 | 1711846797 | 1711846803 | InvalidTime, InvalidTime, InvalidTime, InvalidTime
+
+    */30 * * * * | before | 1711846800 | 1711674000 | 1712019600 | 1711845000, 1711845000, 1711845000, 1711845000
+    */30 * * * * | before | 1711846800 | 1711844998 | 1711846803 | 1711845000, 1711845000, 1711845000, InvalidTime
+";
+
+// Around the later half that begins at 1729990800. Where the edge of the other half is sought, a day from the start has to
+// be held, and both instants of each second that is asked for.
+const AROUND_THE_HALVES: &str = "
+    30 2 * * * | after | 1729986300 | 1729813500 | 1730159100 | 1729989000, 1729989000, 1729989000, 1729989000
+    30 2 * * * | after | 1729986300 | 1729986297 | 1729992602 | 1729989000, 1729989000, 1729989000, InvalidTime
+    30 2 * * * | after | 1729986300 | 1729986297 | 1729990801 | InvalidTime, InvalidTime, InvalidTime, InvalidTime
+
+    */30 * * * * | after | 1729989000 | 1729816200 | 1730161800 | 1729990800, 1729990800, 1729990800, 1729990800
+    */30 * * * * | after | 1729989000 | 1729987198 | 1730161800 | 1729990800, 1729990800, 1729990800, InvalidTime
+    */30 * * * * | after | 1729989000 | 1729816200 | 1730075402 | 1729990800, 1729990800, 1729990800, InvalidTime
+    */30 * * * * | after | 1729989000 | 1729816200 | 1729990801 | InvalidTime, InvalidTime, InvalidTime, InvalidTime
+
+    30 2 * * * | before | 1729991400 | 1729818600 | 1730164200 | 1729989000, 1729989000, 1729989000, 1729989000
+    30 2 * * * | before | 1729991400 | 1729902598 | 1730164200 | 1729989000, 1729989000, 1729989000, InvalidTime
+    30 2 * * * | before | 1729991400 | 1729990798 | 1730164200 | InvalidTime, InvalidTime, InvalidTime, InvalidTime
+
+    */30 * * * * | before | 1729990800 | 1729818000 | 1730163600 | 1729989000, 1729989000, 1729989000, 1729989000
+    */30 * * * * | before | 1729990800 | 1729904398 | 1730163600 | 1729989000, 1729989000, 1729989000, InvalidTime
+    */30 * * * * | before | 1729990800 | 1729818000 | 1729994401 | 1729989000, 1729989000, 1729989000, InvalidTime
+";
+
+// The rows that differ, of all tables here.
+fn differing_rows(alloc: Global) -> Result<String, AllocError> {
+    let mut rows = String::new(alloc);
+    add_differing(alloc, &OverNarrowTime, ROWS, &mut rows)?;
+    add_differing(alloc, &Shrinking, AROUND_THE_GAP, &mut rows)?;
+    add_differing(alloc, &Shrinking, AROUND_THE_HALVES, &mut rows)?;
+    Ok(rows)
+}
+
 #[test]
 fn searches_over_little(rt: HostRuntime) -> Result<(), Fail> {
-    assert_eq!(rt; differing(rt.alloc(), &OverNarrowTime, ROWS)?.as_str(), "");
+    assert_eq!(rt; differing_rows(rt.alloc())?.as_str(), "");
     Ok(())
 }
