@@ -78,7 +78,7 @@ at_gap_limit : is_calm_table (pos 0) ((pos 0, pos gap_limit) ∷ []) ≡ true
 unfolding is_calm_table
 at_gap_limit = refl
 
-past_gap_limit : is_calm_table (pos 0) ((pos 0, pos (gap_limit + 1)) ∷ []) ≡ false
+past_gap_limit : is_calm_table (neg_ℤ (pos 1)) ((pos 0, pos gap_limit) ∷ []) ≡ false
 unfolding is_calm_table
 past_gap_limit = refl
 
@@ -86,9 +86,33 @@ at_fold_limit : is_calm_table (pos 0) ((pos 0, neg_ℤ (pos fold_limit)) ∷ [])
 unfolding is_calm_table
 at_fold_limit = refl
 
-past_fold_limit : is_calm_table (pos 0) ((pos 0, neg_ℤ (pos (fold_limit + 1))) ∷ []) ≡ false
+past_fold_limit : is_calm_table (pos fold_limit) ((pos 0, neg_ℤ (pos 1)) ∷ []) ≡ false
 unfolding is_calm_table
 past_fold_limit = refl
+
+-- the year 2011 without its 30 December: ten hours behind UTC, and fourteen ahead from the end of the 29th on
+abbrev without_a_date : List (ℤ × ℤ)
+without_a_date = (pos 1_325_239_200, pos 50_400) ∷ []
+
+without_a_date_accepted : is_calm_table (neg_ℤ (pos 36_000)) without_a_date ≡ true
+unfolding is_calm_table
+without_a_date_accepted = refl
+
+december : day_number (pos 2011) 12 30 ≡ pos 15_338
+unfolding day_number year_start days_since_zero days_of_months
+december = refl
+
+last_of_the_29th : clock_reads (neg_ℤ (pos 36_000)) without_a_date (pos 1_325_239_199) ≡ pos 15_338 *ℤ pos day_seconds -ℤ pos 1
+last_of_the_29th = refl
+
+first_of_the_31st : clock_reads (neg_ℤ (pos 36_000)) without_a_date (pos 1_325_239_200) ≡ pos 15_339 *ℤ pos day_seconds
+first_of_the_31st = refl
+
+first_of_the_30th : instants_of (neg_ℤ (pos 36_000)) without_a_date (pos 15_338 *ℤ pos day_seconds) ≡ Gap
+first_of_the_30th = refl
+
+last_of_the_30th : instants_of (neg_ℤ (pos 36_000)) without_a_date (pos 15_339 *ℤ pos day_seconds -ℤ pos 1) ≡ Gap
+last_of_the_30th = refl
 
 no_move : is_calm_table (pos 0) ((pos 0, pos 0) ∷ []) ≡ false
 unfolding is_calm_table

@@ -3,7 +3,7 @@ use Rattle.std.specs.Prelude.{ℕ, ℤ, pos, neg_ℤ}
 
 -- the most seconds that a calm zone's clock is moved forward at once
 abbrev pub gap_limit : ℕ
-gap_limit = 7_200
+gap_limit = 86_400
 
 -- the most seconds that it is moved back at once
 abbrev pub fold_limit : ℕ

@@ -21,9 +21,10 @@ const LAST_YEAR: i32 = 9998;
 
 /// A clock that is some seconds ahead of UTC, up to its first change and from each change on.
 ///
-/// Every `ClockTable` is calm, as a search wants a clock to be: a change moves it by at most two hours, changes lie more
-/// than two days apart, those with a reading in the years 1 to 5000 are at most 20,000 and skip at most 20,000,000 seconds
-/// together, and each second that is asked for is resolved to exactly the instants that show it.
+/// Every `ClockTable` is calm, as a search wants a clock to be: a change moves it forward by at most a day or back by at
+/// most two hours, changes lie more than two days apart, those with a reading in the years 1 to 5000 are at most 20,000 and
+/// skip at most 20,000,000 seconds together, and each second that is asked for is resolved to exactly the instants that
+/// show it.
 ///
 /// Paris in 2024 is one hour ahead of UTC, and two from 2024-03-31T01:00:00 UTC to 2024-10-27T01:00:00 UTC:
 ///
@@ -51,7 +52,7 @@ impl ClockTable {
     /// - every offset is from -86,400 to 86,400;
     /// - the instants are from -377,705,116,800 to 253,402,300,799 (the UTC years -9999 to 9999) and ascend, each more
     ///   than 172,800 after the one before;
-    /// - each offset differs from the one before by 1 to 7,200 either way;
+    /// - each offset differs from the one before, by 1 to 86,400 forward or by 1 to 7,200 back;
     /// - at most 20,000 changes have a reading in the years 1 to 5000 at their instant or one second before it, and
     ///   the positive differences of offsets at these add up to at most 20,000,000.
     pub fn new(first_offset: i32, changes: Vec<(i64, i32)>) -> Result<ClockTable, CronError>
