@@ -7,10 +7,10 @@ use Rattle.serde_json.specs.Data.{null, number, string, array, unsigned, item, n
 use Rattle.serde_json.specs.Written.{compact_text}
 use Rattle.croner.specs.declared.parser.Seconds.TheVariants as seconds
 use Rattle.croner.specs.declared.parser.Year.TheVariants as year
-use Rattle.croner.specs.Cut.{replaced}
-use Rattle.croner.specs.Grammar.{Empty, Invalid, nicknamed}
+use Rattle.croner.specs.parser.Cut.{replaced}
+use Rattle.croner.specs.parser.Grammar.{Empty, Invalid, nicknamed}
 use Rattle.croner.specs.Json.{json_outcome}
-use Rattle.croner.specs.Settings.{Settings, default_settings}
+use Rattle.croner.specs.parser.Settings.{Settings, default_settings}
 
 -- ---- JSON
 

@@ -3,9 +3,9 @@ use Rattle.std.proofs.Common.{◌≡◌, ℕ, List, Some, ap}
 use Rattle.std.proofs.lemmas.Option.{none-some, same_Some}
 use Rattle.serde_json.specs.Data.{Data, null, boolean, number, string, array, object}
 use Rattle.serde_json.specs.Find.{as_str}
-use Rattle.croner.specs.Grammar.{outcome}
+use Rattle.croner.specs.parser.Grammar.{outcome}
 use Rattle.croner.specs.Json.{json_outcome}
-use Rattle.croner.specs.Settings.{default_settings}
+use Rattle.croner.specs.parser.Settings.{default_settings}
 
 -- what has a text means what the text means
 pub text_meant : (d : Data) (text : List ℕ) → as_str d ≡ Some text → json_outcome d ≡ outcome default_settings text

@@ -2,8 +2,8 @@
 use Rattle.std.specs.Prelude.{Result, Err}
 use Rattle.serde_json.specs.Data.{Data, null, boolean, number, string, array, object}
 use Rattle.croner_pattern.specs.Meaning.{Meaning}
-use Rattle.croner.specs.Grammar.{Refusal, Invalid, outcome}
-use Rattle.croner.specs.Settings.{default_settings}
+use Rattle.croner.specs.parser.Grammar.{Refusal, Invalid, outcome}
+use Rattle.croner.specs.parser.Settings.{default_settings}
 
 -- a string means what its text means with the default settings, and no other value means anything
 abbrev pub json_outcome : Data → Result Meaning Refusal

@@ -2,7 +2,7 @@
 use Rattle.croner_pattern.specs.Meaning.{Meaning, meaning_of}
 use Rattle.croner.specs.declared.job.Cron.{Cron}
 use Rattle.croner.specs.declared.parser.fields.FieldTexts.{FieldTexts}
-use Rattle.croner.specs.Grammar.{Texts}
+use Rattle.croner.specs.parser.Grammar.{Texts}
 
 -- a job is its pattern
 abbrev pub job_of : Cron → Meaning

@@ -3,7 +3,7 @@ ghost use Rattle.std.specs.Prelude.{◌≡◌, true, None, IsTrue};
 ghost use Rattle.croner_base.specs.declared.time.Direction.{Direction};
 ghost use Rattle.croner_pattern.specs.Meaning.{meaning_of};
 ghost use Rattle.croner_pattern.specs.Shapes.{has_field_shapes};
-ghost use Rattle.croner.specs.Faults.{is_kept, fault_of};
+ghost use Rattle.croner.specs.iterator.Faults.{is_kept, fault_of};
 
 mod compare;
 
@@ -34,8 +34,8 @@ pub struct CronIterator<T> {
 
 impl<T: CronDateTime> CronIterator<T> {
     ghost use Rattle.std.specs.Prelude.{IfSome, IfNone, IfErr, Some, option_map};
-    ghost use Rattle.croner.specs.Listing.{standing_of, new_standing, counts_position, moved, Settles};
-    ghost use Rattle.croner.specs.Refusal.{IsRefusal};
+    ghost use Rattle.croner.specs.iterator.Listing.{standing_of, new_standing, counts_position, moved, Settles};
+    ghost use Rattle.croner.specs.search.Refusal.{IsRefusal};
 
     /// An iterator from a start: it counts the start where it is inclusive and the start is a run. The fields of the pattern must
     /// have the shapes of their places, as those of every parsed pattern have.
@@ -130,7 +130,7 @@ fn copied(fault: &Option<CronError>) -> Option<CronError>
 
 /// A copy stands where the original stands, and gives the same runs from there. The only error is want of memory.
 impl<T: CronDateTime> Clone for CronIterator<T> {
-    ghost use Rattle.croner.specs.Listing.{standing_of};
+    ghost use Rattle.croner.specs.iterator.Listing.{standing_of};
 
     ghost is_clone = { λ original copy. standing_of T.moment copy ≡ standing_of T.moment original };
 
@@ -149,7 +149,7 @@ impl<T: CronDateTime> Clone for CronIterator<T> {
 impl<T: CronDateTime> Iterator for CronIterator<T> {
     type Item = T;
 
-    ghost use Rattle.croner.specs.Listing.{Steps};
+    ghost use Rattle.croner.specs.iterator.Listing.{Steps};
 
     ghost next_gives = { Steps T.moment T.can_lack_memory };
 

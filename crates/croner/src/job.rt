@@ -6,9 +6,9 @@ ghost use Rattle.croner_base.specs.Civil.{weekday_index, weekday_of_date};
 ghost use Rattle.croner_base.specs.Zone.{reading};
 ghost use Rattle.croner_pattern.specs.Schedule.{is_scheduled, is_date_matching, is_day_matching, is_plain, first_weekday, is_fixed_time, IsScheduled};
 ghost use Rattle.croner_pattern.specs.Shapes.{has_field_shapes};
-ghost use Rattle.croner.specs.Gives.{Gives};
-ghost use Rattle.croner.specs.Grammar.{outcome};
-ghost use Rattle.croner.specs.Settings.{default_settings};
+ghost use Rattle.croner.specs.parser.Gives.{Gives};
+ghost use Rattle.croner.specs.parser.Grammar.{outcome};
+ghost use Rattle.croner.specs.parser.Settings.{default_settings};
 ghost use Rattle.croner.specs.Views.{job_of};
 
 use crate::parser::CronParser;

@@ -6,8 +6,8 @@ ghost use Rattle.serde_json.specs.Find.{as_str};
 ghost use Rattle.serde_json.specs.View.{view};
 ghost use Rattle.croner_pattern.specs.Meaning.{Meaning};
 ghost use Rattle.croner_pattern.specs.Shapes.{has_field_shapes};
-ghost use Rattle.croner.specs.Gives.{Gives, Fails};
-ghost use Rattle.croner.specs.Grammar.{Refusal, Invalid};
+ghost use Rattle.croner.specs.parser.Gives.{Gives, Fails};
+ghost use Rattle.croner.specs.parser.Grammar.{Refusal, Invalid};
 ghost use Rattle.croner.specs.Json.{json_outcome};
 ghost use Rattle.croner.specs.Views.{job_of};
 

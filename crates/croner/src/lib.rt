@@ -3,8 +3,6 @@
 
 mod cursor;
 mod description;
-mod fold;
-mod instant;
 mod iterator;
 mod job;
 mod json;
@@ -12,7 +10,6 @@ pub mod laws;
 mod occurrence;
 pub mod parser;
 mod search;
-mod wall;
 
 pub use croner_base::component::CronComponent;
 pub use croner_base::time::{

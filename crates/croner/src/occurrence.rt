@@ -1,9 +1,9 @@
 //! The searches of a job: its next and its previous run.
 ghost use Rattle.std.specs.Prelude.{◌≡◌, true, false, IfOk, IfErr};
 ghost use Rattle.croner_pattern.specs.Shapes.{has_field_shapes};
-ghost use Rattle.croner.specs.Listing.{standing_of, new_standing};
-ghost use Rattle.croner.specs.PatternJob.{timetable_of};
-ghost use Rattle.croner.specs.Searches.{IsFound, IsRefused};
+ghost use Rattle.croner.specs.iterator.Listing.{standing_of, new_standing};
+ghost use Rattle.croner.specs.search.PatternJob.{timetable_of};
+ghost use Rattle.croner.specs.search.Searches.{IsFound, IsRefused};
 ghost use Rattle.croner.specs.Views.{job_of};
 
 use crate::iterator::CronIterator;

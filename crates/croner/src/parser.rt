@@ -31,7 +31,7 @@ pub enum Seconds {
 }
 
 impl Seconds {
-    ghost use Rattle.croner.specs.Settings.{seconds_optional, seconds_required, seconds_disallowed};
+    ghost use Rattle.croner.specs.parser.Settings.{seconds_optional, seconds_required, seconds_disallowed};
 
     /// Whether the field may be left out, and may be written.
     pub fn is_optional(&self) -> bool
@@ -77,7 +77,7 @@ pub enum Year {
 }
 
 impl Year {
-    ghost use Rattle.croner.specs.Settings.{year_optional, year_required, year_disallowed};
+    ghost use Rattle.croner.specs.parser.Settings.{year_optional, year_required, year_disallowed};
 
     /// Whether the field may be left out, and may be written.
     pub fn is_optional(&self) -> bool
@@ -121,7 +121,7 @@ pub struct CronParser {
 }
 
 impl Model for CronParser {
-    ghost use Rattle.croner.specs.Settings.{Settings};
+    ghost use Rattle.croner.specs.parser.Settings.{Settings};
 
     ghost Value = { Settings };
 
@@ -131,10 +131,10 @@ impl Model for CronParser {
 }
 
 impl CronParser {
-    ghost use Rattle.croner.specs.Settings.{default_settings, accepts_count};
-    ghost use Rattle.croner.specs.Cut.{replaced};
-    ghost use Rattle.croner.specs.Gives.{Gives};
-    ghost use Rattle.croner.specs.Grammar.{outcome, of_trimmed, nicknamed, of_replaced, of_fields, fields_of, of_settled, has_plus};
+    ghost use Rattle.croner.specs.parser.Settings.{default_settings, accepts_count};
+    ghost use Rattle.croner.specs.parser.Cut.{replaced};
+    ghost use Rattle.croner.specs.parser.Gives.{Gives};
+    ghost use Rattle.croner.specs.parser.Grammar.{outcome, of_trimmed, nicknamed, of_replaced, of_fields, fields_of, of_settled, has_plus};
     ghost use Rattle.croner.specs.Views.{job_of, texts_of};
     ghost use Rattle.croner_pattern.specs.Shapes.{has_field_shapes};
 
@@ -333,7 +333,7 @@ pub struct CronParserBuilder {
 }
 
 impl Model for CronParserBuilder {
-    ghost use Rattle.croner.specs.Settings.{Settings};
+    ghost use Rattle.croner.specs.parser.Settings.{Settings};
 
     ghost Value = { Settings };
 

@@ -5,11 +5,11 @@ use Rattle.croner_base.specs.declared.errors.CronError.TheVariants.{TimeSearchLi
 use Rattle.croner_base.specs.declared.time.Direction.{Direction}
 use Rattle.croner_base.specs.declared.time.Direction.TheVariants.{Forward, Backward}
 use Rattle.croner_base.specs.Zone.{Zone, Moment}
-use Rattle.croner.specs.Limit.{NoneInSpan}
-use Rattle.croner.specs.Premises.{IsSearchable, StartsCalm}
-use Rattle.croner.specs.Refusal.{IsLimitOrMemory}
-use Rattle.croner.specs.Runs.{Timetable, job_in, Nearest}
-use Rattle.croner.specs.Searches.{IsFound, IsRefused}
+use Rattle.croner.specs.search.Limit.{NoneInSpan}
+use Rattle.croner.specs.search.Premises.{IsSearchable, StartsCalm}
+use Rattle.croner.specs.search.Refusal.{IsLimitOrMemory}
+use Rattle.croner.specs.search.Runs.{Timetable, job_in, Nearest}
+use Rattle.croner.specs.search.Searches.{IsFound, IsRefused}
 use Rattle.croner_backends.specs.Narrow.{narrow}
 
 module _ {T : Type 0} (moment : T → Moment) (direction : Direction) (inclusive : Bool) (timetable : Timetable) (start : Moment) where

@@ -4,9 +4,9 @@ use Rattle.std.proofs.KnownBytes.{Appends-nil, Appends-trans, Appends-kept}
 use Rattle.std.proofs.lemmas.List.{append_assoc, length_push}
 use Rattle.std.specs.Io.KnownBytes.{Appends}
 use Rattle.croner_base.specs.Zone.{Moment}
-use Rattle.croner.specs.Grammar.{outcome}
-use Rattle.croner.specs.Listing.{Standing, GivesItem, moved}
-use Rattle.croner.specs.Settings.{default_settings}
+use Rattle.croner.specs.parser.Grammar.{outcome}
+use Rattle.croner.specs.iterator.Listing.{Standing, GivesItem, moved}
+use Rattle.croner.specs.parser.Settings.{default_settings}
 use Rattle.cronrun_command.specs.Answer.{AreGiven, stands_after, zone_of}
 use Rattle.cronrun_command.specs.Line.{IsLine, AreLines}
 use Rattle.cronrun_command.specs.Opened.{StandsAtStart}

@@ -3,8 +3,8 @@ use Rattle.std.proofs.Common.{◌≡◌, Result, Ok, Err, IfErr, IsErrAnd, subst
 use Rattle.croner_base.specs.declared.errors.CronError.{CronError}
 use Rattle.croner_base.specs.declared.errors.CronError.TheVariants as errors
 use Rattle.croner_pattern.specs.Meaning.{Meaning}
-use Rattle.croner.specs.Gives.{Fails}
-use Rattle.croner.specs.Grammar.{Refusal}
+use Rattle.croner.specs.parser.Gives.{Fails}
+use Rattle.croner.specs.parser.Grammar.{Refusal}
 use Rattle.cronrun_command.specs.Refused.{IsUnread}
 
 fails_unread : (e : CronError) (outcome : Result Meaning Refusal) → Fails {Y = Meaning} e outcome → IsUnread outcome e

@@ -12,9 +12,9 @@ use Rattle.croner_pattern.specs.Description.{description}
 use Rattle.croner_pattern.specs.Meaning.{Meaning}
 use Rattle.croner_pattern.specs.Schedule.{IsScheduled}
 use Rattle.croner_words.specs.English.{english}
-use Rattle.croner.specs.Grammar.{outcome}
-use Rattle.croner.specs.Listing.{Standing, GivesItem, moved}
-use Rattle.croner.specs.Settings.{default_settings}
+use Rattle.croner.specs.parser.Grammar.{outcome}
+use Rattle.croner.specs.iterator.Listing.{Standing, GivesItem, moved}
+use Rattle.croner.specs.parser.Settings.{default_settings}
 use Rattle.cronrun_command.specs.Call.{Ask}
 use Rattle.cronrun_command.specs.Line.{AreLines}
 use Rattle.cronrun_command.specs.Opened.{IsAccepted, Opens, StandsAtStart}

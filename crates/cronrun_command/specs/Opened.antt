@@ -4,8 +4,8 @@ use Rattle.croner_base.specs.declared.time.Direction.{Direction}
 use Rattle.croner_base.specs.declared.time.civil.CivilDateTime.{CivilDateTime}
 use Rattle.croner_base.specs.Zone.{Zone, at_instant}
 use Rattle.croner_pattern.specs.Meaning.{Meaning}
-use Rattle.croner.specs.Grammar.{Refusal}
-use Rattle.croner.specs.Listing.{Standing, new_standing}
+use Rattle.croner.specs.parser.Grammar.{Refusal}
+use Rattle.croner.specs.iterator.Listing.{Standing, new_standing}
 use Rattle.cronrun_command.specs.Start.{first_instant}
 
 -- the pattern is accepted

@@ -3,8 +3,8 @@ use Rattle.std.specs.Prelude.{◌≡◌, ◌⊎◌, ℤ, Option, None, Result, O
 use Rattle.croner_base.specs.declared.errors.CronError.{CronError}
 use Rattle.croner_base.specs.declared.errors.CronError.TheVariants.{InvalidTime, OutOfMemory}
 use Rattle.croner_pattern.specs.Meaning.{Meaning}
-use Rattle.croner.specs.Gives.{Fails}
-use Rattle.croner.specs.Grammar.{Refusal}
+use Rattle.croner.specs.parser.Gives.{Fails}
+use Rattle.croner.specs.parser.Grammar.{Refusal}
 
 -- the pattern is refused, and the error is of its kind; or it is accepted, and memory ran out
 abbrev pub IsUnread : Result Meaning Refusal → CronError → Type 0

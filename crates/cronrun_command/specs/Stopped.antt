@@ -5,9 +5,9 @@ use Rattle.croner_base.specs.CivilZone.{civil_zone}
 use Rattle.croner_base.specs.Zone.{Moment}
 use Rattle.croner_base.specs.declared.errors.CronError.{CronError}
 use Rattle.croner_base.specs.declared.time.civil.CivilDateTime.{CivilDateTime}
-use Rattle.croner.specs.Grammar.{outcome}
-use Rattle.croner.specs.Listing.{Standing, GivesItem, GivesNone}
-use Rattle.croner.specs.Settings.{default_settings}
+use Rattle.croner.specs.parser.Grammar.{outcome}
+use Rattle.croner.specs.iterator.Listing.{Standing, GivesItem, GivesNone}
+use Rattle.croner.specs.parser.Settings.{default_settings}
 use Rattle.cronrun_command.specs.Answer.{AreGiven, stands_after, zone_of, Answers}
 use Rattle.cronrun_command.specs.Call.{Ask}
 use Rattle.cronrun_command.specs.Line.{AreLines}

@@ -2,7 +2,7 @@
 use Rattle.std.specs.Prelude.{◌++◌, ◌∷◌, [], ℕ, Bool, List, Option}
 use Rattle.std.specs.Io.KnownBytes.{Appends}
 use Rattle.croner_base.specs.Zone.{Moment}
-use Rattle.croner.specs.Listing.{Standing, GivesItem}
+use Rattle.croner.specs.iterator.Listing.{Standing, GivesItem}
 use Rattle.cronrun_command.specs.Line.{IsLine}
 
 -- the listing gave a run, and its line is what a writer got between these contents

@@ -2,10 +2,10 @@
 ghost use Rattle.std.specs.Prelude.{◌≡◌, ◌⊎◌, Ok, Some, false, is_some, option_map, IsTrue, IfOk, IfErr, OnOk};
 ghost use Rattle.std.specs.Io.KnownBytes.{Keeps};
 ghost use Rattle.croner_base.specs.Zone.{at_instant};
-ghost use Rattle.croner.specs.Faults.{is_kept};
-ghost use Rattle.croner.specs.Grammar.{outcome};
-ghost use Rattle.croner.specs.Listing.{standing_of};
-ghost use Rattle.croner.specs.Settings.{default_settings};
+ghost use Rattle.croner.specs.iterator.Faults.{is_kept};
+ghost use Rattle.croner.specs.parser.Grammar.{outcome};
+ghost use Rattle.croner.specs.iterator.Listing.{standing_of};
+ghost use Rattle.croner.specs.parser.Settings.{default_settings};
 ghost use Rattle.cronrun_command.specs.Answer.{Answers, IsOpened, zone_of};
 ghost use Rattle.cronrun_command.specs.Start.{first_instant};
 ghost use Rattle.cronrun_command.specs.Refused.{IsRefused};

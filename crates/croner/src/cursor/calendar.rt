@@ -3,8 +3,8 @@ ghost use Rattle.std.specs.Prelude.{◌≡◌, ◌<◌, ◌↔◌, IsTrue, true,
 ghost use Rattle.std.specs.Int.{IsInRange};
 ghost use Rattle.croner_base.specs.Civil.{day_of_date};
 ghost use Rattle.croner_pattern.specs.Schedule.{first_weekday};
-ghost use Rattle.croner.specs.Runs.{Reaches};
-ghost use Rattle.croner.specs.Cursor.{has_room, edge_day, IsYearBeyond};
+ghost use Rattle.croner.specs.search.Runs.{Reaches};
+ghost use Rattle.croner.specs.Private.cursor.Cursor.{has_room, edge_day, IsYearBeyond};
 
 use croner_base::time::{CivilDate, Direction, YEAR_LOWER_LIMIT, YEAR_UPPER_LIMIT, day_of_year};
 

@@ -6,7 +6,7 @@ ghost use Rattle.croner_base.specs.Civil.{day_of_date};
 ghost use Rattle.croner_pattern.specs.Meaning.{meaning_of};
 ghost use Rattle.croner_pattern.specs.Shapes.{has_field_shapes};
 ghost use Rattle.croner_pattern.specs.Schedule.{is_plain, is_year_matching, first_weekday, IsDayMask};
-ghost use Rattle.croner.specs.Cursor.{one_on, has_room, FindsForemost, IsOnTheWay, IsNamedYear, IsMonthDays, IsInMonth, IsInMonths, IsInYear, IsInYears, IsAfter};
+ghost use Rattle.croner.specs.Private.cursor.Cursor.{one_on, has_room, FindsForemost, IsOnTheWay, IsNamedYear, IsMonthDays, IsInMonth, IsInMonths, IsInYear, IsInYears, IsAfter};
 
 use crate::cursor::calendar::{FIRST_YEAR, LAST_YEAR, first_weekday, is_reached, year_beyond};
 use crate::cursor::days::{days_after, first_day};

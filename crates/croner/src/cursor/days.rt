@@ -1,8 +1,8 @@
 //! Days of a month as the bits of a word, the lowest for the 1st.
 ghost use Rattle.std.specs.Prelude.{ℕ, ◌↔◌, pos, IsTrue};
 ghost use Rattle.std.specs.Int.{IsInRange};
-ghost use Rattle.croner.specs.Runs.{Precedes};
-ghost use Rattle.croner.specs.Cursor.{HasDay, FindsForemost};
+ghost use Rattle.croner.specs.search.Runs.{Precedes};
+ghost use Rattle.croner.specs.Private.cursor.Cursor.{HasDay, FindsForemost};
 
 use croner_base::time::Direction;
 

@@ -6,7 +6,7 @@ ghost use Rattle.jiff_core.specs.Calendar.{is_leap_year, days_in_month};
 ghost use Rattle.croner_pattern.specs.Meaning.{meaning_of};
 ghost use Rattle.croner_pattern.specs.Schedule.{is_plain, first_weekday};
 ghost use Rattle.croner_pattern.specs.Shapes.{has_field_shapes};
-ghost use Rattle.croner.specs.Cursor.{month_kind, year_kind, HasOpenDay, HasOpenMonth, AreMonthKinds, AreYearKinds};
+ghost use Rattle.croner.specs.Private.cursor.Cursor.{month_kind, year_kind, HasOpenDay, HasOpenMonth, AreMonthKinds, AreYearKinds};
 
 use crate::cursor::calendar::first_weekday;
 use crate::cursor::values::is_plain;

@@ -3,7 +3,7 @@ ghost use Rattle.std.specs.Prelude.{◌≡◌, true, IfSome};
 ghost use Rattle.croner_base.specs.Civil.{wall_second};
 ghost use Rattle.croner_pattern.specs.Meaning.{meaning_of};
 ghost use Rattle.croner_pattern.specs.Shapes.{has_field_shapes};
-ghost use Rattle.croner.specs.Cursor.{Finds, IsNearest, IsOpen, IsOnSchedule};
+ghost use Rattle.croner.specs.Private.cursor.Cursor.{Finds, IsNearest, IsOpen, IsOnSchedule};
 
 mod calendar;
 mod dates;
@@ -53,8 +53,8 @@ pub(crate) fn next_scheduled(
 }
 
 impl Schedule for CronPattern {
-    ghost use Rattle.croner.specs.PatternJob.{timetable_of};
-    ghost use Rattle.croner.specs.SearchedYears.{scheduled_searched};
+    ghost use Rattle.croner.specs.search.PatternJob.{timetable_of};
+    ghost use Rattle.croner.specs.Private.cursor.SearchedYears.{scheduled_searched};
 
     ghost shaped = { λ p. has_field_shapes (meaning_of p) ≡ true };
 

@@ -3,7 +3,7 @@ ghost use Rattle.std.specs.Prelude.{◌≡◌, true, MatchOption};
 ghost use Rattle.croner_base.specs.declared.time.civil.CivilTime.{CivilTime};
 ghost use Rattle.croner_pattern.specs.Meaning.{meaning_of};
 ghost use Rattle.croner_pattern.specs.Shapes.{has_field_shapes};
-ghost use Rattle.croner.specs.Cursor.{FindsForemost, place_in_day, IsMatchingTime, IsOpenTime, IsOpenInHour, IsFirstTime};
+ghost use Rattle.croner.specs.Private.cursor.Cursor.{FindsForemost, place_in_day, IsMatchingTime, IsOpenTime, IsOpenInHour, IsFirstTime};
 
 use crate::cursor::values::{first_value, is_plain, nearest_beyond, nearest_value};
 use croner_base::time::{CivilTime, Direction};

@@ -2,7 +2,7 @@
 ghost use Rattle.std.specs.Prelude.{◌≡◌, ◌<◌, ◌≤◌, ℕ, true, pos, negsuc, MatchOption};
 ghost use Rattle.croner_base.specs.declared.time.Direction.{Direction};
 ghost use Rattle.croner_pattern.specs.Schedule.{is_plain};
-ghost use Rattle.croner.specs.Cursor.{one_on, Finds, IsPlainWithin, IsOnTheWay, IsFirstValue};
+ghost use Rattle.croner.specs.Private.cursor.Cursor.{one_on, Finds, IsPlainWithin, IsOnTheWay, IsFirstValue};
 
 use croner_base::component::CronComponent;
 use croner_base::time::Direction;

@@ -7,7 +7,7 @@ use std::hash::{Hash, Hasher};
 
 impl<T> CronIterator<T> {
     ghost use Rattle.std.specs.Prelude.{◌≡◌};
-    ghost use Rattle.croner.specs.IteratorOrder.{marks_cmp};
+    ghost use Rattle.croner.specs.iterator.IteratorOrder.{marks_cmp};
 
     // By the two marks and the direction.
     fn cmp_marks(&self, other: &CronIterator<T>) -> Ordering
@@ -21,7 +21,7 @@ impl<T> CronIterator<T> {
 }
 
 impl<T: PartialEq> PartialEq for CronIterator<T> {
-    ghost use Rattle.croner.specs.IteratorOrder.{iterator_eq, iterator_eq_per};
+    ghost use Rattle.croner.specs.iterator.IteratorOrder.{iterator_eq, iterator_eq_per};
 
     ghost eq = { iterator_eq T.eq };
 
@@ -33,13 +33,13 @@ impl<T: PartialEq> PartialEq for CronIterator<T> {
 }
 
 impl<T: Eq> Eq for CronIterator<T> {
-    ghost use Rattle.croner.specs.IteratorOrder.{iterator_eq_equiv};
+    ghost use Rattle.croner.specs.iterator.IteratorOrder.{iterator_eq_equiv};
 
     ghost laws = { iterator_eq_equiv T.Eq.laws };
 }
 
 impl<T: PartialOrd> PartialOrd for CronIterator<T> {
-    ghost use Rattle.croner.specs.IteratorOrder.{iterator_cmp, iterator_po};
+    ghost use Rattle.croner.specs.iterator.IteratorOrder.{iterator_cmp, iterator_po};
 
     ghost partial_cmp = { iterator_cmp T.partial_cmp };
 
@@ -57,7 +57,7 @@ impl<T: PartialOrd> PartialOrd for CronIterator<T> {
 }
 
 impl<T: Hash> Hash for CronIterator<T> {
-    ghost use Rattle.croner.specs.IteratorOrder.{iterator_writes, iterators_alike};
+    ghost use Rattle.croner.specs.iterator.IteratorOrder.{iterator_writes, iterators_alike};
 
     ghost hash_input = { iterator_writes T.hash_input };
 

@@ -6,7 +6,7 @@ ghost use Rattle.croner_pattern.specs.Description.{description};
 ghost use Rattle.croner_pattern.specs.Order.{pattern_cmp};
 ghost use Rattle.croner_pattern.specs.Schedule.{DateMatches, IsScheduled, is_fixed_time};
 ghost use Rattle.croner_pattern.specs.Written.{pattern_writes};
-ghost use Rattle.croner.specs.Equality.{AreSameButTexts, hash_of_writes};
+ghost use Rattle.croner.specs.laws.Equality.{AreSameButTexts, hash_of_writes};
 ghost use Rattle.croner.specs.Views.{job_of};
 
 use crate::{Cron, JobType};

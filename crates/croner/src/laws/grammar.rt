@@ -2,10 +2,10 @@
 
 ghost use Rattle.std.specs.Prelude.{◌≡◌, ℕ, List, Some, None, Ok};
 ghost use Rattle.croner_pattern.specs.Meaning.{Meaning};
-ghost use Rattle.croner.specs.Cut.{Piece, IsCut, cut_of};
-ghost use Rattle.croner.specs.Grammar.{outcome};
-ghost use Rattle.croner.specs.Settings.{Settings};
-ghost use Rattle.croner.specs.Words.{AreWords, words};
+ghost use Rattle.croner.specs.parser.Cut.{Piece, IsCut, cut_of};
+ghost use Rattle.croner.specs.parser.Grammar.{outcome};
+ghost use Rattle.croner.specs.parser.Settings.{Settings};
+ghost use Rattle.croner.specs.parser.Words.{AreWords, words};
 
 use crate::parser::{Seconds, Year};
 

@@ -7,12 +7,12 @@ ghost use Rattle.std.specs.Prelude.{◌≡◌, ◌≤◌, ◌<◌, ◌+◌, ◌�
 ghost use Rattle.std.specs.List.{All, AllPairs};
 ghost use Rattle.croner_pattern.specs.Meaning.{meaning_of};
 ghost use Rattle.croner_pattern.specs.Shapes.{has_field_shapes};
-ghost use Rattle.croner.specs.Listing.{Standing, standing_of, new_standing, moved, instants, IsLeft, BeginsRest, Gave, GaveAll, Takes, TakesInTurn};
-ghost use Rattle.croner.specs.Neighbours.{AreCompared, IsWholeIn, onward};
-ghost use Rattle.croner.specs.Runs.{Precedes};
-ghost use Rattle.croner.specs.PatternJob.{timetable_of};
-ghost use Rattle.croner.specs.Premises.{IsSearchable, StartsCalm};
-ghost use Rattle.croner.specs.Searches.{IsFound, IsRefused, IsReturnable};
+ghost use Rattle.croner.specs.iterator.Listing.{Standing, standing_of, new_standing, moved, instants, IsLeft, BeginsRest, Gave, GaveAll, Takes, TakesInTurn};
+ghost use Rattle.croner.specs.laws.Neighbours.{AreCompared, IsWholeIn, onward};
+ghost use Rattle.croner.specs.search.Runs.{Precedes};
+ghost use Rattle.croner.specs.search.PatternJob.{timetable_of};
+ghost use Rattle.croner.specs.search.Premises.{IsSearchable, StartsCalm};
+ghost use Rattle.croner.specs.search.Searches.{IsFound, IsRefused, IsReturnable};
 ghost use Rattle.croner.specs.Views.{job_of};
 
 use crate::Cron;

@@ -3,8 +3,8 @@ ghost use Rattle.std.specs.Prelude.{◌≡◌, Ok, IfOk, IfErr, true};
 ghost use Rattle.std.specs.Ordering.{eq_by_cmp};
 ghost use Rattle.croner_pattern.specs.Meaning.{Meaning};
 ghost use Rattle.croner_pattern.specs.Order.{pattern_cmp};
-ghost use Rattle.croner.specs.Gives.{Fails};
-ghost use Rattle.croner.specs.Grammar.{outcome};
+ghost use Rattle.croner.specs.parser.Gives.{Fails};
+ghost use Rattle.croner.specs.parser.Grammar.{outcome};
 ghost use Rattle.croner.specs.Views.{job_of};
 
 use crate::Cron;

@@ -5,11 +5,11 @@ ghost use Rattle.croner_base.specs.Civil.{wall_second};
 ghost use Rattle.croner_base.specs.Zone.{reading};
 ghost use Rattle.croner_pattern.specs.Schedule.{IsScheduled, is_fixed_time};
 ghost use Rattle.croner_pattern.specs.Shapes.{has_field_shapes};
-ghost use Rattle.croner.specs.Limit.{IsOutside};
-ghost use Rattle.croner.specs.PatternJob.{timetable_of};
-ghost use Rattle.croner.specs.Premises.{HasOneInstantEach};
-ghost use Rattle.croner.specs.Refusal.{IsRefusal};
-ghost use Rattle.croner.specs.Searches.{IsFound, IsRefused};
+ghost use Rattle.croner.specs.search.Limit.{IsOutside};
+ghost use Rattle.croner.specs.search.PatternJob.{timetable_of};
+ghost use Rattle.croner.specs.search.Premises.{HasOneInstantEach};
+ghost use Rattle.croner.specs.search.Refusal.{IsRefusal};
+ghost use Rattle.croner.specs.search.Searches.{IsFound, IsRefused};
 ghost use Rattle.croner.specs.Views.{job_of};
 
 use crate::Cron;

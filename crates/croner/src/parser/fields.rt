@@ -3,7 +3,7 @@
 ghost use Rattle.std.specs.Prelude.{◌≡◌, ℕ, List, ◌==◌, if◌then◌else◌, map, not, string_bytes, option_map, is_none, IfOk, MatchOption};
 ghost use Rattle.std.specs.List.{list_all};
 ghost use Rattle.croner_base.specs.Part.{contains_byte};
-ghost use Rattle.croner.specs.Grammar.{seven, starred, without_plus, has_plus, is_plain, is_for_days, is_for_weekdays, are_legal};
+ghost use Rattle.croner.specs.parser.Grammar.{seven, starred, without_plus, has_plus, is_plain, is_for_days, is_for_weekdays, are_legal};
 ghost use Rattle.croner.specs.Views.{texts_of};
 
 use std::alloc::{AllocError, Global};

@@ -5,9 +5,9 @@ ghost use Rattle.croner_base.specs.Field.{with_sloppy, has_all};
 ghost use Rattle.croner_base.specs.Part.{field_of};
 ghost use Rattle.croner_base.specs.Reading.{Reads};
 ghost use Rattle.croner_pattern.specs.Meaning.{meaning_of};
-ghost use Rattle.croner.specs.Gives.{Gives, Starts, ReadsAll};
-ghost use Rattle.croner.specs.Grammar.{TakesSunday, sunday_moved, with_sunday, weekday_modifiers, start_meaning, of_legal, is_star};
-ghost use Rattle.croner.specs.Settings.{Settings};
+ghost use Rattle.croner.specs.parser.Gives.{Gives, Starts, ReadsAll};
+ghost use Rattle.croner.specs.parser.Grammar.{TakesSunday, sunday_moved, with_sunday, weekday_modifiers, start_meaning, of_legal, is_star};
+ghost use Rattle.croner.specs.parser.Settings.{Settings};
 ghost use Rattle.croner.specs.Views.{texts_of};
 
 use super::fields::{DAY_OF_MONTH, FieldTexts, HOURS, MINUTES, MONTH, SECONDS, WEEKDAY, YEAR};

@@ -3,8 +3,8 @@
 ghost use Rattle.std.specs.Prelude.{◌≡◌, Err};
 ghost use Rattle.croner_base.specs.Answers.{IsFieldError};
 ghost use Rattle.croner_pattern.specs.Meaning.{Meaning};
-ghost use Rattle.croner.specs.Grammar.{Refusal, Invalid, Illegal};
-ghost use Rattle.croner.specs.Gives.{Fails};
+ghost use Rattle.croner.specs.parser.Grammar.{Refusal, Invalid, Illegal};
+ghost use Rattle.croner.specs.parser.Gives.{Fails};
 
 use super::{Seconds, Year};
 use croner_base::errors::CronError;

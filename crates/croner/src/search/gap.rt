@@ -3,11 +3,11 @@ ghost use Rattle.std.specs.Prelude.{◌≡◌, ℤ, pos, ◌+ℤ◌, ◌<ℤ◌,
 ghost use Rattle.croner_base.specs.declared.time.value.Resolution.TheVariants.{Gap};
 ghost use Rattle.croner_base.specs.Calm.{IsCalm, IsSearched};
 ghost use Rattle.croner_base.specs.Civil.{wall_second};
-ghost use Rattle.croner.specs.Premises.{HoldsYears};
-ghost use Rattle.croner.specs.zone.Walk.{HasGapEnd, HasGapFront};
-ghost use Rattle.croner.specs.Refusal.{IsBackendError};
+ghost use Rattle.croner.specs.search.Premises.{HoldsYears};
+ghost use Rattle.croner.specs.Private.search.Walk.{HasGapEnd, HasGapFront};
+ghost use Rattle.croner.specs.search.Refusal.{IsBackendError};
 
-use crate::wall::one_second_on;
+use crate::search::wall::one_second_on;
 use croner_base::errors::CronError;
 use croner_base::limits::GAP_LIMIT_SECONDS;
 use croner_base::time::{CivilDateTime, CronDateTime, Direction, Resolution};

@@ -1,22 +1,25 @@
 //! The nearest run of a schedule in a zone.
+mod fold;
 mod gap;
+mod instant;
 mod schedule;
 mod walk;
+mod wall;
 
 ghost use Rattle.std.specs.Prelude.{◌≡◌, ◌↔◌, IsTrue, IfOk, IfErr, Err, None};
 ghost use Rattle.croner_base.specs.declared.errors.CronError.TheVariants.{TimeSearchLimitExceeded};
 ghost use Rattle.croner_base.specs.Zone.{reading};
-ghost use Rattle.croner.specs.Runs.{job_in};
-ghost use Rattle.croner.specs.Limit.{IsWithin};
-ghost use Rattle.croner.specs.Premises.{IsSearchable};
-ghost use Rattle.croner.specs.Searches.{IsFound, IsRefused};
-ghost use Rattle.croner.specs.zone.Walk.{IsWalked, HasWalked};
-ghost use Rattle.croner.specs.zone.Halves.{CountsBoth, HasOtherHalf, opposite_way};
-ghost use Rattle.croner.specs.Refusal.{IsBackendError};
+ghost use Rattle.croner.specs.search.Runs.{job_in};
+ghost use Rattle.croner.specs.search.Limit.{IsWithin};
+ghost use Rattle.croner.specs.search.Premises.{IsSearchable};
+ghost use Rattle.croner.specs.search.Searches.{IsFound, IsRefused};
+ghost use Rattle.croner.specs.Private.search.Walk.{IsWalked, HasWalked};
+ghost use Rattle.croner.specs.Private.search.Halves.{CountsBoth, HasOtherHalf, opposite_way};
+ghost use Rattle.croner.specs.search.Refusal.{IsBackendError};
 
-use crate::fold::{is_on_first_half, other_edge};
-use crate::instant::{moved, precedes};
-use crate::wall::is_within;
+use crate::search::fold::{is_on_first_half, other_edge};
+use crate::search::instant::{moved, precedes};
+use crate::search::wall::is_within;
 use croner_base::errors::CronError;
 use croner_base::time::{CronDateTime, Direction};
 pub(crate) use schedule::Schedule;

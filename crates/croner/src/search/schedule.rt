@@ -7,8 +7,8 @@ use croner_base::time::{CivilDateTime, Direction};
 pub(crate) trait Schedule {
     ghost use Rattle.croner_base.specs.Civil.{wall_second};
     ghost use Rattle.croner_base.specs.Calm.{IsSearched};
-    ghost use Rattle.croner.specs.Runs.{Timetable};
-    ghost use Rattle.croner.specs.zone.Schedule.{NextScheduled, NoneScheduled};
+    ghost use Rattle.croner.specs.search.Runs.{Timetable};
+    ghost use Rattle.croner.specs.Private.search.Schedule.{NextScheduled, NoneScheduled};
 
     /// What has to hold of the schedule before it is asked.
     ghost shaped: { Self → Type 0 };

@@ -2,18 +2,18 @@
 ghost use Rattle.std.specs.Prelude.{◌≡◌, ◌⊎◌, ℤ, IfOk, IfErr, MatchOption, Some};
 ghost use Rattle.croner_base.specs.declared.time.value.Resolution.TheVariants.{Ambiguous, Gap};
 ghost use Rattle.croner_base.specs.Zone.{IsResolved};
-ghost use Rattle.croner.specs.zone.Wall.{IsLastYear};
+ghost use Rattle.croner.specs.Private.search.Wall.{IsLastYear};
 ghost use Rattle.croner_base.specs.Calm.{IsCalm};
 ghost use Rattle.croner_base.specs.Civil.{wall_second};
-ghost use Rattle.croner.specs.Runs.{job_in};
-ghost use Rattle.croner.specs.Premises.{HoldsYears};
-ghost use Rattle.croner.specs.zone.Walk.{CannotMove, HasPassed, HasWalked, IsWalkRefused, Walking, walk_start, NearerOf, ChosenOf, IsOneOf};
-ghost use Rattle.croner.specs.Refusal.{IsBackendError};
+ghost use Rattle.croner.specs.search.Runs.{job_in};
+ghost use Rattle.croner.specs.search.Premises.{HoldsYears};
+ghost use Rattle.croner.specs.Private.search.Walk.{CannotMove, HasPassed, HasWalked, IsWalkRefused, Walking, walk_start, NearerOf, ChosenOf, IsOneOf};
+ghost use Rattle.croner.specs.search.Refusal.{IsBackendError};
 
 use super::Schedule;
 use super::gap::{gap_end, gap_front};
-use crate::instant::{is_behind, lies_ahead};
-use crate::wall::one_second_on;
+use crate::search::instant::{is_behind, lies_ahead};
+use crate::search::wall::one_second_on;
 use croner_base::errors::CronError;
 use croner_base::time::{CivilDateTime, CronDateTime, Direction, Resolution};
 use std::alloc::Global;

@@ -3,7 +3,7 @@ ghost use Rattle.std.specs.Prelude.{◌≡◌, ◌↔◌, ℤ, IsSome};
 ghost use Rattle.croner_base.specs.declared.time.civil.CivilDateTime.{CivilDateTime};
 ghost use Rattle.croner_base.specs.Civil.{wall_second};
 ghost use Rattle.croner_base.specs.TableZone.{table_zone};
-ghost use Rattle.croner.specs.Premises.{StartsCalm};
+ghost use Rattle.croner.specs.search.Premises.{StartsCalm};
 ghost use Rattle.croner_backends.specs.BoxedMoment.{boxed_moment};
 ghost use Rattle.croner_backends.specs.Narrow.{IsHeldBetween};
 ghost use Rattle.croner_backends.specs.NarrowMoment.{narrow_moment};

@@ -1,9 +1,9 @@
 //! Iterators over the two backends: their items begin the listing of the runs on the clocks of their tables.
 ghost use Rattle.std.specs.Prelude.{◌≡◌, ◌≤◌, ◌⊎◌, true, false, IsTrue, IfOk, IfErr, length};
 ghost use Rattle.std.specs.List.{All};
-ghost use Rattle.croner.specs.Listing.{standing_of, instants, BeginsRest, Gave, GaveAll, TakesInTurn};
-ghost use Rattle.croner.specs.Neighbours.{IsWholeIn};
-ghost use Rattle.croner.specs.Premises.{IsSearchable};
+ghost use Rattle.croner.specs.iterator.Listing.{standing_of, instants, BeginsRest, Gave, GaveAll, TakesInTurn};
+ghost use Rattle.croner.specs.laws.Neighbours.{IsWholeIn};
+ghost use Rattle.croner.specs.search.Premises.{IsSearchable};
 ghost use Rattle.croner_backends.specs.BoxedMoment.{boxed_moment};
 ghost use Rattle.croner_backends.specs.NarrowMoment.{narrow_moment};
 

@@ -4,8 +4,8 @@ use Rattle.croner_base.specs.declared.time.civil.CivilDate.{CivilDate}
 use Rattle.croner_base.specs.declared.time.civil.CivilTime.{CivilTime}
 use Rattle.croner_base.specs.Civil.{day_of_date}
 use Rattle.croner_pattern.specs.Meaning.{meaning_of}
-use Rattle.croner.specs.Cursor.{has_room, place_in_day, IsForemost, IsAfter, IsOpenTime}
-use Rattle.croner.proofs.Scheduled.{no_time, today-hit, today-missed, today-reached, today-nearest, NoneToday, today-no_time, stays, later-none, later-reached, later-nearest}
+use Rattle.croner.specs.Private.cursor.Cursor.{has_room, place_in_day, IsForemost, IsAfter, IsOpenTime}
+use Rattle.croner.proofs.cursor.Scheduled.{no_time, today-hit, today-missed, today-reached, today-nearest, NoneToday, today-no_time, stays, later-none, later-reached, later-nearest}
 use Rattle.croner.proofs.cursor.next_scheduled.Goals as goal
 use Rattle.croner.proofs.cursor.next_scheduled.Goals.{then-has_day+in_default, else-has_day}
 

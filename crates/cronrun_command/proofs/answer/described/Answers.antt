@@ -1,8 +1,8 @@
 use Rattle.std.proofs.Common.{Result, subst, sym}
 use Rattle.std.proofs.lemmas.Result.{MatchResult-weaker}
 use Rattle.croner_pattern.specs.Meaning.{Meaning}
-use Rattle.croner.specs.Grammar.{outcome, Refusal}
-use Rattle.croner.specs.Settings.{default_settings}
+use Rattle.croner.specs.parser.Grammar.{outcome, Refusal}
+use Rattle.croner.specs.parser.Settings.{default_settings}
 use Rattle.croner.specs.Views.{job_of}
 use Rattle.cronrun_command.specs.Refused.{IsUnread}
 use Rattle.cronrun_command.proofs.Unread.{refused_unread}

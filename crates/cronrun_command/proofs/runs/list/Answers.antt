@@ -1,9 +1,9 @@
 use Rattle.std.proofs.Common.{◌≡◌, ◌∙◌, ◌<◌, Bool, subst, arith}
 use Rattle.std.proofs.lemmas.Result.{err_from_is_err_and}
 use Rattle.croner_base.specs.Zone.{Zone}
-use Rattle.croner.specs.Grammar.{outcome}
-use Rattle.croner.specs.Listing.{standing_of}
-use Rattle.croner.specs.Settings.{default_settings}
+use Rattle.croner.specs.parser.Grammar.{outcome}
+use Rattle.croner.specs.iterator.Listing.{standing_of}
+use Rattle.croner.specs.parser.Settings.{default_settings}
 use Rattle.cronrun_command.proofs.Listed.{Wrote, wrote_next, stops_list}
 use Rattle.cronrun_command.specs.Line.{AreLines}
 use Rattle.cronrun_command.specs.Opened.{StandsAtStart}

@@ -1,4 +1,4 @@
-use Rattle.croner.specs.Listing.{standing_of}
+use Rattle.croner.specs.iterator.Listing.{standing_of}
 use Rattle.cronrun_command.proofs.Listed.{Wrote}
 use Rattle.cronrun_command.proofs.runs.list.Given as goal
 

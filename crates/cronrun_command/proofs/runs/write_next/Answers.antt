@@ -1,7 +1,7 @@
 use Rattle.std.proofs.Common.{◌≡◌, Option, IsTrue, subst}
 use Rattle.std.proofs.KnownBytes.{Keeps-refl}
 use Rattle.croner_base.specs.declared.errors.CronError.{CronError}
-use Rattle.croner.specs.Faults.{is_kept}
+use Rattle.croner.specs.iterator.Faults.{is_kept}
 use Rattle.cronrun_command.specs.Line.{line_text}
 use Rattle.cronrun_command.specs.Reason.{reason_of}
 use Rattle.cronrun_command.proofs.runs.write_next.Goals as goal

@@ -1,9 +1,9 @@
 use Rattle.std.proofs.Common.{◌≡◌, true, refl, sym, ap, ◌∙◌, subst}
 use Rattle.croner_pattern.specs.Meaning.{meaning_of}
 use Rattle.croner_pattern.specs.Schedule.{is_date_matching}
-use Rattle.croner.specs.Cursor.{HasDay}
-use Rattle.croner.proofs.Covered.{date_answer}
-use Rattle.croner.proofs.Dates.{same_truth}
+use Rattle.croner.specs.Private.cursor.Cursor.{HasDay}
+use Rattle.croner.proofs.cursor.Covered.{date_answer}
+use Rattle.croner.proofs.cursor.DateSearch.{same_truth}
 use Rattle.croner.proofs.cursor.CronPatternSchedule.matches_date.Goals as goal
 
 pub returns : goal.returns

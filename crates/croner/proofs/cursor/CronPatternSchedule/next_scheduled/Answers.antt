@@ -1,5 +1,5 @@
 use Rattle.croner_pattern.specs.Meaning.{meaning_of}
-use Rattle.croner.proofs.Covered.{search_answer}
+use Rattle.croner.proofs.cursor.Covered.{search_answer}
 use Rattle.croner.proofs.cursor.CronPatternSchedule.next_scheduled.Goals as goal
 
 pub returns : goal.returns

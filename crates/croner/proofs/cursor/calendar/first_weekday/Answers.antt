@@ -1,7 +1,7 @@
 use Rattle.std.proofs.Common.{◌≡◌, pos, sym, arith, subst, to_z, w32}
 use Rattle.jiff_core.specs.Calendar.{day_of_year}
 use Rattle.jiff_core.proofs.SignedLemmas.{signed_casts}
-use Rattle.croner.proofs.Weekdays.{weekday-place, day_of_year-first}
+use Rattle.croner.proofs.cursor.Weekdays.{weekday-place, day_of_year-first}
 use Rattle.croner.proofs.cursor.calendar.first_weekday.Goals as goal
 
 pub overflow_add-result-2 : goal.overflow_add-result-2

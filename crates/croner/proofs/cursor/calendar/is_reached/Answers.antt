@@ -2,7 +2,7 @@ use Rattle.std.proofs.Common.{◌≡◌, ◌≢◌, true, false, ltb, eqb, sym, 
 use Rattle.std.proofs.lemmas.Bool.{false≢true}
 use Rattle.std.proofs.lemmas.Bool.Decides.{nat_tests}
 use Rattle.jiff_core.proofs.SignedLemmas.{signed_arith}
-use Rattle.croner.proofs.CivilOrder.{date_bounds, forward-reached, backward-reached}
+use Rattle.croner.proofs.cursor.CivilOrder.{date_bounds, forward-reached, backward-reached}
 use Rattle.croner.proofs.cursor.calendar.is_reached.Goals as goal
 
 pub returns-then-year-lt-LAST_YEAR : goal.returns-then-year-lt-LAST_YEAR

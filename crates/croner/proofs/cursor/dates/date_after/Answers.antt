@@ -2,10 +2,10 @@ use Rattle.std.proofs.Common.{◌↔◌, ℕ, ℤ, pos, ◌∙◌, subst, rules,
 use Rattle.std.proofs.lemmas.Int.{to_z-of_z}
 use Rattle.croner_base.specs.Civil.{HasYmd, day_of_date}
 use Rattle.croner_pattern.specs.Meaning.{meaning_of}
-use Rattle.croner.specs.Runs.{Precedes}
-use Rattle.croner.specs.Cursor.{one_on, HasDay, IsYearBeyond, IsInMonths, IsInYears, IsAfter}
-use Rattle.croner.proofs.Dates.{InMonthAfter, Later, after-split, later-split, after-first, after-none, years-beyond}
-use Rattle.croner.proofs.Foremost.{in_first, passed, same_first, same_again, same_finds}
+use Rattle.croner.specs.search.Runs.{Precedes}
+use Rattle.croner.specs.Private.cursor.Cursor.{one_on, HasDay, IsYearBeyond, IsInMonths, IsInYears, IsAfter}
+use Rattle.croner.proofs.cursor.DateSearch.{InMonthAfter, Later, after-split, later-split, after-first, after-none, years-beyond}
+use Rattle.croner.proofs.cursor.Foremost.{in_first, passed, same_first, same_again, same_finds}
 use Rattle.croner.proofs.cursor.dates.date_after.Goals as goal
 
 pub returns-in-Some : goal.returns-in-Some

@@ -4,10 +4,10 @@ use Rattle.std.proofs.lemmas.Bool.{false≢true}
 use Rattle.std.proofs.lemmas.Nat.Bits.{bit_at-zero}
 use Rattle.croner_base.specs.declared.time.civil.CivilDate.{CivilDate}
 use Rattle.croner_pattern.specs.Meaning.{meaning_of}
-use Rattle.croner.specs.Cursor.{one_on, year_kind, IsInYear, IsInYears}
-use Rattle.croner.proofs.Dates.{plain_year, year-closed, has_month, years-on, years-found, years-none, no_years}
-use Rattle.croner.proofs.Foremost.{Same, same_all, same_none}
-use Rattle.croner.proofs.Values.{neighbour-way}
+use Rattle.croner.specs.Private.cursor.Cursor.{one_on, year_kind, IsInYear, IsInYears}
+use Rattle.croner.proofs.cursor.DateSearch.{plain_year, year-closed, has_month, years-on, years-found, years-none, no_years}
+use Rattle.croner.proofs.cursor.Foremost.{Same, same_all, same_none}
+use Rattle.croner.proofs.cursor.ValueSearch.{neighbour-way}
 use Rattle.croner.proofs.cursor.dates.in_later_years.Goals as goal
 use Rattle.croner.proofs.cursor.dates.in_later_years.Goals.{then-has_kind+in_default-in_year, else-has_kind}
 

@@ -1,8 +1,8 @@
 use Rattle.std.proofs.Common.{pos}
 use Rattle.croner_pattern.specs.Meaning.{meaning_of}
-use Rattle.croner.specs.Cursor.{IsOnTheWay, IsInYears}
-use Rattle.croner.proofs.Foremost.{Same}
-use Rattle.croner.proofs.Values.{steps_left}
+use Rattle.croner.specs.Private.cursor.Cursor.{IsOnTheWay, IsInYears}
+use Rattle.croner.proofs.cursor.Foremost.{Same}
+use Rattle.croner.proofs.cursor.ValueSearch.{steps_left}
 use Rattle.croner.proofs.cursor.dates.in_later_years.Given as goal
 
 abbrev pub invariant-loop-year : goal.invariant-loop-year

@@ -4,7 +4,7 @@ use Rattle.jiff_core.proofs.SignedLemmas.{signed_casts}
 use Rattle.croner_base.specs.Civil.{HasYmd}
 use Rattle.croner_pattern.specs.Meaning.{meaning_of}
 use Rattle.croner_pattern.specs.Schedule.{first_weekday}
-use Rattle.croner.proofs.Dates.{mask-day, named-days, month-first, month-none}
+use Rattle.croner.proofs.cursor.DateSearch.{mask-day, named-days, month-first, month-none}
 use Rattle.croner.proofs.cursor.dates.in_month.Goals as goal
 
 pub from_parts_unchecked-requires : goal.from_parts_unchecked-requires

@@ -1,10 +1,10 @@
 use Rattle.std.proofs.Common.{pos, sym, subst}
 use Rattle.croner_base.specs.declared.time.civil.CivilDate.{CivilDate}
 use Rattle.croner_pattern.specs.Meaning.{meaning_of}
-use Rattle.croner.specs.Cursor.{one_on, IsInMonths}
-use Rattle.croner.proofs.Dates.{months-on, months-found, months-none, no_months}
-use Rattle.croner.proofs.Foremost.{Same, same_all, same_none}
-use Rattle.croner.proofs.Values.{neighbour-way}
+use Rattle.croner.specs.Private.cursor.Cursor.{one_on, IsInMonths}
+use Rattle.croner.proofs.cursor.DateSearch.{months-on, months-found, months-none, no_months}
+use Rattle.croner.proofs.cursor.Foremost.{Same, same_all, same_none}
+use Rattle.croner.proofs.cursor.ValueSearch.{neighbour-way}
 use Rattle.croner.proofs.cursor.dates.in_months.Goals as goal
 
 pub loop-month-init : goal.loop-month-init

@@ -1,9 +1,9 @@
 use Rattle.std.proofs.Common.{◌≡◌, true, pos}
 use Rattle.croner_pattern.specs.Meaning.{meaning_of}
 use Rattle.croner_pattern.specs.Schedule.{is_year_matching}
-use Rattle.croner.specs.Cursor.{IsOnTheWay, IsInMonths}
-use Rattle.croner.proofs.Foremost.{Same}
-use Rattle.croner.proofs.Values.{steps_left}
+use Rattle.croner.specs.Private.cursor.Cursor.{IsOnTheWay, IsInMonths}
+use Rattle.croner.proofs.cursor.Foremost.{Same}
+use Rattle.croner.proofs.cursor.ValueSearch.{steps_left}
 use Rattle.croner.proofs.cursor.dates.in_months.Given as goal
 
 abbrev pub invariant-loop-month : goal.invariant-loop-month

@@ -3,7 +3,7 @@ use Rattle.std.proofs.lemmas.Int.{to_z-of_z}
 use Rattle.croner_base.specs.Civil.{day_of_date}
 use Rattle.croner_pattern.specs.Meaning.{meaning_of}
 use Rattle.croner_pattern.specs.Schedule.{is_year_matching}
-use Rattle.croner.specs.Cursor.{one_on, FindsForemost, IsInMonths}
+use Rattle.croner.specs.Private.cursor.Cursor.{one_on, FindsForemost, IsInMonths}
 use Rattle.croner.proofs.cursor.dates.in_rest_of_year.Goals as goal
 
 pub returns : goal.returns

@@ -2,8 +2,8 @@ use Rattle.std.proofs.Common.{pos, sym, ◌∙◌}
 use Rattle.std.proofs.lemmas.Bool.{false≢true}
 use Rattle.croner_base.specs.declared.time.civil.CivilDate.{CivilDate}
 use Rattle.croner_pattern.specs.Meaning.{meaning_of}
-use Rattle.croner.specs.Runs.{Reaches}
-use Rattle.croner.proofs.Dates.{forward-start, backward-start, whole-year, year-past, year-none}
+use Rattle.croner.specs.search.Runs.{Reaches}
+use Rattle.croner.proofs.cursor.DateSearch.{forward-start, backward-start, whole-year, year-past, year-none}
 use Rattle.croner.proofs.cursor.dates.in_year.Goals as goal
 use Rattle.croner.proofs.cursor.dates.in_year.Goals.{in-Forward, in-Backward}
 

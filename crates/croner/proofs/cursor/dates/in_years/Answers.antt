@@ -2,9 +2,9 @@ use Rattle.std.proofs.Common.{pos, sym, subst}
 use Rattle.croner_base.specs.declared.time.civil.CivilDate.{CivilDate}
 use Rattle.croner_base.specs.Civil.{day_of_date}
 use Rattle.croner_pattern.specs.Meaning.{meaning_of}
-use Rattle.croner.specs.Cursor.{IsInYears}
-use Rattle.croner.proofs.Dates.{plain_year, years-on, years-found, years-none}
-use Rattle.croner.proofs.Foremost.{Same, same_all, same_finds}
+use Rattle.croner.specs.Private.cursor.Cursor.{IsInYears}
+use Rattle.croner.proofs.cursor.DateSearch.{plain_year, years-on, years-found, years-none}
+use Rattle.croner.proofs.cursor.Foremost.{Same, same_all, same_finds}
 use Rattle.croner.proofs.cursor.dates.in_years.Goals as goal
 
 pub returns-in_err-year : goal.returns-in_err-year

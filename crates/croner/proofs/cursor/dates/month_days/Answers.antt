@@ -3,7 +3,7 @@ use Rattle.std.proofs.lemmas.Int.{to_z-of_z}
 use Rattle.jiff_core.specs.Calendar.{days_in_month}
 use Rattle.croner_pattern.specs.Meaning.{meaning_of}
 use Rattle.croner_pattern.specs.Schedule.{is_plain, is_year_matching, first_weekday, IsDayMask}
-use Rattle.croner.proofs.Dates.{named-days}
+use Rattle.croner.proofs.cursor.DateSearch.{named-days}
 use Rattle.croner.proofs.cursor.dates.month_days.Goals as goal
 
 pub returns-in-Some : goal.returns-in-Some

@@ -1,5 +1,5 @@
 use Rattle.std.proofs.Common.{arith}
-use Rattle.croner.proofs.DayBits.{after_forward, after_backward}
+use Rattle.croner.proofs.cursor.DayBits.{after_forward, after_backward}
 use Rattle.croner.proofs.cursor.days.days_after.Goals as goal
 
 pub returns-in-Forward : goal.returns-in-Forward

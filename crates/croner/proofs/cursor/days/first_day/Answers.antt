@@ -1,5 +1,5 @@
 use Rattle.std.proofs.Common.{arith}
-use Rattle.croner.proofs.DayBits.{first_forward, first_backward}
+use Rattle.croner.proofs.cursor.DayBits.{first_forward, first_backward}
 use Rattle.croner.proofs.cursor.days.first_day.Goals as goal
 
 pub returns-in-Forward : goal.returns-in-Forward

@@ -3,8 +3,8 @@ use Rattle.std.proofs.lemmas.Bool.{cases_eq, false≢true}
 use Rattle.jiff_core.specs.Calendar.{days_in_month}
 use Rattle.croner_pattern.specs.Meaning.{meaning_of}
 use Rattle.croner_pattern.specs.Schedule.{is_plain, first_weekday}
-use Rattle.croner.specs.Cursor.{HasOpenDay}
-use Rattle.croner.proofs.Weekdays.{weekday-next}
+use Rattle.croner.specs.Private.cursor.Cursor.{HasOpenDay}
+use Rattle.croner.proofs.cursor.Weekdays.{weekday-next}
 use Rattle.croner.proofs.cursor.kinds.is_open_kind.Goals as goal
 
 pub loop-month-preserved : goal.loop-month-preserved

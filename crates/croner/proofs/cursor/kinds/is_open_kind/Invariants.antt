@@ -2,7 +2,7 @@ use Rattle.std.proofs.Common.{◌≡◌, ℤ, ◌<◌, ◌≤◌}
 use Rattle.jiff_core.specs.Calendar.{is_leap_year}
 use Rattle.croner_pattern.specs.Meaning.{meaning_of}
 use Rattle.croner_pattern.specs.Schedule.{first_weekday}
-use Rattle.croner.specs.Cursor.{AreMonthKinds, HasOpenMonth}
+use Rattle.croner.specs.Private.cursor.Cursor.{AreMonthKinds, HasOpenMonth}
 use Rattle.croner.proofs.cursor.kinds.is_open_kind.Given as goal
 
 abbrev pub invariant-loop-month : goal.invariant-loop-month

@@ -1,7 +1,7 @@
 use Rattle.std.proofs.Common.{◌≡◌, ℕ, ◌+◌, ◌/◌, ◌%◌, ◌<◌, sym, subst, arith}
 use Rattle.croner_pattern.specs.Meaning.{meaning_of}
-use Rattle.croner.specs.Cursor.{HasOpenDay}
-use Rattle.croner.proofs.MonthKinds.{Collected, collect-none, collect-hit, collect-miss, day_of_mask, no_day_of_mask, month-kinds}
+use Rattle.croner.specs.Private.cursor.Cursor.{HasOpenDay}
+use Rattle.croner.proofs.cursor.MonthKinds.{Collected, collect-none, collect-hit, collect-miss, day_of_mask, no_day_of_mask, month-kinds}
 use Rattle.croner.proofs.cursor.kinds.month_kinds.Goals as goal
 use Rattle.croner.proofs.cursor.kinds.month_kinds.Goals.{then-days_of_month-ne0, else-days_of_month-ne0}
 

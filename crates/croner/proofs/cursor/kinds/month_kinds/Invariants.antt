@@ -1,7 +1,7 @@
 use Rattle.std.proofs.Common.{ℕ, ◌+◌, ◌/◌, ◌%◌}
 use Rattle.croner_pattern.specs.Meaning.{meaning_of}
-use Rattle.croner.specs.Cursor.{HasOpenDay}
-use Rattle.croner.proofs.MonthKinds.{Collected}
+use Rattle.croner.specs.Private.cursor.Cursor.{HasOpenDay}
+use Rattle.croner.proofs.cursor.MonthKinds.{Collected}
 use Rattle.croner.proofs.cursor.kinds.month_kinds.Given as goal
 
 abbrev pub invariant-loop-kind : goal.invariant-loop-kind

@@ -1,8 +1,8 @@
 use Rattle.std.proofs.Common.{ℕ, ◌+◌, ◌<◌, sym, ◌∙◌, subst, arith}
 use Rattle.std.proofs.lemmas.Bool.{false≢true}
 use Rattle.croner_pattern.specs.Meaning.{meaning_of}
-use Rattle.croner.specs.Cursor.{year_kind, HasOpenMonth}
-use Rattle.croner.proofs.MonthKinds.{Collected, collect-none, collect-hit, collect-miss, year-leap, year-first, year-bound}
+use Rattle.croner.specs.Private.cursor.Cursor.{year_kind, HasOpenMonth}
+use Rattle.croner.proofs.cursor.MonthKinds.{Collected, collect-none, collect-hit, collect-miss, year-leap, year-first, year-bound}
 use Rattle.croner.proofs.cursor.kinds.year_kinds.Goals as goal
 use Rattle.croner.proofs.cursor.kinds.year_kinds.Goals.{then-is_open_kind, else-is_open_kind}
 

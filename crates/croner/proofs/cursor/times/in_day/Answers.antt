@@ -1,8 +1,8 @@
 use Rattle.std.proofs.Common.{ℕ, pos, sym, ap, ◌∙◌, subst}
 use Rattle.croner_pattern.specs.Meaning.{meaning_of}
 use Rattle.croner_pattern.specs.Schedule.{is_plain}
-use Rattle.croner.specs.Cursor.{one_on, IsPlainWithin, IsFirstValue, IsNearest, NoneOn}
-use Rattle.croner.proofs.Times.{IsFree, free-room, free-other, NoMinute, no_minute, other_hour, day-here, day-later, day-none, day-stays}
+use Rattle.croner.specs.Private.cursor.Cursor.{one_on, IsPlainWithin, IsFirstValue, IsNearest, NoneOn}
+use Rattle.croner.proofs.cursor.TimeSearch.{IsFree, free-room, free-other, NoMinute, no_minute, other_hour, day-here, day-later, day-none, day-stays}
 use Rattle.croner.proofs.cursor.times.in_day.Goals as goal
 use Rattle.croner.proofs.cursor.times.in_day.Goals.{then-is_plain+in_default+else-not-room, else-is_plain}
 

@@ -1,8 +1,8 @@
 use Rattle.std.proofs.Common.{ℕ, pos, refl, sym, ap, ◌∙◌, subst}
 use Rattle.croner_pattern.specs.Meaning.{meaning_of}
 use Rattle.croner_pattern.specs.Schedule.{is_plain}
-use Rattle.croner.specs.Cursor.{one_on, IsPlainWithin, IsNearest, NoneOn}
-use Rattle.croner.proofs.Times.{same_hms, IsFree, free-room, free-other, NoSecond, no_second, other_minute, hour-here, hour-later, hour-none, hour-stays}
+use Rattle.croner.specs.Private.cursor.Cursor.{one_on, IsPlainWithin, IsNearest, NoneOn}
+use Rattle.croner.proofs.cursor.TimeSearch.{same_hms, IsFree, free-room, free-other, NoSecond, no_second, other_minute, hour-here, hour-later, hour-none, hour-stays}
 use Rattle.croner.proofs.cursor.times.in_hour.Goals as goal
 use Rattle.croner.proofs.cursor.times.in_hour.Goals.{then-is_plain+in_default+else-not-room, else-is_plain}
 

@@ -1,4 +1,4 @@
-use Rattle.croner.proofs.Iterating.{steps}
+use Rattle.croner.proofs.iterator.Iterating.{steps}
 use Rattle.croner.proofs.iterator.CronIteratorIterator.next.Goals as goal
 
 pub returns-clause-steps : goal.returns-clause-steps

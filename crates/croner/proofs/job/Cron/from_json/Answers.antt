@@ -1,7 +1,7 @@
 use Rattle.std.proofs.Common.{rules, ◌≡◌, sym, subst, Some}
 use Rattle.serde_json.specs.Find.{as_str}
 use Rattle.serde_json.specs.View.{view}
-use Rattle.croner.specs.Gives.{Gives}
+use Rattle.croner.specs.parser.Gives.{Gives}
 use Rattle.croner.specs.Views.{job_of}
 use Rattle.croner.proofs.JsonTexts.{text_meant}
 use Rattle.croner.proofs.job.Cron.from_json.Goals as goal

@@ -1,6 +1,6 @@
 use Rattle.std.proofs.Common.{subst}
-use Rattle.croner.specs.Gives.{Gives}
-use Rattle.croner.specs.Grammar.{outcome}
+use Rattle.croner.specs.parser.Gives.{Gives}
+use Rattle.croner.specs.parser.Grammar.{outcome}
 use Rattle.croner.specs.Views.{job_of}
 use Rattle.croner.proofs.job.Cron.from_str.Goals as goal
 

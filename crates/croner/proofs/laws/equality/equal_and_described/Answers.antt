@@ -3,7 +3,7 @@ use Rattle.std.specs.Ordering.{eq_by_cmp}
 use Rattle.croner_pattern.specs.Description.{description}
 use Rattle.croner_pattern.specs.Order.{pattern_cmp}
 use Rattle.croner.specs.Views.{job_of}
-use Rattle.croner.proofs.EqualJobs.{answers_same}
+use Rattle.croner.proofs.laws.EqualJobs.{answers_same}
 use Rattle.croner.proofs.laws.equality.equal_and_described.Goals as goal
 
 pub returns-in-Ok-describe-clause-equal : goal.returns-in-Ok-describe-clause-equal

@@ -2,9 +2,9 @@ use Rattle.std.proofs.Common.{rules, ◌≡◌, ◌∙◌, ap, sym}
 use Rattle.std.specs.Ordering.{eq_by_cmp}
 use Rattle.croner_pattern.specs.Order.{pattern_cmp}
 use Rattle.croner_pattern.specs.Written.{pattern_writes, patterns_alike}
-use Rattle.croner.specs.Equality.{hash_of_writes}
+use Rattle.croner.specs.laws.Equality.{hash_of_writes}
 use Rattle.croner.specs.Views.{job_of}
-use Rattle.croner.proofs.EqualJobs.{answers_same}
+use Rattle.croner.proofs.laws.EqualJobs.{answers_same}
 use Rattle.croner.proofs.laws.equality.equal_and_hashed.Goals as goal
 
 pub returns-clause-equal : goal.returns-clause-equal

@@ -4,7 +4,7 @@ use Rattle.croner_pattern.specs.Order.{pattern_cmp}
 use Rattle.croner_pattern.specs.Schedule.{is_fixed_time}
 use Rattle.croner.specs.declared.job.JobType.TheVariants.{FixedTime, IntervalWildcard}
 use Rattle.croner.specs.Views.{job_of}
-use Rattle.croner.proofs.EqualJobs.{answers_same, same_schedule, same_dates}
+use Rattle.croner.proofs.laws.EqualJobs.{answers_same, same_schedule, same_dates}
 use Rattle.croner.proofs.laws.equality.equal_and_kinds.Goals as goal
 
 pub returns-clause-equal : goal.returns-clause-equal

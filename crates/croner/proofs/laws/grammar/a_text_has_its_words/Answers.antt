@@ -1,4 +1,4 @@
-use Rattle.croner.proofs.WordLists.{are_words, words_are}
+use Rattle.croner.proofs.parser.WordLists.{are_words, words_are}
 use Rattle.croner.proofs.laws.grammar.a_text_has_its_words.Goals as goal
 
 pub returns : goal.returns

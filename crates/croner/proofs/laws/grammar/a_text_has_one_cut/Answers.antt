@@ -1,4 +1,4 @@
-use Rattle.croner.proofs.Cuts.{one_cut, cut_found, no_cut}
+use Rattle.croner.proofs.parser.Cuts.{one_cut, cut_found, no_cut}
 use Rattle.croner.proofs.laws.grammar.a_text_has_one_cut.Goals as goal
 
 pub returns : goal.returns

@@ -1,6 +1,6 @@
 use Rattle.std.proofs.Common.{◌+◌, List, subst, sym, arith}
 use Rattle.std.specs.declared.cmp.Ordering.{Ordering}
-use Rattle.croner.proofs.InOrder.{ComparedBelow, compared_more, compared_all}
+use Rattle.croner.proofs.iterator.InOrder.{ComparedBelow, compared_more, compared_all}
 use Rattle.croner.proofs.laws.listing.compare.Goals as goal
 
 pub loop-k-preserved : goal.loop-k-preserved

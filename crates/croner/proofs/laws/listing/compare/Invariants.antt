@@ -1,6 +1,6 @@
 use Rattle.std.proofs.Common.{◌≤◌, length}
 use Rattle.std.specs.Prelude.{vec_capacity}
-use Rattle.croner.proofs.InOrder.{ComparedBelow}
+use Rattle.croner.proofs.iterator.InOrder.{ComparedBelow}
 use Rattle.croner.proofs.laws.listing.compare.Given as goal
 
 abbrev pub invariant-loop-k : goal.invariant-loop-k

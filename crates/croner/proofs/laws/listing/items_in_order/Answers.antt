@@ -1,4 +1,4 @@
-use Rattle.croner.proofs.InOrder.{strictly}
+use Rattle.croner.proofs.iterator.InOrder.{strictly}
 use Rattle.croner.proofs.laws.listing.items_in_order.Goals as goal
 
 pub returns-in-Ok-next_runs-clause-ordered : goal.returns-in-Ok-next_runs-clause-ordered

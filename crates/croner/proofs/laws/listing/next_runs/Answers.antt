@@ -1,6 +1,6 @@
 use Rattle.std.proofs.Common.{◌≡◌, ◌⊎◌, ℕ, length, subst, arith}
-use Rattle.croner.specs.Listing.{standing_of, instants, TakesInTurn}
-use Rattle.croner.proofs.ItemsGiven.{IsOver, goes_by_call, over_by_call, called_again, wholes_by_call, counted_by_call, begins_rest, gave, gave_all, counted_all}
+use Rattle.croner.specs.iterator.Listing.{standing_of, instants, TakesInTurn}
+use Rattle.croner.proofs.iterator.ItemsGiven.{IsOver, goes_by_call, over_by_call, called_again, wholes_by_call, counted_by_call, begins_rest, gave, gave_all, counted_all}
 use Rattle.croner.proofs.laws.listing.next_runs.Goals as goal
 
 pub loop-call-preserved : goal.loop-call-preserved

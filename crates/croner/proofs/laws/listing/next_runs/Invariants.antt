@@ -1,10 +1,10 @@
 use Rattle.std.proofs.Common.{◌≡◌, ◌≤◌, ◌⊎◌, IsTrue, false, length}
 use Rattle.std.specs.Prelude.{vec_len, vec_capacity}
 use Rattle.std.specs.List.{All}
-use Rattle.croner.specs.Listing.{standing_of, instants, TakesInTurn}
-use Rattle.croner.specs.Neighbours.{IsWholeIn}
-use Rattle.croner.specs.Premises.{IsSearchable}
-use Rattle.croner.proofs.ItemsGiven.{Goes, IsOver}
+use Rattle.croner.specs.iterator.Listing.{standing_of, instants, TakesInTurn}
+use Rattle.croner.specs.laws.Neighbours.{IsWholeIn}
+use Rattle.croner.specs.search.Premises.{IsSearchable}
+use Rattle.croner.proofs.iterator.ItemsGiven.{Goes, IsOver}
 use Rattle.croner.proofs.laws.listing.next_runs.Given as goal
 
 abbrev pub invariant-loop-call : goal.invariant-loop-call

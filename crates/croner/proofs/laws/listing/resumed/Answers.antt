@@ -1,4 +1,4 @@
-use Rattle.croner.proofs.Listings.{same_rest}
+use Rattle.croner.proofs.iterator.Listings.{same_rest}
 use Rattle.croner_pattern.specs.Meaning.{meaning_of}
 use Rattle.croner.proofs.laws.listing.resumed.Goals as goal
 

@@ -2,10 +2,10 @@ use Rattle.std.proofs.Common.{◌≡◌, false, IsTrue}
 use Rattle.std.proofs.lemmas.Result.{IfOk-weaker, IfErr-weaker}
 use Rattle.croner_base.specs.declared.errors.CronError.TheVariants.{TimeSearchLimitExceeded, OutOfMemory}
 use Rattle.croner_base.specs.declared.time.Direction.TheVariants.{Backward}
-use Rattle.croner.specs.PatternJob.{timetable_of}
-use Rattle.croner.specs.Searches.{IsFound, IsRefused}
+use Rattle.croner.specs.search.PatternJob.{timetable_of}
+use Rattle.croner.specs.search.Searches.{IsFound, IsRefused}
 use Rattle.croner.specs.Views.{job_of}
-use Rattle.croner.proofs.ThereAndBack.{returns_to, no_limit, only_memory}
+use Rattle.croner.proofs.iterator.ThereAndBack.{returns_to, no_limit, only_memory}
 use Rattle.croner.proofs.laws.listing.there_and_back.Goals as goal
 
 pub returns-in-Ok-clause-same : goal.returns-in-Ok-clause-same

@@ -3,10 +3,10 @@ use Rattle.std.specs.Cmp.{tied_itself}
 use Rattle.std.specs.Ordering.{eq_by_cmp, is_eq}
 use Rattle.std.specs.Str.{IsUtf8}
 use Rattle.croner_pattern.specs.Order.{meaning_cmp, meaning_cmp_total}
-use Rattle.croner.specs.Gives.{Fails}
-use Rattle.croner.specs.Grammar.{outcome}
+use Rattle.croner.specs.parser.Gives.{Fails}
+use Rattle.croner.specs.parser.Grammar.{outcome}
 use Rattle.croner.specs.Views.{job_of}
-use Rattle.croner.proofs.Rereading.{read_same, fails_first}
+use Rattle.croner.proofs.laws.ReadAgain.{read_same, fails_first}
 use Rattle.croner.proofs.laws.rereading.read_twice.Goals as goal
 
 pub returns-in-Ok-parse-clause-same : goal.returns-in-Ok-parse-clause-same

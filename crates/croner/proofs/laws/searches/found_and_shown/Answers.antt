@@ -1,6 +1,6 @@
 use Rattle.std.proofs.Common.{inl, inr}
 use Rattle.croner.specs.Views.{job_of}
-use Rattle.croner.proofs.SearchLaws.{shown_scheduled}
+use Rattle.croner.proofs.laws.SearchLaws.{shown_scheduled}
 use Rattle.croner.proofs.laws.searches.found_and_shown.Goals as goal
 
 pub returns-in-Ok-clause-interval : goal.returns-in-Ok-clause-interval

@@ -1,5 +1,5 @@
 use Rattle.croner.specs.Views.{job_of}
-use Rattle.croner.proofs.SearchLaws.{kind_of, limit_outside}
+use Rattle.croner.proofs.laws.SearchLaws.{kind_of, limit_outside}
 use Rattle.croner.proofs.laws.searches.found_or_refused.Goals as goal
 
 pub returns-clause-kinds : goal.returns-clause-kinds

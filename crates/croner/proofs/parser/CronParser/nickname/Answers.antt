@@ -1,7 +1,7 @@
 use Rattle.std.proofs.Common.{rules, ◌≡◌, ◌∙◌, ap, true, false, string_bytes}
 use Rattle.croner_base.specs.Part.{contains_byte}
-use Rattle.croner.specs.Settings.{seconds_required, year_required}
-use Rattle.croner.proofs.FieldReads.{no_nickname, with_nickname}
+use Rattle.croner.specs.parser.Settings.{seconds_required, year_required}
+use Rattle.croner.proofs.parser.FieldReads.{no_nickname, with_nickname}
 use Rattle.croner.proofs.parser.CronParser.nickname.Goals as goal
 
 pub returns-then-not-has_byte : goal.returns-then-not-has_byte

@@ -1,4 +1,4 @@
-use Rattle.croner.proofs.ShapedTexts.{gives_shaped}
+use Rattle.croner.proofs.parser.ShapedTexts.{gives_shaped}
 use Rattle.croner.proofs.parser.CronParser.parse.Goals as goal
 
 pub returns-clause-shapes : goal.returns-clause-shapes

@@ -1,6 +1,6 @@
 use Rattle.std.proofs.Common.{◌≡◌, ◌∙◌, ap, refl, subst}
-use Rattle.croner.specs.Gives.{Gives}
-use Rattle.croner.specs.Grammar.{Texts, of_settled, settled, starred, without_plus}
+use Rattle.croner.specs.parser.Gives.{Gives}
+use Rattle.croner.specs.parser.Grammar.{Texts, of_settled, settled, starred, without_plus}
 use Rattle.croner.specs.Views.{job_of, texts_of}
 use Rattle.croner.proofs.parser.CronParser.parse_fields.Goals as goal
 

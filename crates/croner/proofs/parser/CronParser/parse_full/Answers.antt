@@ -1,9 +1,9 @@
 use Rattle.std.proofs.Common.{rules, ◌≡◌, ◌∙◌, ap, subst, map, false, Some, None}
-use Rattle.croner.specs.Cut.{replaced}
-use Rattle.croner.specs.Gives.{Gives}
-use Rattle.croner.specs.Grammar.{of_replaced, of_fields, fields_of}
+use Rattle.croner.specs.parser.Cut.{replaced}
+use Rattle.croner.specs.parser.Gives.{Gives}
+use Rattle.croner.specs.parser.Grammar.{of_replaced, of_fields, fields_of}
 use Rattle.croner.specs.Views.{job_of}
-use Rattle.croner.specs.Words.{words}
+use Rattle.croner.specs.parser.Words.{words}
 use Rattle.croner.proofs.parser.CronParser.parse_full.Goals as goal
 
 pub returns-in_ok-words-in-Some : goal.returns-in_ok-words-in-Some

@@ -1,7 +1,7 @@
 use Rattle.std.proofs.Common.{◌≡◌, ap, sym, subst, true, cond, Ok, Err}
 use Rattle.std.proofs.lemmas.Result.{err_from_is_err_and}
-use Rattle.croner.specs.Gives.{Fails}
-use Rattle.croner.specs.Grammar.{Illegal, are_legal, of_legal}
+use Rattle.croner.specs.parser.Gives.{Fails}
+use Rattle.croner.specs.parser.Grammar.{Illegal, are_legal, of_legal}
 use Rattle.croner.specs.Views.{job_of, texts_of}
 use Rattle.croner.proofs.parser.CronParser.parse_settled.Goals as goal
 

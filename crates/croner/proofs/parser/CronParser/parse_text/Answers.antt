@@ -1,8 +1,8 @@
 use Rattle.std.proofs.Common.{rules, ◌≡◌, subst, true, false, eqb, length}
 use Rattle.std.specs.Str.{trim, str_to_ascii_uppercase}
-use Rattle.croner.specs.Gives.{Gives}
+use Rattle.croner.specs.parser.Gives.{Gives}
 use Rattle.croner.specs.Views.{job_of}
-use Rattle.croner.proofs.FieldReads.{empty_outcome, trimmed_outcome}
+use Rattle.croner.proofs.parser.FieldReads.{empty_outcome, trimmed_outcome}
 use Rattle.croner.proofs.parser.CronParser.parse_text.Goals as goal
 
 pub returns-then-is_empty : goal.returns-then-is_empty

@@ -1,7 +1,7 @@
 use Rattle.std.proofs.Common.{subst, false}
-use Rattle.croner.specs.Cut.{replaced}
-use Rattle.croner.specs.Gives.{Gives}
-use Rattle.croner.specs.Grammar.{nicknamed, of_replaced}
+use Rattle.croner.specs.parser.Cut.{replaced}
+use Rattle.croner.specs.parser.Gives.{Gives}
+use Rattle.croner.specs.parser.Grammar.{nicknamed, of_replaced}
 use Rattle.croner.specs.Views.{job_of}
 use Rattle.croner.proofs.parser.CronParser.parse_trimmed.Goals as goal
 

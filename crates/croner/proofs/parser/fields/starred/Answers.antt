@@ -5,8 +5,8 @@ use Rattle.std.proofs.lemmas.List.{length_push}
 use Rattle.std.proofs.lemmas.Str.{encodes-chars}
 use Rattle.std.specs.Char.{encode_utf8}
 use Rattle.std.specs.Str.{chars}
-use Rattle.croner.specs.Grammar.{starred}
-use Rattle.croner.proofs.Starred.{no_question, starred_step, starred_end}
+use Rattle.croner.specs.parser.Grammar.{starred}
+use Rattle.croner.proofs.parser.Starred.{no_question, starred_step, starred_end}
 use Rattle.croner.proofs.parser.fields.starred.Goals as goal
 
 pub returns-then-not-has_byte : goal.returns-then-not-has_byte

@@ -1,6 +1,6 @@
 use Rattle.std.proofs.Common.{◌≡◌, ◌++◌, length, drop, string_bytes}
 use Rattle.std.specs.Str.{chars, encode_utf8_all}
-use Rattle.croner.specs.Grammar.{starred}
+use Rattle.croner.specs.parser.Grammar.{starred}
 use Rattle.croner.proofs.parser.fields.starred.Given as goal
 
 abbrev pub invariant-loop-c : goal.invariant-loop-c

@@ -1,7 +1,7 @@
 use Rattle.std.proofs.Common.{lit<, sym}
 use Rattle.std.proofs.lemmas.Option.{MatchOption-at_none}
 use Rattle.std.proofs.lemmas.Str.Pattern.{strip_prefix_char}
-use Rattle.croner.proofs.Starred.{no_plus}
+use Rattle.croner.proofs.parser.Starred.{no_plus}
 use Rattle.croner.proofs.parser.fields.without_plus.Goals as goal
 
 pub returns-in-None : goal.returns-in-None

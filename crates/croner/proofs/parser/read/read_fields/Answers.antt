@@ -2,9 +2,9 @@ use Rattle.std.proofs.Common.{◌∙◌, ap}
 use Rattle.std.proofs.lemmas.Result.{err_from_is_err_and}
 use Rattle.croner_pattern.specs.Shapes.{sixty_shape, hour_shape, day_shape, month_shape, year_shape}
 use Rattle.croner_pattern.specs.Meaning.{Meaning}
-use Rattle.croner.specs.Grammar.{weekdays_of}
+use Rattle.croner.specs.parser.Grammar.{weekdays_of}
 use Rattle.croner.specs.Views.{texts_of}
-use Rattle.croner.proofs.FieldReads.{reads_field, same_fields, all_read, refused_1, refused_2, refused_3, refused_4, refused_5, refused_6, refused_7}
+use Rattle.croner.proofs.parser.FieldReads.{reads_field, same_fields, all_read, refused_1, refused_2, refused_3, refused_4, refused_5, refused_6, refused_7}
 use Rattle.croner.proofs.parser.read.read_fields.Goals as goal
 
 pub returns-in_err-read_field : goal.returns-in_err-read_field

@@ -3,10 +3,10 @@ use Rattle.std.proofs.lemmas.Result.{err_from_is_err_and}
 use Rattle.croner_base.specs.Field.{empty_field}
 use Rattle.croner_pattern.specs.Meaning.{Meaning, meaning_of}
 use Rattle.croner_pattern.specs.Shapes.{new_meaning, weekday_shape}
-use Rattle.croner.specs.Grammar.{start_meaning, settled_weekdays, with_sunday, weekday_modifiers}
-use Rattle.croner.specs.Settings.{Settings, default_settings}
+use Rattle.croner.specs.parser.Grammar.{start_meaning, settled_weekdays, with_sunday, weekday_modifiers}
+use Rattle.croner.specs.parser.Settings.{Settings, default_settings}
 use Rattle.croner.specs.Views.{texts_of}
-use Rattle.croner.proofs.FieldReads.{refused_fields, read_takes_sunday, finished}
+use Rattle.croner.proofs.parser.FieldReads.{refused_fields, read_takes_sunday, finished}
 use Rattle.croner.proofs.parser.read.read_pattern.Goals as goal
 
 pub returns-in_err-pattern : goal.returns-in_err-pattern

@@ -1,5 +1,5 @@
 use Rattle.std.proofs.Common.{sym}
-use Rattle.croner.proofs.Names.{month_shown, weekday_shown}
+use Rattle.croner.proofs.parser.Names.{month_shown, weekday_shown}
 use Rattle.croner.proofs.parser.text.number_of.Goals as goal
 
 pub returns-in-Some : goal.returns-in-Some

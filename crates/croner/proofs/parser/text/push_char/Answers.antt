@@ -1,7 +1,7 @@
 use Rattle.std.proofs.Common.{rules, arith, ◌≡◌, ◌++◌, string_bytes}
 use Rattle.std.specs.Char.{encode_utf8}
 use Rattle.std.specs.Str.Iter.{chars_rest}
-use Rattle.croner.proofs.Names.{advance_char, lost_char}
+use Rattle.croner.proofs.parser.Names.{advance_char, lost_char}
 use Rattle.croner.proofs.parser.text.push_char.Goals as goal
 use Rattle.croner.proofs.parser.text.push_char.Goals.{in_default-via-in-Some+else-not-is_lost, in_default-via-in_default}
 

@@ -1,8 +1,8 @@
 use Rattle.std.proofs.Common.{List, [], ◌∷◌, ℕ, map, ◌++◌, ◌≡◌, refl, ap, subst, Bor}
 use Rattle.std.proofs.lemmas.List.{append-nil}
 use Rattle.std.specs.Str.Iter.{split_whitespace_rest}
-use Rattle.croner.specs.Words.{AreWords, StartsWith}
-use Rattle.croner.proofs.WordLists.{words_are}
+use Rattle.croner.specs.parser.Words.{AreWords, StartsWith}
+use Rattle.croner.proofs.parser.WordLists.{words_are}
 use Rattle.croner.proofs.parser.text.words.Goals as goal
 
 pushed : (items : List (Bor (List ℕ))) (w : Bor (List ℕ)) (ws : List (List ℕ)) → map (λ x. x.now) (items ++ w ∷ []) ++ ws ≡ map (λ x. x.now) items ++ (w.now ∷ ws)

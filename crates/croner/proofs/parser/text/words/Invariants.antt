@@ -1,6 +1,6 @@
 use Rattle.std.proofs.Common.{List, ℕ, map, ◌++◌}
 use Rattle.std.specs.Str.Iter.{split_whitespace_rest}
-use Rattle.croner.specs.Words.{AreWords}
+use Rattle.croner.specs.parser.Words.{AreWords}
 use Rattle.croner.proofs.parser.text.words.Given as goal
 
 abbrev pub invariant-loop-word : goal.invariant-loop-word

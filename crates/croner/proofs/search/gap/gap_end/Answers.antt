@@ -1,6 +1,6 @@
 use Rattle.std.proofs.Common.{arith, refl}
 use Rattle.std.proofs.lemmas.Int.{ints}
-use Rattle.croner.proofs.zone.GapSides.{up_start, up_more, up_one, up_two, up_past, up_ends, not_one_each, not_last_up}
+use Rattle.croner.proofs.search.GapSides.{up_start, up_more, up_one, up_two, up_past, up_ends, not_one_each, not_last_up}
 use Rattle.croner.proofs.search.gap.gap_end.Goals as goal
 
 pub loop-init : goal.loop-init

@@ -1,6 +1,6 @@
 use Rattle.std.proofs.Common.{◌≡◌, ◌+ℤ◌, pos}
 use Rattle.croner_base.specs.Civil.{wall_second}
-use Rattle.croner.proofs.zone.GapSides.{InGapUpTo}
+use Rattle.croner.proofs.search.GapSides.{InGapUpTo}
 use Rattle.croner.proofs.search.gap.gap_end.Given as goal
 
 abbrev pub invariant-loop : goal.invariant-loop

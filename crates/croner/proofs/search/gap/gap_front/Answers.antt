@@ -1,6 +1,6 @@
 use Rattle.std.proofs.Common.{arith, refl}
 use Rattle.std.proofs.lemmas.Int.{ints}
-use Rattle.croner.proofs.zone.GapSides.{down_start, down_more, down_front, down_ends, not_last_down}
+use Rattle.croner.proofs.search.GapSides.{down_start, down_more, down_front, down_ends, not_last_down}
 use Rattle.croner.proofs.search.gap.gap_front.Goals as goal
 
 pub loop-init : goal.loop-init

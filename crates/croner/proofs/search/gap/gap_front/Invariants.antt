@@ -1,6 +1,6 @@
 use Rattle.std.proofs.Common.{◌≡◌, ◌-ℤ◌, pos}
 use Rattle.croner_base.specs.Civil.{wall_second}
-use Rattle.croner.proofs.zone.GapSides.{InGapDownTo}
+use Rattle.croner.proofs.search.GapSides.{InGapDownTo}
 use Rattle.croner.proofs.search.gap.gap_front.Given as goal
 
 abbrev pub invariant-loop : goal.invariant-loop

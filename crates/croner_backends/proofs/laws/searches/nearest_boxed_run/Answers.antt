@@ -1,5 +1,5 @@
 use Rattle.std.proofs.Common.{true}
-use Rattle.croner.specs.PatternJob.{timetable_of}
+use Rattle.croner.specs.search.PatternJob.{timetable_of}
 use Rattle.croner.specs.Views.{job_of}
 use Rattle.croner_backends.specs.BoxedMoment.{boxed_moment}
 use Rattle.croner_backends.proofs.BackendsCalm.{boxed_starts_calm, boxed_searchable}

@@ -1,6 +1,6 @@
 use Rattle.std.proofs.Common.{false}
 use Rattle.croner_base.specs.TableZone.{table_zone}
-use Rattle.croner.specs.PatternJob.{timetable_of}
+use Rattle.croner.specs.search.PatternJob.{timetable_of}
 use Rattle.croner.specs.Views.{job_of}
 use Rattle.croner_backends.specs.NarrowMoment.{narrow_moment}
 use Rattle.croner_backends.proofs.BackendsCalm.{narrow_starts_calm}

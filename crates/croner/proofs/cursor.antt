@@ -1,0 +1,15 @@
+-- The civil layer: dates, times of day and years, and the nearest scheduled second of the wall clock.
+pub mod Ahead
+pub mod CivilOrder
+pub mod Covered
+pub mod DateSearch
+pub mod DayBits
+pub mod ExamplesCursor
+pub mod Foremost
+pub mod MonthKinds
+pub mod Scheduled
+pub mod SearchedYears
+pub mod Singles
+pub mod TimeSearch
+pub mod ValueSearch
+pub mod Weekdays

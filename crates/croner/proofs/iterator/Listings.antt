@@ -1,0 +1,170 @@
+-- Listings of runs, item by item: a list that begins what is left, and what is left behind its last item.
+use Rattle.std.proofs.Common.{◌≡◌, ◌↔◌, ℤ, ◌<ℤ◌, ◌≤ℤ◌, ◌⊎◌, arith, sym, inl, inr, subst, Bool, false, List, [], ◌∷◌, ◌++◌, get_or, rules}
+use Rattle.std.proofs.lemmas.Bool.{false≢true}
+use Rattle.std.proofs.lemmas.Int.{ints, by_lt_z}
+use Rattle.std.proofs.lemmas.List.Elements.{All-push, All-contains, Contains-push, Contains-append_left}
+use Rattle.std.proofs.lemmas.List.Quantifiers.{all_pairs_push}
+use Rattle.std.specs.List.{All, AllPairs, Contains}
+use Rattle.croner.specs.search.Runs.{Job, Run, Counts, Nearest, Precedes, Reaches}
+use Rattle.croner_base.specs.Zone.{Moment}
+use Rattle.croner_pattern.specs.Meaning.{Meaning}
+use Rattle.croner.specs.iterator.Listing.{Begins, Standing, IsLeft, moved, new_standing}
+use Rattle.croner_base.specs.declared.time.Direction.{Direction}
+use Rattle.croner_base.specs.declared.time.Direction.TheVariants.{Forward, Backward}
+
+cases_lt_z : (a b : ℤ) → (a <ℤ b) ⊎ (b ≤ℤ a)
+cases_lt_z a b = by_lt_z a b (λ h. inl h) (λ h. inr h)
+
+same : (a b : ℤ) → a ≤ℤ b → b ≤ℤ a → a ≡ b
+same a b h k = omega (arith, ints)
+
+-- ---- before and after in a direction
+
+no_later : (direction : Direction) (a b : ℤ) → Precedes direction a b → Reaches direction b a → ⊥
+no_later Forward a b h k = omega (arith, ints)
+no_later Backward a b h k = omega (arith, ints)
+
+reaches_both : (direction : Direction) (a b : ℤ) → Reaches direction a b → Reaches direction b a → a ≡ b
+reaches_both Forward a b h k = same a b h k
+reaches_both Backward a b h k = same a b k h
+
+further : (direction : Direction) (a b c : ℤ) → Precedes direction a b → Precedes direction b c → Precedes direction a c
+further Forward a b c h k = omega (arith, ints)
+further Backward a b c h k = omega (arith, ints)
+
+-- ---- what counts behind the nearest run
+
+-- what counts from the start is the nearest run, or counts from it
+pub after_nearest : (direction : Direction) (inclusive : Bool) (job : Job) (s t i : ℤ) → Nearest direction inclusive job s t → Counts direction inclusive job s i → (i ≡ t) ⊎ Counts direction false job t i
+after_nearest Forward inclusive job s t i near counts =
+    let le = near.nearest i counts in
+    elim (cases_lt_z t i) [
+      | inr ge ↦ inl (same i t ge le)
+      | inl lt ↦
+          elim counts [
+            | inl (past, run) ↦ inr (inl (lt, run))
+            | inr (is, e, own) ↦ elim near.counts [ inl (past, run) ↦ absurd (omega (arith, ints)) | inr (is2, e2, own2) ↦ absurd (omega (arith, ints)) ]
+          ]
+    ]
+after_nearest Backward inclusive job s t i near counts =
+    let le = near.nearest i counts in
+    elim (cases_lt_z i t) [
+      | inr ge ↦ inl (same i t le ge)
+      | inl lt ↦
+          elim counts [
+            | inl (past, run) ↦ inr (inl (lt, run))
+            | inr (is, e, own) ↦ elim near.counts [ inl (past, run) ↦ absurd (omega (arith, ints)) | inr (is2, e2, own2) ↦ absurd (omega (arith, ints)) ]
+          ]
+    ]
+
+-- what counts from the nearest run counts from the start
+pub counts_after : (direction : Direction) (inclusive : Bool) (job : Job) (s t i : ℤ) → Nearest direction inclusive job s t → Counts direction false job t i → Counts direction inclusive job s i
+counts_after Forward inclusive job s t i near counts =
+    elim counts [
+      | inr (is, e, own) ↦ absurd (false≢true is)
+      | inl (past, run) ↦ elim near.counts [ inl (from, r) ↦ inl (omega (arith, ints), run) | inr (is, e, own) ↦ inl (omega (arith, ints), run) ]
+    ]
+counts_after Backward inclusive job s t i near counts =
+    elim counts [
+      | inr (is, e, own) ↦ absurd (false≢true is)
+      | inl (past, run) ↦ elim near.counts [ inl (from, r) ↦ inl (omega (arith, ints), run) | inr (is, e, own) ↦ inl (omega (arith, ints), run) ]
+    ]
+
+-- an exclusive search counts nothing that comes no later than its start
+past_start : (direction : Direction) (job : Job) (t i : ℤ) → Counts direction false job t i → Precedes direction t i
+past_start direction job t i counts = elim counts [ inl (past, run) ↦ past | inr (is, e, own) ↦ absurd (false≢true is) ]
+
+-- what counts is a run
+pub is_run : (direction : Direction) (inclusive : Bool) (job : Job) (s i : ℤ) → Counts direction inclusive job s i → Run job i
+is_run Forward inclusive job s i counts =
+    elim counts [ inl (past, run) ↦ run | inr (is, e, own) ↦ subst (Run job) (sym e) (inl own) ]
+is_run Backward inclusive job s i counts =
+    elim counts [ inl (past, run) ↦ run | inr (is, e, run) ↦ subst (Run job) (sym e) run ]
+
+-- ---- lists
+
+-- the items come first among those that are left, and what is left behind them is the second
+pub record Splits (direction : Direction) (left rest : ℤ → Type 0) (items : List ℤ) : Type 0 where
+  pub ordered : AllPairs (Precedes direction) items
+  pub counts : All left items
+  pub either : (i : ℤ) → left i → Contains items i ⊎ rest i
+  pub behind : (i : ℤ) → rest i → All (λ x. Precedes direction x i) items
+  pub within : (i : ℤ) → rest i → left i
+
+pub splits_none : (direction : Direction) (left : ℤ → Type 0) → Splits direction left left []
+splits_none direction left = record {
+  ordered = λ i j d lt within. absurd (omega arith);
+  counts = λ k d within. absurd (omega arith);
+  either = λ i h. inr h;
+  behind = λ i h k d within. absurd (omega arith);
+  within = λ i h. h;
+}
+
+-- the nearest of the rest is the next item
+pub record IsNext (direction : Direction) (rest after : ℤ → Type 0) (t : ℤ) : Type 0 where
+  pub is : rest t
+  pub or_after : (i : ℤ) → rest i → (i ≡ t) ⊎ after i
+  pub within : (i : ℤ) → after i → rest i
+  pub behind : (i : ℤ) → after i → Precedes direction t i
+
+pub splits_next : (direction : Direction) (left rest after : ℤ → Type 0) (items : List ℤ) (t : ℤ) → Splits direction left rest items → IsNext direction rest after t → Splits direction left after (items ++ t ∷ [])
+splits_next direction left rest after items t s n = record {
+  ordered = all_pairs_push (Precedes direction) items t s.ordered (λ k d within. All-contains (λ x. Precedes direction x t) items (get_or items k d) (s.behind t n.is) (k, within, Prim.search rules));
+  counts = All-push left items t s.counts (s.within t n.is);
+  either = λ i h.
+      elim (s.either i h) [
+        | inl had ↦ inl (Contains-append_left items (t ∷ []) i had)
+        | inr r ↦
+            elim (n.or_after i r) [
+              | inl e ↦ inl (subst (Contains (items ++ t ∷ [])) (sym e) (Contains-push items t))
+              | inr a ↦ inr a
+            ]
+      ];
+  behind = λ i a. All-push (λ x. Precedes direction x i) items t (s.behind i (n.within i a)) (n.behind i a);
+  within = λ i a. s.within i (n.within i a);
+}
+
+-- such items begin the listing
+pub begins : (direction : Direction) (inclusive : Bool) (job : Job) (s : ℤ) (rest : ℤ → Type 0) (items : List ℤ) → Splits direction (Counts direction inclusive job s) rest items → Begins direction inclusive job s items
+begins direction inclusive job s rest items h = record {
+  ordered = h.ordered;
+  counts = h.counts;
+  complete = λ i last counts has reaches.
+      elim (h.either i counts) [
+        | inl had ↦ had
+        | inr r ↦ absurd (no_later direction last i (All-contains (λ x. Precedes direction x i) items last (h.behind i r) has) reaches)
+      ];
+}
+
+-- the nearest run is the next of what counts, and what counts from it is left
+pub is_next : (direction : Direction) (inclusive : Bool) (job : Job) (s t : ℤ) → Nearest direction inclusive job s t → IsNext direction (Counts direction inclusive job s) (Counts direction false job t) t
+is_next direction inclusive job s t near = record {
+  is = near.counts;
+  or_after = λ i h. after_nearest direction inclusive job s t i near h;
+  within = λ i h. counts_after direction inclusive job s t i near h;
+  behind = λ i h. past_start direction job t i h;
+}
+
+-- back from the next run: the run itself
+pub there_and_back : (job : Job) (r n b : ℤ) → Run job r → Nearest Forward false job r n → Nearest Backward false job n b → b ≡ r
+there_and_back job r n b run next back =
+    elim next.counts [
+      | inr (is, e, own) ↦ absurd (false≢true is)
+      | inl (lt, run_n) ↦
+          let le : r ≤ℤ b = back.nearest r (inl (lt, run)) in
+          elim back.counts [
+            | inr (is, e, own) ↦ absurd (false≢true is)
+            | inl (under, run_b) ↦
+                elim (cases_lt_z r b) [
+                  | inr ge ↦ same b r ge le
+                  | inl between ↦ let k : n ≤ℤ b = next.nearest b (inl (between, run_b)) in absurd (omega (arith, ints))
+                ]
+          ]
+    ]
+
+-- ---- taken up at an item
+
+-- what is left behind an item hangs on pattern, direction and item alone
+pub same_rest : (s : Standing) (m : Meaning) (d : Direction) (at : Moment) → s.pattern ≡ m → s.direction ≡ d → (i : ℤ)
+    → IsLeft (moved s at) i ↔ IsLeft (new_standing m at false d) i
+same_rest s m d at p q i = rw (p, q) (λ h. h, λ h. h)

@@ -1,0 +1,12 @@
+-- Texts: their words, names and fields, and which of them a parser reads.
+pub mod Cuts
+pub mod Examples
+pub mod Expanded
+pub mod FieldReads
+pub mod Names
+pub mod NoTexts
+pub mod OwnCuts
+pub mod ShapedTexts
+pub mod Starred
+pub mod Trimmed
+pub mod WordLists

@@ -1,0 +1,98 @@
+-- A pattern that a text means has the shape of its place in each field.
+use Rattle.std.proofs.Common.{◌≡◌, ℕ, Bool, true, false, cond, eqb, ◌||◌, List, [], ◌∷◌, length, Option, Some, None, Result, Ok, Err, IfOk, refl, ap, ◌∙◌, subst}
+use Rattle.std.proofs.lemmas.Bool.{false≢true, cond_both, and_from}
+use Rattle.std.specs.Str.{trim, str_to_ascii_uppercase}
+use Rattle.croner_base.specs.declared.errors.CronError.{CronError}
+use Rattle.croner_base.specs.Field.{Shape, Field, empty_field, with_sloppy, with_mark, without_mark, is_marked}
+use Rattle.croner_base.proofs.Readings.{shape-applied}
+use Rattle.croner_pattern.specs.Meaning.{Meaning}
+use Rattle.croner_pattern.specs.Shapes.{sixty_shape, hour_shape, day_shape, month_shape, weekday_shape, year_shape, is_like, has_field_shapes}
+use Rattle.croner.specs.declared.job.Cron.{Cron}
+use Rattle.croner.specs.parser.Cut.{replaced}
+use Rattle.croner.specs.parser.Gives.{Gives}
+use Rattle.croner.specs.parser.Grammar.{Texts, Refusal, Empty, Invalid, Illegal, Component, outcome, of_replaced, of_fields, of_settled, of_legal, fields_of, settled, has_plus, are_legal, are_read, nicknamed, meaning, value_of, reading_of, start_of, weekdays_of, settled_weekdays, with_sunday, sunday_moved, weekday_modifiers}
+use Rattle.croner.specs.parser.Settings.{Settings, accepts_count}
+use Rattle.croner.specs.Views.{job_of}
+use Rattle.croner.specs.parser.Words.{words}
+
+abbrev IsShaped : Result Meaning Refusal → Type 0
+IsShaped r = (m : Meaning) → r ≡ Ok m → has_field_shapes m ≡ true
+
+meaning_or : Meaning → Result Meaning Refusal → Meaning
+meaning_or d (Ok m) = m
+meaning_or d (Err e) = d
+
+is_ok_meaning : Result Meaning Refusal → Bool
+is_ok_meaning (Ok m) = true
+is_ok_meaning (Err e) = false
+
+err_shaped : (e : Refusal) → IsShaped (Err e)
+unfolding is_ok_meaning
+err_shaped e = λ m h. absurd (false≢true (ap is_ok_meaning h))
+
+ok_shaped : (m : Meaning) → has_field_shapes m ≡ true → IsShaped (Ok m)
+unfolding meaning_or
+ok_shaped m h = λ n e. subst (λ x. has_field_shapes x ≡ true) (ap (meaning_or m) e) h
+
+-- ---- the fields
+
+shape-value : (s : Settings) (shape : Shape) (text : List ℕ) → (value_of s shape text).shape ≡ (start_of s shape).shape
+shape-value s shape text = shape-applied (reading_of s shape text).done (start_of s shape)
+
+shape-moved : (f : Field) (bit : ℕ) → (sunday_moved f bit).shape ≡ f.shape
+shape-moved f bit =
+    cond_both (is_marked bit f 7) (with_mark (without_mark f 7 bit) 0 bit) f (λ (g : Field). g.shape ≡ f.shape) (λ _. refl) (λ _. refl)
+
+shape-sunday : (bits : List ℕ) (f : Field) → (with_sunday bits f).shape ≡ f.shape
+shape-sunday [] f = refl
+shape-sunday (bit ∷ bits) f = shape-sunday bits (sunday_moved f bit) ∙ shape-moved f bit
+
+abbrev is_weekday_like : Shape → Bool
+is_weekday_like shape = is_like shape (weekday_shape 0) || is_like shape (weekday_shape 1)
+
+weekdays_like : (s : Settings) (text : List ℕ) (quartz : Bool) → is_weekday_like (with_sloppy (empty_field (weekday_shape (cond quartz 1 0))) s.sloppy).shape ≡ true
+weekdays_like s text true = refl
+weekdays_like s text false = refl
+
+shape-settled : (s : Settings) (f : Field) → (settled_weekdays s f).shape ≡ f.shape
+shape-settled s f =
+    cond_both s.quartz f (with_sunday weekday_modifiers f) (λ (g : Field). g.shape ≡ f.shape) (λ _. refl) (λ _. shape-sunday weekday_modifiers f)
+
+meaning_shaped : (s : Settings) (text : List ℕ) (t : Texts) (and : Bool) → has_field_shapes (meaning s text t and) ≡ true
+meaning_shaped s text t and =
+    let weekdays : is_weekday_like (settled_weekdays s (value_of s (weekdays_of s) t.days_of_week)).shape ≡ true =
+    ap is_weekday_like (shape-settled s (value_of s (weekdays_of s) t.days_of_week) ∙ shape-value s (weekdays_of s) t.days_of_week) ∙ weekdays_like s text s.quartz in
+    and_from _ _ (ap (λ x. is_like x sixty_shape) (shape-value s sixty_shape t.seconds)) (and_from _ _ (ap (λ x. is_like x sixty_shape) (shape-value s sixty_shape t.minutes))
+    (and_from _ _ (ap (λ x. is_like x hour_shape) (shape-value s hour_shape t.hours)) (and_from _ _ (ap (λ x. is_like x day_shape) (shape-value s day_shape t.days))
+    (and_from _ _ (ap (λ x. is_like x month_shape) (shape-value s month_shape t.months)) (and_from _ _ weekdays (ap (λ x. is_like x year_shape) (shape-value s year_shape t.years)))))))
+
+-- ---- the whole
+
+legal_shaped : (s : Settings) (text : List ℕ) (t : Texts) (and : Bool) → IsShaped (of_legal s text t and)
+legal_shaped s text t and =
+    cond_both (are_read s t) (Ok (meaning s text t and)) (Err Component) IsShaped (λ _. ok_shaped (meaning s text t and) (meaning_shaped s text t and)) (λ _. err_shaped Component)
+
+settled_shaped : (s : Settings) (text : List ℕ) (t : Texts) (and : Bool) → IsShaped (of_settled s text t and)
+settled_shaped s text t and =
+    cond_both (are_legal t) (of_legal s text t and) (Err Illegal) IsShaped (λ _. legal_shaped s text t and) (λ _. err_shaped Illegal)
+
+fields_shaped : (s : Settings) (text : List ℕ) (o : Option Texts) → IsShaped (of_fields s text o)
+fields_shaped s text None = err_shaped Invalid
+fields_shaped s text (Some t) = settled_shaped s text (settled t) (s.both_days || has_plus t.days_of_week)
+
+replaced_shaped : (s : Settings) (full : List ℕ) (o : Option (List ℕ)) → IsShaped (of_replaced s full o)
+replaced_shaped s full None =
+    cond_both (accepts_count s.seconds_field s.year_field (length (words full))) (Err Illegal) (Err Invalid) IsShaped (λ _. err_shaped Illegal) (λ _. err_shaped Invalid)
+replaced_shaped s full (Some text) = fields_shaped s text (fields_of s (words text))
+
+outcome_shaped : (s : Settings) (given : List ℕ) → IsShaped (outcome s given)
+outcome_shaped s given =
+    let text = trim (str_to_ascii_uppercase given) in
+    let full = nicknamed s text in
+    cond_both (eqb (length text) 0) (Err Empty) (of_replaced s full (replaced s.quartz false full)) IsShaped (λ _. err_shaped Empty)
+    (λ _. replaced_shaped s full (replaced s.quartz false full))
+
+-- so has what a call gives
+pub gives_shaped : (s : Settings) (text : List ℕ) (r : Result Cron CronError) → Gives job_of r (outcome s text) → IfOk r (λ job. has_field_shapes (job_of job) ≡ true)
+gives_shaped s text (Ok job) h = outcome_shaped s text (job_of job) h
+gives_shaped s text (Err e) h = tt

@@ -1,0 +1,35 @@
+-- What a search needs held stays held from each run on: a run shows a second of the years 1 to 5000.
+use Rattle.std.proofs.Common.{◌+◌, ℤ, pos, ◌+ℤ◌, ◌-ℤ◌, ◌≤ℤ◌, arith, inl, inr}
+use Rattle.std.proofs.lemmas.Int.{ints}
+use Rattle.croner_base.specs.Zone.{Zone, Moment, at_instant}
+use Rattle.croner_base.specs.Calm.{IsCalm, IsSearched, IsInReach, IsNear, HoldsAround}
+use Rattle.croner_base.specs.Limits.{gap_limit, fold_limit, apart_limit}
+use Rattle.croner.proofs.search.ZoneOrder.{Calm, window, cases_lt_z}
+use Rattle.croner.proofs.search.CalmZone.{calm_of}
+
+-- in a window a calm clock goes on by what passes, give or take one change
+reads_near : (z : Zone) → Calm z.reads → (i j : ℤ) → i ≤ℤ j → j ≤ℤ (i +ℤ pos apart_limit) → ((z.reads i -ℤ pos fold_limit) ≤ℤ z.reads j) × (z.reads j ≤ℤ (z.reads i +ℤ pos (apart_limit + gap_limit)))
+reads_near z calm i j h near =
+    elim (window z.reads calm i j h near) [
+      | inl e ↦ (omega (arith, ints), omega (arith, ints))
+      | inr (p, low, high, breaks, before, after) ↦
+          let forth = calm.forth p in
+          let back = calm.back p in
+          (omega (arith, ints), omega (arith, ints))
+    ]
+
+in_reach : (z : Zone) → Calm z.reads → (i j : ℤ) → IsSearched (z.reads i) → IsNear i j → IsInReach (z.reads j)
+in_reach z calm i j searched near =
+    elim (cases_lt_z i j) [
+      | inl lt ↦ let b = reads_near z calm i j (omega (arith, ints)) (omega (arith, ints)) in (omega (arith, ints), omega (arith, ints))
+      | inr ge ↦ let b = reads_near z calm j i ge (omega (arith, ints)) in (omega (arith, ints), omega (arith, ints))
+    ]
+
+-- from an instant that shows a second of the years 1 to 5000
+pub holds_from : (m : Moment) → IsCalm m.zone → HoldsAround m → (i : ℤ) → IsSearched (m.zone.reads i) → HoldsAround (at_instant m.zone i)
+holds_from m calm held i searched = record {
+  years = held.years;
+  year_instants = held.year_instants;
+  near = λ c near. held.years c (omega (arith, ints), omega (arith, ints));
+  near_instants = λ j near. held.year_instants j (in_reach m.zone (calm_of m.zone calm) i j searched near);
+}

@@ -1,0 +1,217 @@
+-- How a search goes over the wall clock, before any zone: what it looks for, and how far it goes. The source is this
+-- crate's documentation.
+use Rattle.std.specs.Prelude.{◌≡◌, ◌↔◌, ℕ, ◌+◌, ◌-◌, ◌*◌, ◌<◌, ◌≤◌, Bool, true, false, ℤ, pos, ◌+ℤ◌, ◌-ℤ◌, int_lt, Option, MatchOption, if◌then◌else◌}
+use Rattle.std.specs.Int.{IsInRange, bit_at}
+use Rattle.croner_base.specs.declared.time.Direction.{Direction}
+use Rattle.croner_base.specs.declared.time.Direction.TheVariants.{Forward, Backward}
+use Rattle.croner_base.specs.declared.time.civil.CivilDate.{CivilDate}
+use Rattle.croner_base.specs.declared.time.civil.CivilTime.{CivilTime}
+use Rattle.croner_base.specs.declared.time.civil.CivilDateTime.{CivilDateTime}
+use Rattle.jiff_core.specs.Calendar.{is_leap_year, days_in_month}
+use Rattle.croner_base.specs.Calendar.{day_number}
+use Rattle.croner_base.specs.Civil.{day_of_date, seconds_of_time}
+use Rattle.croner_base.specs.Field.{Field}
+use Rattle.croner_pattern.specs.Meaning.{Meaning}
+use Rattle.croner_pattern.specs.Schedule.{is_plain, is_day_matching, is_year_matching, is_date_matching, is_scheduled, first_weekday}
+use Rattle.croner.specs.search.Runs.{Precedes, Reaches}
+
+-- the next whole number in the direction
+abbrev pub one_on : Direction → ℤ → ℤ
+one_on Forward n = n +ℤ pos 1
+one_on Backward n = n -ℤ pos 1
+
+-- x is the nearest of those that match, from a place on, the place itself included
+pub record IsNearest {X : Type 0} (place : X → ℤ) (matches : X → Type 0) (direction : Direction) (from : ℤ) (x : X) : Type 0 where
+  pub on : Reaches direction from (place x)
+  pub is : matches x
+  pub first : (y : X) → Reaches direction from (place y) → matches y → Reaches direction (place x) (place y)
+
+-- from the place on none matches
+abbrev pub NoneOn : {X : Type 0} → (X → ℤ) → (X → Type 0) → Direction → ℤ → Type 0
+NoneOn {X} place matches direction from = (y : X) → Reaches direction from (place y) → ¬ (matches y)
+
+-- the nearest one that matches, or None where none does
+abbrev pub Finds : {X : Type 0} → (X → ℤ) → (X → Type 0) → Direction → ℤ → Option X → Type 0
+Finds place matches direction from result =
+    MatchOption result (NoneOn place matches direction from) (IsNearest place matches direction from)
+
+-- x is the first in the direction of those that are meant
+pub record IsForemost {X : Type 0} (place : X → ℤ) (Among : X → Type 0) (direction : Direction) (x : X) : Type 0 where
+  pub is : Among x
+  pub first : (y : X) → Among y → Reaches direction (place x) (place y)
+
+-- the first of them, or None where there is none
+abbrev pub FindsForemost : {X : Type 0} → (X → ℤ) → (X → Type 0) → Direction → Option X → Type 0
+FindsForemost {X} place Among direction result =
+    MatchOption result ((y : X) → ¬ (Among y)) (IsForemost place Among direction)
+
+-- a plain value of the field, between bounds
+pub record IsPlainWithin (field : Field) (min max value : ℕ) : Type 0 where
+  pub low : min ≤ value
+  pub high : value ≤ max
+  pub plain : is_plain field value ≡ true
+
+-- from the value on, the numbers of the direction go through the bounds and then leave them
+abbrev pub IsOnTheWay : Direction → ℕ → ℕ → ℕ → Type 0
+IsOnTheWay Forward min max value = (min ≤ value) × (value ≤ max + 1)
+IsOnTheWay Backward min max value = value ≤ max
+
+-- ---- days of a month as bits
+
+-- the day is one of the days: the lowest bit is that of the 1st
+pub record HasDay (days day : ℕ) : Type 0 where
+  pub low : 1 ≤ day
+  pub bit : bit_at days (day - 1) ≡ 1
+
+-- the days are those of the month that match
+pub record IsMonthDays (m : Meaning) (year : ℤ) (month days : ℕ) : Type 0 where
+  pub within : (day : ℕ) → HasDay days day → day ≤ days_in_month year month
+  pub dates : (d : CivilDate) → d.year ≡ year → d.month ≡ month → (is_date_matching m d ≡ true) ↔ HasDay days d.day
+
+-- a month of this length, whose first day has this weekday, has a day that fits
+pub record HasOpenDay (m : Meaning) (length first : ℕ) : Type 0 where
+  pub day : ℕ
+  pub low : 1 ≤ day
+  pub high : day ≤ length
+  pub fits : is_day_matching m length first day ≡ true
+
+-- the year has a named month with a day that fits
+pub record HasOpenMonth (m : Meaning) (year : ℤ) : Type 0 where
+  pub month : ℕ
+  pub low : 1 ≤ month
+  pub high : month ≤ 12
+  pub named : is_plain m.months month ≡ true
+  pub has_open : HasOpenDay m (days_in_month year month) (first_weekday year month)
+
+-- a length and the weekday of the first day are one of 28 kinds of month
+abbrev pub month_kind : ℕ → ℕ → ℕ
+month_kind length first = (length - 28) * 7 + first
+
+-- the weekday of the first day, and whether it is a leap year, are one of 14 kinds of year
+abbrev pub kind_of : Bool → ℕ → ℕ
+kind_of leap first = if leap then first + 7 else first
+
+abbrev pub year_kind : ℤ → ℕ
+year_kind year = kind_of (is_leap_year year) (first_weekday year 1)
+
+-- which kinds of month have a day that fits, one bit a kind
+abbrev pub AreMonthKinds : Meaning → ℕ → Type 0
+AreMonthKinds m kinds =
+    (length first : ℕ) → IsInRange 28 31 length → first < 7 → (bit_at kinds (month_kind length first) ≡ 1) ↔ HasOpenDay m length first
+
+-- which kinds of year have a named month with such a day
+abbrev pub AreYearKinds : Meaning → ℕ → Type 0
+AreYearKinds m kinds = (year : ℤ) → (bit_at kinds (year_kind year) ≡ 1) ↔ HasOpenMonth m year
+
+-- ---- dates
+
+-- a search steps on from a year: forward before 5000, backward after 1
+abbrev pub has_room : Direction → ℤ → Bool
+has_room Forward year = int_lt year (pos 5000)
+has_room Backward year = int_lt (pos 1) year
+
+-- the first day of the year from which no step leads on
+abbrev pub edge_day : Direction → ℤ
+edge_day Forward = day_number (pos 5000) 1 1
+edge_day Backward = day_number (pos 1) 12 31
+
+-- the last day that a search from a date on comes to. From a year that it does not step on from it stays on its day.
+abbrev pub last_day : Direction → CivilDate → ℤ
+last_day direction from = if has_room direction from.year then edge_day direction else day_of_date from
+
+-- the first year in the direction after a year, of those that a pattern can name
+pub record IsYearBeyond (direction : Direction) (year : ℤ) (beyond : ℕ) : Type 0 where
+  pub low : 1 ≤ beyond
+  pub high : beyond ≤ 5000
+  pub on : Reaches direction (one_on direction year) (pos beyond)
+  pub first : (y : ℕ) → 1 ≤ y → y ≤ 5000 → Reaches direction (one_on direction year) (pos y) → Reaches direction (pos beyond) (pos y)
+
+-- a number of a year that the pattern names
+pub record IsNamedYear (m : Meaning) (year : ℤ) (number : ℕ) : Type 0 where
+  pub is : pos number ≡ year
+  pub named : is_year_matching m year ≡ true
+
+-- a date that matches, in a month
+pub record IsInMonth (m : Meaning) (year : ℤ) (month : ℕ) (d : CivilDate) : Type 0 where
+  pub same_year : d.year ≡ year
+  pub same_month : d.month ≡ month
+  pub matches : is_date_matching m d ≡ true
+
+-- a date that matches, in a year and there in the months from one on
+pub record IsInMonths (m : Meaning) (direction : Direction) (year : ℤ) (from : ℤ) (d : CivilDate) : Type 0 where
+  pub same_year : d.year ≡ year
+  pub on : Reaches direction from (pos d.month)
+  pub matches : is_date_matching m d ≡ true
+
+-- a date that matches and that a search comes to, in a year
+pub record IsInYear (m : Meaning) (direction : Direction) (year : ℤ) (d : CivilDate) : Type 0 where
+  pub same_year : d.year ≡ year
+  pub within : Reaches direction (day_of_date d) (edge_day direction)
+  pub matches : is_date_matching m d ≡ true
+
+-- the same, in the years from one on
+pub record IsInYears (m : Meaning) (direction : Direction) (from : ℤ) (d : CivilDate) : Type 0 where
+  pub on : Reaches direction from d.year
+  pub within : Reaches direction (day_of_date d) (edge_day direction)
+  pub matches : is_date_matching m d ≡ true
+
+-- the same, after a date
+pub record IsAfter (m : Meaning) (direction : Direction) (date d : CivilDate) : Type 0 where
+  pub ahead : Precedes direction (day_of_date date) (day_of_date d)
+  pub within : Reaches direction (day_of_date d) (edge_day direction)
+  pub matches : is_date_matching m d ≡ true
+
+-- ---- times of day
+
+-- the place of a time in its day
+abbrev pub place_in_day : CivilTime → ℤ
+place_in_day t = pos (seconds_of_time t)
+
+-- the hour, the minute and the second are plain values
+pub record IsMatchingTime (m : Meaning) (t : CivilTime) : Type 0 where
+  pub hour : is_plain m.hours t.hour ≡ true
+  pub minute : is_plain m.minutes t.minute ≡ true
+  pub second : is_plain m.seconds t.second ≡ true
+
+-- the way from one time to another of the same day steps over no hour and no minute: a plain hour stays, and in it a
+-- plain minute
+pub record IsMove (m : Meaning) (from t : CivilTime) : Type 0 where
+  pub hour : is_plain m.hours from.hour ≡ true → t.hour ≡ from.hour
+  pub minute : t.hour ≡ from.hour → is_plain m.minutes from.minute ≡ true → t.minute ≡ from.minute
+
+-- a time that matches, from a time on, and that needs no step where there is no room for one
+pub record IsOpenTime (m : Meaning) (direction : Direction) (room : Bool) (from t : CivilTime) : Type 0 where
+  pub on : Reaches direction (place_in_day from) (place_in_day t)
+  pub matches : IsMatchingTime m t
+  pub move : room ≡ false → IsMove m from t
+
+-- the same within an hour
+pub record IsOpenInHour (m : Meaning) (direction : Direction) (room : Bool) (from t : CivilTime) : Type 0 where
+  pub on : Reaches direction (place_in_day from) (place_in_day t)
+  pub same_hour : t.hour ≡ from.hour
+  pub minute : is_plain m.minutes t.minute ≡ true
+  pub second : is_plain m.seconds t.second ≡ true
+  pub stays : room ≡ false → is_plain m.minutes from.minute ≡ true → t.minute ≡ from.minute
+
+-- the first plain value of a field in the direction
+pub record IsFirstValue (field : Field) (direction : Direction) (max value : ℕ) : Type 0 where
+  pub plain : is_plain field value ≡ true
+  pub first : (v : ℕ) → v ≤ max → is_plain field v ≡ true → Reaches direction (pos value) (pos v)
+
+-- the first hour, the first minute and the first second in the direction
+pub record IsFirstTime (m : Meaning) (direction : Direction) (t : CivilTime) : Type 0 where
+  pub hour : IsFirstValue m.hours direction 23 t.hour
+  pub minute : IsFirstValue m.minutes direction 59 t.minute
+  pub second : IsFirstValue m.seconds direction 59 t.second
+
+-- ---- both
+
+abbrev pub IsOnSchedule : Meaning → CivilDateTime → Type 0
+IsOnSchedule m c = is_scheduled m c ≡ true
+
+-- a scheduled date and time that a search from `from` on comes to: no later than the last day, and from a year that it
+-- does not step on from without a step
+pub record IsOpen (m : Meaning) (direction : Direction) (from c : CivilDateTime) : Type 0 where
+  pub scheduled : is_scheduled m c ≡ true
+  pub within : Reaches direction (day_of_date c.date) (last_day direction from.date)
+  pub move : has_room direction from.date.year ≡ false → IsMove m from.time c.time

@@ -1,0 +1,73 @@
+-- The two halves of a repeated range of the wall clock.
+use Rattle.std.specs.Prelude.{◌≡◌, ⊤, ℕ, ◌+◌, ◌≤◌, ℤ, pos, ◌+ℤ◌, ◌-ℤ◌, ◌<ℤ◌, ◌≤ℤ◌, Bool, false, Option, Some, None}
+use Rattle.croner_base.specs.declared.time.Direction.{Direction}
+use Rattle.croner_base.specs.declared.time.Direction.TheVariants.{Forward, Backward}
+use Rattle.croner_base.specs.Zone.{Moment}
+use Rattle.croner_base.specs.Limits.{apart_limit}
+use Rattle.croner.specs.search.Runs.{Precedes}
+use Rattle.croner.specs.Private.search.Walk.{one_on}
+use Rattle.croner.specs.search.Premises.{IsCalmStart, StartsCalm}
+
+-- how many seconds on the edge of the other half is sought
+abbrev pub edge_limit : ℕ
+edge_limit = 86_400
+
+-- the clock is put forward or back right after the instant p
+abbrev pub Break : (ℤ → ℤ) → ℤ → Type 0
+Break reads p = ¬ (reads (p +ℤ pos 1) ≡ reads p +ℤ pos 1)
+
+-- another instant, ahead in the direction, shows what i shows
+abbrev pub HasTwin : Direction → (ℤ → ℤ) → ℤ → Type 0
+HasTwin direction reads i = (x : ℤ) × (reads x ≡ reads i) × Precedes direction i x
+
+-- s is at most a window before the change after p
+pub record EdgeAfter (reads : ℤ → ℤ) (s p : ℤ) : Type 0 where
+  pub from : s ≤ℤ p
+  pub near : p ≤ℤ (s +ℤ pos apart_limit)
+  pub breaks : Break reads p
+
+-- s is at most a window after the change after p
+pub record EdgeBefore (reads : ℤ → ℤ) (p s : ℤ) : Type 0 where
+  pub from : p <ℤ s
+  pub near : s ≤ℤ (p +ℤ pos (apart_limit + 1))
+  pub breaks : Break reads p
+
+-- e is the nearest instant of the half that s is not on
+abbrev pub EdgeOf : Direction → (ℤ → ℤ) → ℤ → ℤ → Type 0
+EdgeOf Forward reads s e = (p : ℤ) × (e ≡ p +ℤ pos 1) × EdgeAfter reads s p
+EdgeOf Backward reads s e = EdgeBefore reads e s
+
+-- so many seconds on in the direction
+abbrev pub offset_from : Direction → ℤ → ℕ → ℤ
+offset_from Forward s n = s +ℤ pos n
+offset_from Backward s n = s -ℤ pos n
+
+-- the same moment so many seconds on in the direction
+abbrev pub moment_from : Direction → Moment → ℕ → Moment
+moment_from direction m n = record m { instant = offset_from direction m.instant n }
+
+-- the other half counts too: not so for a fixed-time job forward
+abbrev pub CountsBoth : Direction → Bool → Type 0
+CountsBoth Forward fixed_time = fixed_time ≡ false
+CountsBoth Backward fixed_time = ⊤
+
+-- the value stands at the edge of the other half, or there is none within the margin
+abbrev pub IsEdge : {T : Type 0} → (T → Moment) → Direction → Moment → Option T → Type 0
+IsEdge moment direction m (Some t) =
+    ((moment t).zone ≡ m.zone) × ((moment t).fraction ≡ m.fraction)
+    × (IsCalmStart m.zone m.fraction → HasTwin direction m.zone.reads m.instant → EdgeOf direction m.zone.reads m.instant (moment t).instant)
+    × ((n : ℕ) × (n ≤ edge_limit) × ((moment t).instant ≡ offset_from direction m.instant n))
+IsEdge moment direction m None = IsCalmStart m.zone m.fraction → ¬ (HasTwin direction m.zone.reads m.instant)
+
+-- the other direction
+abbrev pub opposite_way : Direction → Direction
+opposite_way Forward = Backward
+opposite_way Backward = Forward
+
+-- the edge of the other half and the last instant of the half that m is on; none where m is on no first half
+abbrev pub HasOtherHalf : {T : Type 0} → (T → Moment) → Direction → Moment → Option (T × T) → Type 0
+HasOtherHalf moment direction m (Some halves) =
+    ((moment halves.0).zone ≡ m.zone) × ((moment halves.0).fraction ≡ m.fraction) × ((moment halves.1).zone ≡ m.zone)
+    × ((moment halves.1).instant ≡ one_on (opposite_way direction) (moment halves.0).instant)
+    × (StartsCalm m → EdgeOf direction m.zone.reads m.instant (moment halves.0).instant)
+HasOtherHalf moment direction m None = StartsCalm m → ¬ (HasTwin direction m.zone.reads m.instant)

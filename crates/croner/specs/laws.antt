@@ -1,0 +1,3 @@
+-- Words of the laws alone.
+pub mod Equality
+pub mod Neighbours

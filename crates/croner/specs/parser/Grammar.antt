@@ -1,0 +1,206 @@
+-- The grammar of cron patterns: for settings and a text the one outcome, in the order in which the rules are tested.
+use Rattle.std.specs.Prelude.{◌≡◌, ℕ, Bool, true, false, ◌&&◌, ◌||◌, ◌==◌, nat_le, List, [], ◌∷◌, ◌++◌, length, map, Option, Some, None, Result, Ok, Err, slice_index, codes, if◌then◌else◌}
+use Rattle.std.specs.List.{list_all}
+use Rattle.std.specs.Str.{trim, bytes_eq, str_to_ascii_uppercase}
+use Rattle.croner_base.specs.Field.{Shape, Field, empty_field, with_sloppy, with_mark, without_mark, is_marked, can_ask, can_mark}
+use Rattle.croner_base.specs.Part.{contains_byte, field_of}
+use Rattle.croner_base.specs.Reading.{Reading, applied}
+use Rattle.croner_pattern.specs.Meaning.{Meaning}
+use Rattle.croner_pattern.specs.Shapes.{sixty_shape, hour_shape, day_shape, month_shape, weekday_shape, year_shape, new_meaning}
+use Rattle.croner.specs.parser.Settings.{Settings, seconds_required, year_required, accepts_count}
+use Rattle.croner.specs.parser.Cut.{replaced}
+use Rattle.croner.specs.parser.Words.{words}
+
+-- why a text has no meaning
+pub data Refusal : Type 0 where
+  Empty Invalid Illegal Component : Refusal
+
+-- ---- nicknames
+
+-- the pattern of a nickname; every other text is itself
+abbrev pub nickname_of : List ℕ → List ℕ
+nickname_of text =
+    if bytes_eq text (codes "@YEARLY") || bytes_eq text (codes "@ANNUALLY") then codes "0 0 1 1 *"
+    else if bytes_eq text (codes "@MONTHLY") then codes "0 0 1 * *"
+    else if bytes_eq text (codes "@WEEKLY") then codes "0 0 * * SUN"
+    else if bytes_eq text (codes "@DAILY") then codes "0 0 * * *"
+    else if bytes_eq text (codes "@HOURLY") then codes "0 * * * *"
+    else text
+
+-- a text with `@`, nickname or not, gets the fields that the settings require
+abbrev pub nicknamed : Settings → List ℕ → List ℕ
+nicknamed s text =
+    if contains_byte 64 text
+    then (if seconds_required s.seconds_field then codes "0 " else []) ++ nickname_of text ++ (if year_required s.year_field then codes " *" else [])
+    else text
+
+-- ---- seven fields
+
+-- the texts of the fields
+pub record Texts : Type 0 where
+  pub seconds : List ℕ
+  pub minutes : List ℕ
+  pub hours : List ℕ
+  pub days : List ℕ
+  pub months : List ℕ
+  pub days_of_week : List ℕ
+  pub years : List ℕ
+
+-- the words as fields: five get the seconds 0 in front, and five or six the year `*` behind
+abbrev pub seven : List (List ℕ) → Option Texts
+seven (a ∷ b ∷ c ∷ d ∷ e ∷ []) = Some (record { seconds = codes "0"; minutes = a; hours = b; days = c; months = d; days_of_week = e; years = codes "*" })
+seven (a ∷ b ∷ c ∷ d ∷ e ∷ f ∷ []) = Some (record { seconds = a; minutes = b; hours = c; days = d; months = e; days_of_week = f; years = codes "*" })
+seven (a ∷ b ∷ c ∷ d ∷ e ∷ f ∷ g ∷ []) = Some (record { seconds = a; minutes = b; hours = c; days = d; months = e; days_of_week = f; years = g })
+seven other = None
+
+-- the same, for a count that the settings accept
+abbrev pub fields_of : Settings → List (List ℕ) → Option Texts
+fields_of s given = if accepts_count s.seconds_field s.year_field (length given) then seven given else None
+
+-- each `?` becomes `*`
+abbrev pub starred : List ℕ → List ℕ
+starred text = map (λ c. if c == 63 then 42 else c) text
+
+abbrev pub has_plus : List ℕ → Bool
+has_plus text = slice_index text 0 == 43
+
+-- one leading `+` is taken off
+abbrev pub without_plus : List ℕ → List ℕ
+without_plus [] = []
+without_plus (c ∷ cs) = if c == 43 then cs else (c ∷ cs)
+
+-- the two day fields lose each `?`, and the weekday field one leading `+`
+abbrev pub settled : Texts → Texts
+settled t = record t { days = starred t.days; days_of_week = starred (without_plus t.days_of_week) }
+
+-- ---- legal characters
+
+-- digits, and the signs of lists, ranges and steps
+abbrev pub is_plain : ℕ → Bool
+is_plain c = (nat_le 48 c && nat_le c 57) || contains_byte c (codes "*/,-")
+
+abbrev pub is_for_days : ℕ → Bool
+is_for_days c = is_plain c || contains_byte c (codes "LW")
+
+abbrev pub is_for_weekdays : ℕ → Bool
+is_for_weekdays c = is_plain c || contains_byte c (codes "#L")
+
+-- each character of each field is legal there
+abbrev pub are_legal : Texts → Bool
+are_legal t =
+    list_all is_plain t.seconds && (list_all is_plain t.minutes && (list_all is_plain t.hours && (list_all is_for_days t.days
+    && (list_all is_plain t.months && (list_all is_for_weekdays t.days_of_week && list_all is_plain t.years)))))
+
+abbrev pub is_star : List ℕ → Bool
+is_star text = bytes_eq text (codes "*")
+
+-- ---- the fields
+
+-- a field is read from an empty one with the shape of its place and the settings' sloppiness
+abbrev pub start_of : Settings → Shape → Field
+start_of s shape = with_sloppy (empty_field shape) s.sloppy
+
+abbrev pub reading_of : Settings → Shape → List ℕ → Reading
+reading_of s shape text = field_of (start_of s shape).shape text
+
+-- in Quartz mode 1 is taken off each number of the weekday field
+abbrev pub weekdays_of : Settings → Shape
+weekdays_of s = weekday_shape (if s.quartz then 1 else 0)
+
+-- a mark of weekday 7 can be moved to weekday 0
+pub record TakesSunday (shape : Shape) (bit : ℕ) : Type 0 where
+  pub offset_is : shape.offset ≡ 0
+  pub asked : can_ask shape 7 bit ≡ true
+  pub left : can_mark shape 7 bit ≡ true
+  pub reached : can_mark shape 0 bit ≡ true
+
+-- each field is accepted
+abbrev pub are_read : Settings → Texts → Bool
+are_read s t =
+    (reading_of s sixty_shape t.seconds).accepted && ((reading_of s sixty_shape t.minutes).accepted
+    && ((reading_of s hour_shape t.hours).accepted && ((reading_of s day_shape t.days).accepted
+    && ((reading_of s month_shape t.months).accepted && ((reading_of s (weekdays_of s) t.days_of_week).accepted
+    && (reading_of s year_shape t.years).accepted)))))
+
+-- what stands in a field when its text is read
+abbrev pub value_of : Settings → Shape → List ℕ → Field
+value_of s shape text = applied (reading_of s shape text).done (start_of s shape)
+
+-- the modifiers of a weekday: plain, the first to the fifth of a month, and the last
+abbrev pub weekday_modifiers : List ℕ
+weekday_modifiers = 1 ∷ 2 ∷ 4 ∷ 8 ∷ 16 ∷ 32 ∷ 64 ∷ []
+
+-- a mark of weekday 7 with a modifier becomes a mark of weekday 0
+abbrev pub sunday_moved : Field → ℕ → Field
+sunday_moved f bit = if is_marked bit f 7 then with_mark (without_mark f 7 bit) 0 bit else f
+
+-- the same for every modifier
+abbrev pub with_sunday : List ℕ → Field → Field
+with_sunday [] f = f
+with_sunday (bit ∷ bits) f = with_sunday bits (sunday_moved f bit)
+
+-- by default 7 is Sunday; in Quartz mode 7 was Saturday, and only a star marks 7
+abbrev pub settled_weekdays : Settings → Field → Field
+settled_weekdays s f = if s.quartz then f else with_sunday weekday_modifiers f
+
+-- a pattern before its fields are read
+abbrev pub start_meaning : Settings → List ℕ → Meaning
+start_meaning s text = record (new_meaning text) { days_of_week = empty_field (weekdays_of s) }
+
+-- the same after each field was read
+abbrev pub read_meaning : Settings → List ℕ → Texts → Meaning
+read_meaning s text t = record (new_meaning text) {
+  seconds = value_of s sixty_shape t.seconds;
+  minutes = value_of s sixty_shape t.minutes;
+  hours = value_of s hour_shape t.hours;
+  days = value_of s day_shape t.days;
+  months = value_of s month_shape t.months;
+  days_of_week = value_of s (weekdays_of s) t.days_of_week;
+  years = value_of s year_shape t.years;
+}
+
+-- the fields, the flags and the text of a pattern
+abbrev pub meaning : Settings → List ℕ → Texts → Bool → Meaning
+meaning s text t and = record {
+  seconds = value_of s sixty_shape t.seconds;
+  minutes = value_of s sixty_shape t.minutes;
+  hours = value_of s hour_shape t.hours;
+  days = value_of s day_shape t.days;
+  months = value_of s month_shape t.months;
+  days_of_week = settled_weekdays s (value_of s (weekdays_of s) t.days_of_week);
+  years = value_of s year_shape t.years;
+  star_day = is_star t.days;
+  star_weekday = is_star t.days_of_week;
+  and = and;
+  text = text;
+}
+
+-- ---- the whole
+
+-- the fields as they are read
+abbrev pub of_legal : Settings → List ℕ → Texts → Bool → Result Meaning Refusal
+of_legal s text t and = if are_read s t then Ok (meaning s text t and) else Err Component
+
+-- the fields as they are tested for their characters
+abbrev pub of_settled : Settings → List ℕ → Texts → Bool → Result Meaning Refusal
+of_settled s text t and = if are_legal t then of_legal s text t and else Err Illegal
+
+-- a text of seven fields
+abbrev pub of_fields : Settings → List ℕ → Option Texts → Result Meaning Refusal
+of_fields s text None = Err Invalid
+of_fields s text (Some given) = of_settled s text (settled given) (s.both_days || has_plus given.days_of_week)
+
+-- a text in which each name was replaced; a text that has no cut keeps a letter that is legal nowhere
+abbrev pub of_replaced : Settings → List ℕ → Option (List ℕ) → Result Meaning Refusal
+of_replaced s full None = if accepts_count s.seconds_field s.year_field (length (words full)) then Err Illegal else Err Invalid
+of_replaced s full (Some text) = of_fields s text (fields_of s (words text))
+
+-- a text that is raised and trimmed: its nickname and its names are replaced
+abbrev pub of_trimmed : Settings → List ℕ → Result Meaning Refusal
+of_trimmed s text = of_replaced s (nicknamed s text) (replaced s.quartz false (nicknamed s text))
+
+-- what a text means: it is raised and trimmed, its nickname and its names are replaced, its fields are counted, settled,
+-- tested for their characters and read
+abbrev pub outcome : Settings → List ℕ → Result Meaning Refusal
+outcome s given =
+    let text = trim (str_to_ascii_uppercase given) in if length text == 0 then Err Empty else of_trimmed s text

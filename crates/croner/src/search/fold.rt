@@ -1,0 +1,95 @@
+//! The two halves of a repeated range of the wall clock.
+ghost use Rattle.std.specs.Prelude.{◌≡◌, ◌↔◌, ◌≤◌, IsTrue, IfOk, IfErr};
+ghost use Rattle.croner_base.specs.Zone.{reading};
+ghost use Rattle.croner_base.specs.Calm.{HoldsAround};
+ghost use Rattle.croner.specs.search.Premises.{IsCalmStart, HoldsSecond};
+ghost use Rattle.croner.specs.Private.search.Halves.{edge_limit, HasTwin, IsEdge, offset_from};
+ghost use Rattle.croner.specs.search.Refusal.{IsBackendError};
+
+use crate::search::instant::{moved, precedes};
+use croner_base::errors::CronError;
+use croner_base::time::{CronDateTime, Direction, Resolution};
+use std::alloc::Global;
+
+/// How many seconds on the edge of the other half is sought.
+const HALF_SEARCH_SECONDS: u32 = 86_400;
+
+/// Whether the instant is on the half of a repeated range that a search in the direction meets first.
+pub(crate) fn is_on_first_half<T: CronDateTime>(
+    alloc: Global,
+    instant: &T,
+    direction: Direction,
+) -> Result<bool, CronError>
+    ensures value { IsCalmStart (T.moment instant.now).zone (T.moment instant.now).fraction
+        → IfOk result (λ b. IsTrue b
+        ↔ HasTwin direction (T.moment instant.now).zone.reads (T.moment instant.now).instant) }
+    ensures err { IfErr result (IsBackendError T.can_lack_memory
+        (¬ (HoldsSecond (T.moment instant.now).zone (reading (T.moment instant.now))))) }
+{
+    match instant.resolve_civil(alloc, instant.to_civil())? {
+        // An instant with a fraction still comes before the later of the two.
+        Resolution::Ambiguous(_, later) => {
+            let is_earlier = precedes(instant, &later, Direction::Forward);
+            match direction {
+                Direction::Forward => Ok(is_earlier),
+                Direction::Backward => Ok(!is_earlier),
+            }
+        }
+        Resolution::Single(_) => Ok(false),
+        Resolution::Gap => Ok(false),
+    }
+}
+
+/// The nearest instant of the half that the start, on the half that the search meets first, is not on; `None` where a day
+/// on is still on the start's half.
+pub(crate) fn other_edge<T: CronDateTime>(
+    alloc: Global,
+    start: &T,
+    direction: Direction,
+) -> Result<Option<T>, CronError>
+    ensures value { IfOk result (IsEdge T.moment direction (T.moment start.now)) }
+    ensures err { IfErr result (IsBackendError T.can_lack_memory
+        (IsCalmStart (T.moment start.now).zone (T.moment start.now).fraction → ¬ (HoldsAround (T.moment start.now)))) }
+{
+    if is_offset_on_first_half(alloc, start, HALF_SEARCH_SECONDS, direction)? {
+        return Ok(None);
+    }
+    let mut inside: u32 = 0;
+    let mut outside: u32 = HALF_SEARCH_SECONDS;
+    while outside - inside > 1 {
+        let middle = inside + (outside - inside) / 2;
+        if is_offset_on_first_half(alloc, start, middle, direction)? {
+            inside = middle;
+        } else {
+            outside = middle;
+        }
+    }
+    match moved(alloc, start, outside, direction) {
+        Ok(edge) => Ok(Some(edge)),
+        Err(error) => Err(error),
+    }
+}
+
+// Whether the instant so many seconds on from the start is on the half that the search meets first.
+fn is_offset_on_first_half<T: CronDateTime>(
+    alloc: Global,
+    start: &T,
+    seconds: u32,
+    direction: Direction,
+) -> Result<bool, CronError>
+    requires { seconds ≤ edge_limit }
+    ensures value { IsCalmStart (T.moment start.now).zone (T.moment start.now).fraction
+        → IfOk result (λ b. IsTrue b
+        ↔ HasTwin direction (T.moment start.now).zone.reads
+        (offset_from direction (T.moment start.now).instant seconds)) }
+    ensures err { IfErr result (IsBackendError T.can_lack_memory
+        (IsCalmStart (T.moment start.now).zone (T.moment start.now).fraction → ¬ (HoldsAround (T.moment start.now)))) }
+{
+    match moved(alloc, start, seconds, direction) {
+        Ok(there) => match is_on_first_half(alloc, &there, direction) {
+            Ok(is_on) => Ok(is_on),
+            Err(error) => Err(error),
+        },
+        Err(error) => Err(error),
+    }
+}

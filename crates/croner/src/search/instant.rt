@@ -1,0 +1,81 @@
+//! Comparing and moving the values of a backend.
+ghost use Rattle.std.specs.Prelude.{◌≡◌, ◌↔◌, ◌≤◌, ℤ, pos, IsTrue, IfOk, IfErr, false};
+ghost use Rattle.croner_base.specs.Zone.{nanos_of};
+ghost use Rattle.croner.specs.search.Runs.{Precedes, Reaches, Ahead};
+ghost use Rattle.croner.specs.Private.search.Halves.{moment_from, offset_from};
+ghost use Rattle.croner.specs.Private.search.Walk.{CannotMove};
+ghost use Rattle.croner.specs.search.Refusal.{IsBackendError};
+
+use croner_base::errors::CronError;
+use croner_base::time::{CronDateTime, Direction};
+use std::alloc::Global;
+use std::cmp::Ordering;
+
+/// Whether one value comes before another in the direction, fractions included.
+pub(crate) fn precedes<T: CronDateTime>(one: &T, other: &T, direction: Direction) -> bool
+    ensures { IsTrue result
+        ↔ Precedes direction (nanos_of (T.moment one.now)) (nanos_of (T.moment other.now)) }
+{
+    match one.cmp_instant(other) {
+        Ordering::Less => direction == Direction::Forward,
+        Ordering::Equal => false,
+        Ordering::Greater => direction == Direction::Backward,
+    }
+}
+
+/// The value so many elapsed seconds on; InvalidTime where the backend does not hold it.
+pub(crate) fn moved<T: CronDateTime>(
+    alloc: Global,
+    from: &T,
+    seconds: u32,
+    direction: Direction,
+) -> Result<T, CronError>
+    ensures value { IfOk result (λ t. T.moment t ≡ moment_from direction (T.moment from.now) seconds) }
+    ensures err { IfErr result (IsBackendError T.can_lack_memory
+        ((T.moment from.now).zone.holds (offset_from direction (T.moment from.now).instant seconds) ≡ false)) }
+{
+    let distance = i64::from(seconds);
+    let signed = match direction {
+        Direction::Forward => distance,
+        Direction::Backward => -distance,
+    };
+    match from.checked_add_seconds(alloc, signed)? {
+        Some(there) => Ok(there),
+        None => Err(CronError::InvalidTime),
+    }
+}
+
+/// Whether an instant lies behind the origin by a second or more: an origin with a fraction keeps its own second in play.
+pub(crate) fn is_behind<T: CronDateTime>(
+    alloc: Global,
+    origin: &T,
+    instant: &T,
+    direction: Direction,
+) -> Result<bool, CronError>
+    ensures value { (T.moment origin.now).fraction ≡ 0 → (T.moment instant.now).fraction ≡ 0
+        → IfOk result (λ b. IsTrue b
+        ↔ Precedes direction (T.moment instant.now).instant (T.moment origin.now).instant) }
+    ensures err { IfErr result (IsBackendError T.can_lack_memory
+        (CannotMove direction (T.moment instant.now))) }
+{
+    let second_on = moved(alloc, instant, 1, direction)?;
+    Ok(!precedes(origin, &second_on, direction))
+}
+
+/// Whether an instant lies ahead of the origin, or is it in an inclusive search.
+pub(crate) fn lies_ahead<T: CronDateTime>(
+    origin: &T,
+    instant: &T,
+    inclusive: bool,
+    direction: Direction,
+) -> bool
+    ensures { (T.moment origin.now).fraction ≡ 0 → (T.moment instant.now).fraction ≡ 0
+        → IsTrue result
+        ↔ Ahead direction inclusive (T.moment origin.now).instant (T.moment instant.now).instant }
+{
+    match origin.cmp_instant(instant) {
+        Ordering::Less => direction == Direction::Forward,
+        Ordering::Equal => inclusive,
+        Ordering::Greater => direction == Direction::Backward,
+    }
+}
