@@ -9,7 +9,7 @@ use Rattle.croner_base.specs.Answers.{IsFieldError}
 use Rattle.croner_base.specs.Field.{Shape, Field, with_mark, can_mark, room, values_between}
 use Rattle.croner_base.specs.Part.{all_marked}
 use Rattle.croner_base.specs.Reading.{Reading, applied, Reads}
-use Rattle.croner_base.specs.Words.Marked.{Marked, GainsRange}
+use Rattle.croner_base.specs.Private.Words.Marked.{Marked, GainsRange}
 use Rattle.croner_base.proofs.Readings.{Completes-all, all_marked-fault}
 
 -- n sums from place a on, each with the bits

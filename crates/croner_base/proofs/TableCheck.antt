@@ -3,7 +3,7 @@ use Rattle.std.proofs.Common.{◌≡◌, ◌↔◌, true, refl, arith, ℕ, ◌+
 use Rattle.jiff_core.proofs.SignedLemmas.{signed_arith}
 use Rattle.croner_base.specs.Limits.{apart_limit, most_changes, most_gap_seconds}
 use Rattle.croner_base.specs.Table.{first_instant, is_offset, is_table_second, is_apart, are_offsets, are_instants, are_steps, met_at, gap_at, met_count, met_gaps, is_calm_table}
-use Rattle.croner_base.specs.TableSteps.{IsNext, HasTallied}
+use Rattle.croner_base.specs.Private.TableSteps.{IsNext, HasTallied}
 use Rattle.croner_base.specs.declared.time.table.check.Tally.{Tally}
 use Rattle.croner_base.proofs.TableTests.{both_parts, lt_of, lt_test, nat_le_of, nat_le_test, instant_bounds, instant_test}
 

@@ -6,7 +6,7 @@ use Rattle.croner_base.specs.declared.time.value.Resolution.TheVariants.{Single,
 use Rattle.croner_base.specs.Calm.{NamesAll}
 use Rattle.croner_base.specs.Limits.{apart_limit}
 use Rattle.croner_base.specs.Table.{offset_at, is_offset, is_apart, are_offsets, are_instants, is_calm_table, offset_limit}
-use Rattle.croner_base.specs.TableSteps.{offset_past, IsCountUntil}
+use Rattle.croner_base.specs.Private.TableSteps.{offset_past, IsCountUntil}
 use Rattle.croner_base.specs.TableZone.{clock, clock_reads}
 use Rattle.croner_base.proofs.TableTests.{both_parts, lt_of, le_of, gt_of, offset_bounds, offset_test}
 use Rattle.croner_base.proofs.TableCheck.{rules_from_calm}

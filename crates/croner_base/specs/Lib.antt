@@ -8,7 +8,6 @@ pub mod ZonedValue
 pub mod Limits
 pub mod Calm
 pub mod Table
-pub mod TableSteps
 pub mod TableZone
 pub mod Answers
 pub mod Excerpt
@@ -19,4 +18,4 @@ pub mod Part
 pub mod Reading
 pub mod Refusal
 pub mod Written
-pub mod Words
+pub mod Private

@@ -6,11 +6,11 @@ use Rattle.std.proofs.lemmas.Bool.{cases_eq, cases_lt, cases_Bool, ne_eqb, false
 use Rattle.std.proofs.lemmas.List.{append-nil}
 use Rattle.std.proofs.lemmas.Bool.Decides.{nat_tests}
 use Rattle.std.proofs.lemmas.Nat.Bits.{bit_at_and, bit_at_or, bit_at-lt, bit_at-zero, same_from_bits, bit_at_above}
-use Rattle.croner_base.specs.Words.Counts.{ShowsMarked, ShowsFrom, values_in}
+use Rattle.croner_base.specs.Private.Words.Counts.{ShowsMarked, ShowsFrom, values_in}
 use Rattle.croner_base.specs.Field.{room}
-use Rattle.croner_base.specs.Words.Marked.{Marked, is_set}
-use Rattle.croner_base.specs.Words.Masks.{MasksFrom, MasksTo}
-use Rattle.croner_base.specs.Words.Rows.{rows_below, width}
+use Rattle.croner_base.specs.Private.Words.Marked.{Marked, is_set}
+use Rattle.croner_base.specs.Private.Words.Masks.{MasksFrom, MasksTo}
+use Rattle.croner_base.specs.Private.Words.Rows.{rows_below, width}
 use Rattle.croner_base.proofs.Words.Places.{count_low, rows_below-suc, rows_below-zero, value_within}
 
 -- ---- one word: the first k modifiers have been looked at

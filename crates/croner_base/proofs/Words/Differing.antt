@@ -9,9 +9,9 @@ use Rattle.std.proofs.lemmas.Bool.{cases_eq, cases_lt, cases_Bool, ne_eqb}
 use Rattle.std.proofs.lemmas.Bool.Decides.{nat_tests}
 use Rattle.std.proofs.lemmas.Nat.Bits.{bit_at_or, bit_at_xor, bit_at-lt, bit_at-zero, bit_at-trailing_zeros, same_from_bits, same_from_bits_below}
 use Rattle.std.proofs.lemmas.List.{ext_get_or}
-use Rattle.croner_base.specs.Words.Differences.{IsFirstDifference, ShowsDifferences}
+use Rattle.croner_base.specs.Private.Words.Differences.{IsFirstDifference, ShowsDifferences}
 use Rattle.croner_base.specs.Field.{room}
-use Rattle.croner_base.specs.Words.Marked.{Marked}
+use Rattle.croner_base.specs.Private.Words.Marked.{Marked}
 
 -- ---- lists
 

@@ -7,9 +7,9 @@ use Rattle.std.proofs.lemmas.Bool.Decides.{nat_tests}
 use Rattle.std.proofs.lemmas.List.{get_or_past}
 use Rattle.croner_base.specs.Field.{Shape, Field, room, has_any, has_all, can_ask, is_marked, values_between}
 use Rattle.croner_base.specs.Marks.{is_plain_value, HasNoPlainFrom, IsLeastPlainValue, HasNoPlainTo, IsGreatestPlainValue}
-use Rattle.croner_base.specs.Words.Counts.{ShowsFrom, marked_from}
-use Rattle.croner_base.specs.Words.Marked.{Marked, is_set}
-use Rattle.croner_base.specs.Words.Next.{NonePlainFrom, IsLeastPlain, NonePlainTo, IsGreatestPlain}
+use Rattle.croner_base.specs.Private.Words.Counts.{ShowsFrom, marked_from}
+use Rattle.croner_base.specs.Private.Words.Marked.{Marked, is_set}
+use Rattle.croner_base.specs.Private.Words.Next.{NonePlainFrom, IsLeastPlain, NonePlainTo, IsGreatestPlain}
 use Rattle.croner_base.proofs.Counts.{count_from, any_counted}
 use Rattle.croner_base.proofs.Defaults.{no_any, none_kept}
 

@@ -2,7 +2,7 @@
 use Rattle.std.proofs.Common.{◌≡◌, ◌≢◌, ℕ, suc, ◌+◌, ◌%◌, ◌^◌, ◌<◌, get_or, bit_or, refl, ap, sym, ◌∙◌, arith, subst}
 use Rattle.std.specs.Int.{bit_at}
 use Rattle.std.proofs.lemmas.Nat.Bits.{bit_at_or, same_from_bits}
-use Rattle.croner_base.specs.Words.Marked.{Marked, GainsRange}
+use Rattle.croner_base.specs.Private.Words.Marked.{Marked, GainsRange}
 use Rattle.croner_base.proofs.Words.Several.{low_none, low_all, low_bits_past, or_more}
 
 -- the values of the range have gained the first k modifiers

@@ -9,9 +9,9 @@ use Rattle.std.proofs.lemmas.List.{append-nil, get_or_past}
 use Rattle.std.proofs.lemmas.Nat.{and_le_l}
 use Rattle.std.proofs.lemmas.Nat.Bits.{bit_at_and, bit_at-lt, bit_at-zero, bit_at_cat_low, bit_at_cat_high, same_from_bits_below}
 use Rattle.croner_base.specs.Field.{room}
-use Rattle.croner_base.specs.Words.Marked.{Marked}
-use Rattle.croner_base.specs.Words.Masks.{MasksTo}
-use Rattle.croner_base.specs.Words.Rows.{width}
+use Rattle.croner_base.specs.Private.Words.Marked.{Marked}
+use Rattle.croner_base.specs.Private.Words.Masks.{MasksTo}
+use Rattle.croner_base.specs.Private.Words.Rows.{width}
 use Rattle.croner_base.specs.Written.{digits_of, set_writes, sets_writes}
 use Rattle.croner_base.proofs.Words.Places.{value_within}
 use Rattle.croner_base.proofs.Words.Sums.{more_lt, lowest_of}

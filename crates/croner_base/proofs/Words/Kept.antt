@@ -3,9 +3,9 @@ use Rattle.std.proofs.Common.{◌≡◌, ℕ, ◌+◌, ◌-◌, ◌*◌, ◌^◌
 use Rattle.std.specs.Int.{bit_at}
 use Rattle.std.proofs.lemmas.Nat.Bits.{bit_at_ones}
 use Rattle.croner_base.specs.Field.{room, has_any}
-use Rattle.croner_base.specs.Words.Counts.{ShowsMarked}
-use Rattle.croner_base.specs.Words.Marked.{Marked}
-use Rattle.croner_base.specs.Words.Rows.{width, rows_below, mark_at, sums_of, marks_in}
+use Rattle.croner_base.specs.Private.Words.Counts.{ShowsMarked}
+use Rattle.croner_base.specs.Private.Words.Marked.{Marked}
+use Rattle.croner_base.specs.Private.Words.Rows.{width, rows_below, mark_at, sums_of, marks_in}
 use Rattle.croner_base.proofs.Words.Sums.{sums_of-bit}
 
 -- all eight modifiers have a row

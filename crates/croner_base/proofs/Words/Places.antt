@@ -6,7 +6,7 @@ use Rattle.std.proofs.lemmas.Nat.{and_mask, one_shl, ones_cat, mod-pow-add, mul-
 use Rattle.std.proofs.lemmas.Nat.Bits.{bit_at-lt}
 use Rattle.std.proofs.lemmas.Bool.Decides.{nat_tests}
 use Rattle.croner_base.specs.Field.{room}
-use Rattle.croner_base.specs.Words.Rows.{rows_below, width}
+use Rattle.croner_base.specs.Private.Words.Rows.{rows_below, width}
 
 pub word_within : (v max : ℕ) → v < room max → v / 64 < width max
 word_within v max h = omega arith

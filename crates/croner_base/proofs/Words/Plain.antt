@@ -7,11 +7,11 @@ use Rattle.std.proofs.lemmas.List.{get_or-take, get_or_past}
 use Rattle.std.proofs.lemmas.Nat.{mul-le}
 use Rattle.std.proofs.lemmas.Nat.Bits.{and_pow, bit_at-lt, bit_at-zero}
 use Rattle.croner_base.specs.Field.{room}
-use Rattle.croner_base.specs.Words.Counts.{ShowsMarked}
-use Rattle.croner_base.specs.Words.Marked.{Marked, is_set}
-use Rattle.croner_base.specs.Words.Next.{NonePlainFrom, IsLeastPlain, NonePlainTo, IsGreatestPlain}
-use Rattle.croner_base.specs.Words.Search.{HasNoneFrom, IsLeastFrom, HasNoneTo, IsGreatestTo}
-use Rattle.croner_base.specs.Words.Rows.{width, in_row, rows_below, sums_of}
+use Rattle.croner_base.specs.Private.Words.Counts.{ShowsMarked}
+use Rattle.croner_base.specs.Private.Words.Marked.{Marked, is_set}
+use Rattle.croner_base.specs.Private.Words.Next.{NonePlainFrom, IsLeastPlain, NonePlainTo, IsGreatestPlain}
+use Rattle.croner_base.specs.Private.Words.Search.{HasNoneFrom, IsLeastFrom, HasNoneTo, IsGreatestTo}
+use Rattle.croner_base.specs.Private.Words.Rows.{width, in_row, rows_below, sums_of}
 use Rattle.croner_base.proofs.Words.Places.{row_before, rows_below-zero, word_within, value_within}
 use Rattle.croner_base.proofs.Words.Sums.{mark_at-one, mark_at-none, sums_of-bit}
 

@@ -8,11 +8,11 @@ use Rattle.std.proofs.lemmas.Nat.{mul-add-lt, mul-le, or_lt, pow_below}
 use Rattle.std.proofs.lemmas.Nat.Bits.{bit_at-pow_same, bit_at-pow_other, same_from_bits_below}
 use Rattle.std.proofs.lemmas.Bool.Decides.{nat_tests}
 use Rattle.croner_base.specs.Field.{room}
-use Rattle.croner_base.specs.Words.Marked.{GainsRange}
-use Rattle.croner_base.specs.Words.Rows.{width, rows_below, mark_at, sums_of}
+use Rattle.croner_base.specs.Private.Words.Marked.{GainsRange}
+use Rattle.croner_base.specs.Private.Words.Rows.{width, rows_below, mark_at, sums_of}
 use Rattle.croner_base.proofs.Words.Places.{row_before, word_within}
 use Rattle.croner_base.proofs.Words.Sums.{mark_at-one, mark_at-none, sums_of-bit, sums_of-lt, sums_of-past, length-sums_of}
-use Rattle.croner_base.specs.Words.Masks.{MasksFrom, MasksTo, HasMarked}
+use Rattle.croner_base.specs.Private.Words.Masks.{MasksFrom, MasksTo, HasMarked}
 
 -- the words before word n of the row are done
 pub record HasMarkedTo (old new : List ℕ) (start first last n : ℕ) : Type 0 where

@@ -6,9 +6,9 @@ use Rattle.std.proofs.lemmas.List.{get_or_past}
 use Rattle.std.proofs.lemmas.Nat.{leading_top, pow_pos, div-mul-add}
 use Rattle.std.proofs.lemmas.Nat.Bits.{bit_at_and, bit_at-lt, bit_at-zero, bit_at-trailing_zeros, ones_shl, ones_shr, bit_at_ones, bit_at_ones_above, bit_at_above, bit_at_mask_inside, bit_at_mask_below}
 use native.Mathlib.Nat.{pow-suc}
-use Rattle.croner_base.specs.Words.Rows.{in_row}
-use Rattle.croner_base.specs.Words.Masks.{MasksFrom, MasksTo}
-use Rattle.croner_base.specs.Words.Search.{HasNoneFrom, IsLeastFrom, IsGreatestTo}
+use Rattle.croner_base.specs.Private.Words.Rows.{in_row}
+use Rattle.croner_base.specs.Private.Words.Masks.{MasksFrom, MasksTo}
+use Rattle.croner_base.specs.Private.Words.Search.{HasNoneFrom, IsLeastFrom, IsGreatestTo}
 
 pub first_mask : (from : ℕ) → MasksFrom ((2 ^ 64 - 1) * 2 ^ (from % 64) % 2 ^ 64) from (from / 64)
 first_mask from =

@@ -8,10 +8,10 @@ use Rattle.std.proofs.lemmas.Nat.Bits.{bit_at_or, bit_at_and, bit_at-lt, bit_at_
 use Rattle.std.proofs.Math.Pow.{pow_mono}
 use native.Mathlib.Nat.{pow-suc}
 use Rattle.std.proofs.lemmas.Nat.{one_shl, or_lt, pow_below, and_le_l}
-use Rattle.croner_base.specs.Words.Marked.{Marked}
+use Rattle.croner_base.specs.Private.Words.Marked.{Marked}
 use Rattle.croner_base.specs.Field.{room}
 use Rattle.croner_base.proofs.Words.Places.{place_within, same_place, word_within}
-use Rattle.croner_base.specs.Words.Rows.{width, rows_below, mark_at, sum_below, sums_of}
+use Rattle.croner_base.specs.Private.Words.Rows.{width, rows_below, mark_at, sum_below, sums_of}
 
 -- ---- one sum
 

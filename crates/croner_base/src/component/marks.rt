@@ -3,10 +3,10 @@
 ghost use Rattle.std.specs.Prelude.{◌≡◌, ℕ, ◌+◌, ◌*◌, ◌/◌, ◌^◌, ◌<◌, ◌≤◌, true, false, length, bit_and, bit_or, nat_lt, slice_index, IfOk, MatchOption};
 ghost use Rattle.std.specs.Int.{bit_at};
 ghost use Rattle.croner_base.specs.Field.{room};
-ghost use Rattle.croner_base.specs.Words.Marked.{is_set, set_at, unset_at, nothing_set, GainsRange};
-ghost use Rattle.croner_base.specs.Words.Next.{NonePlainFrom, IsLeastPlain, NonePlainTo, IsGreatestPlain};
-ghost use Rattle.croner_base.specs.Words.Rows.{in_row, width};
-ghost use Rattle.croner_base.specs.Words.Word.{word_bits};
+ghost use Rattle.croner_base.specs.Private.Words.Marked.{is_set, set_at, unset_at, nothing_set, GainsRange};
+ghost use Rattle.croner_base.specs.Private.Words.Next.{NonePlainFrom, IsLeastPlain, NonePlainTo, IsGreatestPlain};
+ghost use Rattle.croner_base.specs.Private.Words.Rows.{in_row, width};
+ghost use Rattle.croner_base.specs.Private.Words.Word.{word_bits};
 
 use std::alloc::{AllocError, Global};
 use std::marker::Model;
@@ -29,9 +29,9 @@ pub struct Marks {
 
 impl Model for Marks {
     ghost use Rattle.std.specs.Prelude.{◌≡◌, ◌*◌, length};
-    ghost use Rattle.croner_base.specs.Words.Kept.{words_of, rows_of};
-    ghost use Rattle.croner_base.specs.Words.Marked.{Marked};
-    ghost use Rattle.croner_base.specs.Words.Rows.{rows_below, width, sums_of};
+    ghost use Rattle.croner_base.specs.Private.Words.Kept.{words_of, rows_of};
+    ghost use Rattle.croner_base.specs.Private.Words.Marked.{Marked};
+    ghost use Rattle.croner_base.specs.Private.Words.Rows.{rows_below, width, sums_of};
 
     ghost Value = { Marked };
 

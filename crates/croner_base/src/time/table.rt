@@ -40,7 +40,7 @@ pub struct ClockTable {
 }
 
 impl ClockTable {
-    ghost use Rattle.croner_base.specs.TableSteps.{IsCountUntil, offset_past};
+    ghost use Rattle.croner_base.specs.Private.TableSteps.{IsCountUntil, offset_past};
     ghost use Rattle.croner_base.specs.TableZone.{HasParts, table_zone};
     ghost use Rattle.croner_base.specs.Calm.{NamesAll};
 

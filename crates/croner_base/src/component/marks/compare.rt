@@ -4,9 +4,9 @@ ghost use Rattle.std.specs.Prelude.{◌≡◌, ℕ, ◌+◌, ◌*◌, ◌/◌, �
 ghost use Rattle.std.specs.Cmp.Lexicographic.{slice_cmp};
 ghost use Rattle.std.specs.Int.{bit_at};
 ghost use Rattle.std.specs.Ordering.{nat_cmp};
-ghost use Rattle.croner_base.specs.Words.Differences.{SameSums, IsFirstDifference, ShowsDifferences};
+ghost use Rattle.croner_base.specs.Private.Words.Differences.{SameSums, IsFirstDifference, ShowsDifferences};
 ghost use Rattle.croner_base.specs.Field.{room};
-ghost use Rattle.croner_base.specs.Words.Rows.{width};
+ghost use Rattle.croner_base.specs.Private.Words.Rows.{width};
 
 use super::words::{ALL_ROWS, WORD_BITS, Words};
 use super::{Marks, rows};

@@ -1,7 +1,7 @@
 //! Where the words of the rows are kept.
 
 ghost use Rattle.std.specs.Prelude.{◌≡◌, IsTrue};
-ghost use Rattle.croner_base.specs.Words.Kept.{IsSame};
+ghost use Rattle.croner_base.specs.Private.Words.Kept.{IsSame};
 
 /// How many values a word has, one bit each.
 pub const WORD_BITS: u16 = 64;

@@ -75,7 +75,7 @@ struct Tally {
 }
 
 impl Tally {
-    ghost use Rattle.croner_base.specs.TableSteps.{IsNext, HasTallied};
+    ghost use Rattle.croner_base.specs.Private.TableSteps.{IsNext, HasTallied};
 
     // One change more, or nothing where the table is refused for it.
     fn with(self, second: i64, offset: i32) -> Option<Tally>

@@ -1,8 +1,8 @@
 use Rattle.std.proofs.Common.{arith, ◌≡◌, ◌<◌, ◌*◌, ◌-◌, ◌^◌, min, ap}
 use Rattle.std.proofs.lemmas.Nat.{ones-le}
 use Rattle.croner_base.specs.Field.{room}
-use Rattle.croner_base.specs.Words.Marked.{is_set}
-use Rattle.croner_base.specs.Words.Rows.{width}
+use Rattle.croner_base.specs.Private.Words.Marked.{is_set}
+use Rattle.croner_base.specs.Private.Words.Rows.{width}
 use Rattle.croner_base.proofs.Words.Counting.{count_up, count_step}
 use Rattle.croner_base.proofs.component.marks.Marks.count_from.Goals as goal
 

@@ -1,7 +1,7 @@
 use Rattle.std.proofs.Common.{◌≡◌, ◌<◌, ◌^◌, length, ap, subst}
 use Rattle.croner_base.specs.Field.{room}
-use Rattle.croner_base.specs.Words.Kept.{words_of, rows_of}
-use Rattle.croner_base.specs.Words.Masks.{MasksTo}
+use Rattle.croner_base.specs.Private.Words.Kept.{words_of, rows_of}
+use Rattle.croner_base.specs.Private.Words.Masks.{MasksTo}
 use Rattle.croner_base.proofs.Words.Hashing.{masked_digits}
 use Rattle.croner_base.proofs.Words.Sums.{length-sums_of}
 use Rattle.croner_base.proofs.component.marks.Marks.digits.Goals as goal

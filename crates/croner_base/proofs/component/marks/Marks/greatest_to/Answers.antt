@@ -1,5 +1,5 @@
 use Rattle.std.proofs.Common.{◌≡◌, min, MatchOption, ap, ◌∙◌, subst}
-use Rattle.croner_base.specs.Words.Search.{HasNoneTo, IsGreatestTo}
+use Rattle.croner_base.specs.Private.Words.Search.{HasNoneTo, IsGreatestTo}
 use Rattle.croner_base.proofs.Words.Plain.{Shows, greatest_found}
 use Rattle.croner_base.proofs.component.marks.Marks.greatest_to.Goals as goal
 

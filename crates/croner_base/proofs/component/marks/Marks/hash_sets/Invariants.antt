@@ -1,6 +1,6 @@
 use Rattle.std.proofs.Common.{◌≡◌}
 use Rattle.std.specs.List.{fold}
-use Rattle.croner_base.specs.Words.Rows.{width}
+use Rattle.croner_base.specs.Private.Words.Rows.{width}
 use Rattle.croner_base.proofs.Words.Hashing.{sets_below}
 use Rattle.croner_base.proofs.component.marks.Marks.hash_sets.Given as goal
 

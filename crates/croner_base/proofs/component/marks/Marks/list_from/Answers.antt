@@ -1,5 +1,5 @@
 use Rattle.std.proofs.Common.{arith, ◌≡◌, ◌<◌, ap}
-use Rattle.croner_base.specs.Words.Rows.{width}
+use Rattle.croner_base.specs.Private.Words.Rows.{width}
 use Rattle.croner_base.proofs.Words.Counting.{list_step}
 use Rattle.croner_base.proofs.component.marks.Marks.list_from.Goals as goal
 

@@ -1,5 +1,5 @@
 use Rattle.std.proofs.Common.{◌≡◌, ap, subst}
-use Rattle.croner_base.specs.Words.Masks.{MasksTo}
+use Rattle.croner_base.specs.Private.Words.Masks.{MasksTo}
 use Rattle.croner_base.proofs.Words.Counting.{shows_from}
 use Rattle.croner_base.proofs.component.marks.Marks.marked.Goals as goal
 

@@ -1,7 +1,7 @@
 use Rattle.std.proofs.Common.{◌≡◌, ◌*◌, length, ap, sym, ◌∙◌, rules}
 use Rattle.std.proofs.lemmas.List.{length-replicate}
-use Rattle.croner_base.specs.Words.Kept.{words_of, rows_of}
-use Rattle.croner_base.specs.Words.Rows.{width, rows_below, sums_of}
+use Rattle.croner_base.specs.Private.Words.Kept.{words_of, rows_of}
+use Rattle.croner_base.specs.Private.Words.Rows.{width, rows_below, sums_of}
 use Rattle.croner_base.proofs.Words.Kept.{one_each}
 use Rattle.croner_base.proofs.Words.Sums.{blank, sums_of-none, with_sums}
 use Rattle.croner_base.proofs.component.marks.Marks.new.Goals as goal

@@ -1,7 +1,7 @@
 use Rattle.std.proofs.Common.{ℕ, ◌≡◌, ◌<◌, ◌+◌, ◌*◌, get_or, ap, sym, ◌∙◌, subst}
 use Rattle.std.specs.Int.{bit_at}
-use Rattle.croner_base.specs.Words.Kept.{words_of, rows_of}
-use Rattle.croner_base.specs.Words.Rows.{width, mark_at, sums_of}
+use Rattle.croner_base.specs.Private.Words.Kept.{words_of, rows_of}
+use Rattle.croner_base.specs.Private.Words.Rows.{width, mark_at, sums_of}
 use Rattle.croner_base.proofs.Words.Kept.{Keeps, keeps, word_by}
 use Rattle.croner_base.proofs.Words.Sums.{sums_of-small}
 use Rattle.croner_base.proofs.component.marks.Marks.word.Goals as goal

@@ -1,6 +1,6 @@
 use Rattle.std.proofs.Common.{arith, ◌≡◌, ◌<◌, ◌+◌, ◌*◌, ◌/◌, ◌^◌, ◌%◌, ◌-◌, get_or, subst}
 use Rattle.std.proofs.lemmas.Nat.{and_le_l}
-use Rattle.croner_base.specs.Words.Masks.{MasksTo}
+use Rattle.croner_base.specs.Private.Words.Masks.{MasksTo}
 use Rattle.croner_base.proofs.Words.Search.{HasNoneDown, last_mask, earlier_mask, word_of_none_down, word_of_greatest}
 use Rattle.croner_base.proofs.component.marks.row.greatest_to.Goals as goal
 

@@ -1,5 +1,5 @@
 use Rattle.std.proofs.Common.{◌≤◌, ◌<◌, ◌+◌, ◌-◌, ◌*◌, ◌/◌}
-use Rattle.croner_base.specs.Words.Masks.{MasksTo}
+use Rattle.croner_base.specs.Private.Words.Masks.{MasksTo}
 use Rattle.croner_base.proofs.Words.Search.{HasNoneDown}
 use Rattle.croner_base.proofs.component.marks.row.greatest_to.Given as goal
 

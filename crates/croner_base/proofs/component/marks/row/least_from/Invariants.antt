@@ -1,5 +1,5 @@
 use Rattle.std.proofs.Common.{◌*◌}
-use Rattle.croner_base.specs.Words.Masks.{MasksFrom}
+use Rattle.croner_base.specs.Private.Words.Masks.{MasksFrom}
 use Rattle.croner_base.proofs.Words.Search.{HasNone}
 use Rattle.croner_base.proofs.component.marks.row.least_from.Given as goal
 

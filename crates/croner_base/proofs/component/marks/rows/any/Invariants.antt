@@ -1,4 +1,4 @@
-use Rattle.croner_base.specs.Words.Rows.{marks_in}
+use Rattle.croner_base.specs.Private.Words.Rows.{marks_in}
 use Rattle.croner_base.proofs.Words.Counting.{ShowsAny}
 use Rattle.croner_base.proofs.component.marks.rows.any.Given as goal
 

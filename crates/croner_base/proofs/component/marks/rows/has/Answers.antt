@@ -2,7 +2,7 @@ use Rattle.std.proofs.Common.{arith, ◌≡◌, length, ap, sym, ◌∙◌, ◌%
 use Rattle.std.proofs.lemmas.Bool.{ne_eqb}
 use Rattle.std.specs.Int.{bit_at}
 use Rattle.std.proofs.lemmas.Nat.Bits.{shr_and_one}
-use Rattle.croner_base.specs.Words.Rows.{width}
+use Rattle.croner_base.specs.Private.Words.Rows.{width}
 use Rattle.croner_base.proofs.Words.Places.{place_in}
 use Rattle.croner_base.proofs.Words.Sums.{mark_at-one, mark_at-none}
 use Rattle.croner_base.proofs.component.marks.rows.has.Goals as goal

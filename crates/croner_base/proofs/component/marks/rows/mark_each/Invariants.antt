@@ -1,5 +1,5 @@
 use Rattle.std.proofs.Common.{◌≡◌, length}
-use Rattle.croner_base.specs.Words.Rows.{sums_of}
+use Rattle.croner_base.specs.Private.Words.Rows.{sums_of}
 use Rattle.croner_base.proofs.Words.Several.{marked}
 use Rattle.croner_base.proofs.component.marks.rows.mark_each.Given as goal
 

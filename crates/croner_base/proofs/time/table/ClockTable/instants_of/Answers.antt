@@ -1,6 +1,6 @@
 use Rattle.std.proofs.Common.{◌≡◌, ◌≤◌, ◌-◌, length, arith, pos, ◌-ℤ◌, ◌+ℤ◌, FitsSigned, w64}
 use Rattle.std.proofs.lemmas.Int.{ints, to_z-of_z}
-use Rattle.croner_base.specs.TableSteps.{offset_past}
+use Rattle.croner_base.specs.Private.TableSteps.{offset_past}
 use Rattle.croner_base.proofs.TableTests.{offset_bounds}
 use Rattle.croner_base.proofs.TableReadings.{sides_of, names_first, names_early, names_late, names_both, names_gap, calm_offsets}
 use Rattle.croner_base.proofs.time.table.ClockTable.instants_of.Goals as goal

@@ -3,8 +3,8 @@ use Rattle.std.specs.Prelude.{ℕ, ◌≡◌, ◌+◌, ◌-◌, ◌*◌, ◌<◌
 use Rattle.std.specs.Int.{bit_at}
 use Rattle.std.specs.List.{filter, range_with_len}
 use Rattle.croner_base.specs.Field.{room}
-use Rattle.croner_base.specs.Words.Marked.{Marked, is_set}
-use Rattle.croner_base.specs.Words.Word.{word_bits}
+use Rattle.croner_base.specs.Private.Words.Marked.{Marked, is_set}
+use Rattle.croner_base.specs.Private.Words.Word.{word_bits}
 
 -- the word has a bit for each value of word i that is marked with one of the bits
 pub record ShowsMarked (f : Marked) (bits i found : ℕ) : Type 0 where

@@ -2,8 +2,8 @@
 use Rattle.std.specs.Prelude.{ℕ, ◌≡◌, ◌≢◌, ◌+◌, ◌*◌, ◌<◌, slice_index}
 use Rattle.std.specs.Int.{bit_at}
 use Rattle.croner_base.specs.Field.{room}
-use Rattle.croner_base.specs.Words.Marked.{Marked}
-use Rattle.croner_base.specs.Words.Word.{word_bits}
+use Rattle.croner_base.specs.Private.Words.Marked.{Marked}
+use Rattle.croner_base.specs.Private.Words.Word.{word_bits}
 
 -- no value that both have has two sums
 abbrev pub SameSums : Marked → Marked → Type 0

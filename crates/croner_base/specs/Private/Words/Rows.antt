@@ -3,8 +3,8 @@ use Rattle.std.specs.Prelude.{ℕ, zero, suc, ◌+◌, ◌-◌, ◌*◌, ◌/◌
 use Rattle.std.specs.Int.{bit_at}
 use Rattle.std.specs.List.{range_with_len}
 use Rattle.croner_base.specs.Field.{room}
-use Rattle.croner_base.specs.Words.Marked.{Marked}
-use Rattle.croner_base.specs.Words.Word.{word_bits}
+use Rattle.croner_base.specs.Private.Words.Marked.{Marked}
+use Rattle.croner_base.specs.Private.Words.Word.{word_bits}
 
 -- how many words a row has
 abbrev pub width : ℕ → ℕ

@@ -1,6 +1,6 @@
 -- The next value of a row, upwards and downwards.
 use Rattle.std.specs.Prelude.{ℕ, ◌≡◌, ◌<◌, ◌≤◌, List}
-use Rattle.croner_base.specs.Words.Rows.{in_row}
+use Rattle.croner_base.specs.Private.Words.Rows.{in_row}
 
 abbrev pub HasNoneFrom : List ℕ → ℕ → Type 0
 HasNoneFrom row from = (v : ℕ) → from ≤ v → in_row row v ≡ 0

@@ -1,6 +1,6 @@
 -- The next plain value, upwards and downwards.
 use Rattle.std.specs.Prelude.{ℕ, ◌≡◌, ◌<◌, ◌≤◌, true, false}
-use Rattle.croner_base.specs.Words.Marked.{Marked, is_set}
+use Rattle.croner_base.specs.Private.Words.Marked.{Marked, is_set}
 
 abbrev pub NonePlainFrom : Marked → ℕ → Type 0
 NonePlainFrom f from = (v : ℕ) → from ≤ v → is_set 1 f v ≡ false

@@ -1,0 +1,3 @@
+-- How tables are checked and marks are kept. Private contracts alone cite these definitions.
+pub mod TableSteps
+pub mod Words
