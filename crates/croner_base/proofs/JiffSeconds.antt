@@ -12,6 +12,7 @@ use Rattle.jiff_core.proofs.CalendarLemmas.{days_of_months-zero, days_of_months_
 use Rattle.jiff_core.proofs.DateLemmas.{days_from_civil-min, days_from_civil-max}
 use Rattle.croner_base.specs.declared.time.civil.CivilDateTime.{CivilDateTime}
 use Rattle.croner_base.specs.declared.time.civil.CivilDate.{CivilDate}
+use Rattle.croner_base.specs.Limits.{year_limit}
 use Rattle.croner_base.specs.Calendar.{IsRealDate, day_number, weekday_of_day, day_seconds}
 use Rattle.croner_base.specs.declared.time.civil.CivilTime.{CivilTime}
 use Rattle.croner_base.specs.Civil.{HasYmd, wall_second, day_of_date, seconds_of_time, weekday_of_second}
@@ -115,7 +116,7 @@ near_last : (day_number (pos 9999) 1 1 +ℤ pos 364) ≤ℤ pos 2_932_896
 near_last =
     omega (arith, signed_arith, last_day, day_number-parts (pos 9999) 1 1, day_number-parts (pos 9999) 12 31, days_of_months-zero (pos 9999), days_of_months_all (pos 9999), days_of_months_more (pos 9999) 12 (omega arith), days_in_year_bounds (pos 9999))
 
-pub near_day : (d : CivilDate) → neg_ℤ (pos 9998) ≤ℤ d.year → d.year ≤ℤ pos 9998 → (neg_ℤ (pos 4_371_222) ≤ℤ day_of_date d) × (day_of_date d ≤ℤ pos 2_932_531)
+pub near_day : (d : CivilDate) → neg_ℤ (pos year_limit) ≤ℤ d.year → d.year ≤ℤ pos year_limit → (neg_ℤ (pos 4_371_222) ≤ℤ day_of_date d) × (day_of_date d ≤ℤ pos 2_932_531)
 near_day d low high =
     let first : IsRealDate (neg_ℤ (pos 9999)) 12 31 = ((omega arith, omega arith), (omega arith, omega arith)) in
     let last : IsRealDate (pos 9999) 1 1 = ((omega arith, omega arith), (omega arith, omega arith)) in (
@@ -123,7 +124,7 @@ near_day d low high =
       omega (arith, signed_arith, near_last, day_number-lt_year d.year d.month d.day (pos 9999) 1 1 d.real last (omega (arith, signed_arith))),
     )
 
-pub near_second : (c : CivilDateTime) → neg_ℤ (pos 9998) ≤ℤ c.date.year → c.date.year ≤ℤ pos 9998 → (neg_ℤ (pos 377_673_580_800) ≤ℤ wall_second c) × (wall_second c ≤ℤ pos 253_370_764_799)
+pub near_second : (c : CivilDateTime) → neg_ℤ (pos year_limit) ≤ℤ c.date.year → c.date.year ≤ℤ pos year_limit → (neg_ℤ (pos 377_673_580_800) ≤ℤ wall_second c) × (wall_second c ≤ℤ pos 253_370_764_799)
 near_second c low high =
     let b = near_day c.date low high in (
       omega (arith, signed_arith, b.0, wall_second-parts c, c.time.hour_in, c.time.minute_in, c.time.second_in),
@@ -131,18 +132,18 @@ near_second c low high =
     )
 
 -- a real date with such a day number has a year from -9998 to 9998
-pub year_of_near : (d : CivilDate) → neg_ℤ (pos 4_371_222) ≤ℤ day_of_date d → day_of_date d ≤ℤ pos 2_932_531 → (neg_ℤ (pos 9998) ≤ℤ d.year) × (d.year ≤ℤ pos 9998)
+pub year_of_near : (d : CivilDate) → neg_ℤ (pos 4_371_222) ≤ℤ day_of_date d → day_of_date d ≤ℤ pos 2_932_531 → (neg_ℤ (pos year_limit) ≤ℤ d.year) × (d.year ≤ℤ pos year_limit)
 year_of_near d low high =
-    let first : IsRealDate (neg_ℤ (pos 9998)) 1 1 = ((omega arith, omega arith), (omega arith, omega arith)) in
-    let last : IsRealDate (pos 9998) 12 31 = ((omega arith, omega arith), (omega arith, omega arith)) in
-    let start : day_number (neg_ℤ (pos 9998)) 1 1 ≡ neg_ℤ (pos 4_371_222) =
-    omega (arith, signed_arith, first_day, day_number-parts (neg_ℤ (pos 9999)) 1 1, day_number-parts (neg_ℤ (pos 9998)) 1 1, days_of_months-zero (neg_ℤ (pos 9999)), days_of_months-zero (neg_ℤ (pos 9998)), year_start-next (neg_ℤ (pos 9999))) in
-    let end : day_number (pos 9998) 12 31 ≡ pos 2_932_531 =
-    omega (arith, signed_arith, last_day, day_number-parts (pos 9999) 12 31, day_number-parts (pos 9998) 12 31, days_of_months_more (pos 9999) 12 (omega arith), days_of_months_all (pos 9999), days_of_months_more (pos 9998) 12 (omega arith), days_of_months_all (pos 9998), year_start-next (pos 9998)) in
-    by_lt_z d.year (neg_ℤ (pos 9998))
-    (λ lt. absurd (omega (arith, signed_arith, start, day_number-lt_year d.year d.month d.day (neg_ℤ (pos 9998)) 1 1 d.real first lt)))
-    (λ ge. by_lt_z (pos 9998) d.year
-    (λ gt. absurd (omega (arith, signed_arith, end, day_number-lt_year (pos 9998) 12 31 d.year d.month d.day last d.real gt)))
+    let first : IsRealDate (neg_ℤ (pos year_limit)) 1 1 = ((omega arith, omega arith), (omega arith, omega arith)) in
+    let last : IsRealDate (pos year_limit) 12 31 = ((omega arith, omega arith), (omega arith, omega arith)) in
+    let start : day_number (neg_ℤ (pos year_limit)) 1 1 ≡ neg_ℤ (pos 4_371_222) =
+    omega (arith, signed_arith, first_day, day_number-parts (neg_ℤ (pos 9999)) 1 1, day_number-parts (neg_ℤ (pos year_limit)) 1 1, days_of_months-zero (neg_ℤ (pos 9999)), days_of_months-zero (neg_ℤ (pos year_limit)), year_start-next (neg_ℤ (pos 9999))) in
+    let end : day_number (pos year_limit) 12 31 ≡ pos 2_932_531 =
+    omega (arith, signed_arith, last_day, day_number-parts (pos 9999) 12 31, day_number-parts (pos year_limit) 12 31, days_of_months_more (pos 9999) 12 (omega arith), days_of_months_all (pos 9999), days_of_months_more (pos year_limit) 12 (omega arith), days_of_months_all (pos year_limit), year_start-next (pos year_limit)) in
+    by_lt_z d.year (neg_ℤ (pos year_limit))
+    (λ lt. absurd (omega (arith, signed_arith, start, day_number-lt_year d.year d.month d.day (neg_ℤ (pos year_limit)) 1 1 d.real first lt)))
+    (λ ge. by_lt_z (pos year_limit) d.year
+    (λ gt. absurd (omega (arith, signed_arith, end, day_number-lt_year (pos year_limit) 12 31 d.year d.month d.day last d.real gt)))
     (λ le. (ge, le)))
 
 -- the days just past jiff's years

@@ -18,7 +18,8 @@ use Rattle.croner_base.proofs.TableTests.{Step, both_parts, step_parts, searched
 use Rattle.croner_base.proofs.TableCheck.{rules_from_calm}
 use Rattle.croner_base.proofs.TableOffsets.{IsSpread, int_le-true, int_le-false, offset_within, stays}
 use Rattle.croner_base.proofs.TableReadings.{calm_spread, calm_offsets}
-use Rattle.croner_base.proofs.TableMoments.{names_instants, near_year-true}
+use Rattle.croner_base.proofs.TableMoments.{names_instants}
+use Rattle.croner_base.proofs.ZonedResolved.{is_near_year-true}
 use Rattle.croner_base.specs.Limits.{apart_limit}
 
 -- the offset in force changes at d
@@ -192,7 +193,7 @@ near_resolved : (t : ClockTable) (c : CivilDateTime) → neg_ℤ (pos 377_673_58
 unfolding clock
 near_resolved t c low high =
     let y = year_of_near c.date (omega (arith, signed_arith, wall_second-parts c, c.time.hour_in, c.time.minute_in, c.time.second_in)) (omega (arith, signed_arith, wall_second-parts c, c.time.hour_in, c.time.minute_in, c.time.second_in)) in
-    let n = near_year-true c.date.year y.0 y.1 in
+    let n = is_near_year-true c.date.year y.0 y.1 in
     rw n refl
 
 held : (t : ClockTable) (i : ℤ) → neg_ℤ (pos 377_705_116_800) ≤ℤ i → i ≤ℤ pos 253_402_300_799 → (table_zone t).holds i ≡ true

@@ -7,6 +7,7 @@ use Rattle.croner_base.specs.declared.time.table.ClockTable.{ClockTable}
 use Rattle.croner_base.specs.declared.time.table.TableTime.{TableTime}
 use Rattle.croner_base.specs.declared.time.value.Resolution.{Resolution}
 use Rattle.croner_base.specs.declared.time.value.Resolution.TheVariants.{Single, Ambiguous, Gap}
+use Rattle.croner_base.specs.Limits.{year_limit}
 use Rattle.croner_base.specs.Civil.{wall_second}
 use Rattle.croner_base.specs.Calm.{NamesAll}
 use Rattle.croner_base.specs.Zone.{Zone, Moment, Names, IsResolved, IsUnheld, IsMoved, at_instant}
@@ -14,9 +15,10 @@ use Rattle.croner_base.specs.ZonedZone.{is_near_year}
 use Rattle.croner_base.specs.Table.{is_table_second, is_calm_table}
 use Rattle.croner_base.specs.TableZone.{clock, instants_of, table_zone, table_moment}
 use Rattle.croner_base.proofs.PickExact.{pick_exact}
-use Rattle.croner_base.proofs.TableTests.{le_test, le_of, both_parts, instant_test, instant_bounds}
+use Rattle.croner_base.proofs.TableTests.{le_of, both_parts, instant_test, instant_bounds}
 use Rattle.croner_base.proofs.TableOffsets.{candidates, offset_within}
 use Rattle.croner_base.proofs.TableReadings.{calm_spread, calm_offsets}
+use Rattle.croner_base.proofs.ZonedResolved.{is_near_year-true}
 
 -- two resolutions that name all instants of a second are one
 pub names_unique : (z : Zone) (w : ℤ) (r s : Resolution ℤ) → NamesAll z w r → NamesAll z w s → r ≡ s
@@ -48,28 +50,25 @@ unfolding clock
 names_instants o cs w h =
     pick_exact (clock o cs) w _ _ (λ i e. candidates o cs w i (calm_spread o cs h) (calm_offsets o cs h) e)
 
-pub near_year-true : (y : ℤ) → neg_ℤ (pos 9998) ≤ℤ y → y ≤ℤ pos 9998 → is_near_year y ≡ true
-near_year-true y low high = let a = le_test _ _ low in let b = le_test _ _ high in rw (a, b)
-
-near_year_bounds : (y : ℤ) → is_near_year y ≡ true → (neg_ℤ (pos 9998) ≤ℤ y) × (y ≤ℤ pos 9998)
+near_year_bounds : (y : ℤ) → is_near_year y ≡ true → (neg_ℤ (pos year_limit) ≤ℤ y) × (y ≤ℤ pos year_limit)
 near_year_bounds y h =
     let p = both_parts _ _ h in
     (le_of _ _ p.0, le_of _ _ p.1)
 
-pub near_year-false : (y : ℤ) → (neg_ℤ (pos 9998) ≤ℤ y → y ≤ℤ pos 9998 → ⊥) → is_near_year y ≡ false
+pub near_year-false : (y : ℤ) → (neg_ℤ (pos year_limit) ≤ℤ y → y ≤ℤ pos year_limit → ⊥) → is_near_year y ≡ false
 near_year-false y h =
     let both : (b : Bool) → is_near_year y ≡ b → b ≡ false = elim [ true ↦ λ e. absurd (h (near_year_bounds y e).0 (near_year_bounds y e).1) | false ↦ λ e. refl ] in
     both _ refl
 
 -- a second of another year is not held
-pub unheld : (t : ClockTable) (c : CivilDateTime) → (neg_ℤ (pos 9998) ≤ℤ c.date.year → c.date.year ≤ℤ pos 9998 → ⊥) → IsUnheld false (table_zone t) c InvalidDate
+pub unheld : (t : ClockTable) (c : CivilDateTime) → (neg_ℤ (pos year_limit) ≤ℤ c.date.year → c.date.year ≤ℤ pos year_limit → ⊥) → IsUnheld false (table_zone t) c InvalidDate
 unfolding clock
 unheld t c h = let year = near_year-false c.date.year h in inr (inl refl, rw year)
 
-resolves_to : (t : ClockTable) (c : CivilDateTime) (r : Resolution ℤ) → neg_ℤ (pos 9998) ≤ℤ c.date.year → c.date.year ≤ℤ pos 9998 → NamesAll (table_zone t) (wall_second c) r → (table_zone t).resolves c ≡ Some r
+resolves_to : (t : ClockTable) (c : CivilDateTime) (r : Resolution ℤ) → neg_ℤ (pos year_limit) ≤ℤ c.date.year → c.date.year ≤ℤ pos year_limit → NamesAll (table_zone t) (wall_second c) r → (table_zone t).resolves c ≡ Some r
 unfolding clock
 resolves_to t c r low high n =
-    let year = near_year-true c.date.year low high in
+    let year = is_near_year-true c.date.year low high in
     let same = names_unique (table_zone t) (wall_second c) (instants_of t.first_offset t.changes.items (wall_second c)) r (names_instants t.first_offset t.changes.items (wall_second c) t.calm) n in
     rw (year, same)
 
@@ -78,13 +77,13 @@ named t w s x r e =
     let i : x.second ≡ s = ap (λ (m : Moment). m.instant) e in
     record { zone_is = ap (λ (m : Moment). m.zone) e; whole = refl; reads_it = rw i r }
 
-pub resolved_single : (t : ClockTable) (c : CivilDateTime) (s : ℤ) (x : TableTime) → neg_ℤ (pos 9998) ≤ℤ c.date.year → c.date.year ≤ℤ pos 9998 → NamesAll (table_zone t) (wall_second c) (Single s) → table_moment x ≡ at_instant (table_zone t) s → IsResolved table_moment (table_zone t) c (Single x)
+pub resolved_single : (t : ClockTable) (c : CivilDateTime) (s : ℤ) (x : TableTime) → neg_ℤ (pos year_limit) ≤ℤ c.date.year → c.date.year ≤ℤ pos year_limit → NamesAll (table_zone t) (wall_second c) (Single s) → table_moment x ≡ at_instant (table_zone t) s → IsResolved table_moment (table_zone t) c (Single x)
 resolved_single t c s x low high n e =
     let v = resolves_to t c (Single s) low high n in
     let i : x.second ≡ s = ap (λ (m : Moment). m.instant) e in
     (named t (wall_second c) s x ((n s).1 refl) e, rw i v)
 
-pub resolved_ambiguous : (t : ClockTable) (c : CivilDateTime) (a b : ℤ) (x y : TableTime) → neg_ℤ (pos 9998) ≤ℤ c.date.year → c.date.year ≤ℤ pos 9998 → NamesAll (table_zone t) (wall_second c) (Ambiguous a b) → table_moment x ≡ at_instant (table_zone t) a → table_moment y ≡ at_instant (table_zone t) b → IsResolved table_moment (table_zone t) c (Ambiguous x y)
+pub resolved_ambiguous : (t : ClockTable) (c : CivilDateTime) (a b : ℤ) (x y : TableTime) → neg_ℤ (pos year_limit) ≤ℤ c.date.year → c.date.year ≤ℤ pos year_limit → NamesAll (table_zone t) (wall_second c) (Ambiguous a b) → table_moment x ≡ at_instant (table_zone t) a → table_moment y ≡ at_instant (table_zone t) b → IsResolved table_moment (table_zone t) c (Ambiguous x y)
 resolved_ambiguous t c a b x y low high n e f =
     let v = resolves_to t c (Ambiguous a b) low high n in
     let i : x.second ≡ a = ap (λ (m : Moment). m.instant) e in
@@ -95,7 +94,7 @@ resolved_ambiguous t c a b x y low high n e f =
       rw (i, j) v,
     )
 
-pub resolved_gap : (t : ClockTable) (c : CivilDateTime) → neg_ℤ (pos 9998) ≤ℤ c.date.year → c.date.year ≤ℤ pos 9998 → NamesAll (table_zone t) (wall_second c) Gap → IsResolved table_moment (table_zone t) c Gap
+pub resolved_gap : (t : ClockTable) (c : CivilDateTime) → neg_ℤ (pos year_limit) ≤ℤ c.date.year → c.date.year ≤ℤ pos year_limit → NamesAll (table_zone t) (wall_second c) Gap → IsResolved table_moment (table_zone t) c Gap
 resolved_gap t c low high n = resolves_to t c Gap low high n
 
 -- an instant that reads a second of the years -9998 to 9998 is held

@@ -7,6 +7,7 @@ use Rattle.jiff_core.specs.declared.civil.datetime.DateTime.{DateTime}
 use Rattle.jiff_core.proofs.SignedLemmas.{signed_arith}
 use Rattle.jiff_core.proofs.DateTimeLemmas.{civil_nanos-civil_seconds}
 use Rattle.jiff_core.specs.Timestamp.{IsTimestampNanos}
+use Rattle.croner_base.specs.Limits.{year_limit}
 use Rattle.croner_base.specs.CivilZone.{IsWhole}
 use Rattle.jiff_tz.specs.Ambiguous.{instant_of, earlier_offset, later_offset}
 use Rattle.jiff_tz.specs.Zone.{ambiguous_at}
@@ -25,13 +26,13 @@ use Rattle.croner_base.specs.ZonedValue.{value_moment, chosen}
 use Rattle.croner_base.proofs.JiffSeconds.{wall_second-civil_seconds, near_second}
 use Rattle.croner_base.proofs.ZonedMoments.{Side, side}
 
-pub is_near_year-true : (y : ℤ) → neg_ℤ (pos 9998) ≤ℤ y → y ≤ℤ pos 9998 → is_near_year y ≡ true
+pub is_near_year-true : (y : ℤ) → neg_ℤ (pos year_limit) ≤ℤ y → y ≤ℤ pos year_limit → is_near_year y ≡ true
 is_near_year-true y low high = grind (arith, ints)
 
-pub is_near_year-low : (y : ℤ) → y <ℤ neg_ℤ (pos 9998) → is_near_year y ≡ false
+pub is_near_year-low : (y : ℤ) → y <ℤ neg_ℤ (pos year_limit) → is_near_year y ≡ false
 is_near_year-low y low = grind (arith, ints)
 
-pub is_near_year-high : (y : ℤ) → pos 9998 <ℤ y → is_near_year y ≡ false
+pub is_near_year-high : (y : ℤ) → pos year_limit <ℤ y → is_near_year y ≡ false
 is_near_year-high y high = grind (arith, ints)
 
 resolve_near : (tz : TimeZone) (c : CivilDateTime) (dt : DateTime) → civil_nanos dt ≡ wall_second c *ℤ pos 1_000_000_000 → (b : Bool) (e : is_near_year c.date.year ≡ b) → b ≡ true → resolve_by tz c b e ≡ Some (pick_offsets tz (wall_second c) (ambiguous_at tz dt))
@@ -106,7 +107,7 @@ chosen_resolved tz c dt e l false true s = (names_side tz _ _ l s.later, picked 
 chosen_resolved tz c dt e l false false s = picked tz c dt e l false false s
 
 -- each offset gives an instant near these years
-pub near_timestamp : (c : CivilDateTime) (dt : DateTime) (o : Offset) → neg_ℤ (pos 9998) ≤ℤ c.date.year → c.date.year ≤ℤ pos 9998 → civil_nanos dt ≡ wall_second c *ℤ pos 1_000_000_000 → IsTimestampNanos (instant_of dt o)
+pub near_timestamp : (c : CivilDateTime) (dt : DateTime) (o : Offset) → neg_ℤ (pos year_limit) ≤ℤ c.date.year → c.date.year ≤ℤ pos year_limit → civil_nanos dt ≡ wall_second c *ℤ pos 1_000_000_000 → IsTimestampNanos (instant_of dt o)
 near_timestamp c dt o low high e =
     let b = near_second c low high in
     (omega (arith, signed_arith, b, e, o.in_range), omega (arith, signed_arith, b, e, o.in_range))
@@ -117,7 +118,7 @@ whole_nanos w dt h = omega (arith, signed_arith, civil_nanos-civil_seconds dt, h
 -- from what the calls said
 pub sides : (tz tz₁ : TimeZone) (c : CivilDateTime) (dt d₁ : DateTime) (offsets : AmbiguousOffset) (zone₁ : TimeZone) (e l : Zoned) (b₁ b₂ : Bool)
     → tz₁ ≡ tz → d₁ ≡ dt → offsets ≡ ambiguous_at tz₁ dt → zone₁ ≡ tz₁
-    → neg_ℤ (pos 9998) ≤ℤ c.date.year → c.date.year ≤ℤ pos 9998 → IsWhole (wall_second c) dt
+    → neg_ℤ (pos year_limit) ≤ℤ c.date.year → c.date.year ≤ℤ pos year_limit → IsWhole (wall_second c) dt
     → (plain_zoned e).timestamp.nanosecond ≡ instant_of d₁ (earlier_offset offsets) → (plain_zoned e).time_zone ≡ zone₁
     → (plain_zoned l).timestamp.nanosecond ≡ instant_of d₁ (later_offset offsets) → (plain_zoned l).time_zone ≡ zone₁
     → int_eq (civil_nanos (plain_zoned e).datetime) (civil_nanos dt) ≡ b₁ → int_eq (civil_nanos (plain_zoned l).datetime) (civil_nanos dt) ≡ b₂

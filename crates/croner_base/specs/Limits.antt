@@ -25,6 +25,10 @@ most_gap_seconds = 20_000_000
 abbrev pub near_limit : ℕ
 near_limit = 172_800
 
+-- the last year whose seconds a zoned date-time and a table's clock hold, and the first so many years before year 0
+abbrev pub year_limit : ℕ
+year_limit = 9_998
+
 -- the wall seconds that a pattern can name: 0001-01-01T00:00:00
 abbrev pub first_searched : ℤ
 first_searched = neg_ℤ (pos 62_135_596_800)

@@ -17,6 +17,7 @@ use Rattle.croner_base.specs.declared.time.value.Resolution.{Resolution}
 use Rattle.croner_base.specs.declared.time.value.Resolution.TheVariants.{Single, Ambiguous, Gap}
 use Rattle.croner_base.specs.Civil.{wall_second}
 use Rattle.croner_base.specs.Zone.{Zone, Moment}
+use Rattle.croner_base.specs.Limits.{year_limit}
 
 -- the first and the last whole second of jiff's instants
 abbrev pub first_timestamp : ℤ
@@ -41,7 +42,7 @@ zone_reads tz i = i +ℤ offset_at tz (nanos_of_seconds (nearest_timestamp i))
 
 -- a year at whose seconds each offset gives an instant
 abbrev pub is_near_year : ℤ → Bool
-is_near_year y = int_le (neg_ℤ (pos 9998)) y && int_le y (pos 9998)
+is_near_year y = int_le (neg_ℤ (pos year_limit)) y && int_le y (pos year_limit)
 
 pub is_near_year_bounds : (y : ℤ) → is_near_year y ≡ true → IsYear y
 is_near_year_bounds y h = (Prim.grind (arith, ints), Prim.grind (arith, ints))

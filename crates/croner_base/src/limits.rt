@@ -2,3 +2,7 @@
 
 /// The most seconds that the clock of a calm zone is moved forward at once.
 pub const GAP_LIMIT_SECONDS: u32 = 86_400;
+
+/// The last year whose seconds a zoned date-time and a table's clock hold, and the first so many years before year 0: each
+/// second of these years plus any offset is an instant of `jiff` and of a table.
+pub(crate) const YEAR_LIMIT: i32 = 9_998;

@@ -40,7 +40,7 @@ pub fn weekday_of_its_number(weekday: Weekday) -> Weekday
 /// A day begins with second 0 at midnight, and its last second is number 86,399.
 pub fn first_and_last_time_of_a_day() -> (CivilTime, CivilTime)
     ensures first { seconds_of_time result.0 ≡ 0 }
-    ensures last { seconds_of_time result.1 ≡ 86_399 }
+    ensures last { seconds_of_time result.1 + 1 ≡ day_seconds }
 {
     (CivilTime::MIDNIGHT, CivilTime::END_OF_DAY)
 }

@@ -7,6 +7,7 @@ mod check;
 mod civil;
 
 use crate::errors::CronError;
+use crate::limits::YEAR_LIMIT;
 use crate::time::table::check::{OFFSET_LIMIT_SECONDS, is_calm, is_instant};
 use crate::time::table::civil::{SECONDS_PER_DAY, civil_of_second, second_of_civil};
 use crate::time::{CivilDateTime, CronDateTime, Resolution, Weekday};
@@ -14,10 +15,10 @@ use std::alloc::Global;
 use std::cmp::Ordering;
 
 /// The first year whose wall seconds are resolved.
-const FIRST_YEAR: i32 = -9998;
+const FIRST_YEAR: i32 = -YEAR_LIMIT;
 
 /// The last one.
-const LAST_YEAR: i32 = 9998;
+const LAST_YEAR: i32 = YEAR_LIMIT;
 
 /// A clock that is some seconds ahead of UTC, up to its first change and from each change on.
 ///

@@ -7,15 +7,13 @@ ghost use Rattle.croner_base.specs.ZonedZone.{is_near_year};
 ghost use Rattle.croner_base.specs.ZonedValue.{value_moment, is_showing, chosen};
 
 use crate::errors::CronError;
+use crate::limits::YEAR_LIMIT;
 use crate::time::jiff_impl::{to_civil, to_jiff, to_weekday};
 use crate::time::{CivilDateTime, CronDateTime, Resolution, Weekday};
 use jiff::civil::DateTime;
 use jiff::{SignedDuration, Timestamp, Zoned};
 use std::alloc::Global;
 use std::cmp::Ordering;
-
-// In the years from this one before to this one after year 0, every second plus any offset is an instant of `jiff`.
-const YEAR_LIMIT: i32 = 9998;
 
 // What the zone's clock shows at the whole second. A rule may change its clock inside the last
 // second of a year, so the fraction is taken off first.

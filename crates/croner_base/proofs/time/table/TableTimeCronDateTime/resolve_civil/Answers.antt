@@ -3,7 +3,8 @@ use Rattle.std.proofs.lemmas.Int.{ints, to_z-of_z}
 use Rattle.croner_base.specs.Civil.{wall_second}
 use Rattle.croner_base.proofs.JiffSeconds.{near_second}
 use Rattle.croner_base.proofs.TableTests.{instant_bounds}
-use Rattle.croner_base.proofs.TableMoments.{near_year-true, near_year-false, unheld, named_held, resolved_single, resolved_ambiguous, resolved_gap}
+use Rattle.croner_base.proofs.TableMoments.{near_year-false, unheld, named_held, resolved_single, resolved_ambiguous, resolved_gap}
+use Rattle.croner_base.proofs.ZonedResolved.{is_near_year-true}
 use Rattle.croner_base.proofs.time.table.TableTimeCronDateTime.resolve_civil.Goals as goal
 use Rattle.croner_base.proofs.time.table.TableTimeCronDateTime.resolve_civil.Goals.{in-Single, in-Ambiguous, in-Gap, then-year-lt-FIRST_YEAR-via-then-year-lt-FIRST_YEAR, then-year-lt-FIRST_YEAR-via-else-year-lt-FIRST_YEAR+then-year-gt-LAST_YEAR}
 
@@ -27,7 +28,7 @@ returns-then-year-lt-FIRST_YEAR-clause-held c =
 
 pub returns-clause-held : goal.returns-clause-held
 returns-clause-held c =
-    let near = near_year-true c.args.civil.date.year (omega (arith, ints)) (omega (arith, ints)) in
+    let near = is_near_year-true c.args.civil.date.year (omega (arith, ints)) (omega (arith, ints)) in
     (λ h. near, λ h. refl)
 
 pub instants_of-requires-clause-low : goal.instants_of-requires-clause-low
