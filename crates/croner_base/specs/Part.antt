@@ -32,10 +32,8 @@ pieces_at c text = slice_split (λ b. b == c) text
 
 -- the two sides of a text that has the byte once
 abbrev pub two_of : List (List ℕ) → Option (List ℕ × List ℕ)
-two_of [] = None
-two_of (a ∷ []) = None
 two_of (a ∷ b ∷ []) = Some (a, b)
-two_of (a ∷ b ∷ c ∷ more) = None
+two_of other = None
 
 abbrev pub ends_in_l : List ℕ → Bool
 ends_in_l text = slice_index text (length text - 1) == 76
