@@ -2,6 +2,7 @@
 use Rattle.std.specs.Prelude.{ℤ, pos, ◌-ℤ◌, ◌≤ℤ◌, Bool, true, false}
 use Rattle.croner_base.specs.declared.time.Direction.{Direction}
 use Rattle.croner_base.specs.declared.time.Direction.TheVariants.{Forward, Backward}
+use Rattle.croner_base.specs.Calendar.{day_seconds}
 use Rattle.croner.specs.search.Runs.{Precedes, Reaches}
 use Rattle.croner.specs.search.Limit.{IsWithin, year_2}
 
@@ -13,7 +14,7 @@ pub record NextScheduled (direction : Direction) (scheduled : ℤ → Type 0) (f
 
 -- the wall second 0001-12-31T00:00:00
 abbrev pub last_of_year_1 : ℤ
-last_of_year_1 = year_2 -ℤ pos 86_400
+last_of_year_1 = year_2 -ℤ pos day_seconds
 
 -- a wall second that is never left out: before year 5000 forward, after year 1 backward, and backward for a fixed-time
 -- job also the last day of year 1, from which a gap can carry a run into year 2
