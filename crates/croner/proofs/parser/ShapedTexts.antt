@@ -1,5 +1,5 @@
 -- A pattern that a text means has the shape of its place in each field.
-use Rattle.std.proofs.Common.{◌≡◌, ℕ, Bool, true, false, cond, eqb, ◌||◌, List, [], ◌∷◌, length, Option, Some, None, Result, Ok, Err, IfOk, refl, ap, ◌∙◌, subst}
+use Rattle.std.proofs.Common.{◌≡◌, ℕ, Bool, true, false, cond, eqb, ◌||◌, List, [], ◌∷◌, length, fold, Option, Some, None, Result, Ok, Err, IfOk, refl, ap, ◌∙◌, subst}
 use Rattle.std.proofs.lemmas.Bool.{false≢true, cond_both, and_from}
 use Rattle.std.specs.Str.{trim, str_to_ascii_uppercase}
 use Rattle.croner_base.specs.declared.errors.CronError.{CronError}
@@ -10,7 +10,7 @@ use Rattle.croner_pattern.specs.Shapes.{sixty_shape, hour_shape, day_shape, mont
 use Rattle.croner.specs.declared.job.Cron.{Cron}
 use Rattle.croner.specs.parser.Cut.{replaced}
 use Rattle.croner.specs.parser.Gives.{Gives}
-use Rattle.croner.specs.parser.Grammar.{Texts, Refusal, Empty, Invalid, Illegal, Component, outcome, of_replaced, of_fields, of_settled, of_legal, fields_of, settled, has_plus, are_legal, are_read, nicknamed, meaning, value_of, reading_of, start_of, weekdays_of, settled_weekdays, with_sunday, sunday_moved, weekday_modifiers}
+use Rattle.croner.specs.parser.Grammar.{Texts, Refusal, Empty, Invalid, Illegal, Component, outcome, of_replaced, of_fields, of_settled, of_legal, fields_of, settled, has_plus, are_legal, are_read, nicknamed, meaning, value_of, reading_of, start_of, weekdays_of, settled_weekdays, sunday_moved, weekday_modifiers}
 use Rattle.croner.specs.parser.Settings.{Settings, accepts_count}
 use Rattle.croner.specs.Views.{job_of}
 use Rattle.croner.specs.parser.Words.{words}
@@ -43,7 +43,7 @@ shape-moved : (f : Field) (bit : ℕ) → (sunday_moved f bit).shape ≡ f.shape
 shape-moved f bit =
     cond_both (is_marked bit f 7) (with_mark (without_mark f 7 bit) 0 bit) f (λ (g : Field). g.shape ≡ f.shape) (λ _. refl) (λ _. refl)
 
-shape-sunday : (bits : List ℕ) (f : Field) → (with_sunday bits f).shape ≡ f.shape
+shape-sunday : (bits : List ℕ) (f : Field) → (fold sunday_moved f bits).shape ≡ f.shape
 shape-sunday [] f = refl
 shape-sunday (bit ∷ bits) f = shape-sunday bits (sunday_moved f bit) ∙ shape-moved f bit
 
@@ -56,7 +56,7 @@ weekdays_like s text false = refl
 
 shape-settled : (s : Settings) (f : Field) → (settled_weekdays s f).shape ≡ f.shape
 shape-settled s f =
-    cond_both s.quartz f (with_sunday weekday_modifiers f) (λ (g : Field). g.shape ≡ f.shape) (λ _. refl) (λ _. shape-sunday weekday_modifiers f)
+    cond_both s.quartz f (fold sunday_moved f weekday_modifiers) (λ (g : Field). g.shape ≡ f.shape) (λ _. refl) (λ _. shape-sunday weekday_modifiers f)
 
 meaning_shaped : (s : Settings) (text : List ℕ) (t : Texts) (and : Bool) → has_field_shapes (meaning s text t and) ≡ true
 meaning_shaped s text t and =

@@ -31,25 +31,11 @@ pub record Standing : Type 0 where
 
 -- what contracts see of an iterator
 abbrev pub standing_of : {T : Type 0} → (T → Moment) → CronIterator T → Standing
-standing_of moment it = record {
-  pattern = meaning_of it.cron.pattern;
-  position = moment it.position;
-  is_first = it.is_first;
-  inclusive = it.inclusive;
-  direction = it.direction;
-  fault = it.fault;
-}
+standing_of moment it = record { pattern = meaning_of it.cron.pattern; position = moment it.position; is_first = it.is_first; inclusive = it.inclusive; direction = it.direction; fault = it.fault }
 
 -- a new iterator from a start
 abbrev pub new_standing : Meaning → Moment → Bool → Direction → Standing
-new_standing m start inclusive direction = record {
-  pattern = m;
-  position = start;
-  is_first = true;
-  inclusive = inclusive;
-  direction = direction;
-  fault = None;
-}
+new_standing m start inclusive direction = record { pattern = m; position = start; is_first = true; inclusive = inclusive; direction = direction; fault = None }
 
 -- the job that it lists the runs of
 abbrev pub job_at : Standing → Job

@@ -4,6 +4,7 @@
 use Rattle.std.specs.Prelude.{◌≡◌, ℕ, suc, zero, ◌+◌, Bool, true, false, not, ◌&&◌, ◌||◌, ◌==◌, nat_lt, nat_le, List, [], ◌∷◌, ◌++◌, Option, Some, None, option_map, codes, slice_index, length, take, ◌<◌, if◌then◌else◌}
 use denote.Ref.{Bor}
 use Rattle.std.specs.List.{flat_map}
+use Rattle.std.specs.Option.{option_or}
 use Rattle.std.specs.Str.{bytes_eq, IsUtf8}
 
 -- the months, from January
@@ -62,12 +63,7 @@ place_of name n (x ∷ xs) = if bytes_eq name x then Some n else place_of name (
 
 -- the month or the weekday of that name
 abbrev pub name_of : List ℕ → Option Piece
-name_of name = first_name (place_of name 0 months) (place_of name 0 weekdays)
-  where
-    first_name : Option ℕ → Option ℕ → Option Piece
-    first_name (Some n) other = Some (month n)
-    first_name None (Some n) = Some (weekday n)
-    first_name None None = None
+name_of name = option_or (option_map month (place_of name 0 months)) (option_map weekday (place_of name 0 weekdays))
 
 abbrev pub onto : Piece → Option (List Piece) → Option (List Piece)
 onto p rest = option_map (λ ps. p ∷ ps) rest
@@ -105,9 +101,8 @@ shown quartz after_dash (weekday n) = decimal_of (weekday_number quartz after_da
 shown quartz after_dash (single c) = c ∷ []
 
 abbrev pub is_dash : Piece → Bool
-is_dash (month n) = false
-is_dash (weekday n) = false
 is_dash (single c) = c == 45
+is_dash other = false
 
 -- the text with a number in the place of each name
 abbrev pub expansion : Bool → Bool → List Piece → List ℕ

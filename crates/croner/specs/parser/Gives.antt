@@ -17,10 +17,8 @@ Fails errors.EmptyPattern meaning = meaning ≡ Err Empty
 Fails (errors.InvalidPattern m) meaning = meaning ≡ Err Invalid
 Fails (errors.IllegalCharacters m) meaning = meaning ≡ Err Illegal
 Fails (errors.ComponentError m) meaning = meaning ≡ Err Component
-Fails errors.InvalidDate meaning = ⊥
-Fails errors.InvalidTime meaning = ⊥
-Fails errors.TimeSearchLimitExceeded meaning = ⊥
 Fails errors.OutOfMemory meaning = Unit {0}
+Fails other meaning = ⊥
 
 -- the answer, seen by view, is the meaning, unless memory ran out
 abbrev pub Gives : {X Y : Type 0} → (X → Y) → Result X CronError → Result Y Refusal → Type 0

@@ -1,5 +1,5 @@
 -- The grammar of cron patterns: for settings and a text the one outcome, in the order in which the rules are tested.
-use Rattle.std.specs.Prelude.{◌≡◌, ℕ, Bool, true, false, ◌&&◌, ◌||◌, ◌==◌, nat_le, List, [], ◌∷◌, ◌++◌, length, map, Option, Some, None, Result, Ok, Err, slice_index, codes, if◌then◌else◌}
+use Rattle.std.specs.Prelude.{◌≡◌, ℕ, Bool, true, false, ◌&&◌, ◌||◌, ◌==◌, nat_le, List, [], ◌∷◌, ◌++◌, length, map, fold, Option, Some, None, Result, Ok, Err, slice_index, codes, if◌then◌else◌}
 use Rattle.std.specs.List.{list_all}
 use Rattle.std.specs.Str.{trim, bytes_eq, str_to_ascii_uppercase}
 use Rattle.croner_base.specs.Field.{Shape, Field, empty_field, with_sloppy, with_mark, without_mark, is_marked, can_ask, can_mark}
@@ -134,14 +134,9 @@ weekday_modifiers = 1 ∷ 2 ∷ 4 ∷ 8 ∷ 16 ∷ 32 ∷ 64 ∷ []
 abbrev pub sunday_moved : Field → ℕ → Field
 sunday_moved f bit = if is_marked bit f 7 then with_mark (without_mark f 7 bit) 0 bit else f
 
--- the same for every modifier
-abbrev pub with_sunday : List ℕ → Field → Field
-with_sunday [] f = f
-with_sunday (bit ∷ bits) f = with_sunday bits (sunday_moved f bit)
-
--- by default 7 is Sunday; in Quartz mode 7 was Saturday, and only a star marks 7
+-- by default 7 is Sunday, with every modifier; in Quartz mode 7 was Saturday, and only a star marks 7
 abbrev pub settled_weekdays : Settings → Field → Field
-settled_weekdays s f = if s.quartz then f else with_sunday weekday_modifiers f
+settled_weekdays s f = if s.quartz then f else fold sunday_moved f weekday_modifiers
 
 -- a pattern before its fields are read
 abbrev pub start_meaning : Settings → List ℕ → Meaning

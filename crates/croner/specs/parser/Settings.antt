@@ -15,45 +15,33 @@ pub record Settings : Type 0 where
 
 -- what is chosen where nothing is said
 abbrev pub default_settings : Settings
-default_settings = record {
-  seconds_field = seconds.Optional;
-  year_field = year.Optional;
-  both_days = false;
-  quartz = false;
-  sloppy = false;
-}
+default_settings = record { seconds_field = seconds.Optional; year_field = year.Optional; both_days = false; quartz = false; sloppy = false }
 
 -- seconds may be written; they must be; they must not be
 abbrev pub seconds_optional : Seconds → Bool
 seconds_optional seconds.Optional = true
-seconds_optional seconds.Required = false
-seconds_optional seconds.Disallowed = false
+seconds_optional other = false
 
 abbrev pub seconds_required : Seconds → Bool
-seconds_required seconds.Optional = false
 seconds_required seconds.Required = true
-seconds_required seconds.Disallowed = false
+seconds_required other = false
 
 abbrev pub seconds_disallowed : Seconds → Bool
-seconds_disallowed seconds.Optional = false
-seconds_disallowed seconds.Required = false
 seconds_disallowed seconds.Disallowed = true
+seconds_disallowed other = false
 
 -- the same of the year
 abbrev pub year_optional : Year → Bool
 year_optional year.Optional = true
-year_optional year.Required = false
-year_optional year.Disallowed = false
+year_optional other = false
 
 abbrev pub year_required : Year → Bool
-year_required year.Optional = false
 year_required year.Required = true
-year_required year.Disallowed = false
+year_required other = false
 
 abbrev pub year_disallowed : Year → Bool
-year_disallowed year.Optional = false
-year_disallowed year.Required = false
 year_disallowed year.Disallowed = true
+year_disallowed other = false
 
 -- the counts of fields that a text may have
 abbrev pub accepts_count : Seconds → Year → ℕ → Bool

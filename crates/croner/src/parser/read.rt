@@ -1,12 +1,12 @@
 //! Reading the seven fields into a pattern.
 
-ghost use Rattle.std.specs.Prelude.{◌≡◌, ℕ, List, true, false, IsOk, if◌then◌else◌};
+ghost use Rattle.std.specs.Prelude.{◌≡◌, ℕ, List, true, false, fold, IsOk, if◌then◌else◌};
 ghost use Rattle.croner_base.specs.Field.{with_sloppy, has_all};
 ghost use Rattle.croner_base.specs.Part.{field_of};
 ghost use Rattle.croner_base.specs.Reading.{Reads};
 ghost use Rattle.croner_pattern.specs.Meaning.{meaning_of};
 ghost use Rattle.croner.specs.parser.Gives.{Gives, Starts, ReadsAll};
-ghost use Rattle.croner.specs.parser.Grammar.{TakesSunday, sunday_moved, with_sunday, weekday_modifiers, start_meaning, of_legal, is_star};
+ghost use Rattle.croner.specs.parser.Grammar.{TakesSunday, sunday_moved, weekday_modifiers, start_meaning, of_legal, is_star};
 ghost use Rattle.croner.specs.parser.Settings.{Settings};
 ghost use Rattle.croner.specs.Views.{texts_of};
 
@@ -55,7 +55,7 @@ impl FieldReader {
 pub fn settle_weekdays(weekdays: &mut CronComponent, quartz: bool) -> Result<(), CronError>
     requires { quartz ≡ false → (bit : ℕ) → has_all 127 bit ≡ true → TakesSunday weekdays.old.shape bit }
     ensures ok { IsOk result }
-    ensures moved { weekdays.new ≡ (if quartz then weekdays.old else with_sunday weekday_modifiers weekdays.old) }
+    ensures moved { weekdays.new ≡ (if quartz then weekdays.old else fold sunday_moved weekdays.old weekday_modifiers) }
 {
     if quartz {
         return Ok(());

@@ -1,9 +1,9 @@
-use Rattle.std.proofs.Common.{◌≡◌, ◌∙◌, sym, ap, refl, false, cond}
+use Rattle.std.proofs.Common.{◌≡◌, ◌∙◌, sym, ap, refl, false, cond, fold}
 use Rattle.std.proofs.lemmas.Result.{err_from_is_err_and}
 use Rattle.croner_base.specs.Field.{empty_field}
 use Rattle.croner_pattern.specs.Meaning.{Meaning, meaning_of}
 use Rattle.croner_pattern.specs.Shapes.{new_meaning, weekday_shape}
-use Rattle.croner.specs.parser.Grammar.{start_meaning, settled_weekdays, with_sunday, weekday_modifiers}
+use Rattle.croner.specs.parser.Grammar.{start_meaning, settled_weekdays, sunday_moved, weekday_modifiers}
 use Rattle.croner.specs.parser.Settings.{Settings, default_settings}
 use Rattle.croner.specs.Views.{texts_of}
 use Rattle.croner.proofs.parser.FieldReads.{refused_fields, read_takes_sunday, finished}
@@ -36,6 +36,6 @@ returns c = λ s quartz sloppy.
     let h = c.in_ok-read_fields.ensures s sloppy c.args.text.now start in
     let old : Meaning = meaning_of c.read_fields.new.pattern in
     let weekdays : c.settle_weekdays.new.weekdays ≡ settled_weekdays s old.days_of_week =
-    c.settle_weekdays.ensures.moved ∙ ap (λ b. cond b old.days_of_week (with_sunday weekday_modifiers old.days_of_week)) (sym quartz) in
+    c.settle_weekdays.ensures.moved ∙ ap (λ b. cond b old.days_of_week (fold sunday_moved old.days_of_week weekday_modifiers)) (sym quartz) in
     finished s c.args.text.now (texts_of c.args.fields) c.args.mode.and old (meaning_of c.set_flags.new.self) c.settle_weekdays.new.weekdays h.0 h.1 weekdays
     (c.set_flags.ensures ∙ rw (c.is_star.ensures, c.is_star-2.ensures) refl)
