@@ -1,3 +1,4 @@
--- Words of the two layers of a search. Private contracts alone cite these definitions.
+-- Words of private calls. Private contracts alone cite these definitions.
 pub mod cursor
+pub mod parser
 pub mod search

@@ -14,7 +14,8 @@ use Rattle.croner_pattern.specs.Meaning.{Meaning}
 use Rattle.croner_pattern.specs.Shapes.{sixty_shape, hour_shape, day_shape, month_shape, weekday_shape, year_shape, new_meaning}
 use Rattle.croner.specs.parser.Settings.{Settings, seconds_required, year_required}
 use Rattle.croner.specs.parser.Gives.{Fails}
-use Rattle.croner.specs.parser.Grammar.{Texts, Empty, Component, outcome, of_trimmed, nicknamed, nickname_of, reading_of, value_of, start_of, weekdays_of, are_read, read_meaning, settled_weekdays, is_star, meaning, of_legal, TakesSunday}
+use Rattle.croner.specs.parser.Grammar.{Texts, Empty, Component, outcome, of_trimmed, nicknamed, nickname_of, reading_of, value_of, start_of, weekdays_of, are_read, settled_weekdays, is_star, meaning, of_legal}
+use Rattle.croner.specs.Private.parser.Steps.{read_meaning, TakesSunday}
 
 -- what a call did to a field that was empty
 pub reads_field : {X : Type 0} {r : Result X CronError} (s : Settings) (shape : Shape) (text : List ℕ) (old new : Field) (sloppy : Bool) → s.sloppy ≡ sloppy → old ≡ empty_field shape → Reads (field_of (with_sloppy old sloppy).shape text) (with_sloppy old sloppy) new r → Reads (reading_of s shape text) (start_of s shape) new r

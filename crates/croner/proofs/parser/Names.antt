@@ -8,7 +8,8 @@ use Rattle.std.proofs.lemmas.Str.{encode_ascii, length-encode, len_utf8_bounds, 
 use Rattle.std.specs.Char.{encode_utf8}
 use Rattle.std.specs.List.{list_all}
 use Rattle.std.specs.Str.{IsUtf8, IsCharBoundary}
-use Rattle.croner.specs.parser.Cut.{Piece, month, weekday, single, months, weekdays, name_at, is_lost, place_of, name_of, cut_of, onto, alone, named, decimal_of, weekday_number, shown, is_dash, expansion, replaced, behind, has_dash, HasNoName, IsShown, Advances}
+use Rattle.croner.specs.parser.Cut.{Piece, month, weekday, single, months, weekdays, name_at, is_lost, place_of, name_of, cut_of, onto, alone, named, decimal_of, weekday_number, shown, is_dash, expansion, replaced}
+use Rattle.croner.specs.Private.parser.Steps.{behind, has_dash, HasNoName, IsShown, Advances}
 use Rattle.croner.proofs.parser.Cuts.{place_of-at, names_of}
 
 -- ---- what is shown for a name

@@ -1,11 +1,10 @@
 -- The cut of a text into the names of months and weekdays and single characters, and the text with a number in the
 -- place of each name. Names have three capital letters; a capital that stands alone is `L` or `W`. A text is its
 -- bytes: a character past ASCII is cut into bytes that stand for themselves.
-use Rattle.std.specs.Prelude.{◌≡◌, ℕ, suc, zero, ◌+◌, Bool, true, false, not, ◌&&◌, ◌||◌, ◌==◌, nat_lt, nat_le, List, [], ◌∷◌, ◌++◌, Option, Some, None, option_map, codes, slice_index, length, take, ◌<◌, if◌then◌else◌}
-use denote.Ref.{Bor}
+use Rattle.std.specs.Prelude.{◌≡◌, ℕ, suc, zero, ◌+◌, Bool, true, false, not, ◌&&◌, ◌||◌, ◌==◌, nat_lt, nat_le, List, [], ◌∷◌, ◌++◌, Option, Some, None, option_map, codes, if◌then◌else◌}
 use Rattle.std.specs.List.{flat_map}
 use Rattle.std.specs.Option.{option_or}
-use Rattle.std.specs.Str.{bytes_eq, IsUtf8}
+use Rattle.std.specs.Str.{bytes_eq}
 
 -- the months, from January
 abbrev pub months : List (List ℕ)
@@ -112,31 +111,3 @@ expansion quartz after_dash (p ∷ ps) = shown quartz after_dash p ++ expansion 
 -- the same of a text, where it has a cut
 abbrev pub replaced : Bool → Bool → List ℕ → Option (List ℕ)
 replaced quartz after_dash text = option_map (expansion quartz after_dash) (cut_of text)
-
--- a text in front of another, where there is one
-abbrev pub behind : List ℕ → Option (List ℕ) → Option (List ℕ)
-behind front rest = option_map (λ text. front ++ text) rest
-
--- the text begins with a dash
-abbrev pub has_dash : List ℕ → Bool
-has_dash text = slice_index text 0 == 45
-
--- the number n is shown for the name
-abbrev pub IsShown : Bool → Bool → List ℕ → ℕ → Type 0
-IsShown quartz after_dash name n =
-    (p : Piece) × (name_of name ≡ Some p) × (shown quartz after_dash p ≡ decimal_of n) × (is_dash p ≡ false) × (n < 20)
-
--- no name stands first in the text
-abbrev pub HasNoName : List ℕ → Type 0
-HasNoName text = name_of (take 3 text) ≡ None
-
--- what stands for the first piece of the text was put behind what was written, and the rest is left
-pub record Advances (quartz after_dash : Bool) (text written now rest : List ℕ) : Type 0 where
-  pub shorter : length rest < length text
-  pub is_text : IsUtf8 rest
-  pub same : behind written (replaced quartz after_dash text) ≡ behind now (replaced quartz (has_dash text) rest)
-
--- the same, or nothing where the text begins with a letter that stands for nothing
-abbrev pub AdvancesOrLost : Bool → Bool → List ℕ → List ℕ → List ℕ → Option (Bor (List ℕ)) → Type 0
-AdvancesOrLost quartz after_dash text written now None = replaced quartz after_dash text ≡ None
-AdvancesOrLost quartz after_dash text written now (Some rest) = Advances quartz after_dash text written now rest.now

@@ -1,12 +1,12 @@
 -- The grammar of cron patterns: for settings and a text the one outcome, in the order in which the rules are tested.
-use Rattle.std.specs.Prelude.{◌≡◌, ℕ, Bool, true, false, ◌&&◌, ◌||◌, ◌==◌, nat_le, List, [], ◌∷◌, ◌++◌, length, map, fold, Option, Some, None, Result, Ok, Err, slice_index, codes, if◌then◌else◌}
+use Rattle.std.specs.Prelude.{ℕ, Bool, false, ◌&&◌, ◌||◌, ◌==◌, nat_le, List, [], ◌∷◌, ◌++◌, length, map, fold, Option, Some, None, Result, Ok, Err, slice_index, codes, if◌then◌else◌}
 use Rattle.std.specs.List.{list_all}
 use Rattle.std.specs.Str.{trim, bytes_eq, str_to_ascii_uppercase}
-use Rattle.croner_base.specs.Field.{Shape, Field, empty_field, with_sloppy, with_mark, without_mark, is_marked, can_ask, can_mark}
+use Rattle.croner_base.specs.Field.{Shape, Field, empty_field, with_sloppy, with_mark, without_mark, is_marked}
 use Rattle.croner_base.specs.Part.{contains_byte, field_of}
 use Rattle.croner_base.specs.Reading.{Reading, applied}
 use Rattle.croner_pattern.specs.Meaning.{Meaning}
-use Rattle.croner_pattern.specs.Shapes.{sixty_shape, hour_shape, day_shape, month_shape, weekday_shape, year_shape, new_meaning}
+use Rattle.croner_pattern.specs.Shapes.{sixty_shape, hour_shape, day_shape, month_shape, weekday_shape, year_shape}
 use Rattle.croner.specs.parser.Settings.{Settings, seconds_required, year_required, accepts_count}
 use Rattle.croner.specs.parser.Cut.{replaced}
 use Rattle.croner.specs.parser.Words.{words}
@@ -107,13 +107,6 @@ reading_of s shape text = field_of (start_of s shape).shape text
 abbrev pub weekdays_of : Settings → Shape
 weekdays_of s = weekday_shape (if s.quartz then 1 else 0)
 
--- a mark of weekday 7 can be moved to weekday 0
-pub record TakesSunday (shape : Shape) (bit : ℕ) : Type 0 where
-  pub offset_is : shape.offset ≡ 0
-  pub asked : can_ask shape 7 bit ≡ true
-  pub left : can_mark shape 7 bit ≡ true
-  pub reached : can_mark shape 0 bit ≡ true
-
 -- each field is accepted
 abbrev pub are_read : Settings → Texts → Bool
 are_read s t =
@@ -137,22 +130,6 @@ sunday_moved f bit = if is_marked bit f 7 then with_mark (without_mark f 7 bit) 
 -- by default 7 is Sunday, with every modifier; in Quartz mode 7 was Saturday, and only a star marks 7
 abbrev pub settled_weekdays : Settings → Field → Field
 settled_weekdays s f = if s.quartz then f else fold sunday_moved f weekday_modifiers
-
--- a pattern before its fields are read
-abbrev pub start_meaning : Settings → List ℕ → Meaning
-start_meaning s text = record (new_meaning text) { days_of_week = empty_field (weekdays_of s) }
-
--- the same after each field was read
-abbrev pub read_meaning : Settings → List ℕ → Texts → Meaning
-read_meaning s text t = record (new_meaning text) {
-  seconds = value_of s sixty_shape t.seconds;
-  minutes = value_of s sixty_shape t.minutes;
-  hours = value_of s hour_shape t.hours;
-  days = value_of s day_shape t.days;
-  months = value_of s month_shape t.months;
-  days_of_week = value_of s (weekdays_of s) t.days_of_week;
-  years = value_of s year_shape t.years;
-}
 
 -- the fields, the flags and the text of a pattern
 abbrev pub meaning : Settings → List ℕ → Texts → Bool → Meaning

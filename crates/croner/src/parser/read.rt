@@ -5,8 +5,9 @@ ghost use Rattle.croner_base.specs.Field.{with_sloppy, has_all};
 ghost use Rattle.croner_base.specs.Part.{field_of};
 ghost use Rattle.croner_base.specs.Reading.{Reads};
 ghost use Rattle.croner_pattern.specs.Meaning.{meaning_of};
-ghost use Rattle.croner.specs.parser.Gives.{Gives, Starts, ReadsAll};
-ghost use Rattle.croner.specs.parser.Grammar.{TakesSunday, sunday_moved, weekday_modifiers, start_meaning, of_legal, is_star};
+ghost use Rattle.croner.specs.parser.Gives.{Gives};
+ghost use Rattle.croner.specs.parser.Grammar.{sunday_moved, weekday_modifiers, of_legal, is_star};
+ghost use Rattle.croner.specs.Private.parser.Steps.{Starts, ReadsAll, TakesSunday, start_meaning};
 ghost use Rattle.croner.specs.parser.Settings.{Settings};
 ghost use Rattle.croner.specs.Views.{texts_of};
 

@@ -1,7 +1,8 @@
 //! The text of a pattern before its fields are read: nicknames, names, words, and the texts of the seven fields.
 
 ghost use Rattle.std.specs.Prelude.{◌≡◌, ◌++◌, ◌<◌, Bool, false, [], codes, length, map, option_map, string_bytes, IfOk, OnOk, IfSome, MatchOption, if◌then◌else◌};
-ghost use Rattle.croner.specs.parser.Cut.{months, weekdays, place_of, name_of, decimal_of, is_lost, weekday_number, replaced, HasNoName, IsShown, AdvancesOrLost};
+ghost use Rattle.croner.specs.parser.Cut.{months, weekdays, place_of, name_of, decimal_of, is_lost, weekday_number, replaced};
+ghost use Rattle.croner.specs.Private.parser.Steps.{HasNoName, IsShown, AdvancesOrLost};
 ghost use Rattle.croner.specs.parser.Grammar.{nickname_of};
 ghost use Rattle.croner.specs.parser.Words.{words};
 

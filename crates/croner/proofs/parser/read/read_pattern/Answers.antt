@@ -3,7 +3,8 @@ use Rattle.std.proofs.lemmas.Result.{err_from_is_err_and}
 use Rattle.croner_base.specs.Field.{empty_field}
 use Rattle.croner_pattern.specs.Meaning.{Meaning, meaning_of}
 use Rattle.croner_pattern.specs.Shapes.{new_meaning, weekday_shape}
-use Rattle.croner.specs.parser.Grammar.{start_meaning, settled_weekdays, sunday_moved, weekday_modifiers}
+use Rattle.croner.specs.parser.Grammar.{settled_weekdays, sunday_moved, weekday_modifiers}
+use Rattle.croner.specs.Private.parser.Steps.{start_meaning}
 use Rattle.croner.specs.parser.Settings.{Settings, default_settings}
 use Rattle.croner.specs.Views.{texts_of}
 use Rattle.croner.proofs.parser.FieldReads.{refused_fields, read_takes_sunday, finished}

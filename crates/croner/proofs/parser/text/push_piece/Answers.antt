@@ -3,7 +3,8 @@ use Rattle.std.proofs.lemmas.Bool.{false≢true}
 use Rattle.std.proofs.lemmas.Option.{MatchOption-at_none}
 use Rattle.std.proofs.lemmas.Result.{IfOk-weaker}
 use Rattle.std.specs.Str.{IsCharBoundary}
-use Rattle.croner.specs.parser.Cut.{HasNoName, IsShown, name_of, decimal_of}
+use Rattle.croner.specs.parser.Cut.{name_of, decimal_of}
+use Rattle.croner.specs.Private.parser.Steps.{HasNoName, IsShown}
 use Rattle.croner.proofs.parser.Names.{advance_name, no_name_between}
 use Rattle.croner.proofs.parser.text.push_piece.Goals as goal
 use Rattle.croner.proofs.parser.text.push_piece.Goals.{in-Some+in_default-number_of, in_default}

@@ -1,5 +1,6 @@
 use Rattle.std.proofs.Common.{rules, ap, sym, ◌∙◌, string_bytes}
-use Rattle.croner.specs.parser.Cut.{behind, replaced, has_dash, Advances}
+use Rattle.croner.specs.parser.Cut.{replaced}
+use Rattle.croner.specs.Private.parser.Steps.{behind, has_dash, Advances}
 use Rattle.croner.proofs.parser.Names.{behind-nil}
 use Rattle.croner.proofs.parser.text.replaced.Goals as goal
 

@@ -1,6 +1,7 @@
 use Rattle.std.proofs.Common.{◌≡◌, false, length, string_bytes}
 use Rattle.std.specs.Str.{IsUtf8}
-use Rattle.croner.specs.parser.Cut.{replaced, behind}
+use Rattle.croner.specs.parser.Cut.{replaced}
+use Rattle.croner.specs.Private.parser.Steps.{behind}
 use Rattle.croner.proofs.parser.text.replaced.Given as goal
 
 abbrev pub invariant-loop-rest : goal.invariant-loop-rest

@@ -1,0 +1,2 @@
+-- Texts, step by step. Private contracts alone cite these definitions.
+pub mod Steps

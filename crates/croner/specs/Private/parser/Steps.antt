@@ -1,0 +1,79 @@
+-- The steps in which a text is cut and its fields are read. Private contracts alone cite these definitions.
+use Rattle.std.specs.Prelude.{◌≡◌, ℕ, ◌<◌, ◌++◌, ◌==◌, Bool, true, false, List, Option, Some, None, option_map, Result, Ok, Err, slice_index, length, take}
+use denote.Ref.{Bor}
+use Rattle.std.specs.Str.{IsUtf8}
+use Rattle.croner_base.specs.declared.errors.CronError.{CronError}
+use Rattle.croner_base.specs.declared.errors.CronError.TheVariants.{OutOfMemory}
+use Rattle.croner_base.specs.Answers.{IsFieldError}
+use Rattle.croner_base.specs.Field.{Shape, empty_field, can_ask, can_mark}
+use Rattle.croner_pattern.specs.declared.pattern.CronPattern.{CronPattern}
+use Rattle.croner_pattern.specs.Meaning.{Meaning, meaning_of}
+use Rattle.croner_pattern.specs.Shapes.{sixty_shape, hour_shape, day_shape, month_shape, weekday_shape, year_shape, new_meaning}
+use Rattle.croner.specs.parser.Cut.{name_of, shown, is_dash, decimal_of, replaced}
+use Rattle.croner.specs.parser.Grammar.{Texts, are_read, value_of, weekdays_of}
+use Rattle.croner.specs.parser.Settings.{Settings}
+
+-- ---- the cut
+
+-- a text in front of another, where there is one
+abbrev pub behind : List ℕ → Option (List ℕ) → Option (List ℕ)
+behind front rest = option_map (λ text. front ++ text) rest
+
+-- the text begins with a dash
+abbrev pub has_dash : List ℕ → Bool
+has_dash text = slice_index text 0 == 45
+
+-- the number n is shown for the name
+abbrev pub IsShown : Bool → Bool → List ℕ → ℕ → Type 0
+IsShown quartz after_dash name n =
+    (p : Piece) × (name_of name ≡ Some p) × (shown quartz after_dash p ≡ decimal_of n) × (is_dash p ≡ false) × (n < 20)
+
+-- no name stands first in the text
+abbrev pub HasNoName : List ℕ → Type 0
+HasNoName text = name_of (take 3 text) ≡ None
+
+-- what stands for the first piece of the text was put behind what was written, and the rest is left
+pub record Advances (quartz after_dash : Bool) (text written now rest : List ℕ) : Type 0 where
+  pub shorter : length rest < length text
+  pub is_text : IsUtf8 rest
+  pub same : behind written (replaced quartz after_dash text) ≡ behind now (replaced quartz (has_dash text) rest)
+
+-- the same, or nothing where the text begins with a letter that stands for nothing
+abbrev pub AdvancesOrLost : Bool → Bool → List ℕ → List ℕ → List ℕ → Option (Bor (List ℕ)) → Type 0
+AdvancesOrLost quartz after_dash text written now None = replaced quartz after_dash text ≡ None
+AdvancesOrLost quartz after_dash text written now (Some rest) = Advances quartz after_dash text written now rest.now
+
+-- ---- the fields
+
+-- a mark of weekday 7 can be moved to weekday 0
+pub record TakesSunday (shape : Shape) (bit : ℕ) : Type 0 where
+  pub offset_is : shape.offset ≡ 0
+  pub asked : can_ask shape 7 bit ≡ true
+  pub left : can_mark shape 7 bit ≡ true
+  pub reached : can_mark shape 0 bit ≡ true
+
+-- a pattern before its fields are read
+abbrev pub start_meaning : Settings → List ℕ → Meaning
+start_meaning s text = record (new_meaning text) { days_of_week = empty_field (weekdays_of s) }
+
+-- the same after each field was read
+abbrev pub read_meaning : Settings → List ℕ → Texts → Meaning
+read_meaning s text t = record (new_meaning text) {
+  seconds = value_of s sixty_shape t.seconds;
+  minutes = value_of s sixty_shape t.minutes;
+  hours = value_of s hour_shape t.hours;
+  days = value_of s day_shape t.days;
+  months = value_of s month_shape t.months;
+  days_of_week = value_of s (weekdays_of s) t.days_of_week;
+  years = value_of s year_shape t.years;
+}
+
+-- a pattern with no field read, and the weekdays' offset
+abbrev pub Starts : Result CronPattern CronError → List ℕ → ℕ → Type 0
+Starts (Ok p) text offset = meaning_of p ≡ record (new_meaning text) { days_of_week = empty_field (weekday_shape offset) }
+Starts (Err e) text offset = e ≡ OutOfMemory
+
+-- each field was read, or one was refused
+abbrev pub ReadsAll : Settings → List ℕ → Texts → Meaning → Result (Unit {0}) CronError → Type 0
+ReadsAll s text t new (Ok x) = (are_read s t ≡ true) × (new ≡ read_meaning s text t)
+ReadsAll s text t new (Err e) = (are_read s t ≡ false) × IsFieldError e
