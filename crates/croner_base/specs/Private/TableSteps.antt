@@ -1,4 +1,5 @@
 -- The steps by which a table is checked, change by change, and searched.
+-- Private contracts alone cite these definitions.
 use Rattle.std.specs.Prelude.{◌≡◌, ℕ, zero, suc, ◌+◌, ◌<◌, ◌≤◌, IsTrue, ℤ, pos, ◌+ℤ◌, ◌<ℤ◌, ◌≤ℤ◌, List, length, slice_index_or}
 use Rattle.croner_base.specs.declared.time.table.check.Tally.{Tally}
 use Rattle.croner_base.specs.Limits.{apart_limit, most_changes, most_gap_seconds}

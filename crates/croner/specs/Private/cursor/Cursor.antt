@@ -1,5 +1,6 @@
 -- How a search goes over the wall clock, before any zone: what it looks for, and how far it goes. The source is this
 -- crate's documentation.
+-- Private contracts alone cite these definitions.
 use Rattle.std.specs.Prelude.{◌≡◌, ◌↔◌, ℕ, ◌+◌, ◌-◌, ◌*◌, ◌<◌, ◌≤◌, Bool, true, false, ℤ, pos, ◌+ℤ◌, ◌-ℤ◌, int_lt, Option, MatchOption, if◌then◌else◌}
 use Rattle.std.specs.Int.{IsInRange, bit_at}
 use Rattle.croner_base.specs.declared.time.Direction.{Direction}

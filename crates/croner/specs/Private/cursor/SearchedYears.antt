@@ -1,4 +1,5 @@
 -- A scheduled second lies in the years 1 to 5000.
+-- Private contracts alone cite these definitions.
 use Rattle.std.specs.Prelude.{◌≡◌, ℕ, zero, suc, ◌+◌, ◌-◌, ◌*◌, ◌/◌, Bool, true, false, ◌&&◌, refl, ℤ, pos, ◌+ℤ◌, ◌≤ℤ◌, int_le, unsigned_abs}
 use Rattle.std.proofs.Common.{arith}
 use Rattle.std.proofs.lemmas.Bool.{false≢true}

@@ -1,4 +1,5 @@
 -- What a schedule answers about wall seconds, before any zone.
+-- Private contracts alone cite these definitions.
 use Rattle.std.specs.Prelude.{ℤ, pos, ◌-ℤ◌, ◌≤ℤ◌, Bool, true, false}
 use Rattle.croner_base.specs.declared.time.Direction.{Direction}
 use Rattle.croner_base.specs.declared.time.Direction.TheVariants.{Forward, Backward}

@@ -1,4 +1,5 @@
 -- Where two differ.
+-- Private contracts alone cite these definitions.
 use Rattle.std.specs.Prelude.{ℕ, ◌≡◌, ◌≢◌, ◌+◌, ◌*◌, ◌<◌, slice_index}
 use Rattle.std.specs.Int.{bit_at}
 use Rattle.croner_base.specs.Field.{room}

@@ -1,4 +1,5 @@
 -- Where the words of the rows are kept.
+-- Private contracts alone cite these definitions.
 use Rattle.std.specs.Prelude.{◌≡◌, ℕ, List}
 use Rattle.croner_base.specs.declared.component.marks.words.Words.{Words}
 use Rattle.croner_base.specs.declared.component.marks.words.Words.TheVariants.{InPlace, OnHeap}

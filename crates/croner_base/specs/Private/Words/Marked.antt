@@ -1,4 +1,5 @@
 -- Marks by value: for each value from 0 to the maximum the sum of the bits of its modifiers.
+-- Private contracts alone cite these definitions.
 use Rattle.std.specs.Prelude.{ℕ, ◌≡◌, ◌≤◌, length, ◌-◌, Bool, ◌<◌, List, replicate, slice_index, slice_set, bit_and, bit_or}
 use Rattle.croner_base.specs.Field.{room, has_any}
 

@@ -1,4 +1,5 @@
 -- The next plain value, upwards and downwards.
+-- Private contracts alone cite these definitions.
 use Rattle.std.specs.Prelude.{ℕ, ◌≡◌, ◌<◌, ◌≤◌, true, false}
 use Rattle.croner_base.specs.Private.Words.Marked.{Marked, is_set}
 

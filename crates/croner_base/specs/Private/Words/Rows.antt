@@ -1,4 +1,5 @@
 -- Rows of words of 64 bits, one row for each supported modifier, one after another, with one bit a value.
+-- Private contracts alone cite these definitions.
 use Rattle.std.specs.Prelude.{ℕ, zero, suc, ◌+◌, ◌-◌, ◌*◌, ◌/◌, ◌%◌, ◌^◌, List, slice_index, map}
 use Rattle.std.specs.Int.{bit_at}
 use Rattle.std.specs.List.{range_with_len}

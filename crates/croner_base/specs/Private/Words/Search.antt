@@ -1,4 +1,5 @@
 -- The next value of a row, upwards and downwards.
+-- Private contracts alone cite these definitions.
 use Rattle.std.specs.Prelude.{ℕ, ◌≡◌, ◌<◌, ◌≤◌, List}
 use Rattle.croner_base.specs.Private.Words.Rows.{in_row}
 

@@ -1,4 +1,5 @@
 -- The words that marks are kept in.
+-- Private contracts alone cite these definitions.
 use Rattle.std.specs.Prelude.{ℕ}
 
 -- how many values a word has, one bit each
