@@ -3,6 +3,7 @@ pub mod Chronology
 pub mod ExamplesCalendar
 pub mod Padded
 pub mod JiffSeconds
+pub mod WallSteps
 pub mod CivilMoments
 pub mod ZonedMoments
 pub mod ZonedResolved

@@ -1,5 +1,6 @@
 pub mod Calendar
 pub mod Civil
+pub mod Ends
 pub mod CivilText
 pub mod Zone
 pub mod CivilZone

@@ -7,3 +7,4 @@ pub mod excerpt;
 pub mod laws;
 pub mod limits;
 pub mod time;
+pub mod wall;

@@ -1,58 +1,31 @@
 -- Wall seconds and years, and the seconds next to a second.
-use Rattle.std.proofs.Common.{◌≡◌, ℕ, ◌+◌, ◌≤◌, arith, refl, ◌∙◌, ℤ, pos, neg_ℤ, ◌+ℤ◌, ◌-ℤ◌, ◌*ℤ◌, ◌<ℤ◌, ◌≤ℤ◌, Bool, IsTrue, ◌↔◌}
+use Rattle.std.proofs.Common.{◌≡◌, arith, refl, ℤ, pos, neg_ℤ, ◌+ℤ◌, ◌-ℤ◌, ◌<ℤ◌, ◌≤ℤ◌, Bool, IsTrue, ◌↔◌, Option, Some, None, MatchOption}
 use Rattle.std.proofs.lemmas.Int.{ints, by_lt_z}
-use Rattle.jiff_core.specs.Calendar.{days_in_month, days_of_months}
+use Rattle.jiff_core.specs.Calendar.{days_of_months}
 use Rattle.croner_base.specs.declared.time.Direction.{Direction}
 use Rattle.croner_base.specs.declared.time.Direction.TheVariants.{Forward, Backward}
 use Rattle.croner_base.specs.declared.time.civil.CivilDateTime.{CivilDateTime}
-use Rattle.croner_base.specs.declared.time.civil.CivilDate.{CivilDate}
-use Rattle.croner_base.specs.declared.time.civil.CivilTime.{CivilTime}
 use Rattle.croner_base.specs.Calendar.{IsRealDate, day_number, year_start, days_since_zero, days_until_zero}
-use Rattle.croner_base.specs.Civil.{HasYmd, wall_second, day_of_date, seconds_of_time}
-use Rattle.croner_base.proofs.Days.{day_number-day, day_number-next_month, day_number-next_year, day_number-lt_year}
+use Rattle.croner_base.specs.Civil.{wall_second, seconds_of_time}
+use Rattle.croner_base.specs.Ends.{IsLastDate, IsFirstDate}
+use Rattle.croner_base.proofs.Days.{day_number-next_year, day_number-lt_year}
 use Rattle.croner_base.proofs.JiffSeconds.{wall_second-parts}
 use Rattle.croner.specs.search.Limit.{IsWithin, year_5000, year_2}
 use Rattle.croner.specs.Private.search.Wall.{IsLastYear}
+use Rattle.croner.specs.Private.search.Walk.{one_on}
 
-pub day_of_ymd : (r : CivilDate) (y : ℤ) (m d : ℕ) → HasYmd y m d r → day_of_date r ≡ day_number y m d
-day_of_ymd r y m d h = rw (h.year_is, h.month_is, h.day_is) refl
+-- a step of one second, by the direction
+pub step_forward : (dir : Direction) (c : CivilDateTime) (r : Option CivilDateTime) → dir ≡ Forward → MatchOption r (IsLastDate c.date × (seconds_of_time c.time ≡ 86_399)) (λ moved. wall_second moved ≡ wall_second c +ℤ pos 1) → MatchOption r (IsLastYear dir c.date.year) (λ moved. wall_second moved ≡ one_on dir (wall_second c))
+step_forward Forward c None is h = let last = h.0 in last.year_is
+step_forward Forward c (Some moved) is h = h
+step_forward Backward c r is h = absurd cc
 
-module _ (a r : CivilDate) (y : ℤ) (m d : ℕ) (is : HasYmd y m d r) where
-  pub next_day : y ≡ a.year → m ≡ a.month → d ≡ a.day + 1 → day_of_date r ≡ day_of_date a +ℤ pos 1
-  next_day f g h = day_of_ymd r y m d is ∙ (rw (f, g, h) (day_number-day a.year a.month a.day 1))
+pub step_backward : (dir : Direction) (c : CivilDateTime) (r : Option CivilDateTime) → dir ≡ Backward → MatchOption r (IsFirstDate c.date × (seconds_of_time c.time ≡ 0)) (λ moved. wall_second moved ≡ wall_second c -ℤ pos 1) → MatchOption r (IsLastYear dir c.date.year) (λ moved. wall_second moved ≡ one_on dir (wall_second c))
+step_backward Backward c None is h = let last = h.0 in last.year_is
+step_backward Backward c (Some moved) is h = h
+step_backward Forward c r is h = absurd cc
 
-  pub next_month : y ≡ a.year → m ≡ a.month + 1 → d ≡ 1 → a.day ≡ days_in_month a.year a.month → day_of_date r ≡ day_of_date a +ℤ pos 1
-  next_month f g h last = day_of_ymd r y m d is ∙ (rw (f, g, h) (day_number-next_month a.year a.month a.day a.real.0.0 last))
-
-  pub next_year : y ≡ a.year +ℤ pos 1 → m ≡ 1 → d ≡ 1 → a.month ≡ 12 → days_in_month a.year a.month ≤ a.day → day_of_date r ≡ day_of_date a +ℤ pos 1
-  next_year f g h month last =
-      let above : 31 ≤ a.day = rw month at last in
-      let below : a.day ≤ 31 = rw month at a.real.1.1 in
-      let day : a.day ≡ 31 = omega arith in
-      day_of_ymd r y m d is ∙ (rw (f, g, h, month, day) (day_number-next_year a.year))
-
-  pub day_before : y ≡ a.year → m ≡ a.month → a.day ≡ d + 1 → day_of_date r ≡ day_of_date a -ℤ pos 1
-  day_before f g h =
-      let there = day_of_ymd r y m d is in
-      let here : day_of_date a ≡ day_number y m (d + 1) = rw (f, g, ← h) refl in
-      omega (arith, ints, day_number-day y m d 1)
-
-  pub month_before : y ≡ a.year → a.month ≡ m + 1 → d ≡ days_in_month y m → a.day ≡ 1 → day_of_date r ≡ day_of_date a -ℤ pos 1
-  month_before f g last h =
-      let there = day_of_ymd r y m d is in
-      let here : day_of_date a ≡ day_number y (m + 1) 1 = rw (f, ← g, h) refl in
-      omega (arith, ints, day_number-next_month y m d (omega (arith, r.real.0.0, is.month_is)) last)
-
-  pub year_before : a.year ≡ y +ℤ pos 1 → m ≡ 12 → d ≡ 31 → a.month ≡ 1 → a.day ≡ 1 → day_of_date r ≡ day_of_date a -ℤ pos 1
-  year_before f g h month day =
-      let there : day_of_date r ≡ day_number y 12 31 = rw (← g, ← h) (day_of_ymd r y m d is) in
-      let here : day_of_date a ≡ day_number (y +ℤ pos 1) 1 1 = rw (f, month, day) refl in
-      omega (arith, ints, day_number-next_year y)
-
-pub second_of : (r : CivilDateTime) (d : CivilDate) (t : CivilTime) → r.date ≡ d → r.time ≡ t → wall_second r ≡ day_of_date d *ℤ pos 86_400 +ℤ pos (seconds_of_time t)
-second_of r d t p q = wall_second-parts r ∙ rw (p, q) refl
-
-first_of_5000 : day_number (pos 5000) 1 1 ≡ pos 1_106_685
+pub first_of_5000 : day_number (pos 5000) 1 1 ≡ pos 1_106_685
 unfolding day_number year_start days_since_zero days_until_zero days_of_months
 first_of_5000 = refl
 
@@ -74,7 +47,7 @@ last_of_4999 = omega (arith, ints, first_of_5000, day_number-next_year (pos 4999
 last_of_5001 : day_number (pos 5001) 12 31 ≡ pos 1_107_414
 last_of_5001 = omega (arith, ints, first_of_5002, day_number-next_year (pos 5001))
 
-last_of_1 : day_number (pos 1) 12 31 ≡ neg_ℤ (pos 718_798)
+pub last_of_1 : day_number (pos 1) 12 31 ≡ neg_ℤ (pos 718_798)
 last_of_1 = omega (arith, ints, first_of_2, day_number-next_year (pos 1))
 
 first_is_real : (y : ℤ) → IsRealDate y 1 1

@@ -1,7 +1,7 @@
 use Rattle.std.proofs.Common.{arith}
 use Rattle.std.proofs.lemmas.Int.{ints}
-use Rattle.croner.proofs.search.WallSeconds.{day_before, month_before, year_before}
-use Rattle.croner.proofs.search.wall.earlier_date.Goals as goal
+use Rattle.croner_base.proofs.WallSteps.{day_before, month_before, year_before}
+use Rattle.croner_base.proofs.wall.day_before.Goals as goal
 
 pub returns-then-day-gt1 : goal.returns-then-day-gt1
 returns-then-day-gt1 c =
