@@ -12,7 +12,7 @@ use Rattle.croner_base.specs.Civil.{wall_second, day_of_date, seconds_of_time}
 use Rattle.croner_base.specs.declared.time.Direction.{Direction}
 use Rattle.croner_base.specs.declared.time.Direction.TheVariants.{Forward, Backward}
 use Rattle.croner.specs.search.Runs.{Precedes, Reaches}
-use Rattle.croner.specs.Private.cursor.Cursor.{has_room, edge_day, place_in_day}
+use Rattle.croner.specs.Private.cursor.Cursor.{first_year, last_year, has_room, edge_day, place_in_day}
 use Rattle.croner_base.proofs.Days.{day_number-day, day_number-lt_year, day_number-lt_month}
 use Rattle.croner_base.proofs.JiffSeconds.{wall_second-parts}
 
@@ -144,30 +144,30 @@ day-ahead Backward a b y m h = day-lt_rank b a (omega (arith, signed_arith))
 
 -- ---- the first day of the last year
 
-first_real : IsRealDate (pos 5000) 1 1
+first_real : IsRealDate (pos last_year) 1 1
 first_real = ((omega arith, omega arith), (omega arith, omega arith))
 
-last_real : IsRealDate (pos 1) 12 31
+last_real : IsRealDate (pos first_year) 12 31
 last_real = ((omega arith, omega arith), (omega arith, omega arith))
 
 -- whether a date lies no later than the last day that a search comes to, by its place
 abbrev pub IsRankReached : Direction → CivilDate → Type 0
-IsRankReached Forward d = rank d ≤ℤ rank_at (pos 5000) 1 1
-IsRankReached Backward d = rank_at (pos 1) 12 31 ≤ℤ rank d
+IsRankReached Forward d = rank d ≤ℤ rank_at (pos last_year) 1 1
+IsRankReached Backward d = rank_at (pos first_year) 12 31 ≤ℤ rank d
 
 abbrev pub IsRankPast : Direction → CivilDate → Type 0
-IsRankPast Forward d = rank_at (pos 5000) 1 1 <ℤ rank d
-IsRankPast Backward d = rank d <ℤ rank_at (pos 1) 12 31
+IsRankPast Forward d = rank_at (pos last_year) 1 1 <ℤ rank d
+IsRankPast Backward d = rank d <ℤ rank_at (pos first_year) 12 31
 
 reached_rank : (dir : Direction) (d : CivilDate) → IsRankReached dir d → Reaches dir (day_of_date d) (edge_day dir)
-reached_rank Forward d h = day_number-le_rank d.year d.month d.day (pos 5000) 1 1 d.real first_real h
-reached_rank Backward d h = day_number-le_rank (pos 1) 12 31 d.year d.month d.day last_real d.real h
+reached_rank Forward d h = day_number-le_rank d.year d.month d.day (pos last_year) 1 1 d.real first_real h
+reached_rank Backward d h = day_number-le_rank (pos first_year) 12 31 d.year d.month d.day last_real d.real h
 
 past_rank : (dir : Direction) (d : CivilDate) → IsRankPast dir d → Reaches dir (day_of_date d) (edge_day dir) → ⊥
 past_rank Forward d h r =
-    omega (arith, signed_arith, r, day_number-lt_rank (pos 5000) 1 1 d.year d.month d.day first_real d.real h)
+    omega (arith, signed_arith, r, day_number-lt_rank (pos last_year) 1 1 d.year d.month d.day first_real d.real h)
 past_rank Backward d h r =
-    omega (arith, signed_arith, r, day_number-lt_rank d.year d.month d.day (pos 1) 12 31 d.real last_real h)
+    omega (arith, signed_arith, r, day_number-lt_rank d.year d.month d.day (pos first_year) 12 31 d.real last_real h)
 
 pub edge-reached : (dir : Direction) (d : CivilDate) (b : Bool) → (b ≡ true → IsRankReached dir d) → (b ≡ false → IsRankPast dir d) → IsTrue b ↔ Reaches dir (day_of_date d) (edge_day dir)
 edge-reached dir d true hit miss = (λ t. reached_rank dir d (hit refl), λ r. refl)
@@ -183,15 +183,15 @@ backward-reached Forward d b is hit miss = absurd cc
 
 pub room-before : (dir : Direction) (d : CivilDate) → has_room dir d.year ≡ true → Precedes dir (day_of_date d) (edge_day dir)
 room-before Forward d h =
-    day_number-lt_rank d.year d.month d.day (pos 5000) 1 1 d.real first_real (omega (arith, signed_arith, date_bounds d))
+    day_number-lt_rank d.year d.month d.day (pos last_year) 1 1 d.real first_real (omega (arith, signed_arith, date_bounds d))
 room-before Backward d h =
-    day_number-lt_rank (pos 1) 12 31 d.year d.month d.day last_real d.real (omega (arith, signed_arith, date_bounds d))
+    day_number-lt_rank (pos first_year) 12 31 d.year d.month d.day last_real d.real (omega (arith, signed_arith, date_bounds d))
 
 pub no_room-past : (dir : Direction) (d : CivilDate) → has_room dir d.year ≡ false → Reaches dir (edge_day dir) (day_of_date d)
 no_room-past Forward d h =
-    day_number-le_rank (pos 5000) 1 1 d.year d.month d.day first_real d.real (omega (arith, signed_arith, date_bounds d))
+    day_number-le_rank (pos last_year) 1 1 d.year d.month d.day first_real d.real (omega (arith, signed_arith, date_bounds d))
 no_room-past Backward d h =
-    day_number-le_rank d.year d.month d.day (pos 1) 12 31 d.real last_real (omega (arith, signed_arith, date_bounds d))
+    day_number-le_rank d.year d.month d.day (pos first_year) 12 31 d.real last_real (omega (arith, signed_arith, date_bounds d))
 
 -- ---- wall seconds: by the date, and on one date by the time
 

@@ -2,13 +2,10 @@
 use Rattle.std.proofs.Common.{◌≡◌, ℕ, ◌+◌, ◌*◌, inl, inr, Bool, true, false, IsTrue, ◌↔◌, Option, Some, None, IfSome, MatchOption, refl, sym, subst, ◌∙◌, arith, ℤ, pos, neg_ℤ, ◌-ℤ◌, ◌<ℤ◌, ◌≤ℤ◌}
 use Rattle.std.proofs.lemmas.Bool.{false≢true}
 use Rattle.jiff_core.proofs.SignedLemmas.{signed_arith}
-use Rattle.jiff_core.proofs.CalendarLemmas.{days_of_months-zero}
 use Rattle.croner_base.specs.declared.time.Direction.{Direction}
 use Rattle.croner_base.specs.declared.time.Direction.TheVariants.{Forward, Backward}
 use Rattle.croner_base.specs.declared.time.civil.CivilDateTime.{CivilDateTime}
-use Rattle.croner_base.specs.Calendar.{day_number}
 use Rattle.croner_base.specs.Civil.{wall_second, day_of_date}
-use Rattle.croner_base.proofs.Days.{day_number-parts, day_number-next_year}
 use Rattle.croner_base.proofs.JiffSeconds.{wall_second-parts}
 use Rattle.croner_pattern.specs.Meaning.{Meaning}
 use Rattle.croner_pattern.specs.Shapes.{has_field_shapes}
@@ -22,18 +19,7 @@ use Rattle.croner.proofs.cursor.CivilOrder.{seconds_bound, same_date, reach-date
 use Rattle.croner.proofs.cursor.DateSearch.{bool_cases, same_match, last_day-room, last_day-no_room}
 use Rattle.croner.proofs.cursor.Scheduled.{scheduled_parts}
 use Rattle.croner.proofs.cursor.Singles.{single-value, hour_bounds, minute_bounds, single_time}
-use Rattle.croner.specs.Private.cursor.SearchedYears.{leaps, year_start-leaps}
-
--- the day number of the first of January
-january : (n : ℕ) → day_number (pos n) 1 1 ≡ pos (365 * n + leaps n) -ℤ pos 719_528
-january n =
-    omega (arith, signed_arith, day_number-parts (pos n) 1 1, year_start-leaps n, year_start-leaps 1970, days_of_months-zero (pos n))
-
-edge-forward : edge_day Forward ≡ pos 1_106_685
-edge-forward = january 5000 ∙ omega (arith, signed_arith)
-
-edge-backward : edge_day Backward ≡ neg_ℤ (pos 718_798)
-edge-backward = omega (arith, signed_arith, day_number-next_year (pos 1), january 2)
+use Rattle.croner.proofs.search.WallSeconds.{first_of_5000, last_of_1}
 
 -- the nearest of date-times is the nearest of wall seconds
 pub next_second : (m : Meaning) (dir : Direction) (from c : CivilDateTime) → IsNearest wall_second (IsOnSchedule m) dir (wall_second from) c → NextScheduled dir (IsScheduled m) (wall_second from) (wall_second c)
@@ -48,13 +34,13 @@ next_second m dir from c n = record {
 
 -- the day of a covered second
 covered-forward : (y : CivilDateTime) → wall_second y <ℤ year_5000 → Precedes Forward (day_of_date y.date) (edge_day Forward)
-covered-forward y h = omega (arith, signed_arith, edge-forward, wall_second-parts y)
+covered-forward y h = omega (arith, signed_arith, first_of_5000, wall_second-parts y)
 
 covered-backward : (y : CivilDateTime) → year_2 ≤ℤ wall_second y → Precedes Backward (day_of_date y.date) (edge_day Backward)
-covered-backward y h = omega (arith, signed_arith, edge-backward, wall_second-parts y, seconds_bound y.time)
+covered-backward y h = omega (arith, signed_arith, last_of_1, wall_second-parts y, seconds_bound y.time)
 
 covered-fixed : (y : CivilDateTime) → last_of_year_1 ≤ℤ wall_second y → Reaches Backward (day_of_date y.date) (edge_day Backward)
-covered-fixed y h = omega (arith, signed_arith, edge-backward, wall_second-parts y, seconds_bound y.time)
+covered-fixed y h = omega (arith, signed_arith, last_of_1, wall_second-parts y, seconds_bound y.time)
 
 -- a job at one time of the day needs no step
 fixed_move : (m : Meaning) (from y : CivilDateTime) → has_field_shapes m ≡ true → is_fixed_time m ≡ true → IsMatchingTime m y.time → IsMove m from.time y.time

@@ -12,7 +12,7 @@ use Rattle.croner_base.specs.Civil.{HasYmd, day_of_date}
 use Rattle.croner_pattern.specs.Meaning.{Meaning}
 use Rattle.croner_pattern.specs.Schedule.{is_plain, is_day_matching, is_year_matching, is_date_matching, first_weekday, IsDayMask}
 use Rattle.croner.specs.search.Runs.{Precedes, Reaches}
-use Rattle.croner.specs.Private.cursor.Cursor.{one_on, has_room, edge_day, last_day, IsYearBeyond, IsPlainWithin, IsNearest, NoneOn, IsForemost, HasDay, HasOpenMonth, IsMonthDays, IsInMonth, IsInMonths, IsInYear, IsInYears, IsAfter}
+use Rattle.croner.specs.Private.cursor.Cursor.{one_on, first_year, last_year, has_room, edge_day, last_day, IsYearBeyond, IsPlainWithin, IsNearest, NoneOn, IsForemost, HasDay, HasOpenMonth, IsMonthDays, IsInMonth, IsInMonths, IsInYear, IsInYears, IsAfter}
 use Rattle.croner.proofs.cursor.Ahead.{reaches-trans, precedes-reaches, precedes-trans, not_both, same_or_ahead, reaches-same, reaches-equal, one_on-ahead, one_on-next}
 use Rattle.croner.proofs.cursor.CivilOrder.{SameDate, reach-year, reach-month, reach-day, day-reach, year-ahead, month-ahead, day-ahead, room-before}
 use Rattle.croner.proofs.cursor.ValueSearch.{past_zero}
@@ -57,31 +57,31 @@ same_match m a b s h =
 
 -- ---- the year
 
-pub year-low : (m : Meaning) (y : ℤ) → y <ℤ pos 1 → is_year_matching m y ≡ false
-year-low m y h = let t : int_le (pos 1) y ≡ false = grind (arith, ints) in rw t refl
+pub year-low : (m : Meaning) (y : ℤ) → y <ℤ pos first_year → is_year_matching m y ≡ false
+year-low m y h = let t : int_le (pos first_year) y ≡ false = grind (arith, ints) in rw t refl
 
 and-false : (a : Bool) → (a && false) ≡ false
 and-false true = refl
 and-false false = refl
 
-pub year-high : (m : Meaning) (y : ℤ) → pos 5000 <ℤ y → is_year_matching m y ≡ false
+pub year-high : (m : Meaning) (y : ℤ) → pos last_year <ℤ y → is_year_matching m y ≡ false
 year-high m y h =
-    let t : int_le y (pos 5000) ≡ false = grind (arith, ints) in
-    rw (t, and-false (int_le (pos 1) y)) refl
+    let t : int_le y (pos last_year) ≡ false = grind (arith, ints) in
+    rw (t, and-false (int_le (pos first_year) y)) refl
 
-pub year-in : (m : Meaning) (y : ℤ) → pos 1 ≤ℤ y → y ≤ℤ pos 5000 → is_year_matching m y ≡ is_plain m.years (unsigned_abs y)
+pub year-in : (m : Meaning) (y : ℤ) → pos first_year ≤ℤ y → y ≤ℤ pos last_year → is_year_matching m y ≡ is_plain m.years (unsigned_abs y)
 year-in m y low high =
-    let s : int_le (pos 1) y ≡ true = grind (arith, ints) in
-    let t : int_le y (pos 5000) ≡ true = grind (arith, ints) in
+    let s : int_le (pos first_year) y ≡ true = grind (arith, ints) in
+    let t : int_le y (pos last_year) ≡ true = grind (arith, ints) in
     rw (s, t) refl
 
 pub record YearParts (m : Meaning) (y : ℤ) : Type 0 where
-  pub low : pos 1 ≤ℤ y
-  pub high : y ≤ℤ pos 5000
+  pub low : pos first_year ≤ℤ y
+  pub high : y ≤ℤ pos last_year
   pub number : y ≡ pos (unsigned_abs y)
   pub plain : is_plain m.years (unsigned_abs y) ≡ true
 
-not_negative : (y : ℤ) → pos 1 ≤ℤ y → y ≡ pos (unsigned_abs y)
+not_negative : (y : ℤ) → pos first_year ≤ℤ y → y ≡ pos (unsigned_abs y)
 not_negative (pos n) h = refl
 not_negative (negsuc n) h = absurd (omega (arith, signed_arith))
 
@@ -89,19 +89,19 @@ pub year_parts : (m : Meaning) (y : ℤ) → is_year_matching m y ≡ true → Y
 year_parts m y h =
     let one = and-split _ _ h in
     let two = and-split _ _ one.0 in
-    let t : int_le (pos 1) y ≡ true = two.0 in
-    let u : int_le y (pos 5000) ≡ true = two.1 in
-    let low : pos 1 ≤ℤ y = omega (arith, signed_arith) in
-    let high : y ≤ℤ pos 5000 = omega (arith, signed_arith) in
+    let t : int_le (pos first_year) y ≡ true = two.0 in
+    let u : int_le y (pos last_year) ≡ true = two.1 in
+    let low : pos first_year ≤ℤ y = omega (arith, signed_arith) in
+    let high : y ≤ℤ pos last_year = omega (arith, signed_arith) in
     record { low = low; high = high; number = not_negative y low; plain = one.1 }
 
-year_plain : (m : Meaning) (y : ℤ) → is_year_matching m y ≡ true → IsPlainWithin m.years 1 5000 (unsigned_abs y)
+year_plain : (m : Meaning) (y : ℤ) → is_year_matching m y ≡ true → IsPlainWithin m.years first_year last_year (unsigned_abs y)
 year_plain m y h =
     let p = year_parts m y h in
     record { low = omega (arith, signed_arith, p.low); high = omega (arith, signed_arith, p.high, p.low); plain = p.plain }
 
 -- a plain number is a named year
-pub plain_year : (m : Meaning) (v : ℕ) → IsPlainWithin m.years 1 5000 v → is_year_matching m (pos v) ≡ true
+pub plain_year : (m : Meaning) (v : ℕ) → IsPlainWithin m.years first_year last_year v → is_year_matching m (pos v) ≡ true
 plain_year m v p = year-in m (pos v) (let h = p.low in omega (arith, signed_arith)) (let h = p.high in omega (arith, signed_arith)) ∙ p.plain
 
 -- the month of a date that matches is a plain value
@@ -243,11 +243,11 @@ year-none m dir y from start none d h =
 year_number : (m : Meaning) (d : CivilDate) → is_date_matching m d ≡ true → d.year ≡ pos (unsigned_abs d.year)
 year_number m d h = (year_parts m d.year (match_parts m d h).year).number
 
-year_within : (m : Meaning) (d : CivilDate) → is_date_matching m d ≡ true → IsPlainWithin m.years 1 5000 (unsigned_abs d.year)
+year_within : (m : Meaning) (d : CivilDate) → is_date_matching m d ≡ true → IsPlainWithin m.years first_year last_year (unsigned_abs d.year)
 year_within m d h = year_plain m d.year (match_parts m d h).year
 
 -- the first plain year, and those after it
-pub years-split : (m : Meaning) (dir : Direction) (from : ℤ) (y : ℕ) → IsNearest pos (IsPlainWithin m.years 1 5000) dir from y → Split day_of_date dir (IsInYears m dir from) (IsInYear m dir (pos y)) (IsInYears m dir (one_on dir (pos y)))
+pub years-split : (m : Meaning) (dir : Direction) (from : ℤ) (y : ℕ) → IsNearest pos (IsPlainWithin m.years first_year last_year) dir from y → Split day_of_date dir (IsInYears m dir from) (IsInYear m dir (pos y)) (IsInYears m dir (one_on dir (pos y)))
 years-split m dir from y n = record {
   parts = λ d h.
       let number = year_number m d h.matches in
@@ -271,16 +271,16 @@ years-split m dir from y n = record {
       (year-ahead dir a b (subst (λ z. Precedes dir z b.year) (sym h.same_year) (beyond dir (pos y) b.year k.on)));
 }
 
-pub years-none : (m : Meaning) (dir : Direction) (from : ℤ) → NoneOn pos (IsPlainWithin m.years 1 5000) dir from → (d : CivilDate) → ¬ (IsInYears m dir from d)
+pub years-none : (m : Meaning) (dir : Direction) (from : ℤ) → NoneOn pos (IsPlainWithin m.years first_year last_year) dir from → (d : CivilDate) → ¬ (IsInYears m dir from d)
 years-none m dir from none d h =
     none (unsigned_abs d.year) (subst (λ z. Reaches dir from z) (year_number m d h.matches) h.on) (year_within m d h.matches)
 
-pub years-on : (m : Meaning) (dir : Direction) (from : ℤ) (y : ℕ) (All : CivilDate → Type 0) → IsNearest pos (IsPlainWithin m.years 1 5000) dir from y → Same All (IsInYears m dir from) → ((d : CivilDate) → ¬ (IsInYear m dir (pos y) d)) → Same All (IsInYears m dir (one_on dir (pos y)))
+pub years-on : (m : Meaning) (dir : Direction) (from : ℤ) (y : ℕ) (All : CivilDate → Type 0) → IsNearest pos (IsPlainWithin m.years first_year last_year) dir from y → Same All (IsInYears m dir from) → ((d : CivilDate) → ¬ (IsInYear m dir (pos y) d)) → Same All (IsInYears m dir (one_on dir (pos y)))
 years-on m dir from y All n same none =
     same_again All (IsInYears m dir from) (IsInYears m dir (one_on dir (pos y))) same
     (passed day_of_date dir (IsInYears m dir from) (IsInYear m dir (pos y)) (IsInYears m dir (one_on dir (pos y))) (years-split m dir from y n) none)
 
-pub years-found : (m : Meaning) (dir : Direction) (from : ℤ) (y : ℕ) (All : CivilDate → Type 0) (d : CivilDate) → IsNearest pos (IsPlainWithin m.years 1 5000) dir from y → Same All (IsInYears m dir from) → IsForemost day_of_date (IsInYear m dir (pos y)) dir d → IsForemost day_of_date All dir d
+pub years-found : (m : Meaning) (dir : Direction) (from : ℤ) (y : ℕ) (All : CivilDate → Type 0) (d : CivilDate) → IsNearest pos (IsPlainWithin m.years first_year last_year) dir from y → Same All (IsInYears m dir from) → IsForemost day_of_date (IsInYear m dir (pos y)) dir d → IsForemost day_of_date All dir d
 years-found m dir from y All d n same f =
     same_first day_of_date dir All (IsInYears m dir from) d same
     (in_first day_of_date dir (IsInYears m dir from) (IsInYear m dir (pos y)) (IsInYears m dir (one_on dir (pos y))) d (years-split m dir from y n) f)

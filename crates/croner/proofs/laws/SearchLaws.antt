@@ -12,7 +12,7 @@ use Rattle.croner.specs.search.Limit.{IsPast, IsOutside}
 use Rattle.croner.specs.search.PatternJob.{timetable_of}
 use Rattle.croner.specs.search.Refusal.{IsRefusal}
 use Rattle.croner.specs.search.Searches.{IsFound, IsRefused}
-use Rattle.croner.proofs.cursor.SearchedYears.{searched_second}
+use Rattle.croner.specs.Private.cursor.SearchedYears.{scheduled_searched}
 
 -- what the clock shows at a found moment is scheduled where the start's zone says so
 pub shown_scheduled : (m : Meaning) (start found : Moment) (w : ℤ) → w ≡ reading found → found.zone ≡ start.zone → IsScheduled m (start.zone.reads found.instant) → IsScheduled m w
@@ -24,11 +24,11 @@ shown_scheduled m start found w is same_zone scheduled =
 is_past : (direction : Direction) (inclusive : Bool) (m : Meaning) (w : ℤ) → IsOutside direction w → IsPast direction inclusive (IsScheduled m) w
 is_past Forward inclusive m w outside = (
   λ within. omega (arith, ints),
-  λ v ahead own. let searched = searched_second m v own in elim ahead [ inl lt ↦ omega (arith, ints, searched.1) | inr (is, e) ↦ omega (arith, ints, searched.1) ],
+  λ v ahead own. let searched = scheduled_searched m v own in elim ahead [ inl lt ↦ omega (arith, ints, searched.1) | inr (is, e) ↦ omega (arith, ints, searched.1) ],
 )
 is_past Backward inclusive m w outside = (
   λ within. omega (arith, ints),
-  λ v ahead own. let searched = searched_second m v own in elim ahead [ inl lt ↦ omega (arith, ints, searched.0) | inr (is, e) ↦ omega (arith, ints, searched.0) ],
+  λ v ahead own. let searched = scheduled_searched m v own in elim ahead [ inl lt ↦ omega (arith, ints, searched.0) | inr (is, e) ↦ omega (arith, ints, searched.0) ],
 )
 
 module _ {T : Type 0} (moment : T → Moment) (direction : Direction) (inclusive : Bool) (m : Meaning) (start : Moment) (lack : Bool) where

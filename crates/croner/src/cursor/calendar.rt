@@ -8,6 +8,12 @@ ghost use Rattle.croner.specs.Private.cursor.Cursor.{has_room, edge_day, IsYearB
 
 use croner_base::time::{CivilDate, Direction, YEAR_LOWER_LIMIT, YEAR_UPPER_LIMIT, day_of_year};
 
+/// The days of a week.
+pub(crate) const WEEK: u32 = 7;
+
+/// The months of a year.
+pub(crate) const MONTHS: u32 = 12;
+
 pub(crate) const FIRST_YEAR: u32 = YEAR_LOWER_LIMIT as u32;
 
 pub(crate) const LAST_YEAR: u32 = YEAR_UPPER_LIMIT as u32;
@@ -25,25 +31,25 @@ pub(crate) fn has_room(year: i32, direction: Direction) -> bool
 // Whether a search comes to a date of a year that a pattern can name: from the last year no step leads on, so of that year
 // it comes to the first day alone.
 pub(crate) fn is_reached(date: CivilDate, year: u32, direction: Direction) -> bool
-    requires { IsInRange 1 5000 year }
+    requires { IsInRange FIRST_YEAR LAST_YEAR year }
     ensures { date.year ≡ pos year → IsTrue result ↔ Reaches direction (day_of_date date) (edge_day direction) }
 {
     match direction {
         Direction::Forward => year < LAST_YEAR || date.month() == 1 && date.day() == 1,
-        Direction::Backward => year > FIRST_YEAR || date.month() == 12 && date.day() == 31,
+        Direction::Backward => year > FIRST_YEAR || date.month() == MONTHS && date.day() == 31,
     }
 }
 
 // The weekday of the first of a month of a year that a pattern can name, from 0 for Sunday.
 pub(crate) fn first_weekday(year: u32, month: u32) -> u32
-    requires year_in { IsInRange 1 5000 year }
-    requires month_in { IsInRange 1 12 month }
+    requires year_in { IsInRange FIRST_YEAR LAST_YEAR year }
+    requires month_in { IsInRange 1 MONTHS month }
     ensures value { result ≡ first_weekday (pos year) month }
-    ensures bound { result < 7 }
+    ensures bound { result < WEEK }
 {
     let leap_days = (year + 3) / 4 + (year + 399) / 400 - (year + 99) / 100;
     // The first of January of year 0 was a Saturday.
-    (year + leap_days + day_of_year(year as i32, month, 1) + 5) % 7
+    (year + leap_days + day_of_year(year as i32, month, 1) + 5) % WEEK
 }
 
 // The first year after a year that lies in the years that a pattern can name.

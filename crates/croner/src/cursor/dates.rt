@@ -8,14 +8,14 @@ ghost use Rattle.croner_pattern.specs.Shapes.{has_field_shapes};
 ghost use Rattle.croner_pattern.specs.Schedule.{is_plain, is_year_matching, first_weekday, IsDayMask};
 ghost use Rattle.croner.specs.Private.cursor.Cursor.{one_on, has_room, FindsForemost, IsOnTheWay, IsNamedYear, IsMonthDays, IsInMonth, IsInMonths, IsInYear, IsInYears, IsAfter};
 
-use crate::cursor::calendar::{FIRST_YEAR, LAST_YEAR, first_weekday, is_reached, year_beyond};
+use crate::cursor::calendar::{
+    FIRST_YEAR, LAST_YEAR, MONTHS, first_weekday, is_reached, year_beyond,
+};
 use crate::cursor::days::{days_after, first_day};
 use crate::cursor::kinds::{has_kind, year_kinds};
 use crate::cursor::values::{is_plain, nearest_value, neighbour};
 use croner_base::time::{CivilDate, Direction, YEAR_LOWER_LIMIT, YEAR_UPPER_LIMIT, days_in_month};
 use croner_pattern::pattern::CronPattern;
-
-const MONTHS: u32 = 12;
 
 // The number of a year that the pattern names.
 fn named_year(pattern: &CronPattern, year: i32) -> Option<u32>
@@ -37,8 +37,8 @@ fn named_year(pattern: &CronPattern, year: i32) -> Option<u32>
 // The days of a month that the day fields name.
 fn named_days(pattern: &CronPattern, year: u32, month: u32) -> u32
     requires shapes { has_field_shapes (meaning_of pattern.now) ≡ true }
-    requires year_in { IsInRange 1 5000 year }
-    requires month_in { IsInRange 1 12 month }
+    requires year_in { IsInRange FIRST_YEAR LAST_YEAR year }
+    requires month_in { IsInRange 1 MONTHS month }
     ensures { IsDayMask (meaning_of pattern.now) (days_in_month (pos year) month) (first_weekday (pos year) month) result }
 {
     pattern.days_of_month(
@@ -63,8 +63,8 @@ pub(crate) fn month_days(pattern: &CronPattern, date: CivilDate) -> u32
 // The first date that matches in a named month of a named year.
 fn in_month(pattern: &CronPattern, year: u32, month: u32, direction: Direction) -> Option<CivilDate>
     requires shapes { has_field_shapes (meaning_of pattern.now) ≡ true }
-    requires year_in { IsInRange 1 5000 year }
-    requires month_in { IsInRange 1 12 month }
+    requires year_in { IsInRange FIRST_YEAR LAST_YEAR year }
+    requires month_in { IsInRange 1 MONTHS month }
     ensures { is_year_matching (meaning_of pattern.now) (pos year) ≡ true → is_plain (meaning_of pattern.now).months month ≡ true
         → FindsForemost day_of_date (IsInMonth (meaning_of pattern.now) (pos year) month) direction result }
 {
@@ -80,8 +80,8 @@ fn in_months(
     direction: Direction,
 ) -> Option<CivilDate>
     requires shapes { has_field_shapes (meaning_of pattern.now) ≡ true }
-    requires year_in { IsInRange 1 5000 year }
-    requires month_in { IsOnTheWay direction 1 12 month }
+    requires year_in { IsInRange FIRST_YEAR LAST_YEAR year }
+    requires month_in { IsOnTheWay direction 1 MONTHS month }
     ensures { is_year_matching (meaning_of pattern.now) (pos year) ≡ true
         → FindsForemost day_of_date (IsInMonths (meaning_of pattern.now) direction (pos year) (pos month)) direction result }
 {
@@ -98,7 +98,7 @@ fn in_months(
 // The first date of a named year that matches and that a search comes to.
 fn in_year(pattern: &CronPattern, year: u32, direction: Direction) -> Option<CivilDate>
     requires shapes { has_field_shapes (meaning_of pattern.now) ≡ true }
-    requires year_in { IsInRange 1 5000 year }
+    requires year_in { IsInRange FIRST_YEAR LAST_YEAR year }
     ensures { is_year_matching (meaning_of pattern.now) (pos year) ≡ true
         → FindsForemost day_of_date (IsInYear (meaning_of pattern.now) direction (pos year)) direction result }
 {
@@ -117,7 +117,7 @@ fn in_year(pattern: &CronPattern, year: u32, direction: Direction) -> Option<Civ
 // The first date that matches in the years from a year on, found by the kinds of the years.
 fn in_later_years(pattern: &CronPattern, year: u32, direction: Direction) -> Option<CivilDate>
     requires shapes { has_field_shapes (meaning_of pattern.now) ≡ true }
-    requires year_in { IsOnTheWay direction 1 5000 year }
+    requires year_in { IsOnTheWay direction FIRST_YEAR LAST_YEAR year }
     ensures { FindsForemost day_of_date (IsInYears (meaning_of pattern.now) direction (pos year)) direction result }
 {
     let kinds = year_kinds(pattern);
@@ -140,7 +140,7 @@ fn in_later_years(pattern: &CronPattern, year: u32, direction: Direction) -> Opt
 // their kinds.
 fn in_years(pattern: &CronPattern, year: u32, direction: Direction) -> Option<CivilDate>
     requires shapes { has_field_shapes (meaning_of pattern.now) ≡ true }
-    requires year_in { IsOnTheWay direction 1 5000 year }
+    requires year_in { IsOnTheWay direction FIRST_YEAR LAST_YEAR year }
     ensures { FindsForemost day_of_date (IsInYears (meaning_of pattern.now) direction (pos year)) direction result }
 {
     let year = nearest_value(&pattern.years, FIRST_YEAR, LAST_YEAR, year, direction)?;

@@ -1,26 +1,29 @@
 //! The kinds of month, 28 by their length and the weekday of their first day, and the kinds of year, 14 by whether it is a leap
 //! year and the weekday of its first day.
-ghost use Rattle.std.specs.Prelude.{◌≡◌, ◌<◌, ◌↔◌, ℤ, true, pos, IsTrue};
+ghost use Rattle.std.specs.Prelude.{◌≡◌, ◌<◌, ◌↔◌, ℕ, ◌+◌, ◌%◌, ℤ, true, pos, IsTrue};
 ghost use Rattle.std.specs.Int.{IsInRange, bit_at};
 ghost use Rattle.jiff_core.specs.Calendar.{is_leap_year, days_in_month};
-ghost use Rattle.croner_pattern.specs.Meaning.{meaning_of};
-ghost use Rattle.croner_pattern.specs.Schedule.{is_plain, first_weekday};
+ghost use Rattle.croner_pattern.specs.Meaning.{Meaning, meaning_of};
+ghost use Rattle.croner_pattern.specs.Schedule.{first_weekday};
 ghost use Rattle.croner_pattern.specs.Shapes.{has_field_shapes};
-ghost use Rattle.croner.specs.Private.cursor.Cursor.{month_kind, year_kind, HasOpenDay, HasOpenMonth, AreMonthKinds, AreYearKinds};
+ghost use Rattle.croner.specs.Private.cursor.Cursor.{month_kind, year_kind, HasOpenDay, AreMonthKinds, AreYearKinds};
 
-use crate::cursor::calendar::first_weekday;
-use crate::cursor::values::is_plain;
-use croner_base::time::is_leap_year;
+use crate::cursor::calendar::{FIRST_YEAR, LAST_YEAR, MONTHS, WEEK, first_weekday};
+use crate::cursor::values::nearest_value;
+use croner_base::time::{Direction, day_of_year, days_in_month, is_leap_year};
 use croner_pattern::pattern::CronPattern;
 
-// The days of a week.
-const WEEK: u32 = 7;
+// A leap year and a common one. Each other year has the months of the one or of the other.
+const LEAP_YEAR: i32 = 2000;
+
+const COMMON_YEAR: i32 = 2001;
 
 const SHORTEST_MONTH: u32 = 28;
 
 const MONTH_KINDS: u32 = 28;
 
-const YEAR_KINDS: u32 = 14;
+// One bit for each weekday.
+const WEEK_BITS: u32 = 127;
 
 // The place of a kind of month among the 28.
 fn month_kind(length: u32, first: u32) -> u32
@@ -34,7 +37,7 @@ fn month_kind(length: u32, first: u32) -> u32
 
 // The place of the kind of a year among the 14.
 fn year_kind(year: u32) -> u32
-    requires { IsInRange 1 5000 year }
+    requires { IsInRange FIRST_YEAR LAST_YEAR year }
     ensures value { result ≡ year_kind (pos year) }
     ensures bound { result < 14 }
 {
@@ -60,46 +63,50 @@ fn month_kinds(pattern: &CronPattern) -> u32
     kinds
 }
 
-// The length of a month in a year of a kind.
-fn month_length(month: u32, leap: bool) -> u32
-    ensures value { (year : ℤ) → is_leap_year year ≡ leap → result ≡ days_in_month year month }
-    ensures bound { IsInRange 28 31 result }
+// The kinds of month of one length, one bit for the weekday of the first day.
+fn kinds_of_length(months: u32, length: u32) -> u32
+    requires { IsInRange 28 31 length }
+    ensures value { (first : ℕ) → first < 7 → bit_at result first ≡ bit_at months (month_kind length first) }
+    ensures bound { result < 128 }
 {
-    match month {
-        2 => 28 + u32::from(leap),
-        4 | 6 | 9 | 11 => 30,
-        _ => 31,
-    }
+    months >> month_kind(length, 0) & WEEK_BITS
 }
 
-// Whether the pattern names a month, and the kind of the month has a day that fits.
-fn is_open(pattern: &CronPattern, months: u32, month: u32, length: u32, first: u32) -> bool
-    requires shapes { has_field_shapes (meaning_of pattern.now) ≡ true }
-    requires month { IsInRange 1 12 month }
-    requires length { IsInRange 28 31 length }
-    requires first { first < 7 }
-    ensures { AreMonthKinds (meaning_of pattern.now) months
-        → IsTrue result ↔ ((is_plain (meaning_of pattern.now).months month ≡ true) × HasOpenDay (meaning_of pattern.now) length first) }
+// The bits of a week, each so many weekdays earlier.
+fn turned(week: u32, days: u32) -> u32
+    requires week { week < 128 }
+    requires days { days < 7 }
+    ensures value { (weekday : ℕ) → weekday < 7 → bit_at result weekday ≡ bit_at week ((weekday + days) % 7) }
+    ensures bound { result < 128 }
 {
-    is_plain(&pattern.months, month) && months >> month_kind(length, first) & 1 == 1
+    (week | week << WEEK) >> days & WEEK_BITS
 }
 
-// Whether a year whose first day has the weekday has a day that fits in a named month.
-fn is_open_kind(pattern: &CronPattern, months: u32, leap: bool, first: u32) -> bool
-    requires shapes { has_field_shapes (meaning_of pattern.now) ≡ true }
-    requires first { first < 7 }
-    ensures { AreMonthKinds (meaning_of pattern.now) months → (year : ℤ) → is_leap_year year ≡ leap → first_weekday year 1 ≡ first
-        → IsTrue result ↔ HasOpenMonth (meaning_of pattern.now) year }
+fn like_year(leap: bool) -> i32
+    ensures { is_leap_year result ≡ leap }
 {
-    let mut weekday = first;
-    for month in 1..13 {
-        let length = month_length(month, leap);
-        if is_open(pattern, months, month, length, weekday) {
-            return true;
-        }
-        weekday = (weekday + length) % WEEK;
-    }
-    false
+    if leap { LEAP_YEAR } else { COMMON_YEAR }
+}
+
+// The weekdays on which a year can begin so that its month has a day that matches, one bit a weekday.
+fn open_beginnings(months: u32, month: u32, leap: bool) -> u32
+    requires { IsInRange 1 12 month }
+    ensures value { (m : Meaning) → AreMonthKinds m months → (year : ℤ) → is_leap_year year ≡ leap
+        → (bit_at result (first_weekday year 1) ≡ 1) ↔ HasOpenDay m (days_in_month year month) (first_weekday year month) }
+    ensures bound { result < 128 }
+{
+    let year = like_year(leap);
+    let week = kinds_of_length(months, days_in_month(year, month));
+    turned(week, (day_of_year(year, month, 1) - 1) % WEEK)
+}
+
+// Which kinds of year have a day that matches in the month, one bit a kind.
+fn open_years(months: u32, month: u32) -> u32
+    requires { IsInRange 1 12 month }
+    ensures { (m : Meaning) → AreMonthKinds m months → (year : ℤ)
+        → (bit_at result (year_kind year) ≡ 1) ↔ HasOpenDay m (days_in_month year month) (first_weekday year month) }
+{
+    open_beginnings(months, month, false) | open_beginnings(months, month, true) << WEEK
 }
 
 // Which kinds of year have a day that matches in a named month, one bit a kind.
@@ -109,17 +116,17 @@ pub(crate) fn year_kinds(pattern: &CronPattern) -> u32
 {
     let months = month_kinds(pattern);
     let mut kinds = 0;
-    for kind in 0..YEAR_KINDS {
-        if is_open_kind(pattern, months, kind >= WEEK, kind % WEEK) {
-            kinds |= 1 << kind;
-        }
+    let mut from = 1;
+    while let Some(month) = nearest_value(&pattern.months, 1, MONTHS, from, Direction::Forward) {
+        kinds |= open_years(months, month);
+        from = month + 1;
     }
     kinds
 }
 
 // Whether the kind of the year is one of the kinds.
 pub(crate) fn has_kind(kinds: u32, year: u32) -> bool
-    requires { IsInRange 1 5000 year }
+    requires { IsInRange FIRST_YEAR LAST_YEAR year }
     ensures { IsTrue result ↔ (bit_at kinds (year_kind (pos year)) ≡ 1) }
 {
     kinds >> year_kind(year) & 1 == 1

@@ -18,7 +18,7 @@ pub(crate) fn is_plain(field: &CronComponent, value: u32) -> bool
 
 // The next number in the direction.
 pub(crate) fn neighbour(value: u32, direction: Direction) -> Option<u32>
-    requires { value < 10000 }
+    requires { value < u32.MAX }
     ensures { MatchOption result
         (one_on direction (pos value) ≡ negsuc 0)
         (λ n. pos n ≡ one_on direction (pos value)) }
@@ -37,7 +37,7 @@ pub(crate) fn nearest_value(
     from: u32,
     direction: Direction,
 ) -> Option<u32>
-    requires small { max < 6000 }
+    requires small { max < u16.MAX }
     requires from_in { IsOnTheWay direction min max from }
     ensures { Finds pos (IsPlainWithin field.now min max) direction (pos from) result }
 {
@@ -56,7 +56,7 @@ pub(crate) fn nearest_beyond(
     value: u32,
     direction: Direction,
 ) -> Option<u32>
-    requires small { max < 6000 }
+    requires small { max < u16.MAX }
     requires within { value ≤ max }
     ensures { Finds pos (IsPlainWithin field.now 0 max) direction (one_on direction (pos value)) result }
 {
@@ -66,7 +66,7 @@ pub(crate) fn nearest_beyond(
 
 // The first plain value in the direction, of a field of values from 0.
 pub(crate) fn first_value(field: &CronComponent, max: u32, direction: Direction) -> Option<u32>
-    requires { max < 6000 }
+    requires { max < u16.MAX }
     ensures { MatchOption result
         ((v : ℕ) → v ≤ max → ¬ (is_plain field.now v ≡ true))
         (IsFirstValue field.now direction max) }

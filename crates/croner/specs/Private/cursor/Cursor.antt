@@ -106,15 +106,22 @@ AreYearKinds m kinds = (year : ℤ) → (bit_at kinds (year_kind year) ≡ 1) �
 
 -- ---- dates
 
+-- the years that a pattern can name
+abbrev pub first_year : ℕ
+first_year = 1
+
+abbrev pub last_year : ℕ
+last_year = 5000
+
 -- a search steps on from a year: forward before 5000, backward after 1
 abbrev pub has_room : Direction → ℤ → Bool
-has_room Forward year = int_lt year (pos 5000)
-has_room Backward year = int_lt (pos 1) year
+has_room Forward year = int_lt year (pos last_year)
+has_room Backward year = int_lt (pos first_year) year
 
 -- the first day of the year from which no step leads on
 abbrev pub edge_day : Direction → ℤ
-edge_day Forward = day_number (pos 5000) 1 1
-edge_day Backward = day_number (pos 1) 12 31
+edge_day Forward = day_number (pos last_year) 1 1
+edge_day Backward = day_number (pos first_year) 12 31
 
 -- the last day that a search from a date on comes to. From a year that it does not step on from it stays on its day.
 abbrev pub last_day : Direction → CivilDate → ℤ
@@ -122,10 +129,10 @@ last_day direction from = if has_room direction from.year then edge_day directio
 
 -- the first year in the direction after a year, of those that a pattern can name
 pub record IsYearBeyond (direction : Direction) (year : ℤ) (beyond : ℕ) : Type 0 where
-  pub low : 1 ≤ beyond
-  pub high : beyond ≤ 5000
+  pub low : first_year ≤ beyond
+  pub high : beyond ≤ last_year
   pub on : Reaches direction (one_on direction year) (pos beyond)
-  pub first : (y : ℕ) → 1 ≤ y → y ≤ 5000 → Reaches direction (one_on direction year) (pos y) → Reaches direction (pos beyond) (pos y)
+  pub first : (y : ℕ) → first_year ≤ y → y ≤ last_year → Reaches direction (one_on direction year) (pos y) → Reaches direction (pos beyond) (pos y)
 
 -- a number of a year that the pattern names
 pub record IsNamedYear (m : Meaning) (year : ℤ) (number : ℕ) : Type 0 where

@@ -4,7 +4,7 @@ use Rattle.std.proofs.lemmas.Bool.{false≢true}
 use Rattle.std.proofs.lemmas.Nat.Bits.{bit_at-zero}
 use Rattle.croner_base.specs.declared.time.civil.CivilDate.{CivilDate}
 use Rattle.croner_pattern.specs.Meaning.{meaning_of}
-use Rattle.croner.specs.Private.cursor.Cursor.{one_on, year_kind, IsInYear, IsInYears}
+use Rattle.croner.specs.Private.cursor.Cursor.{first_year, last_year, one_on, year_kind, IsInYear, IsInYears}
 use Rattle.croner.proofs.cursor.DateSearch.{plain_year, year-closed, has_month, years-on, years-found, years-none, no_years}
 use Rattle.croner.proofs.cursor.Foremost.{Same, same_all, same_none}
 use Rattle.croner.proofs.cursor.ValueSearch.{neighbour-way}
@@ -55,7 +55,7 @@ loop-year-preserved c =
       | else-has_kind w ↦ year-closed m dir y (λ h. false≢true (sym w.if-has_kind.false ∙ c.has_kind.ensures.1 ((c.year_kinds-kinds.ensures y).1 h)))
     ] in
     record {
-      way = neighbour-way dir 1 5000 c.in-Some.year c.in_ok-from.from c.in-Some.ensures.is.low c.in-Some.ensures.is.high c.in_ok-from.ensures;
+      way = neighbour-way dir first_year last_year c.in-Some.year c.in_ok-from.from c.in-Some.ensures.is.low c.in-Some.ensures.is.high c.in_ok-from.ensures;
       same =
           subst (λ z. Same All (IsInYears m dir z)) (sym c.in_ok-from.ensures)
           (years-on m dir (pos c.loop-year.from) c.in-Some.year All c.in-Some.ensures c.loop-year.invariant.same closed);

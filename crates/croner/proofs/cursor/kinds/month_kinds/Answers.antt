@@ -6,7 +6,7 @@ use Rattle.croner.proofs.cursor.kinds.month_kinds.Goals as goal
 use Rattle.croner.proofs.cursor.kinds.month_kinds.Goals.{then-days_of_month-ne0, else-days_of_month-ne0}
 
 pub loop-kind-init : goal.loop-kind-init
-loop-kind-init c = collect-none (λ (k : ℕ). k) (λ k. HasOpenDay (meaning_of c.args.pattern.now) (28 + k / 7) (k % 7))
+loop-kind-init c = collect-none (λ k. HasOpenDay (meaning_of c.args.pattern.now) (28 + k / 7) (k % 7))
 
 pub loop-kind-preserved : goal.loop-kind-preserved
 loop-kind-preserved c =
@@ -17,13 +17,11 @@ loop-kind-preserved c =
     let days : ℕ = c.days_of_month.result in
     elim c.if-days_of_month-ne0.branch [
       | then-days_of_month-ne0 w ↦
-          subst (λ n. Collected (λ (k : ℕ). k) Meant (kind + 1) n) (sym w.kinds-is)
-          (collect-hit (λ (k : ℕ). k) Meant kind c.loop-kind.kinds small
-          (λ k e. subst Meant (sym e) (day_of_mask m (28 + kind / 7) (kind % 7) days c.days_of_month.ensures (omega arith) (omega arith))) c.loop-kind.invariant)
+          subst (Collected Meant (kind + 1)) (sym w.kinds-is)
+          (collect-hit Meant kind c.loop-kind.kinds small (day_of_mask m (28 + kind / 7) (kind % 7) days c.days_of_month.ensures (omega arith) (omega arith)) c.loop-kind.invariant)
       | else-days_of_month-ne0 w ↦
-          subst (λ n. Collected (λ (k : ℕ). k) Meant (kind + 1) n) (sym w.kinds-is)
-          (collect-miss (λ (k : ℕ). k) Meant kind c.loop-kind.kinds
-          (λ k e h. no_day_of_mask m (28 + kind / 7) (kind % 7) days c.days_of_month.ensures (omega arith) (subst Meant e h)) c.loop-kind.invariant)
+          subst (Collected Meant (kind + 1)) (sym w.kinds-is)
+          (collect-miss Meant kind c.loop-kind.kinds (no_day_of_mask m (28 + kind / 7) (kind % 7) days c.days_of_month.ensures (omega arith)) c.loop-kind.invariant)
     ]
 
 pub returns : goal.returns
@@ -31,4 +29,4 @@ returns c =
     let m = meaning_of c.args.pattern.now in
     let Meant : ℕ → Type 0 = λ k. HasOpenDay m (28 + k / 7) (k % 7) in
     let all : c.loop-kind.kind ≡ 28 = omega arith in
-    month-kinds m c.loop-kind.kinds (subst (λ n. Collected (λ (k : ℕ). k) Meant n c.loop-kind.kinds) all c.loop-kind.invariant)
+    month-kinds m c.loop-kind.kinds (subst (λ n. Collected Meant n c.loop-kind.kinds) all c.loop-kind.invariant)

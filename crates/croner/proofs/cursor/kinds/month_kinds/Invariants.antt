@@ -5,4 +5,4 @@ use Rattle.croner.proofs.cursor.MonthKinds.{Collected}
 use Rattle.croner.proofs.cursor.kinds.month_kinds.Given as goal
 
 abbrev pub invariant-loop-kind : goal.invariant-loop-kind
-invariant-loop-kind l = Collected (λ (k : ℕ). k) (λ k. HasOpenDay (meaning_of l.pattern) (28 + k / 7) (k % 7)) l.kind l.kinds
+invariant-loop-kind l = Collected (λ k. HasOpenDay (meaning_of l.pattern) (28 + k / 7) (k % 7)) l.kind l.kinds
