@@ -1,18 +1,13 @@
 -- Which error an answer is.
 use Rattle.std.specs.Prelude.{◌≡◌, Bool, true, false, Result, Ok, Err, Option, Some, None, ⊤}
 use Rattle.croner_base.specs.declared.errors.CronError.{CronError}
-use Rattle.croner_base.specs.declared.errors.CronError.TheVariants.{EmptyPattern, InvalidDate, InvalidTime, TimeSearchLimitExceeded, InvalidPattern, IllegalCharacters, ComponentError, OutOfMemory}
+use Rattle.croner_base.specs.declared.errors.CronError.TheVariants.{ComponentError, OutOfMemory}
 
 -- the error of a field, or want of memory for its message
 abbrev pub IsFieldError : CronError → Type 0
 IsFieldError (ComponentError m) = ⊤
 IsFieldError OutOfMemory = ⊤
-IsFieldError EmptyPattern = ⊥
-IsFieldError InvalidDate = ⊥
-IsFieldError InvalidTime = ⊥
-IsFieldError TimeSearchLimitExceeded = ⊥
-IsFieldError (InvalidPattern m) = ⊥
-IsFieldError (IllegalCharacters m) = ⊥
+IsFieldError other = ⊥
 
 -- the call succeeds where the test is true, and else is refused by the error of a field
 abbrev pub SucceedsIff : {X : Type 0} → Bool → Result X CronError → Type 0

@@ -5,7 +5,7 @@ use Rattle.std.specs.List.Sorted.{IsStrictlyIncreasing}
 use Rattle.std.specs.Str.{trim}
 use Rattle.croner_base.specs.Field.{Shape, Field, has_any, has_all, is_in_bounds, can_ask, is_marked, with_mark, without_mark, marked_values, room, values_between}
 use Rattle.croner_base.specs.Part.{all_marked, stepped_marks, part_of, parts_of}
-use Rattle.croner_base.specs.Reading.{Effect, marks, enables, steps, stars, Reading, applied}
+use Rattle.croner_base.specs.Reading.{Effect, marks, Reading, applied}
 
 -- what holds of every component
 pub record IsWhole (f : Field) : Type 0 where
@@ -27,9 +27,7 @@ is_among value values = list_any (λ x. x == value) values
 -- one thing that reading does marks the value with the modifier
 abbrev pub names_here : ℕ → ℕ → Effect → Bool
 names_here k value (marks v bits) = v == value && has_modifier k bits
-names_here k value (enables bits) = false
-names_here k value (steps n) = false
-names_here k value stars = false
+names_here k value other = false
 
 -- reading marks the value with the modifier
 abbrev pub names : ℕ → Reading → ℕ → Bool
