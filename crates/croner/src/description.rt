@@ -11,6 +11,11 @@ use croner_pattern::describe::Language;
 
 impl Cron {
     /// The description in English. The only error is `OutOfMemory`.
+    ///
+    /// ```
+    /// let job = Cron::from_str(alloc, "5 9 * * *")?;
+    /// let english = job.describe()?; // At 09:05.
+    /// ```
     pub fn describe(&self) -> Result<String, CronError>
         ensures { Writes (description english (job_of self.now)) result }
     {
@@ -18,6 +23,11 @@ impl Cron {
     }
 
     /// The description in a language. The only error is `OutOfMemory`.
+    ///
+    /// ```
+    /// let job = Cron::from_str(alloc, "5 9 * * *")?;
+    /// let swedish = job.describe_lang(Swedish)?; // Klockan 09:05.
+    /// ```
     pub fn describe_lang<L: Language + Drop>(&self, language: L) -> Result<String, CronError>
         ensures { Writes (description (L.meaning language) (job_of self.now)) result }
     {

@@ -65,6 +65,12 @@ impl Cron {
     /// in both halves of a repeated range, and false where a run is only carried over a gap.
     ///
     /// Each field has to have the shape of its place, as in every pattern that was parsed; the answer is then always `Ok`.
+    ///
+    /// ```
+    /// let job = Cron::from_str(alloc, "30 9 * * MON-FRI")?;
+    /// let sunday = DateTime::new(2024, 6, 30, 9, 30, 0, 0)?;
+    /// let is_run = job.is_time_matching(&sunday)?; // false
+    /// ```
     pub fn is_time_matching<T: CronDateTime>(&self, time: &T) -> Result<bool, CronError>
         requires { has_field_shapes (job_of self.now) ≡ true }
         ensures ok { IsOk result }

@@ -21,6 +21,12 @@ impl Cron {
     ///
     /// The settings of the parser that read the pattern are not in it: a pattern of another parser than the default one can
     /// be read back as another job, or be refused. The only error is `OutOfMemory`.
+    ///
+    /// ```
+    /// let job = Cron::from_str(alloc, "@daily")?;
+    /// let value = job.to_json()?; // the string 0 0 * * *
+    /// let again = Cron::from_json(alloc, &value)?; // equal to the job
+    /// ```
     pub fn to_json(&self) -> Result<Value, CronError>
         ensures ok { IfOk result (λ v. view v ≡ string (job_of self.now).text) }
         ensures err { IfErr result (λ e. e ≡ CronError.OutOfMemory) }

@@ -1,5 +1,5 @@
-//! Laws of searches in every zone: calm (whose clock is moved by little and seldom) or not, and from each start, fractions of a
-//! second included. The fields of a job must have the shapes of their places, as those of every parsed pattern have.
+//! Laws of searches in every zone, calm or not, and from each start, fractions of a second included. What a calm zone is, stands at
+//! [`Cron::find_next_occurrence`]. The fields of a job must have the shapes of their places, as those of every parsed pattern have.
 ghost use Rattle.std.specs.Prelude.{◌≡◌, ◌↔◌, true, false, IsTrue, IfOk, IfErr, Err};
 ghost use Rattle.croner_base.specs.Civil.{wall_second};
 ghost use Rattle.croner_base.specs.Zone.{reading};
