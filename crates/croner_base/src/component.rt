@@ -277,6 +277,7 @@ impl CronComponent {
     }
 
     /// How many values [`get_set_values`](Self::get_set_values) lists.
+    #[inline(always)]
     pub fn count_set_values(&self, bit: u8) -> usize
         ensures { result ≡ length (marked_values bit self.now) }
     {

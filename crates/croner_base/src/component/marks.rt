@@ -202,6 +202,7 @@ impl Marks {
         }
     }
 
+    #[inline(always)]
     fn word(&self, k: u8, i: usize) -> u64
         requires modifier { k < 8 }
         requires within { i < width self.now.max }

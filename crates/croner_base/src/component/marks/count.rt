@@ -16,6 +16,7 @@ use std::alloc::{AllocError, Global};
 
 impl Marks {
     /// How many values from the given one on have one of the modifiers of `bits`.
+    #[inline(always)]
     pub fn count_from(&self, first: u16, bits: u8) -> usize
         ensures { result ≡ length (marked_from first bits self.now) }
     {
@@ -49,7 +50,7 @@ impl Marks {
     }
 
     // The values of word `i`, from the given one on, that have one of the modifiers of `bits`.
-    #[inline]
+    #[inline(always)]
     fn marked(&self, first: u16, bits: u8, i: usize) -> u64
         requires here { i < width self.now.max }
         requires from { first / word_bits ≤ i }
@@ -59,7 +60,7 @@ impl Marks {
     }
 
     /// The values of word `i` that have one of the modifiers of `bits`. Bits past the maximum say nothing.
-    #[inline]
+    #[inline(always)]
     pub(super) fn any(&self, bits: u8, i: usize) -> u64
         requires { i < width self.now.max }
         ensures { ShowsMarked self.now bits i result }
