@@ -125,26 +125,20 @@ place_of-at name n (x ∷ xs) k e = elim (cases_Bool (bytes_eq name x)) [
       (suc r.0, omega (arith, r.1), omega (arith, r.2), r.3)
 ]
 
-month_named : (name : List ℕ) (k : ℕ) → place_of name 0 months ≡ Some k → IsPiece (month k) × (letters (month k) ≡ name)
-month_named name k e =
-    let r = place_of-at name 0 months k e in
+-- the name found is the one at that place
+named_there : (xs : List (List ℕ)) (name : List ℕ) (k : ℕ) → place_of name 0 xs ≡ Some k → (ltb k (length xs) ≡ true) × (name_at k xs ≡ name)
+named_there xs name k e =
+    let r = place_of-at name 0 xs k e in
     let same : k ≡ r.0 = omega (arith, r.1) in
-    let P : ℕ → Type 0 = λ n. IsPiece (month n) × (letters (month n) ≡ name) in
-    subst P (sym same) (lt-ltb r.0 12 r.2, r.3)
-
-weekday_named : (name : List ℕ) (k : ℕ) → place_of name 0 weekdays ≡ Some k → IsPiece (weekday k) × (letters (weekday k) ≡ name)
-weekday_named name k e =
-    let r = place_of-at name 0 weekdays k e in
-    let same : k ≡ r.0 = omega (arith, r.1) in
-    let P : ℕ → Type 0 = λ n. IsPiece (weekday n) × (letters (weekday n) ≡ name) in
-    subst P (sym same) (lt-ltb r.0 7 r.2, r.3)
+    let P : ℕ → Type 0 = λ n. (ltb n (length xs) ≡ true) × (name_at n xs ≡ name) in
+    subst P (sym same) (lt-ltb r.0 (length xs) r.2, r.3)
 
 -- the name of a month, of a weekday, or none
 first_of_names : (name : List ℕ) (m w : Option ℕ) → place_of name 0 months ≡ m → place_of name 0 weekdays ≡ w → (name_of name ≡ None) ⊎ ((p : Piece) × (name_of name ≡ Some p) × IsPiece p × (letters p ≡ name))
 first_of_names name (Some k) w e f =
-    let n = month_named name k e in inr (month k, rw e refl, n.0, n.1)
+    let n = named_there months name k e in inr (month k, rw e refl, n.0, n.1)
 first_of_names name None (Some k) e f =
-    let n = weekday_named name k f in inr (weekday k, rw (e, f) refl, n.0, n.1)
+    let n = named_there weekdays name k f in inr (weekday k, rw (e, f) refl, n.0, n.1)
 first_of_names name None None e f = inl (rw (e, f) refl)
 
 pub names_of : (name : List ℕ) → (name_of name ≡ None) ⊎ ((p : Piece) × (name_of name ≡ Some p) × IsPiece p × (letters p ≡ name))
