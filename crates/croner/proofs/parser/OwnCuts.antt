@@ -14,7 +14,7 @@ use Rattle.std.specs.Str.{IsUtf8, NonePass, NoCharPasses, all_scalars, encode_ut
 use lib.Utf8.{scalar, low_scalar}
 use Rattle.croner_base.specs.Part.{contains_byte}
 use Rattle.croner.specs.parser.Cut.{single, letters, is_lost, ArePieces, expansion, replaced}
-use Rattle.croner.specs.parser.Grammar.{Texts, seven, fields_of, settled, starred, without_plus, is_plain, is_for_days, is_for_weekdays, are_legal}
+use Rattle.croner.specs.parser.Grammar.{Texts, seven, fields_of, settled, starred, without_plus, is_list_character, is_for_days, is_for_weekdays, are_legal}
 use Rattle.croner.specs.parser.Settings.{Settings, accepts_count}
 use Rattle.croner.specs.parser.Words.{AreWords}
 use Rattle.croner.proofs.parser.Cuts.{cut_is}
@@ -35,7 +35,7 @@ own_raised c h = grind (arith, nat_tests)
 own_no_at : (c : ℕ) → is_own c ≡ true → eqb c 64 ≡ false
 own_no_at c h = grind (arith, nat_tests)
 
-plain_own : (c : ℕ) → is_plain c ≡ true → is_own c ≡ true
+plain_own : (c : ℕ) → is_list_character c ≡ true → is_own c ≡ true
 plain_own c h = grind (arith, nat_tests)
 
 days_own : (c : ℕ) → is_for_days c ≡ true → is_own c ≡ true
@@ -154,10 +154,10 @@ words_own (w ∷ ws) text h own =
     let s = h.1 in
     ap (list_all is_own) s.spells ∙ own_join s.gap (w ++ h.0) (gap_text s.gap s.is_gap) (own_join w h.0 parts.0 (words_own ws h.0 h.2 parts.1))
 
-all_plain : (text : List ℕ) → list_all is_plain text ≡ true → list_all is_own text ≡ true
+all_plain : (text : List ℕ) → list_all is_list_character text ≡ true → list_all is_own text ≡ true
 all_plain [] h = refl
 all_plain (c ∷ cs) h =
-    let parts = and_parts (is_plain c) (list_all is_plain cs) h in
+    let parts = and_parts (is_list_character c) (list_all is_list_character cs) h in
     and_from (is_own c) (list_all is_own cs) (plain_own c parts.0) (all_plain cs parts.1)
 
 starred_own : (c : ℕ) → (eqb c 63 ≡ false → is_own c ≡ true) → is_own c ≡ true
@@ -198,12 +198,12 @@ record OwnTexts (t : Texts) : Type 0 where
 
 legal_own : (t : Texts) → are_legal (settled t) ≡ true → OwnTexts t
 legal_own t h =
-    let p1 = and_parts (list_all is_plain t.seconds) _ h in
-    let p2 = and_parts (list_all is_plain t.minutes) _ p1.1 in
-    let p3 = and_parts (list_all is_plain t.hours) _ p2.1 in
+    let p1 = and_parts (list_all is_list_character t.seconds) _ h in
+    let p2 = and_parts (list_all is_list_character t.minutes) _ p1.1 in
+    let p3 = and_parts (list_all is_list_character t.hours) _ p2.1 in
     let p4 = and_parts (list_all is_for_days (starred t.days)) _ p3.1 in
-    let p5 = and_parts (list_all is_plain t.months) _ p4.1 in
-    let p6 = and_parts (list_all is_for_weekdays (starred (without_plus t.days_of_week))) (list_all is_plain t.years) p5.1 in
+    let p5 = and_parts (list_all is_list_character t.months) _ p4.1 in
+    let p6 = and_parts (list_all is_for_weekdays (starred (without_plus t.days_of_week))) (list_all is_list_character t.years) p5.1 in
     record {
       seconds = all_plain t.seconds p1.0;
       minutes = all_plain t.minutes p2.0;

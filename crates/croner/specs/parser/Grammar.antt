@@ -76,20 +76,20 @@ settled t = record t { days = starred t.days; days_of_week = starred (without_pl
 -- ---- legal characters
 
 -- digits, and the signs of lists, ranges and steps
-abbrev pub is_plain : ℕ → Bool
-is_plain c = (nat_le 48 c && nat_le c 57) || contains_byte c (codes "*/,-")
+abbrev pub is_list_character : ℕ → Bool
+is_list_character c = (nat_le 48 c && nat_le c 57) || contains_byte c (codes "*/,-")
 
 abbrev pub is_for_days : ℕ → Bool
-is_for_days c = is_plain c || contains_byte c (codes "LW")
+is_for_days c = is_list_character c || contains_byte c (codes "LW")
 
 abbrev pub is_for_weekdays : ℕ → Bool
-is_for_weekdays c = is_plain c || contains_byte c (codes "#L")
+is_for_weekdays c = is_list_character c || contains_byte c (codes "#L")
 
 -- each character of each field is legal there
 abbrev pub are_legal : Texts → Bool
 are_legal t =
-    list_all is_plain t.seconds && (list_all is_plain t.minutes && (list_all is_plain t.hours && (list_all is_for_days t.days
-    && (list_all is_plain t.months && (list_all is_for_weekdays t.days_of_week && list_all is_plain t.years)))))
+    list_all is_list_character t.seconds && (list_all is_list_character t.minutes && (list_all is_list_character t.hours && (list_all is_for_days t.days
+    && (list_all is_list_character t.months && (list_all is_for_weekdays t.days_of_week && list_all is_list_character t.years)))))
 
 abbrev pub is_star : List ℕ → Bool
 is_star text = bytes_eq text (codes "*")

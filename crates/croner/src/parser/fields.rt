@@ -3,7 +3,7 @@
 ghost use Rattle.std.specs.Prelude.{◌≡◌, ℕ, List, ◌==◌, if◌then◌else◌, map, not, string_bytes, option_map, is_none, IfOk, MatchOption};
 ghost use Rattle.std.specs.List.{list_all};
 ghost use Rattle.croner_base.specs.Part.{contains_byte};
-ghost use Rattle.croner.specs.parser.Grammar.{seven, starred, without_plus, has_plus, is_plain, is_for_days, is_for_weekdays, are_legal};
+ghost use Rattle.croner.specs.parser.Grammar.{seven, starred, without_plus, has_plus, is_list_character, is_for_days, is_for_weekdays, are_legal};
 ghost use Rattle.croner.specs.Views.{texts_of};
 
 use std::alloc::{AllocError, Global};
@@ -130,8 +130,8 @@ pub fn without_plus(text: &str) -> &str
     }
 }
 
-fn is_plain(b: u8) -> bool
-    ensures { result ≡ is_plain b }
+fn is_list_character(b: u8) -> bool
+    ensures { result ≡ is_list_character b }
 {
     b.is_ascii_digit() || b == b'*' || b == b'/' || b == b',' || b == b'-'
 }
@@ -139,19 +139,19 @@ fn is_plain(b: u8) -> bool
 fn is_for_days(b: u8) -> bool
     ensures { result ≡ is_for_days b }
 {
-    is_plain(b) || b == b'L' || b == b'W'
+    is_list_character(b) || b == b'L' || b == b'W'
 }
 
 fn is_for_weekdays(b: u8) -> bool
     ensures { result ≡ is_for_weekdays b }
 {
-    is_plain(b) || b == b'#' || b == b'L'
+    is_list_character(b) || b == b'#' || b == b'L'
 }
 
 fn all_plain(text: &str) -> bool
-    ensures { result ≡ list_all is_plain text.now }
+    ensures { result ≡ list_all is_list_character text.now }
 {
-    text.as_bytes().iter().all(|b| is_plain(*b))
+    text.as_bytes().iter().all(|b| is_list_character(*b))
 }
 
 fn all_for_days(text: &str) -> bool
