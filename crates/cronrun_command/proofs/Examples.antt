@@ -13,7 +13,7 @@ use Rattle.cronrun_command.specs.Count.{IsCountText}
 use Rattle.cronrun_command.specs.Line.{second_text}
 use Rattle.cronrun_command.specs.Moment.{two_digits, four_digits, AreDateNumbers}
 use Rattle.cronrun_command.specs.Reason.{reason_of}
-use Rattle.cronrun_command.specs.Start.{first_instant}
+use Rattle.cronrun_command.specs.Start.{start_instant}
 
 -- words and numbers
 next_lists_forward : command_of Forward ≡ codes "next"
@@ -69,16 +69,16 @@ unfolding digits
 a_second_before_the_epoch = refl
 
 -- starts: the earlier of two, and none in a gap or where the clock ends
-the_earlier : first_instant (Some (Ambiguous (pos 1) (pos 3_601))) ≡ Some (pos 1)
+the_earlier : start_instant (Some (Ambiguous (pos 1) (pos 3_601))) ≡ Some (pos 1)
 the_earlier = refl
 
-the_one : first_instant (Some (Single (pos 7))) ≡ Some (pos 7)
+the_one : start_instant (Some (Single (pos 7))) ≡ Some (pos 7)
 the_one = refl
 
-none_in_a_gap : first_instant (Some Gap) ≡ None
+none_in_a_gap : start_instant (Some Gap) ≡ None
 none_in_a_gap = refl
 
-none_beyond_the_clock : first_instant None ≡ None
+none_beyond_the_clock : start_instant None ≡ None
 none_beyond_the_clock = refl
 
 -- reasons: the fault itself, and the limit where there is none

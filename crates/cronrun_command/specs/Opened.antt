@@ -6,7 +6,7 @@ use Rattle.croner_base.specs.Zone.{Zone, at_instant}
 use Rattle.croner_pattern.specs.Meaning.{Meaning}
 use Rattle.croner.specs.parser.Grammar.{Refusal}
 use Rattle.croner.specs.iterator.Listing.{Standing, new_standing}
-use Rattle.cronrun_command.specs.Start.{first_instant}
+use Rattle.cronrun_command.specs.Start.{start_instant}
 
 -- the pattern is accepted
 abbrev pub IsAccepted : Result Meaning Refusal → Type 0
@@ -15,12 +15,12 @@ IsAccepted outcome = (pattern : Meaning) × (outcome ≡ Ok pattern)
 -- the pattern is accepted, and the date and time names an instant
 abbrev pub Opens : Result Meaning Refusal → Zone → CivilDateTime → Type 0
 Opens outcome zone at =
-    (pattern : Meaning) × (start : ℤ) × (outcome ≡ Ok pattern) × (first_instant (zone.resolves at) ≡ Some start)
+    (pattern : Meaning) × (start : ℤ) × (outcome ≡ Ok pattern) × (start_instant (zone.resolves at) ≡ Some start)
 
 -- the pattern is accepted, the date and time names an instant, and the listing goes from there in the direction, without it
 abbrev pub StandsAtStart : Result Meaning Refusal → Zone → CivilDateTime → Direction → Standing → Type 0
 StandsAtStart outcome zone at direction standing =
     (pattern : Meaning) × (start : ℤ)
     × (outcome ≡ Ok pattern)
-    × (first_instant (zone.resolves at) ≡ Some start)
+    × (start_instant (zone.resolves at) ≡ Some start)
     × (standing ≡ new_standing pattern (at_instant zone start) false direction)

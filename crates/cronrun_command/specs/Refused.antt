@@ -13,6 +13,6 @@ IsUnread (Ok pattern) e = e ≡ OutOfMemory
 
 -- the pattern is refused, and the error is of its kind; or it is accepted, and the date and time names no instant; or memory
 -- ran out
-abbrev pub IsRefused : Result Meaning Refusal → Option ℤ → CronError → Type 0
-IsRefused (Err refusal) start e = Fails {Y = Meaning} e (Err refusal)
-IsRefused (Ok pattern) start e = ((e ≡ InvalidTime) × (start ≡ None)) ⊎ (e ≡ OutOfMemory)
+abbrev pub IsUnopened : Result Meaning Refusal → Option ℤ → CronError → Type 0
+IsUnopened (Err refusal) start e = Fails {Y = Meaning} e (Err refusal)
+IsUnopened (Ok pattern) start e = ((e ≡ InvalidTime) × (start ≡ None)) ⊎ (e ≡ OutOfMemory)

@@ -7,11 +7,11 @@ use Rattle.croner_base.specs.declared.time.value.Resolution.TheVariants.{Single,
 
 -- the instant that a start names where its second is resolved so: the earlier of two, and none for a second that lies in a
 -- gap or is not held
-abbrev pub first_instant : Option (Resolution ℤ) → Option ℤ
-first_instant (Some (Single i)) = Some i
-first_instant (Some (Ambiguous i j)) = Some i
-first_instant (Some Gap) = None
-first_instant None = None
+abbrev pub start_instant : Option (Resolution ℤ) → Option ℤ
+start_instant (Some (Single i)) = Some i
+start_instant (Some (Ambiguous i j)) = Some i
+start_instant (Some Gap) = None
+start_instant None = None
 
 -- InvalidTime where no instant is named, or want of memory where it can lack
 abbrev pub IsNoStart : Bool → Option ℤ → CronError → Type 0

@@ -13,8 +13,8 @@ use Rattle.cronrun_command.specs.Call.{Ask}
 use Rattle.cronrun_command.specs.Line.{AreLines}
 use Rattle.cronrun_command.specs.Opened.{IsAccepted, Opens, StandsAtStart}
 use Rattle.cronrun_command.specs.Reason.{reason_of}
-use Rattle.cronrun_command.specs.Refused.{IsRefused, IsUnread}
-use Rattle.cronrun_command.specs.Start.{first_instant}
+use Rattle.cronrun_command.specs.Refused.{IsUnopened, IsUnread}
+use Rattle.cronrun_command.specs.Start.{start_instant}
 use Rattle.cronrun_command.specs.declared.request.Listing.{Listing}
 use Rattle.cronrun_command.specs.declared.request.Request.{Request}
 use Rattle.cronrun_command.specs.declared.request.Request.TheVariants as requests
@@ -66,14 +66,14 @@ StopsDescribe pattern before after (stops.Unwritten e) = IsAccepted (outcome def
 -- why no truth is written: the pattern or the start is refused, and a writer got nothing; or it did not take the line
 abbrev pub StopsMatch : List ℕ → CivilDateTime → Option (List ℕ) → Option (List ℕ) → Stop → Type 0
 StopsMatch pattern at before after (stops.Refused e) =
-    IsRefused (outcome default_settings pattern) (first_instant (civil_zone.resolves at)) e × Keeps before after
+    IsUnopened (outcome default_settings pattern) (start_instant (civil_zone.resolves at)) e × Keeps before after
 StopsMatch pattern at before after (stops.Unwritten e) = Opens (outcome default_settings pattern) civil_zone at
 
 -- why not all runs are written: the pattern or the start is refused, and a writer got nothing; or the runs end early; or the
 -- writer did not take a line
 abbrev pub StopsList : Bool → Listing → Option (List ℕ) → Option (List ℕ) → Stop → Type 0
 StopsList lack l before after (stops.Refused e) =
-    (IsRefused (outcome default_settings l.pattern.now) (first_instant ((zone_of l.zone).resolves l.at)) e × Keeps before after)
+    (IsUnopened (outcome default_settings l.pattern.now) (start_instant ((zone_of l.zone).resolves l.at)) e × Keeps before after)
     ⊎ EndsEarly lack l before after e
 StopsList lack l before after (stops.Unwritten e) = IsCutShort l
 

@@ -11,8 +11,8 @@ ghost use Rattle.croner.specs.parser.Grammar.{outcome};
 ghost use Rattle.croner.specs.parser.Settings.{default_settings};
 ghost use Rattle.cronrun_command.specs.Answer.{Answers, IsOpened};
 ghost use Rattle.cronrun_command.specs.Opened.{Opens};
-ghost use Rattle.cronrun_command.specs.Start.{first_instant};
-ghost use Rattle.cronrun_command.specs.Refused.{IsRefused, IsUnread};
+ghost use Rattle.cronrun_command.specs.Start.{start_instant};
+ghost use Rattle.cronrun_command.specs.Refused.{IsUnopened, IsUnread};
 ghost use Rattle.cronrun_command.specs.Stopped.{Stops};
 
 use crate::request::Request;
@@ -81,7 +81,7 @@ fn is_match(alloc: Global, pattern: &str, at: CivilDateTime) -> Result<bool, Cro
         × (IsTrue held ↔ IsScheduled m (wall_second at))) }
     ensures opened { OnOk result (Opens (outcome default_settings pattern.now) civil_zone at) }
     ensures err { IfErr result
-        (IsRefused (outcome default_settings pattern.now) (first_instant (civil_zone.resolves at))) }
+        (IsUnopened (outcome default_settings pattern.now) (start_instant (civil_zone.resolves at))) }
 {
     let cron = Cron::from_str(alloc, pattern)?;
     let start = start_at(alloc, &CIVIL_CLOCK, at)?;

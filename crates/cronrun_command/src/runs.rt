@@ -7,8 +7,8 @@ ghost use Rattle.croner.specs.parser.Grammar.{outcome};
 ghost use Rattle.croner.specs.iterator.Listing.{standing_of};
 ghost use Rattle.croner.specs.parser.Settings.{default_settings};
 ghost use Rattle.cronrun_command.specs.Answer.{Answers, IsOpened, zone_of};
-ghost use Rattle.cronrun_command.specs.Start.{first_instant};
-ghost use Rattle.cronrun_command.specs.Refused.{IsRefused};
+ghost use Rattle.cronrun_command.specs.Start.{start_instant};
+ghost use Rattle.cronrun_command.specs.Refused.{IsUnopened};
 ghost use Rattle.cronrun_command.specs.Opened.{StandsAtStart};
 ghost use Rattle.cronrun_command.specs.Reason.{reason_of};
 ghost use Rattle.cronrun_command.specs.Stopped.{StopsList, StopsNext};
@@ -55,8 +55,8 @@ fn runs_from<T: CronDateTime>(
 ) -> Result<CronIterator<T>, CronError>
     ensures ok { IfOk result (λ runs. StandsAtStart (outcome default_settings listing.now.pattern.now)
         (T.moment clock.now).zone listing.now.at listing.now.direction (standing_of T.moment runs)) }
-    ensures err { IfErr result (IsRefused (outcome default_settings listing.now.pattern.now)
-        (first_instant ((T.moment clock.now).zone.resolves listing.now.at))) }
+    ensures err { IfErr result (IsUnopened (outcome default_settings listing.now.pattern.now)
+        (start_instant ((T.moment clock.now).zone.resolves listing.now.at))) }
 {
     let cron = Cron::from_str(alloc, listing.pattern)?;
     let start = start_at(alloc, clock, listing.at)?;

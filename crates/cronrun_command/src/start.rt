@@ -2,7 +2,7 @@
 ghost use Rattle.std.specs.Prelude.{◌≡◌, Some, IfOk, IfErr};
 ghost use Rattle.croner_base.specs.Civil.{wall_second};
 ghost use Rattle.croner_base.specs.Zone.{Names};
-ghost use Rattle.cronrun_command.specs.Start.{first_instant, IsNoStart};
+ghost use Rattle.cronrun_command.specs.Start.{start_instant, IsNoStart};
 
 use croner::errors::CronError;
 use croner::time::{CivilDateTime, CronDateTime, Resolution};
@@ -19,9 +19,9 @@ pub fn start_at<T: CronDateTime>(
 ) -> Result<T, CronError>
     ensures shows { IfOk result (Names T.moment (T.moment clock.now).zone (wall_second at)) }
     ensures first { IfOk result
-        (λ t. first_instant ((T.moment clock.now).zone.resolves at) ≡ Some (T.moment t).instant) }
+        (λ t. start_instant ((T.moment clock.now).zone.resolves at) ≡ Some (T.moment t).instant) }
     ensures err { IfErr result
-        (IsNoStart T.can_lack_memory (first_instant ((T.moment clock.now).zone.resolves at))) }
+        (IsNoStart T.can_lack_memory (start_instant ((T.moment clock.now).zone.resolves at))) }
 {
     match clock.resolve_civil(alloc, at) {
         Ok(Resolution::Single(start)) => Ok(start),
