@@ -166,25 +166,20 @@ starred_own c h = elim (cases_Bool (eqb c 63)) [
   | inr is_not ↦ h is_not
 ]
 
-all_days : (text : List ℕ) → list_all is_for_days (starred text) ≡ true → list_all is_own text ≡ true
-all_days [] h = refl
-all_days (c ∷ cs) h =
-    let parts = and_parts (is_for_days (cond (eqb c 63) 42 c)) (list_all is_for_days (starred cs)) h in
-    and_from (is_own c) (list_all is_own cs) (starred_own c (λ is_not. days_own c (ap is_for_days (sym (cond-false (eqb c 63) 42 c is_not)) ∙ parts.0))) (all_days cs parts.1)
-
-all_weekdays : (text : List ℕ) → list_all is_for_weekdays (starred text) ≡ true → list_all is_own text ≡ true
-all_weekdays [] h = refl
-all_weekdays (c ∷ cs) h =
-    let parts = and_parts (is_for_weekdays (cond (eqb c 63) 42 c)) (list_all is_for_weekdays (starred cs)) h in
-    and_from (is_own c) (list_all is_own cs) (starred_own c (λ is_not. weekdays_own c (ap is_for_weekdays (sym (cond-false (eqb c 63) 42 c is_not)) ∙ parts.0))) (all_weekdays cs parts.1)
+-- characters that pass a test of own characters, once each `?` is a star, are own
+all_starred : (test : ℕ → Bool) → ((c : ℕ) → test c ≡ true → is_own c ≡ true) → (text : List ℕ) → list_all test (starred text) ≡ true → list_all is_own text ≡ true
+all_starred test own [] h = refl
+all_starred test own (c ∷ cs) h =
+    let parts = and_parts (test (cond (eqb c 63) 42 c)) (list_all test (starred cs)) h in
+    and_from (is_own c) (list_all is_own cs) (starred_own c (λ is_not. own c (ap test (sym (cond-false (eqb c 63) 42 c is_not)) ∙ parts.0))) (all_starred test own cs parts.1)
 
 plus_own : (text : List ℕ) → list_all is_for_weekdays (starred (without_plus text)) ≡ true → list_all is_own text ≡ true
 plus_own [] h = refl
 plus_own (c ∷ cs) h = elim (cases_Bool (eqb c 43)) [
   | inl is_so ↦
       let first : is_own c ≡ true = grind (arith, nat_tests, is_so) in
-      and_from (is_own c) (list_all is_own cs) first (all_weekdays cs (ap (λ xs. list_all is_for_weekdays (starred xs)) (sym (cond-true (eqb c 43) cs (c ∷ cs) is_so)) ∙ h))
-  | inr is_not ↦ all_weekdays (c ∷ cs) (ap (λ xs. list_all is_for_weekdays (starred xs)) (sym (cond-false (eqb c 43) cs (c ∷ cs) is_not)) ∙ h)
+      and_from (is_own c) (list_all is_own cs) first (all_starred is_for_weekdays weekdays_own cs (ap (λ xs. list_all is_for_weekdays (starred xs)) (sym (cond-true (eqb c 43) cs (c ∷ cs) is_so)) ∙ h))
+  | inr is_not ↦ all_starred is_for_weekdays weekdays_own (c ∷ cs) (ap (λ xs. list_all is_for_weekdays (starred xs)) (sym (cond-false (eqb c 43) cs (c ∷ cs) is_not)) ∙ h)
 ]
 
 record OwnTexts (t : Texts) : Type 0 where
@@ -208,7 +203,7 @@ legal_own t h =
       seconds = all_plain t.seconds p1.0;
       minutes = all_plain t.minutes p2.0;
       hours = all_plain t.hours p3.0;
-      days = all_days t.days p4.0;
+      days = all_starred is_for_days days_own t.days p4.0;
       months = all_plain t.months p5.0;
       days_of_week = plus_own t.days_of_week p6.0;
       years = all_plain t.years p6.1;
