@@ -450,10 +450,10 @@ def drawn_edge(draw):
 
 def drawn_shift(draw, offset, longest):
     """By how many seconds the clock is moved, so that its offset stays within a day."""
-    gaps = SIZES + [size for size in LONG_SIZES if size <= longest] * 2
-    gaps = [size for size in gaps if size <= longest and offset + size <= DAY]
+    gaps = [size for size in SIZES if offset + size <= DAY]
     backs = [-size for size in SIZES if offset - size >= -DAY]
-    return draw.choice(draw.choice([side for side in (gaps, backs) if side]))
+    long_gaps = [size for size in LONG_SIZES if size <= longest and offset + size <= DAY]
+    return draw.choice(draw.choice([side for side in (gaps, backs, long_gaps, long_gaps) if side]))
 
 
 def drawn_clock(draw, longest):
@@ -511,8 +511,9 @@ def drawn_dates(draw, year, month, day):
     return " ".join(fields)
 
 
-def drawn_pattern(draw, clock):
-    year, month, day, hour, minute, second = parts(drawn_second(draw, clock))
+def drawn_pattern(draw, second):
+    """A pattern that mostly names a second."""
+    year, month, day, hour, minute, second = parts(second)
     years = ["", " *"] + [f" {y}" for y in (year, year + 1) if FIRST_YEAR <= y <= LAST_YEAR]
     if FIRST_YEAR < year < LAST_YEAR:
         years += [f" {year - 1}-{year + 1}"] * 2
@@ -566,15 +567,19 @@ def zone_of(clock):
 def edge_line(draw, longest):
     """A search of one pattern on a table of offsets."""
     clock = drawn_clock(draw, longest)
-    text, start = drawn_pattern(draw, clock), drawn_start(draw, clock)
+    text, start = drawn_pattern(draw, drawn_second(draw, clock)), drawn_start(draw, clock)
     op, way = drawn_way(draw)
     question = {"op": op, "text": text, "zone": zone_of(clock), "start": start}
     return asked(question, [Job(text)], clock, start, way, lambda run: run[0])
 
 
 def drawn_patterns(draw, clock):
+    """Patterns of a table: of many seconds, or all of one second, so that several run at once."""
     count = draw.choice([0, 1, 2, 2, 3, 3, 4, 5, 8, 13, 30])
-    patterns = [drawn_pattern(draw, clock) for _ in range(count)]
+    seconds = [drawn_second(draw, clock) for _ in range(count)]
+    if draw.random() < 0.6:
+        seconds = seconds[:1] * count
+    patterns = [drawn_pattern(draw, second) for second in seconds]
     if patterns and draw.random() < 0.4:
         patterns.insert(draw.randint(0, count), draw.choice(patterns))
     return patterns
