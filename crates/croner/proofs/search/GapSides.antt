@@ -1,35 +1,26 @@
 -- The search for the two sides of a gap.
-use Rattle.std.proofs.Common.{◌≡◌, ℕ, zero, suc, ◌-◌, ◌*◌, ◌≤◌, ◌<◌, ℤ, pos, ◌+ℤ◌, ◌-ℤ◌, ◌<ℤ◌, ◌≤ℤ◌, arith, refl, sym, ◌∙◌, inl, inr, ap, subst, Bool, Some, IsSome}
+use Rattle.std.proofs.Common.{◌≡◌, ℕ, zero, suc, ◌-◌, ◌*◌, ◌+◌, ◌≤◌, ◌<◌, ℤ, pos, ◌+ℤ◌, ◌-ℤ◌, ◌<ℤ◌, ◌≤ℤ◌, arith, refl, sym, ◌∙◌, inl, inr, ap, subst, Bool, Option, Some, IsSome, Ok, Err}
 use Rattle.std.proofs.lemmas.Int.{ints}
 use borrow.Author.Differences.{up}
+use Rattle.croner_base.specs.declared.time.Direction.{Direction}
 use Rattle.croner_base.specs.declared.time.Direction.TheVariants.{Forward, Backward}
 use Rattle.croner_base.specs.declared.time.civil.CivilDateTime.{CivilDateTime}
 use Rattle.croner_base.specs.declared.time.value.Resolution.TheVariants.{Single, Ambiguous, Gap}
 use Rattle.croner_base.specs.declared.errors.CronError.{CronError}
 use Rattle.croner_base.specs.Civil.{wall_second}
-use Rattle.croner_base.specs.Zone.{Zone, IsUnheld}
-use Rattle.croner_base.specs.Calm.{IsCalm, IsSearched, IsInReach}
+use Rattle.croner_base.specs.Zone.{Zone, Moment, IsResolved}
+use Rattle.croner_base.specs.Calm.{IsCalm}
 use Rattle.croner_base.specs.Limits.{gap_limit, fold_limit, apart_limit}
 use Rattle.croner.specs.search.Premises.{HoldsYears, HasOneInstantEach}
 use Rattle.croner.specs.search.Refusal.{IsBackendError}
-use Rattle.croner.specs.Private.search.Wall.{IsLastYear}
-use Rattle.croner.specs.Private.search.Walk.{GapEnd, Unread, one_on}
+use Rattle.croner.specs.search.Runs.{Precedes}
+use Rattle.croner.specs.declared.search.gap.Around.{Around}
+use Rattle.croner.specs.Private.search.Gaps.{IsSkipped, UnreadTo, IsShown, IsBeyond, IsAround, HasGapSide}
+use Rattle.croner.specs.Private.search.Halves.{Break, offset_from}
+use Rattle.croner.specs.Private.search.Walk.{HasGapEnd, HasGapFront}
 use Rattle.croner.proofs.search.CalmZone.{Exactly, calm_of, exact_of}
-use Rattle.croner.proofs.search.ZoneOrder.{Calm, cases_lt_z, distance, gains, read_or_skipped}
+use Rattle.croner.proofs.search.ZoneOrder.{Calm, cases_lt_z, distance, gains, read_or_skipped, after_break, below_before, above_after}
 use Rattle.croner.proofs.search.WalkArms.{first_of_one, first_of_two}
-use Rattle.croner.proofs.search.WallSeconds.{last_year_far}
-
--- ---- how far a search has come, its loop's invariant
-
--- a search for the end of a gap has come to a wall second
-pub record InGapUpTo (z : Zone) (held wall : ℤ) : Type 0 where
-  pub from : held ≤ℤ wall
-  pub unread : IsCalm z → Unread z.reads held (wall +ℤ pos 1)
-
--- a search for the second before a gap has come to a wall second
-pub record InGapDownTo (z : Zone) (held wall : ℤ) : Type 0 where
-  pub from : wall ≤ℤ held
-  pub unread : IsCalm z → Unread z.reads wall (held +ℤ pos 1)
 
 -- ---- each wall second is passed somewhere
 
@@ -97,96 +88,6 @@ module _ (reads : ℤ → ℤ) (calm : Calm reads) where
       let small = calm.forth p in
       (reads p, p, below, omega (arith, ints), refl)
 
-unread_up : (reads : ℤ → ℤ) (low v : ℤ) → Unread reads low v → Exactly reads v Gap → Unread reads low (v +ℤ pos 1)
-unread_up reads low v unread here =
-    λ u a b x e.
-    elim (cases_lt_z u v) [ inl lt ↦ unread u a lt x e | inr le ↦ let same : u ≡ v = omega (arith, ints) in here x (e ∙ same) ]
-
-unread_down : (reads : ℤ → ℤ) (v high : ℤ) → Unread reads (v +ℤ pos 1) high → Exactly reads v Gap → Unread reads v high
-unread_down reads v high unread here =
-    λ u a b x e.
-    elim (cases_lt_z v u) [ inl lt ↦ unread u (omega (arith, ints)) b x e | inr le ↦ let same : u ≡ v = omega (arith, ints) in here x (e ∙ same) ]
-
-unread_none : (reads : ℤ → ℤ) (v w : ℤ) → w ≤ℤ v → Unread reads v w
-unread_none reads v w h = λ u a b x e. let never : ⊥ = omega (arith, ints) in never
-
-module _ (zone : Zone) (held : CivilDateTime) where
-  pub up_start : zone.resolves held ≡ Some Gap → InGapUpTo zone (wall_second held) (wall_second held)
-  up_start e =
-      record {
-        from = omega (arith, ints);
-        unread = λ calm. unread_up zone.reads (wall_second held) (wall_second held) (unread_none zone.reads (wall_second held) (wall_second held) (omega (arith, ints))) (exact_of zone calm held Gap e);
-      }
-
-  pub down_start : zone.resolves held ≡ Some Gap → InGapDownTo zone (wall_second held) (wall_second held)
-  down_start e =
-      record {
-        from = omega (arith, ints);
-        unread = λ calm. unread_down zone.reads (wall_second held) (wall_second held +ℤ pos 1) (unread_none zone.reads (wall_second held +ℤ pos 1) (wall_second held +ℤ pos 1) (omega (arith, ints))) (exact_of zone calm held Gap e);
-      }
-
-module _ (zone : Zone) (held : ℤ) where
-  pub up_more : (wall : ℤ) (next : CivilDateTime) → InGapUpTo zone held wall → wall_second next ≡ one_on Forward wall → zone.resolves next ≡ Some Gap → InGapUpTo zone held (wall_second next)
-  up_more wall next so_far e named =
-      let from = so_far.from in
-      record {
-        from = omega (arith, ints);
-        unread = λ calm. unread_up zone.reads held (wall_second next) (subst (λ (v : ℤ). Unread zone.reads held v) (sym e) (so_far.unread calm)) (exact_of zone calm next Gap named);
-      }
-
-  pub down_more : (wall : ℤ) (next : CivilDateTime) → InGapDownTo zone held wall → wall_second next ≡ one_on Backward wall → zone.resolves next ≡ Some Gap → InGapDownTo zone held (wall_second next)
-  down_more wall next so_far e named =
-      let from = so_far.from in
-      let back : wall ≡ wall_second next +ℤ pos 1 = omega (arith, ints) in
-      record {
-        from = omega (arith, ints);
-        unread = λ calm. unread_down zone.reads (wall_second next) (held +ℤ pos 1) (subst (λ (v : ℤ). Unread zone.reads v (held +ℤ pos 1)) back (so_far.unread calm)) (exact_of zone calm next Gap named);
-      }
-
-  pub up_one : (wall : ℤ) (next : CivilDateTime) (t : ℤ) → InGapUpTo zone held wall → wall_second next ≡ one_on Forward wall → zone.resolves next ≡ Some (Single t) → IsCalm zone → GapEnd zone.reads held (wall_second next) t
-  up_one wall next t so_far e named calm =
-      let from = so_far.from in
-      let exact = exact_of zone calm next (Single t) named in
-      record {
-        past = omega (arith, ints);
-        unread = subst (λ (v : ℤ). Unread zone.reads held v) (sym e) (so_far.unread calm);
-        first = first_of_one zone.reads (calm_of zone calm) (wall_second next) t exact;
-        at = exact.0;
-      }
-
-  pub up_two : (wall : ℤ) (next : CivilDateTime) (t l : ℤ) → InGapUpTo zone held wall → wall_second next ≡ one_on Forward wall → zone.resolves next ≡ Some (Ambiguous t l) → IsCalm zone → GapEnd zone.reads held (wall_second next) t
-  up_two wall next t l so_far e named calm =
-      let from = so_far.from in
-      let exact = exact_of zone calm next (Ambiguous t l) named in
-      record {
-        past = omega (arith, ints);
-        unread = subst (λ (v : ℤ). Unread zone.reads held v) (sym e) (so_far.unread calm);
-        first = first_of_two zone.reads (calm_of zone calm) (wall_second next) t l exact;
-        at = exact.1;
-      }
-
-  pub down_front : (wall next t : ℤ) → InGapDownTo zone held wall → next ≡ one_on Backward wall → (IsCalm zone → zone.reads t ≡ next) → (next <ℤ held) × (IsCalm zone → Unread zone.reads (next +ℤ pos 1) (held +ℤ pos 1) × ((t : ℤ) × (zone.reads t ≡ next)))
-  down_front wall next t so_far e at =
-      let from = so_far.from in
-      let back : wall ≡ next +ℤ pos 1 = omega (arith, ints) in
-      (omega (arith, ints), λ calm. (subst (λ (v : ℤ). Unread zone.reads v (held +ℤ pos 1)) back (so_far.unread calm), (t, at calm)))
-
-  pub up_past : (wall next : ℤ) → InGapUpTo zone held wall → next ≡ one_on Forward wall → held <ℤ next
-  up_past wall next so_far e = let from = so_far.from in omega (arith, ints)
-
--- ---- in a calm zone the search ends
-
-module _ (zone : Zone) (held : CivilDateTime) (wall : ℤ) (n : ℕ) where
-  pub up_ends : zone.resolves held ≡ Some Gap → InGapUpTo zone (wall_second held) wall → wall ≡ wall_second held +ℤ pos n → gap_limit ≤ n → IsCalm zone → ⊥
-  up_ends named so_far at long calm =
-      let (v, t, past, close, e) = gap_ends_soon zone.reads (calm_of zone calm) (wall_second held) (exact_of zone calm held Gap named) in
-      so_far.unread calm v (omega (arith, ints)) (omega (arith, ints)) t e
-
-  pub down_ends : zone.resolves held ≡ Some Gap → InGapDownTo zone (wall_second held) wall → wall ≡ wall_second held -ℤ pos n → gap_limit ≤ n → IsCalm zone → ⊥
-  down_ends named so_far at long calm =
-      let (v, t, past, close, e) = gap_begins_soon zone.reads (calm_of zone calm) (wall_second held) (exact_of zone calm held Gap named) in
-      so_far.unread calm v (omega (arith, ints)) (omega (arith, ints)) t e
-
 -- ---- in every zone
 
 pub not_one_each : (zone : Zone) (held : CivilDateTime) → zone.resolves held ≡ Some Gap → HasOneInstantEach zone → ⊥
@@ -196,16 +97,123 @@ not_one_each zone held named each =
     let never : Some Gap ≡ Some (Single i) = sym named ∙ single in
     cc
 
--- the seconds of a gap search lie in the years that a backend holds
-pub not_last_up : (held wall : ℤ) (n : ℕ) (c : CivilDateTime) → IsSearched held → wall ≡ held +ℤ pos n → n < gap_limit → wall ≡ wall_second c → IsLastYear Forward c.date.year → ⊥
-not_last_up held wall n c searched at short is last = let far = last_year_far Forward c last in omega (arith, ints, searched.1)
+-- ---- one gap
 
-pub not_last_down : (held wall : ℤ) (n : ℕ) (c : CivilDateTime) → IsSearched held → wall ≡ held -ℤ pos n → n < gap_limit → wall ≡ wall_second c → IsLastYear Backward c.date.year → ⊥
-not_last_down held wall n c searched at short is last = let far = last_year_far Backward c last in omega (arith, ints, searched.0)
+module _ (reads : ℤ → ℤ) (calm : Calm reads) where
+  -- what lies between two readings next to each other is never read
+  never_read : (p u : ℤ) → reads p <ℤ u → u <ℤ reads (p +ℤ pos 1) → (x : ℤ) → reads x ≡ u → ⊥
+  never_read p u below above x e =
+      let breaks : Break reads p = λ (same : reads (p +ℤ pos 1) ≡ reads p +ℤ pos 1). omega (arith, ints) in
+      elim (cases_lt_z p x) [
+        | inl after ↦ let high = above_after reads calm p x breaks after in omega (arith, ints)
+        | inr before ↦ let low = below_before reads calm p x breaks before in omega (arith, ints)
+      ]
 
-pub unheld_in_reach : (lack : Bool) (zone : Zone) (c : CivilDateTime) (e : CronError) → IsInReach (wall_second c) → IsUnheld lack zone c e → IsBackendError lack (HoldsYears zone → ⊥) e
-unheld_in_reach lack zone c e reach unheld =
-    elim unheld [
-      | inl memory ↦ inl memory
-      | inr (kind, none) ↦ inr (kind, λ holds. let some : IsSome (zone.resolves c) = holds.seconds c reach in let never = rw none at some in absurd (cc))
-    ]
+  -- two seconds that are never read, at most two days apart, lie in one gap: nothing between them is read
+  one_gap : (w v : ℤ) → Exactly reads w Gap → Exactly reads v Gap → w ≤ℤ v → v ≤ℤ (w +ℤ pos apart_limit) → (u : ℤ) → w ≤ℤ u → u ≤ℤ v → (x : ℤ) → reads x ≡ u → ⊥
+  one_gap w v none none2 le near u from to x e =
+      let (p, below, above) = unread_is_in_gap reads calm w none in
+      let (q, below2, above2) = unread_is_in_gap reads calm v none2 in
+      let breaks : Break reads p = λ (same : reads (p +ℤ pos 1) ≡ reads p +ℤ pos 1). omega (arith, ints) in
+      let breaks2 : Break reads q = λ (same : reads (q +ℤ pos 1) ≡ reads q +ℤ pos 1). omega (arith, ints) in
+      elim (cases_lt_z p q) [
+        | inl lt ↦
+            let far = calm.apart p q breaks breaks2 lt in
+            let m : ℤ = p +ℤ pos (apart_limit + 1) in
+            let line = after_break reads calm p (p +ℤ pos 1) m breaks (omega (arith, ints)) (omega (arith, ints)) (omega (arith, ints)) in
+            let low = below_before reads calm q m breaks2 (omega (arith, ints)) in
+            omega (arith, ints)
+        | inr ge ↦
+            elim (cases_lt_z q p) [
+              | inl lt ↦ let high = above_after reads calm q p breaks2 lt in omega (arith, ints)
+              | inr le2 ↦
+                  let same : q ≡ p = omega (arith, ints) in
+                  let top : v <ℤ reads (p +ℤ pos 1) = subst (λ (r : ℤ). v <ℤ reads (r +ℤ pos 1)) same above2 in
+                  never_read p u (omega (arith, ints)) (omega (arith, ints)) x e
+            ]
+      ]
+
+  -- so between a second in a gap and the first in the direction that is read, nothing is
+  side_unread : (direction : Direction) (held : ℤ) (inside : ℕ) → Exactly reads held Gap → Exactly reads (offset_from direction held inside) Gap → inside < gap_limit → UnreadTo direction reads held (offset_from direction held (inside + 1))
+  side_unread Forward held inside none none2 near =
+      λ u from to x e. one_gap held (held +ℤ pos inside) none none2 (omega (arith, ints)) (omega (arith, ints)) u from (omega (arith, ints)) x e
+  side_unread Backward held inside none none2 near =
+      λ u from to x e. one_gap (held -ℤ pos inside) held none2 none (omega (arith, ints)) (omega (arith, ints)) u (omega (arith, ints)) from x e
+
+  -- and the second at the limit of the search lies in the gap no more
+  side_ends : (direction : Direction) (held : ℤ) → Exactly reads held Gap → Exactly reads (offset_from direction held gap_limit) Gap → ⊥
+  side_ends Forward held none none2 =
+      let (v, t, past, close, e) = gap_ends_soon reads calm held none in
+      one_gap held (held +ℤ pos gap_limit) none none2 (omega (arith, ints)) (omega (arith, ints)) v (omega (arith, ints)) (omega (arith, ints)) t e
+  side_ends Backward held none none2 =
+      let (v, t, past, close, e) = gap_begins_soon reads calm held none in
+      one_gap (held -ℤ pos gap_limit) held none2 none (omega (arith, ints)) (omega (arith, ints)) v (omega (arith, ints)) (omega (arith, ints)) t e
+
+-- ---- what the backend answers
+
+zero_on : (direction : Direction) (w : ℤ) → offset_from direction w 0 ≡ w
+zero_on Forward w = omega (arith, ints)
+zero_on Backward w = omega (arith, ints)
+
+pub held_skipped : (direction : Direction) (z : Zone) (held : CivilDateTime) → z.resolves held ≡ Some Gap → IsSkipped z (offset_from direction (wall_second held) 0)
+held_skipped direction z held named = λ calm x e. exact_of z calm held Gap named x (e ∙ zero_on direction (wall_second held))
+
+pub next_skipped : (z : Zone) (w : ℤ) (c : CivilDateTime) → wall_second c ≡ w → z.resolves c ≡ Some Gap → IsSkipped z w
+next_skipped z w c at named = λ calm x e. exact_of z calm c Gap named x (e ∙ sym at)
+
+module _ {T : Type 0} (moment : T → Moment) (z : Zone) (c : CivilDateTime) where
+  pub shown_one : (t : T) → IsResolved moment z c (Single t) → IsShown moment z (c, t)
+  shown_one t (names, named) = record {
+    zone_is = names.zone_is;
+    whole = names.whole;
+    first = λ calm. first_of_one z.reads (calm_of z calm) (wall_second c) (moment t).instant (exact_of z calm c (Single (moment t).instant) named);
+    at = λ calm. (exact_of z calm c (Single (moment t).instant) named).0;
+  }
+
+  pub shown_two : (t l : T) → IsResolved moment z c (Ambiguous t l) → IsShown moment z (c, t)
+  shown_two t l (names, later, order, named) = record {
+    zone_is = names.zone_is;
+    whole = names.whole;
+    first = λ calm. first_of_two z.reads (calm_of z calm) (wall_second c) (moment t).instant (moment l).instant (exact_of z calm c (Ambiguous (moment t).instant (moment l).instant) named);
+    at = λ calm. (exact_of z calm c (Ambiguous (moment t).instant (moment l).instant) named).1;
+  }
+
+-- ---- the side of the gap
+
+on_past : (direction : Direction) (held w : ℤ) (n : ℕ) → 0 < n → w ≡ offset_from direction held n → Precedes direction held w
+on_past Forward held w n some at = omega (arith, ints)
+on_past Backward held w n some at = omega (arith, ints)
+
+module _ {T : Type 0} (moment : T → Moment) (lack : Bool) (direction : Direction) (z : Zone) (held : CivilDateTime) (named : z.resolves held ≡ Some Gap) where
+  pub side_found : (limit : ℕ) (around : Around T) (found : CivilDateTime × T) → IsAround moment lack direction z (wall_second held) around → around.outside ≤ around.inside + 1 → around.answer ≡ Ok found → HasGapSide moment direction limit z (wall_second held) (Some found)
+  side_found limit around found is tight answered =
+      let ordered = is.ordered in
+      let near = is.near in
+      let outside : around.outside ≡ around.inside + 1 = omega arith in
+      let (at, shown) = subst (IsBeyond moment lack z (offset_from direction (wall_second held) around.outside)) answered is.beyond in
+      let next : offset_from direction (wall_second held) (around.inside + 1) ≡ wall_second found.0 = sym (at ∙ ap (offset_from direction (wall_second held)) outside) in (
+        on_past direction (wall_second held) (wall_second found.0) around.outside (omega arith) at,
+        shown,
+        λ calm. subst (UnreadTo direction z.reads (wall_second held)) next (side_unread z.reads (calm_of z calm) direction (wall_second held) around.inside (exact_of z calm held Gap named) (is.skipped calm) (omega arith)),
+      )
+
+  pub side_refused : (around : Around T) (e : CronError) → IsAround moment lack direction z (wall_second held) around → around.answer ≡ Err e → IsBackendError lack (HoldsYears z → ⊥) e
+  side_refused around e is answered = subst (IsBeyond moment lack z (offset_from direction (wall_second held) around.outside)) answered is.beyond
+
+  pub side_out : IsSkipped z (offset_from direction (wall_second held) gap_limit) → IsCalm z → ⊥
+  side_out skipped calm = side_ends z.reads (calm_of z calm) direction (wall_second held) (exact_of z calm held Gap named) (skipped calm)
+
+  pub gap_end_of : (found : CivilDateTime × T) → HasGapSide moment Forward gap_limit z (wall_second held) (Some found) → HasGapEnd moment z (wall_second held) (Some found)
+  gap_end_of found (past, shown, unread) = (
+    past,
+    shown.zone_is,
+    shown.whole,
+    not_one_each z held named,
+    λ calm. record { past = past; unread = unread calm; first = shown.first calm; at = shown.at calm },
+  )
+
+  pub gap_front_of : (found : CivilDateTime × T) → HasGapSide moment Backward gap_limit z (wall_second held) (Some found) → HasGapFront z (wall_second held) (Some found.0)
+  gap_front_of found (before, shown, unread) = (
+    before,
+    λ calm. (λ u from to. unread calm u (omega (arith, ints)) (omega (arith, ints)), ((moment found.1).instant, shown.at calm)),
+  )

@@ -1,4 +1,5 @@
 //! The nearest run of a schedule in a zone.
+mod distance;
 mod fold;
 mod gap;
 mod instant;

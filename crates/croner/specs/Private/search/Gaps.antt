@@ -1,0 +1,50 @@
+-- The side of a gap, as a search by doubling and bisection finds it.
+use Rattle.std.specs.Prelude.{◌≡◌, ℕ, ◌<◌, ◌≤◌, ℤ, Bool, Option, Some, None, Result, Ok, Err}
+use Rattle.croner_base.specs.declared.errors.CronError.{CronError}
+use Rattle.croner_base.specs.declared.time.Direction.{Direction}
+use Rattle.croner_base.specs.declared.time.civil.CivilDateTime.{CivilDateTime}
+use Rattle.croner_base.specs.Civil.{wall_second}
+use Rattle.croner_base.specs.Zone.{Zone, Moment}
+use Rattle.croner_base.specs.Calm.{IsCalm}
+use Rattle.croner_base.specs.Limits.{gap_limit}
+use Rattle.croner.specs.search.Premises.{HoldsYears}
+use Rattle.croner.specs.search.Refusal.{IsBackendError}
+use Rattle.croner.specs.search.Runs.{Precedes, Reaches}
+use Rattle.croner.specs.declared.search.gap.Around.{Around}
+use Rattle.croner.specs.Private.search.Halves.{offset_from}
+use Rattle.croner.specs.Private.search.Walk.{First}
+
+-- in a calm zone no instant shows the second
+abbrev pub IsSkipped : Zone → ℤ → Type 0
+IsSkipped z w = IsCalm z → (x : ℤ) → ¬ (z.reads x ≡ w)
+
+-- no instant shows any of the seconds from one on in the direction, up to another left out
+abbrev pub UnreadTo : Direction → (ℤ → ℤ) → ℤ → ℤ → Type 0
+UnreadTo direction reads from to =
+    (u : ℤ) → Reaches direction from u → Precedes direction u to → (x : ℤ) → ¬ (reads x ≡ u)
+
+-- the value is the first instant that shows the second
+pub record IsShown {T : Type 0} (moment : T → Moment) (z : Zone) (found : CivilDateTime × T) : Type 0 where
+  pub zone_is : (moment found.1).zone ≡ z
+  pub whole : (moment found.1).fraction ≡ 0
+  pub first : IsCalm z → First z.reads (wall_second found.0) (moment found.1).instant
+  pub at : IsCalm z → z.reads (moment found.1).instant ≡ wall_second found.0
+
+-- what is answered for the second w outside a gap: the first instant that shows it, or the backend's error
+abbrev pub IsBeyond : {T : Type 0} → (T → Moment) → Bool → Zone → ℤ → Result (CivilDateTime × T) CronError → Type 0
+IsBeyond moment lack z w (Ok found) = (wall_second found.0 ≡ w) × IsShown moment z found
+IsBeyond moment lack z w (Err e) = IsBackendError lack (¬ (HoldsYears z)) e
+
+-- a second that is skipped and one that is not, within the limit of the search
+pub record IsAround {T : Type 0} (moment : T → Moment) (lack : Bool) (direction : Direction) (z : Zone) (held : ℤ) (around : Around T) : Type 0 where
+  pub ordered : around.inside < around.outside
+  pub near : around.outside ≤ gap_limit
+  pub skipped : IsSkipped z (offset_from direction held around.inside)
+  pub beyond : IsBeyond moment lack z (offset_from direction held around.outside) around.answer
+
+-- the nearest second outside the gap that holds one, or the second at the limit is skipped too
+abbrev pub HasGapSide : {T : Type 0} → (T → Moment) → Direction → ℕ → Zone → ℤ → Option (CivilDateTime × T) → Type 0
+HasGapSide moment direction limit z held (Some found) =
+    Precedes direction held (wall_second found.0) × IsShown moment z found
+    × (IsCalm z → UnreadTo direction z.reads held (wall_second found.0))
+HasGapSide moment direction limit z held None = IsSkipped z (offset_from direction held limit)
