@@ -1,5 +1,5 @@
 -- How many passes a walk can take: those in gaps, and those of one repeated range.
-use Rattle.std.proofs.Common.{◌≡◌, ℕ, zero, suc, ◌+◌, ◌≤◌, ◌<◌, ℤ, pos, negsuc, neg_ℤ, ◌+ℤ◌, ◌-ℤ◌, ◌<ℤ◌, ◌≤ℤ◌, ◌⊎◌, arith, inl, inr, ap, subst, sym, List, [], ◌∷◌, int_lt, if◌then◌else◌, unsigned_abs, true}
+use Rattle.std.proofs.Common.{◌≡◌, ℕ, zero, suc, ◌+◌, ◌≤◌, ◌<◌, ℤ, pos, negsuc, ◌+ℤ◌, ◌-ℤ◌, ◌<ℤ◌, ◌≤ℤ◌, ◌⊎◌, arith, inl, inr, ap, subst, sym, List, [], ◌∷◌, int_lt, if◌then◌else◌, unsigned_abs, true}
 use Rattle.std.proofs.lemmas.Int.{ints}
 use Rattle.std.specs.List.{All}
 use Rattle.std.proofs.lemmas.List.Elements.{All-nil, All-cons, All-weaker}
@@ -9,10 +9,10 @@ use Rattle.croner_base.specs.declared.time.Direction.TheVariants.{Forward, Backw
 use Rattle.croner_base.specs.declared.time.value.Resolution.TheVariants.{Gap}
 use Rattle.croner_base.specs.Zone.{Zone}
 use Rattle.croner_base.specs.Calm.{IsCalm, IsSearched, IsMet, Rises, gap_seconds, jump}
-use Rattle.croner_base.specs.Limits.{fold_limit, most_gap_seconds}
+use Rattle.croner_base.specs.Limits.{fold_limit, most_gap_seconds, first_searched}
 use Rattle.croner.specs.search.Runs.{Precedes, Reaches}
 use Rattle.croner.specs.Private.search.Halves.{Break}
-use Rattle.croner.specs.Private.search.Walk.{one_on, Onward, Paces}
+use Rattle.croner.specs.Private.search.Walk.{one_on, pass_limit, Onward, Paces}
 use Rattle.croner.proofs.search.CalmZone.{Exactly, change_of_break}
 use Rattle.croner.proofs.search.ZoneOrder.{Calm, cases_lt_z, nonnegative, put_back, below_before, above_after}
 use Rattle.croner.proofs.search.GapSides.{unread_is_in_gap}
@@ -189,7 +189,7 @@ touches reads calm q w below above years =
     let small = calm.forth q in
     let low = years.0 in
     let high = years.1 in
-    elim (cases_lt_z (reads q) (neg_ℤ (pos 62_135_596_800))) [
+    elim (cases_lt_z (reads q) first_searched) [
       | inr le ↦ inl (le, omega (arith, ints))
       | inl lt ↦ inr (omega (arith, ints), omega (arith, ints))
     ]
@@ -328,7 +328,7 @@ skip_few z calm Forward (p ∷ ps) sorted touching =
     omega arith
 
 -- a walk in a calm zone ends before its limit of passes
-pub paced_ends : (direction : Direction) (z : Zone) → IsCalm z → (s wall : ℤ) (k : ℕ) → Paced direction z.reads s wall k → k < 31_622_400
+pub paced_ends : (direction : Direction) (z : Zone) → IsCalm z → (s wall : ℤ) (k : ℕ) → Paced direction z.reads s wall k → k < pass_limit
 paced_ends direction z calm s wall k paced =
     let a = bounded direction z.reads paced.gaps wall k paced.slack paced.met in
     let b = skip_few z calm direction paced.gaps paced.sorted paced.touching in

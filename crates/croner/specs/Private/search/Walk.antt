@@ -21,6 +21,10 @@ abbrev pub one_on : Direction → ℤ → ℤ
 one_on Forward w = w +ℤ pos 1
 one_on Backward w = w -ℤ pos 1
 
+-- the most passes of a walk
+abbrev pub pass_limit : ℕ
+pass_limit = 31_622_400
+
 -- where a walk begins
 abbrev pub walk_start : Direction → Bool → ℤ → ℤ
 walk_start direction true w = w
