@@ -136,10 +136,12 @@ impl CronPattern {
 
     /// Whether seconds, minutes and hours each name exactly one value, with step 1 and without a `*`: such a pattern runs
     /// at one time of the day.
+    #[tactic(auto, using(crate::proofs::Tests::and_false))]
     pub fn is_fixed_time(&self) -> bool
         ensures { result ≡ is_fixed_time (meaning_of self.now) }
     {
-        is_single(&self.seconds) && is_single(&self.minutes) && is_single(&self.hours)
+        // Most patterns that run more than once a day show it in their hours.
+        is_single(&self.hours) && is_single(&self.minutes) && is_single(&self.seconds)
     }
 
     /// The least plain value from `value` on (forward), or the greatest up to it (backward), of the seconds, minutes or
