@@ -1,5 +1,5 @@
 -- The fields of a pattern, read one after another.
-use Rattle.std.proofs.Common.{◌≡◌, ℕ, Bool, true, false, cond, eqb, List, [], ◌++◌, length, Result, Ok, Err, refl, ap, sym, ◌∙◌, subst}
+use Rattle.std.proofs.Common.{◌≡◌, ℕ, Bool, true, false, cond, eqb, ◌&&◌, List, [], ◌++◌, length, Result, Ok, Err, refl, ap, sym, ◌∙◌, subst}
 use Rattle.std.specs.Prelude.{codes}
 use Rattle.std.specs.Str.{trim, str_to_ascii_uppercase}
 use Rattle.std.proofs.lemmas.Bool.{and_left, and_right, and_from, cond-true, cond-false}
@@ -58,30 +58,56 @@ finished s text t and old new weekdays accepted e f g =
 pub same_fields : (text : List ℕ) (a1 a2 a3 a4 a5 a6 a7 b1 b2 b3 b4 b5 b6 b7 : Field) → a1 ≡ b1 → a2 ≡ b2 → a3 ≡ b3 → a4 ≡ b4 → a5 ≡ b5 → a6 ≡ b6 → a7 ≡ b7 → ◌≡◌ {A = Meaning} (record (new_meaning text) { seconds = a1; minutes = a2; hours = a3; days = a4; months = a5; days_of_week = a6; years = a7 }) (record (new_meaning text) { seconds = b1; minutes = b2; hours = b3; days = b4; months = b5; days_of_week = b6; years = b7 })
 same_fields text a1 a2 a3 a4 a5 a6 a7 b1 b2 b3 b4 b5 b6 b7 e1 e2 e3 e4 e5 e6 e7 = rw (e1, e2, e3, e4, e5, e6, e7) refl
 
--- where one of the seven fields is refused, not all are read
+-- where one of seven tests fails, they don't all hold
+fails_1 : (a b c d e f g : Bool) → a ≡ false → (a && (b && (c && (d && (e && (f && g)))))) ≡ false
+fails_1 a b c d e f g h = and_left a (b && (c && (d && (e && (f && g))))) h
+
 pub refused_1 : (s : Settings) (t : Texts) → (reading_of s sixty_shape t.seconds).accepted ≡ false → are_read s t ≡ false
-refused_1 s t h = and_left _ _ h
+refused_1 s t h = fails_1 ((reading_of s sixty_shape t.seconds).accepted) ((reading_of s sixty_shape t.minutes).accepted) ((reading_of s hour_shape t.hours).accepted) ((reading_of s day_shape t.days).accepted) ((reading_of s month_shape t.months).accepted) ((reading_of s (weekdays_of s) t.days_of_week).accepted) ((reading_of s year_shape t.years).accepted) h
+
+fails_2 : (a b c d e f g : Bool) → b ≡ false → (a && (b && (c && (d && (e && (f && g)))))) ≡ false
+fails_2 a b c d e f g h = and_right a (b && (c && (d && (e && (f && g))))) (and_left b (c && (d && (e && (f && g)))) h)
 
 pub refused_2 : (s : Settings) (t : Texts) → (reading_of s sixty_shape t.minutes).accepted ≡ false → are_read s t ≡ false
-refused_2 s t h = and_right _ _ (and_left _ _ h)
+refused_2 s t h = fails_2 ((reading_of s sixty_shape t.seconds).accepted) ((reading_of s sixty_shape t.minutes).accepted) ((reading_of s hour_shape t.hours).accepted) ((reading_of s day_shape t.days).accepted) ((reading_of s month_shape t.months).accepted) ((reading_of s (weekdays_of s) t.days_of_week).accepted) ((reading_of s year_shape t.years).accepted) h
+
+fails_3 : (a b c d e f g : Bool) → c ≡ false → (a && (b && (c && (d && (e && (f && g)))))) ≡ false
+fails_3 a b c d e f g h = and_right a (b && (c && (d && (e && (f && g))))) (and_right b (c && (d && (e && (f && g)))) (and_left c (d && (e && (f && g))) h))
 
 pub refused_3 : (s : Settings) (t : Texts) → (reading_of s hour_shape t.hours).accepted ≡ false → are_read s t ≡ false
-refused_3 s t h = and_right _ _ (and_right _ _ (and_left _ _ h))
+refused_3 s t h = fails_3 ((reading_of s sixty_shape t.seconds).accepted) ((reading_of s sixty_shape t.minutes).accepted) ((reading_of s hour_shape t.hours).accepted) ((reading_of s day_shape t.days).accepted) ((reading_of s month_shape t.months).accepted) ((reading_of s (weekdays_of s) t.days_of_week).accepted) ((reading_of s year_shape t.years).accepted) h
+
+fails_4 : (a b c d e f g : Bool) → d ≡ false → (a && (b && (c && (d && (e && (f && g)))))) ≡ false
+fails_4 a b c d e f g h = and_right a (b && (c && (d && (e && (f && g))))) (and_right b (c && (d && (e && (f && g)))) (and_right c (d && (e && (f && g))) (and_left d (e && (f && g)) h)))
 
 pub refused_4 : (s : Settings) (t : Texts) → (reading_of s day_shape t.days).accepted ≡ false → are_read s t ≡ false
-refused_4 s t h = and_right _ _ (and_right _ _ (and_right _ _ (and_left _ _ h)))
+refused_4 s t h = fails_4 ((reading_of s sixty_shape t.seconds).accepted) ((reading_of s sixty_shape t.minutes).accepted) ((reading_of s hour_shape t.hours).accepted) ((reading_of s day_shape t.days).accepted) ((reading_of s month_shape t.months).accepted) ((reading_of s (weekdays_of s) t.days_of_week).accepted) ((reading_of s year_shape t.years).accepted) h
+
+fails_5 : (a b c d e f g : Bool) → e ≡ false → (a && (b && (c && (d && (e && (f && g)))))) ≡ false
+fails_5 a b c d e f g h = and_right a (b && (c && (d && (e && (f && g))))) (and_right b (c && (d && (e && (f && g)))) (and_right c (d && (e && (f && g))) (and_right d (e && (f && g)) (and_left e (f && g) h))))
 
 pub refused_5 : (s : Settings) (t : Texts) → (reading_of s month_shape t.months).accepted ≡ false → are_read s t ≡ false
-refused_5 s t h = and_right _ _ (and_right _ _ (and_right _ _ (and_right _ _ (and_left _ _ h))))
+refused_5 s t h = fails_5 ((reading_of s sixty_shape t.seconds).accepted) ((reading_of s sixty_shape t.minutes).accepted) ((reading_of s hour_shape t.hours).accepted) ((reading_of s day_shape t.days).accepted) ((reading_of s month_shape t.months).accepted) ((reading_of s (weekdays_of s) t.days_of_week).accepted) ((reading_of s year_shape t.years).accepted) h
+
+fails_6 : (a b c d e f g : Bool) → f ≡ false → (a && (b && (c && (d && (e && (f && g)))))) ≡ false
+fails_6 a b c d e f g h = and_right a (b && (c && (d && (e && (f && g))))) (and_right b (c && (d && (e && (f && g)))) (and_right c (d && (e && (f && g))) (and_right d (e && (f && g)) (and_right e (f && g) (and_left f g h)))))
 
 pub refused_6 : (s : Settings) (t : Texts) → (reading_of s (weekdays_of s) t.days_of_week).accepted ≡ false → are_read s t ≡ false
-refused_6 s t h = and_right _ _ (and_right _ _ (and_right _ _ (and_right _ _ (and_right _ _ (and_left _ _ h)))))
+refused_6 s t h = fails_6 ((reading_of s sixty_shape t.seconds).accepted) ((reading_of s sixty_shape t.minutes).accepted) ((reading_of s hour_shape t.hours).accepted) ((reading_of s day_shape t.days).accepted) ((reading_of s month_shape t.months).accepted) ((reading_of s (weekdays_of s) t.days_of_week).accepted) ((reading_of s year_shape t.years).accepted) h
+
+fails_7 : (a b c d e f g : Bool) → g ≡ false → (a && (b && (c && (d && (e && (f && g)))))) ≡ false
+fails_7 a b c d e f g h = and_right a (b && (c && (d && (e && (f && g))))) (and_right b (c && (d && (e && (f && g)))) (and_right c (d && (e && (f && g))) (and_right d (e && (f && g)) (and_right e (f && g) (and_right f g h)))))
 
 pub refused_7 : (s : Settings) (t : Texts) → (reading_of s year_shape t.years).accepted ≡ false → are_read s t ≡ false
-refused_7 s t h = and_right _ _ (and_right _ _ (and_right _ _ (and_right _ _ (and_right _ _ (and_right _ _ h)))))
+refused_7 s t h = fails_7 ((reading_of s sixty_shape t.seconds).accepted) ((reading_of s sixty_shape t.minutes).accepted) ((reading_of s hour_shape t.hours).accepted) ((reading_of s day_shape t.days).accepted) ((reading_of s month_shape t.months).accepted) ((reading_of s (weekdays_of s) t.days_of_week).accepted) ((reading_of s year_shape t.years).accepted) h
+
+all_hold : (a b c d e f g : Bool) → a ≡ true → b ≡ true → c ≡ true → d ≡ true → e ≡ true → f ≡ true → g ≡ true → (a && (b && (c && (d && (e && (f && g)))))) ≡ true
+all_hold a b c d e f g h1 h2 h3 h4 h5 h6 h7 =
+    and_from a (b && (c && (d && (e && (f && g))))) h1
+    (and_from b (c && (d && (e && (f && g)))) h2 (and_from c (d && (e && (f && g))) h3 (and_from d (e && (f && g)) h4 (and_from e (f && g) h5 (and_from f g h6 h7)))))
 
 pub all_read : (s : Settings) (t : Texts) → (reading_of s sixty_shape t.seconds).accepted ≡ true → (reading_of s sixty_shape t.minutes).accepted ≡ true → (reading_of s hour_shape t.hours).accepted ≡ true → (reading_of s day_shape t.days).accepted ≡ true → (reading_of s month_shape t.months).accepted ≡ true → (reading_of s (weekdays_of s) t.days_of_week).accepted ≡ true → (reading_of s year_shape t.years).accepted ≡ true → are_read s t ≡ true
-all_read s t h1 h2 h3 h4 h5 h6 h7 = and_from _ _ h1 (and_from _ _ h2 (and_from _ _ h3 (and_from _ _ h4 (and_from _ _ h5 (and_from _ _ h6 h7)))))
+all_read s t h1 h2 h3 h4 h5 h6 h7 = all_hold ((reading_of s sixty_shape t.seconds).accepted) ((reading_of s sixty_shape t.minutes).accepted) ((reading_of s hour_shape t.hours).accepted) ((reading_of s day_shape t.days).accepted) ((reading_of s month_shape t.months).accepted) ((reading_of s (weekdays_of s) t.days_of_week).accepted) ((reading_of s year_shape t.years).accepted) h1 h2 h3 h4 h5 h6 h7
 
 -- ---- the text before its names are replaced
 
