@@ -9,7 +9,7 @@ use Rattle.croner_base.specs.Field.{Shape, empty_field, can_ask, can_mark}
 use Rattle.croner_pattern.specs.declared.pattern.CronPattern.{CronPattern}
 use Rattle.croner_pattern.specs.Meaning.{Meaning, meaning_of}
 use Rattle.croner_pattern.specs.Shapes.{sixty_shape, hour_shape, day_shape, month_shape, weekday_shape, year_shape, new_meaning}
-use Rattle.croner.specs.parser.Cut.{name_of, shown, is_dash, decimal_of, replaced}
+use Rattle.croner.specs.parser.Cut.{Piece, name_of, shown, is_dash, decimal_of, replaced}
 use Rattle.croner.specs.parser.Grammar.{Texts, are_read, value_of, weekdays_of}
 use Rattle.croner.specs.parser.Settings.{Settings}
 
