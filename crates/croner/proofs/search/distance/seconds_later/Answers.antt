@@ -18,5 +18,5 @@ returns-in-Some c =
 
 pub returns-in-None : goal.returns-in-None
 returns-in-None c =
-    let last = rw c.in-None.is at c.day_after.ensures in
+    let last = rw (c.in-None.is, c.date-2.ensures) at c.day_after.ensures in
     last.year_is
