@@ -1,4 +1,5 @@
 -- The side of a gap, as a search by doubling and bisection finds it.
+-- Private contracts alone cite these definitions.
 use Rattle.std.specs.Prelude.{◌≡◌, ℕ, ◌<◌, ◌≤◌, ℤ, Bool, Option, Some, None, Result, Ok, Err}
 use Rattle.croner_base.specs.declared.errors.CronError.{CronError}
 use Rattle.croner_base.specs.declared.time.Direction.{Direction}
