@@ -1,7 +1,9 @@
 //! The groups of calls that are measured.
 
 use crate::answers::Answers;
-use crate::passes::{compare, copy, describe, iterate, limit, matching, next, parse, previous};
+use crate::passes::{
+    compare, copy, describe, iterate, limit, matching, next, parse, previous, read_hostile,
+};
 use crate::subjects::Subjects;
 use croner::describe::lang::english::English;
 use croner::describe::lang::swedish::Swedish;
@@ -28,11 +30,16 @@ pub enum Group {
     NoDate,
     NoDateInOddYears,
     NoMinute,
+    NextLongTable,
+    NextFarOnLongTable,
+    HostileShort,
+    HostileMiddle,
+    HostileLong,
 }
 
 impl Group {
     /// Every group, in the order in which they are shown.
-    pub const ALL: [Group; 16] = [
+    pub const ALL: [Group; 21] = [
         Group::Parse,
         Group::MatchCivil,
         Group::NextCivil,
@@ -49,6 +56,11 @@ impl Group {
         Group::NoDate,
         Group::NoDateInOddYears,
         Group::NoMinute,
+        Group::NextLongTable,
+        Group::NextFarOnLongTable,
+        Group::HostileShort,
+        Group::HostileMiddle,
+        Group::HostileLong,
     ];
 
     /// Makes each call of the group once.
@@ -56,6 +68,7 @@ impl Group {
         let jobs = subjects.jobs.as_slice();
         let times = &subjects.times;
         let never = &subjects.never;
+        let hostile = &subjects.hostile;
         match self {
             Group::Parse => parse(alloc, subjects.patterns.as_slice()),
             Group::MatchCivil => matching(jobs, times.civil.as_slice()),
@@ -73,6 +86,11 @@ impl Group {
             Group::NoDate => limit(&never.no_date, &never.first),
             Group::NoDateInOddYears => limit(&never.no_date_in_odd_years, &never.first),
             Group::NoMinute => limit(&never.no_minute, &never.first),
+            Group::NextLongTable => next(jobs, times.long_table.as_slice()),
+            Group::NextFarOnLongTable => next(jobs, times.far_on_long_table.as_slice()),
+            Group::HostileShort => read_hostile(alloc, hostile.short.as_slice()),
+            Group::HostileMiddle => read_hostile(alloc, hostile.middle.as_slice()),
+            Group::HostileLong => read_hostile(alloc, hostile.long.as_slice()),
         }
     }
 }
@@ -96,6 +114,11 @@ impl fmt::Display for Group {
             Group::NoDate => "next run of 0 0 31 2 *",
             Group::NoDateInOddYears => "next run of 0 0 0 31 2 * */2",
             Group::NoMinute => "next run of , * * * *",
+            Group::NextLongTable => "next run, table of 20,000 changes",
+            Group::NextFarOnLongTable => "next run, far on that table",
+            Group::HostileShort => "hostile texts of 10,000 bytes",
+            Group::HostileMiddle => "hostile texts of 100,000 bytes",
+            Group::HostileLong => "hostile texts of 1,000,000 bytes",
         };
         write!(f, "{name}")
     }

@@ -8,6 +8,7 @@
 mod answers;
 mod given;
 mod group;
+mod hostile;
 mod job;
 mod measure;
 mod moment;
@@ -45,9 +46,10 @@ fn show(rt: &HostRuntime, group: Group, measured: Measured) -> io::Result<()> {
 // Measures each group, and shows what it answered and took.
 fn bench(rt: &HostRuntime, rounds: u32) -> Result<(), Stop> {
     let table = paris::table(rt.alloc())?;
+    let long_table = paris::long_table(rt.alloc())?;
     let zone = paris::zone()?;
     let patterns = given::patterns(rt)?;
-    let subjects = Subjects::new(rt.alloc(), patterns, &table, &zone)?;
+    let subjects = Subjects::new(rt.alloc(), patterns, &table, &long_table, &zone)?;
     bench_on(rt, &subjects, rounds)
 }
 

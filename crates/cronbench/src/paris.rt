@@ -5,7 +5,7 @@ use croner::time::table::ClockTable;
 use jiff::Error;
 use jiff::civil::{DateTime, Weekday};
 use jiff::tz::TimeZone;
-use std::alloc::Global;
+use std::alloc::{AllocError, Global};
 
 /// Summer time from the last Sunday of March to the last Sunday of October, at 1:00 UTC.
 const RULE: &str = "CET-1CEST,M3.5.0,M10.5.0/3";
@@ -16,6 +16,8 @@ const WINTER_OFFSET: i32 = 3_600;
 
 const FIRST_YEAR: i16 = 2020;
 
+const LAST_YEAR: i16 = 2059;
+
 const YEAR_BEHIND: i16 = 2060;
 
 const MARCH: i8 = 3;
@@ -25,11 +27,16 @@ const OCTOBER: i8 = 10;
 /// The changes of 2020 to 2059. Before the first it is winter time, and after the last too.
 pub fn table(alloc: Global) -> Result<ClockTable, Stop> {
     let mut changes = Vec::new(alloc);
+    add_changes(&mut changes)?;
+    Ok(ClockTable::new(WINTER_OFFSET, changes)?)
+}
+
+fn add_changes(changes: &mut Vec<(i64, i32)>) -> Result<(), Stop> {
     for year in FIRST_YEAR..YEAR_BEHIND {
         changes.push((change_in(year, MARCH)?, SUMMER_OFFSET))?;
         changes.push((change_in(year, OCTOBER)?, WINTER_OFFSET))?;
     }
-    Ok(ClockTable::new(WINTER_OFFSET, changes)?)
+    Ok(())
 }
 
 // 1:00 UTC of the last Sunday of a month, in seconds from 1970-01-01T00:00:00.
@@ -37,6 +44,44 @@ fn change_in(year: i16, month: i8) -> Result<i64, Error> {
     let first = DateTime::new(year, month, 1, 1, 0, 0, 0)?;
     let change = first.nth_weekday_of_month(-1, Weekday::Sunday)?;
     Ok(change.to_plain().to_second())
+}
+
+/// How many changes a table has before the first of 2020, and how many behind the last of 2059.
+const BESIDE: u32 = 9_960;
+
+/// How many seconds lie from one of these to the next.
+const APART_SECONDS: i64 = 3_000_000;
+
+/// How many seconds lie from the first of them to the first of 2020.
+const SECONDS_BEFORE: i64 = 29_880_000_000;
+
+/// The same changes among 20,000, the most that a table may have in the years 1 to 5000. At the others, 3,000,000 seconds apart,
+/// the clock is put forward by a second and back by turns.
+pub fn long_table(alloc: Global) -> Result<ClockTable, Stop> {
+    let mut changes = Vec::new(alloc);
+    let first = change_in(FIRST_YEAR, MARCH)?;
+    add_small_changes(&mut changes, first.saturating_sub(SECONDS_BEFORE))?;
+    add_changes(&mut changes)?;
+    let last = change_in(LAST_YEAR, OCTOBER)?;
+    add_small_changes(&mut changes, last.saturating_add(APART_SECONDS))?;
+    Ok(ClockTable::new(WINTER_OFFSET, changes)?)
+}
+
+fn add_small_changes(changes: &mut Vec<(i64, i32)>, first: i64) -> Result<(), AllocError> {
+    let mut instant = first;
+    for place in 0..BESIDE {
+        changes.push((instant, offset_beside(place)))?;
+        instant = instant.saturating_add(APART_SECONDS);
+    }
+    Ok(())
+}
+
+fn offset_beside(place: u32) -> i32 {
+    if place % 2 == 0 {
+        WINTER_OFFSET + 1
+    } else {
+        WINTER_OFFSET
+    }
 }
 
 /// The rule, in every year.

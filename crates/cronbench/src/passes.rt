@@ -128,3 +128,28 @@ pub fn limit<T: Moment>(job: &Job, start: &T) -> Result<Answers, CronError> {
     }
     Ok(answers)
 }
+
+/// Reads each text, which may be refused. An answer is how many bytes the kept text has, or a number below 0 for the refusal.
+pub fn read_hostile(alloc: Global, texts: &[String]) -> Result<Answers, CronError> {
+    let mut answers = Answers::default();
+    for text in texts {
+        answers.add(outcome(alloc, text.as_str())?);
+    }
+    Ok(answers)
+}
+
+fn outcome(alloc: Global, text: &str) -> Result<i64, CronError> {
+    match kept_bytes(alloc, text) {
+        Ok(bytes) => Ok(i64::try_from(bytes).unwrap_or(i64::MAX)),
+        Err(CronError::EmptyPattern) => Ok(-1),
+        Err(CronError::InvalidPattern(_)) => Ok(-2),
+        Err(CronError::IllegalCharacters(_)) => Ok(-3),
+        Err(CronError::ComponentError(_)) => Ok(-4),
+        Err(error) => Err(error),
+    }
+}
+
+fn kept_bytes(alloc: Global, text: &str) -> Result<usize, CronError> {
+    let cron = Cron::from_str(alloc, text)?;
+    Ok(cron.as_str().len())
+}

@@ -44,6 +44,20 @@ pub fn seconds(alloc: Global) -> Result<Vec<i64>, AllocError> {
     Ok(seconds)
 }
 
+/// How many seconds lie between two of the times that are far from each other.
+const FAR_APART_SECONDS: i64 = 450_000_000;
+
+/// As many seconds from 1970-01-01T00:00:00, spread over the 912 years before 2024-01-01T00:00:00.
+pub fn far_seconds(alloc: Global) -> Result<Vec<i64>, AllocError> {
+    let mut seconds = Vec::new(alloc);
+    let mut second = FIRST_SECOND;
+    for _ in 0..COUNT {
+        second = second.saturating_sub(FAR_APART_SECONDS);
+        seconds.push(second)?;
+    }
+    Ok(seconds)
+}
+
 /// What a wall clock shows at a second.
 pub fn civil_at(second: i64) -> Result<DateTime, Error> {
     Ok(Offset::UTC.to_datetime(Timestamp::from_second(second)?))

@@ -1,7 +1,8 @@
 //! What is measured on: the jobs, and the times that searches start from.
 
+use crate::hostile::texts;
 use crate::job::Job;
-use crate::starts::{FIRST_SECOND, civil_at, seconds, table_at, zoned_at};
+use crate::starts::{FIRST_SECOND, civil_at, far_seconds, seconds, table_at, zoned_at};
 use crate::stop::Stop;
 use croner::errors::CronError;
 use croner::time::table::{ClockTable, TableTime};
@@ -22,6 +23,13 @@ const NO_DATE_IN_ODD_YEARS: &str = "0 0 0 31 2 * */2";
 /// A pattern whose minutes name nothing.
 const NO_MINUTE: &str = ", * * * *";
 
+/// How many bytes a hostile text has: of the short ones, of those ten times as long, and of those a hundred times.
+const SHORT_BYTES: usize = 10_000;
+
+const MIDDLE_BYTES: usize = 100_000;
+
+const LONG_BYTES: usize = 1_000_000;
+
 /// The jobs, and the times that searches start from.
 #[derive(Drop)]
 pub struct Subjects<'t> {
@@ -35,27 +43,32 @@ pub struct Subjects<'t> {
     pub never: Never,
     /// The times that searches start from.
     pub times: Times<'t>,
+    /// Texts that no crontab has.
+    pub hostile: Hostile,
 }
 
 impl<'t> Subjects<'t> {
-    /// Reads the patterns, and places the times on the table and in the zone.
+    /// Reads the patterns, and places the times on the tables and in the zone.
     pub fn new(
         alloc: Global,
         patterns: Vec<String>,
         table: &'t ClockTable,
+        long_table: &'t ClockTable,
         zone: &TimeZone<'static>,
     ) -> Result<Subjects<'t>, Stop> {
         let jobs = jobs(alloc, patterns.as_slice())?;
-        let times = Times::new(alloc, table, zone)?;
+        let times = Times::new(alloc, table, long_table, zone)?;
         let mut rare = Vec::new(alloc);
         rare.push(Job::read(alloc, LEAP_MONDAY)?)?;
         let never = Never::new(alloc)?;
+        let hostile = Hostile::new(alloc)?;
         Ok(Subjects {
             patterns,
             jobs,
             rare,
             never,
             times,
+            hostile,
         })
     }
 }
@@ -89,6 +102,27 @@ impl Never {
     }
 }
 
+/// Texts of three lengths that no crontab has.
+#[derive(Drop)]
+pub struct Hostile {
+    pub short: Vec<String>,
+    pub middle: Vec<String>,
+    pub long: Vec<String>,
+}
+
+impl Hostile {
+    fn new(alloc: Global) -> Result<Hostile, Stop> {
+        let short = texts(alloc, SHORT_BYTES)?;
+        let middle = texts(alloc, MIDDLE_BYTES)?;
+        let long = texts(alloc, LONG_BYTES)?;
+        Ok(Hostile {
+            short,
+            middle,
+            long,
+        })
+    }
+}
+
 /// The times that searches start from, of each kind.
 #[derive(Drop)]
 pub struct Times<'t> {
@@ -98,23 +132,33 @@ pub struct Times<'t> {
     pub table: Vec<TableTime<'t>>,
     /// The times in a time zone.
     pub zoned: Vec<Zoned<'static>>,
+    /// The times on a table of 20,000 changes.
+    pub long_table: Vec<TableTime<'t>>,
+    /// Times on that table far from each other.
+    pub far_on_long_table: Vec<TableTime<'t>>,
 }
 
 impl<'t> Times<'t> {
-    /// Places the times on the table and in the zone.
+    /// Places the times on the tables and in the zone.
     fn new(
         alloc: Global,
         table: &'t ClockTable,
+        long_table: &'t ClockTable,
         zone: &TimeZone<'static>,
     ) -> Result<Times<'t>, Stop> {
         let seconds = seconds(alloc)?;
         let civil = civil_times(alloc, seconds.as_slice())?;
         let on_table = table_times(alloc, table, seconds.as_slice())?;
         let zoned = zoned_times(alloc, zone, seconds.as_slice())?;
+        let far = far_seconds(alloc)?;
+        let on_long_table = table_times(alloc, long_table, seconds.as_slice())?;
+        let far_on_long_table = table_times(alloc, long_table, far.as_slice())?;
         Ok(Times {
             civil,
             table: on_table,
             zoned,
+            long_table: on_long_table,
+            far_on_long_table,
         })
     }
 }
