@@ -1,5 +1,5 @@
 -- A date and time that a clock shows is scheduled just where the wall second is.
-use Rattle.std.proofs.Common.{◌≡◌, ◌↔◌, ℕ, ◌≤◌, Bool, true, IsTrue, Result, Ok, Err, IfOk, ap, sym, ◌∙◌, subst, ℤ}
+use Rattle.std.proofs.Common.{◌≡◌, ◌↔◌, ℕ, ◌≤◌, Bool, true, false, ◌&&◌, refl, IsTrue, Result, Ok, Err, IfOk, ap, sym, ◌∙◌, subst, ℤ}
 use Rattle.jiff_core.specs.Calendar.{days_in_month}
 use Rattle.croner_base.specs.declared.errors.CronError.{CronError}
 use Rattle.croner_base.specs.declared.time.civil.CivilDate.{CivilDate}
@@ -9,7 +9,7 @@ use Rattle.croner_base.specs.Calendar.{IsRealDate, day_number, weekday_of_day}
 use Rattle.croner_base.proofs.Chronology.{wall_second-injective}
 use Rattle.croner_pattern.specs.Meaning.{Meaning}
 use Rattle.croner_pattern.specs.Questions.{first_from}
-use Rattle.croner_pattern.specs.Schedule.{is_day_matching, first_weekday, is_scheduled, IsScheduled}
+use Rattle.croner_pattern.specs.Schedule.{is_plain, is_date_matching, is_day_matching, first_weekday, is_scheduled, IsScheduled}
 use Rattle.croner_pattern.proofs.Firsts.{first_from-date}
 
 pub same_schedule : (m : Meaning) (c : CivilDateTime) (w : ℤ) → wall_second c ≡ w → IsTrue (is_scheduled m c) ↔ IsScheduled m w
@@ -21,6 +21,25 @@ same_schedule m c w e = (
 -- the same of what a call answers
 pub answers_schedule : (m : Meaning) (c : CivilDateTime) (w : ℤ) (r : Result Bool CronError) → wall_second c ≡ w → r ≡ Ok (is_scheduled m c) → IfOk r (λ held. IsTrue held ↔ IsScheduled m w)
 answers_schedule m c w r e f = subst (λ x. IfOk x (λ held. IsTrue held ↔ IsScheduled m w)) (sym f) (same_schedule m c w e)
+
+-- the second, the minute and the hour are named
+abbrev pub is_time_named : Meaning → CivilDateTime → Bool
+is_time_named m c = is_plain m.seconds c.time.second && (is_plain m.minutes c.time.minute && is_plain m.hours c.time.hour)
+
+time_and_date : (second minute hour date : Bool) → ((second && (minute && hour)) && date) ≡ (second && (minute && (hour && date)))
+time_and_date true true hour date = refl
+time_and_date true false hour date = refl
+time_and_date false minute hour date = refl
+
+both_named : (m : Meaning) (c : CivilDateTime) → (is_time_named m c && is_date_matching m c.date) ≡ is_scheduled m c
+both_named m c = time_and_date (is_plain m.seconds c.time.second) (is_plain m.minutes c.time.minute) (is_plain m.hours c.time.hour) (is_date_matching m c.date)
+
+-- where the time is named the date decides, and else it is not scheduled
+pub date_decides : (m : Meaning) (c : CivilDateTime) (w : ℤ) (r : Result Bool CronError) → wall_second c ≡ w → is_time_named m c ≡ true → r ≡ Ok (is_date_matching m c.date) → IfOk r (λ held. IsTrue held ↔ IsScheduled m w)
+date_decides m c w r e named f = answers_schedule m c w r e (f ∙ ap (λ b. Ok (b && is_date_matching m c.date)) (sym named) ∙ ap Ok (both_named m c))
+
+pub missed_by_time : (m : Meaning) (c : CivilDateTime) (w : ℤ) → wall_second c ≡ w → is_time_named m c ≡ false → IsTrue false ↔ IsScheduled m w
+missed_by_time m c w e missed = subst (λ b. IsTrue b ↔ IsScheduled m w) (sym (both_named m c) ∙ ap (λ b. b && is_date_matching m c.date) missed) (same_schedule m c w e)
 
 -- the first of a month has the weekday that is counted back from a date of it
 pub day_from_date : (m : Meaning) (y : ℤ) (month day weekday : ℕ) → 1 ≤ day → weekday ≡ weekday_of_day (day_number y month day) → is_day_matching m (days_in_month y month) (first_from weekday day) day ≡ is_day_matching m (days_in_month y month) (first_weekday y month) day

@@ -4,7 +4,7 @@ ghost use Rattle.std.specs.Prelude.{◌≡◌, ◌↔◌, ◌&&◌, true, Ok, Is
 ghost use Rattle.jiff_core.specs.Calendar.{days_in_month};
 ghost use Rattle.croner_base.specs.Civil.{weekday_index, weekday_of_date};
 ghost use Rattle.croner_base.specs.Zone.{reading};
-ghost use Rattle.croner_pattern.specs.Schedule.{is_scheduled, is_date_matching, is_day_matching, is_plain, first_weekday, is_fixed_time, IsScheduled};
+ghost use Rattle.croner_pattern.specs.Schedule.{is_date_matching, is_day_matching, is_plain, first_weekday, is_fixed_time, IsScheduled};
 ghost use Rattle.croner_pattern.specs.Shapes.{has_field_shapes};
 ghost use Rattle.croner.specs.parser.Gives.{Gives};
 ghost use Rattle.croner.specs.parser.Grammar.{outcome};
@@ -76,14 +76,19 @@ impl Cron {
         ensures ok { IsOk result }
         ensures value { IfOk result (λ held. IsTrue held ↔ IsScheduled (job_of self.now) (reading (T.moment time.now))) }
     {
-        self.matches_civil(time.to_civil(), time.civil_weekday())
+        let civil = time.to_civil();
+        if self.matches_time(civil)? {
+            // The weekday takes longer than all before it, and most times are missed by then.
+            return self.matches_date(civil.date(), time.civil_weekday());
+        }
+        Ok(false)
     }
 
-    /// Whether a civil date and time is scheduled. The weekday is that of its date.
-    fn matches_civil(&self, civil: CivilDateTime, weekday: Weekday) -> Result<bool, CronError>
-        requires shapes { has_field_shapes (job_of self.now) ≡ true }
-        requires weekday { weekday_index weekday ≡ weekday_of_date civil.date }
-        ensures { result ≡ Ok (is_scheduled (job_of self.now) civil) }
+    /// Whether the second, the minute and the hour are named.
+    fn matches_time(&self, civil: CivilDateTime) -> Result<bool, CronError>
+        requires { has_field_shapes (job_of self.now) ≡ true }
+        ensures { result ≡ Ok (is_plain (job_of self.now).seconds civil.time.second
+            && (is_plain (job_of self.now).minutes civil.time.minute && is_plain (job_of self.now).hours civil.time.hour)) }
     {
         if !self.pattern.second_match(civil.second())? {
             return Ok(false);
@@ -91,20 +96,7 @@ impl Cron {
         if !self.pattern.minute_match(civil.minute())? {
             return Ok(false);
         }
-        self.matches_hour(civil, weekday)
-    }
-
-    /// Whether the hour and the date are named. The weekday is that of the date.
-    fn matches_hour(&self, civil: CivilDateTime, weekday: Weekday) -> Result<bool, CronError>
-        requires shapes { has_field_shapes (job_of self.now) ≡ true }
-        requires weekday { weekday_index weekday ≡ weekday_of_date civil.date }
-        ensures { result
-            ≡ Ok (is_plain (job_of self.now).hours civil.time.hour && is_date_matching (job_of self.now) civil.date) }
-    {
-        if !self.pattern.hour_match(civil.hour())? {
-            return Ok(false);
-        }
-        self.matches_date(civil.date(), weekday)
+        self.pattern.hour_match(civil.hour())
     }
 
     /// Whether a date is named. The weekday is that of the date.

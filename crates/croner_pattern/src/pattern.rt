@@ -208,6 +208,7 @@ pub fn nearest_member(field: &CronComponent, value: u16, direction: Direction) -
 }
 
 /// Whether a value has one of the modifiers, where the field can be asked.
+#[inline(always)]
 fn ask(field: &CronComponent, value: u16, bit: u8) -> Result<bool, CronError>
     ensures { Finds (λ held. held) (asked bit field.now value) result }
 {
