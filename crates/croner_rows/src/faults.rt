@@ -5,11 +5,11 @@ ghost use Rattle.croner.specs.Views.{job_of};
 
 use crate::clock::{civil, clock};
 use crate::fault::{Fault, refusal};
-use crate::job::job;
+use crate::job::{job, runs_of};
 use crate::table::{Question, add_differing};
-use crate::words::number;
+use crate::words::{number, push_text};
+use croner::time::CronDateTime;
 use croner::time::table::TableTime;
-use croner::time::{CronDateTime, Direction};
 use croner::{Cron, CronIterator};
 use std::alloc::{AllocError, Global};
 use std::test::Fail;
@@ -74,17 +74,6 @@ fn listed_by_a_copy<T: CronDateTime>(
     listed(alloc, &mut copy, count)
 }
 
-fn runs_of<T: CronDateTime>(job: &Cron, way: &str, start: T) -> Result<CronIterator<T>, Fault>
-    requires { has_field_shapes (job_of job.now) ≡ true }
-{
-    match way {
-        "after" => Ok(job.iter_after(start)?),
-        "from" => Ok(job.iter_from(start, Direction::Forward)?),
-        "before" => Ok(job.iter_before(start)?),
-        _ => Err(Fault::Malformed),
-    }
-}
-
 fn listed<T: CronDateTime>(
     alloc: Global,
     runs: &mut CronIterator<T>,
@@ -93,7 +82,7 @@ fn listed<T: CronDateTime>(
     let mut answers = String::new(alloc);
     for _ in 0..count {
         let answer = next_shown(alloc, runs)?;
-        push(&mut answers, answer.as_str())?;
+        push_text(&mut answers, "; ", answer.as_str())?;
     }
     Ok(answers)
 }
@@ -109,14 +98,6 @@ fn next_shown<T: CronDateTime>(alloc: Global, runs: &mut CronIterator<T>) -> Res
         shown.push_str(refusal(fault))?;
     }
     Ok(shown)
-}
-
-// Adds an answer, behind a semicolon where it isn't the first.
-fn push(answers: &mut String, answer: &str) -> Result<(), AllocError> {
-    if !answers.is_empty() {
-        answers.push_str("; ")?;
-    }
-    answers.push_str(answer)
 }
 
 const CIVIL: &str = "

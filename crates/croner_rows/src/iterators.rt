@@ -5,9 +5,8 @@ ghost use Rattle.croner.specs.Views.{job_of};
 
 use crate::clock::civil;
 use crate::fault::Fault;
-use crate::job::job;
+use crate::job::{job, runs_of};
 use crate::table::{Question, differing};
-use croner::time::Direction;
 use croner::{Cron, CronIterator};
 use jiff::civil::DateTime;
 use std::alloc::Global;
@@ -74,12 +73,8 @@ fn runs(job: &Cron, start: DateTime, way: &str) -> Result<CronIterator<DateTime>
     requires { has_field_shapes (job_of job.now) ≡ true }
 {
     match way {
-        "after" => Ok(job.iter_after(start)?),
-        "before" => Ok(job.iter_before(start)?),
-        "from" => Ok(job.iter_from(start, Direction::Forward)?),
-        "back from" => Ok(job.iter_from(start, Direction::Backward)?),
-        "after, asked" => asked(job.iter_after(start)?),
-        _ => Err(Fault::Malformed),
+        "after, asked" => asked(runs_of(job, "after", start)?),
+        way => runs_of(job, way, start),
     }
 }
 

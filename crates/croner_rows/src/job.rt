@@ -1,12 +1,12 @@
-//! The jobs of rows: a parser's settings and a text, and searches of a job.
+//! The jobs of rows: a parser's settings and a text, and searches and iterators of a job.
 ghost use Rattle.std.specs.Prelude.{◌≡◌, true, IfOk};
 ghost use Rattle.croner_pattern.specs.Shapes.{has_field_shapes};
 ghost use Rattle.croner.specs.Views.{job_of};
 
 use crate::fault::Fault;
-use croner::Cron;
 use croner::parser::{CronParser, CronParserBuilder, Seconds, Year};
-use croner::time::CronDateTime;
+use croner::time::{CronDateTime, Direction};
+use croner::{Cron, CronIterator};
 use std::alloc::Global;
 
 /// The job of a text, read by the parser of some settings, which commas part; no setting is the default parser.
@@ -57,6 +57,23 @@ pub fn run_found<T: CronDateTime>(job: &Cron, search: &str, start: &T) -> Result
         "from" => Ok(job.find_next_occurrence(start, true)?),
         "before" => Ok(job.find_previous_occurrence(start, false)?),
         "back from" => Ok(job.find_previous_occurrence(start, true)?),
+        _ => Err(Fault::Malformed),
+    }
+}
+
+/// An iterator over the runs that `run_found` finds one after the other, by the same word.
+pub fn runs_of<T: CronDateTime>(
+    job: &Cron,
+    search: &str,
+    start: T,
+) -> Result<CronIterator<T>, Fault>
+    requires { has_field_shapes (job_of job.now) ≡ true }
+{
+    match search {
+        "after" => Ok(job.iter_after(start)?),
+        "from" => Ok(job.iter_from(start, Direction::Forward)?),
+        "before" => Ok(job.iter_before(start)?),
+        "back from" => Ok(job.iter_from(start, Direction::Backward)?),
         _ => Err(Fault::Malformed),
     }
 }

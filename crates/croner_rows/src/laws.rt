@@ -7,7 +7,7 @@ use crate::clock::{civil, clock};
 use crate::fault::Fault;
 use crate::job::{job, parser};
 use crate::table::{Question, add_differing};
-use crate::words::number;
+use crate::words::{number, push_text};
 use croner::describe::lang::english::English;
 use croner::laws::equality::equal_and_described;
 use croner::laws::listing::{items_in_order, next_runs, there_and_back};
@@ -128,17 +128,9 @@ fn shown<T: CronDateTime>(alloc: Global, times: &[T]) -> Result<String, Fault> {
     let mut shown = String::new(alloc);
     for time in times {
         let text = time.to_civil().to_string(alloc)?;
-        push(&mut shown, text.as_str())?;
+        push_text(&mut shown, "; ", text.as_str())?;
     }
     Ok(shown)
-}
-
-// Adds a text, behind a semicolon where it isn't the first.
-fn push(shown: &mut String, text: &str) -> Result<(), AllocError> {
-    if !shown.is_empty() {
-        shown.push_str("; ")?;
-    }
-    shown.push_str(text)
 }
 
 const CIVIL: &str = "

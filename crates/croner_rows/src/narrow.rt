@@ -5,17 +5,16 @@ ghost use Rattle.croner.specs.Views.{job_of};
 
 use crate::clock::clock;
 use crate::fault::{Fault, refusal};
-use crate::job::{job, run_found, run_of};
+use crate::job::{job, run_found, run_of, runs_of};
 use crate::table::{Question, add_differing};
-use crate::words::number;
-use croner::time::Direction;
+use crate::words::{number, push_text};
 use croner::time::table::TableTime;
 use croner::{Cron, CronIterator};
 use croner_backends::NarrowTime;
 use std::alloc::{AllocError, Global};
 use std::test::Fail;
 
-const PARIS: &str = "3600: 1711846800 7200, 1729990800 3600";
+pub const PARIS: &str = "3600: 1711846800 7200, 1729990800 3600";
 
 /// By how many seconds both bounds come nearer, at most.
 const LAST_STEP: i64 = 3;
@@ -67,13 +66,13 @@ fn answers(
     for step in 0..=LAST_STEP {
         let start = NarrowTime::new(start, low.saturating_add(step), high.saturating_sub(step))?;
         let answer = answer_between(alloc, job, search, start)?;
-        push(&mut answers, answer.as_str())?;
+        push_text(&mut answers, ", ", answer.as_str())?;
     }
     Ok(answers)
 }
 
-// The search's answer, and what an iterator gives instead, where it gives another.
-fn answer_between(
+/// A search's answer, and what an iterator gives instead, where it gives another.
+pub fn answer_between(
     alloc: Global,
     job: &Cron,
     search: &str,
@@ -91,22 +90,6 @@ fn answer_of(alloc: Global, found: Result<NarrowTime<'_>, Fault>) -> Result<Stri
         Ok(run) => Ok(run.time().second().to_string(alloc)?),
         Err(Fault::Refused(error)) => Ok(String::from_str(alloc, refusal(&error))?),
         Err(fault) => Err(fault),
-    }
-}
-
-fn runs_of<'t>(
-    job: &Cron,
-    search: &str,
-    start: NarrowTime<'t>,
-) -> Result<CronIterator<NarrowTime<'t>>, Fault>
-    requires { has_field_shapes (job_of job.now) ≡ true }
-{
-    match search {
-        "after" => Ok(job.iter_after(start)?),
-        "from" => Ok(job.iter_from(start, Direction::Forward)?),
-        "before" => Ok(job.iter_before(start)?),
-        "back from" => Ok(job.iter_from(start, Direction::Backward)?),
-        _ => Err(Fault::Malformed),
     }
 }
 
@@ -136,14 +119,6 @@ fn next_shown(
         Some(run) => run.time().second().to_string(alloc),
         None => String::from_str(alloc, runs.fault().map_or("limit", refusal)),
     }
-}
-
-// Adds an answer, behind a comma where it isn't the first.
-fn push(answers: &mut String, answer: &str) -> Result<(), AllocError> {
-    if !answers.is_empty() {
-        answers.push_str(", ")?;
-    }
-    answers.push_str(answer)
 }
 
 // The table is that of Paris in 2024, whose clock shows 2:00:00 to 2:59:59 once more from 1729990800 on. The later half

@@ -1,6 +1,7 @@
-//! Words of cells: numbers and dates.
+//! Words of cells: numbers, and texts one behind another.
 
 use crate::fault::Fault;
+use std::alloc::AllocError;
 use std::str::FromStr;
 
 /// A whole number.
@@ -12,4 +13,12 @@ where
         Ok(number) => Ok(number),
         Err(_) => Err(Fault::Malformed),
     }
+}
+
+/// Puts a text behind others, after a separator where it isn't the first.
+pub fn push_text(texts: &mut String, separator: &str, text: &str) -> Result<(), AllocError> {
+    if !texts.is_empty() {
+        texts.push_str(separator)?;
+    }
+    texts.push_str(text)
 }
