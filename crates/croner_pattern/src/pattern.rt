@@ -1,6 +1,6 @@
 //! A pattern: its seven fields, and the dates and times that they name.
 
-ghost use Rattle.std.specs.Prelude.{◌≡◌, true, IfOk, IfErr};
+ghost use Rattle.std.specs.Prelude.{◌≡◌, true, IfOk, IfErr, OnOk};
 ghost use Rattle.croner_base.specs.Answers.{Finds, IsFieldError, SucceedsIff};
 ghost use Rattle.croner_base.specs.Field.{new_shape};
 ghost use Rattle.croner_pattern.specs.Meaning.{Meaning, meaning_of};
@@ -177,6 +177,42 @@ impl CronPattern {
         Ok(nearest_member(field, value, direction).map(u32::from))
     }
 
+    // No field holds a value. Takes no memory.
+    fn blank(alloc: Global) -> Self {
+        CronPattern {
+            seconds: CronComponent::default(alloc),
+            minutes: CronComponent::default(alloc),
+            hours: CronComponent::default(alloc),
+            days: CronComponent::default(alloc),
+            months: CronComponent::default(alloc),
+            days_of_week: CronComponent::default(alloc),
+            years: CronComponent::default(alloc),
+            text: String::new(alloc),
+            star_day: false,
+            star_weekday: false,
+            day_and_weekday: false,
+            alloc,
+        }
+    }
+
+    // Takes over all of another pattern.
+    fn copy_from(&mut self, other: &CronPattern) -> Result<(), AllocError>
+        ensures { OnOk result (meaning_of self.new ≡ meaning_of other.now) }
+    {
+        self.seconds.copy_from(&other.seconds)?;
+        self.minutes.copy_from(&other.minutes)?;
+        self.hours.copy_from(&other.hours)?;
+        self.days.copy_from(&other.days)?;
+        self.months.copy_from(&other.months)?;
+        self.days_of_week.copy_from(&other.days_of_week)?;
+        self.years.copy_from(&other.years)?;
+        self.text = other.text.clone()?;
+        self.star_day = other.star_day;
+        self.star_weekday = other.star_weekday;
+        self.day_and_weekday = other.day_and_weekday;
+        Ok(())
+    }
+
     fn refusal(&self, message: &str) -> CronError
         ensures { IsFieldError result }
     {
@@ -228,21 +264,11 @@ impl Clone for CronPattern {
 
     ghost is_clone = { λ original copy. meaning_of copy ≡ meaning_of original };
 
+    // Field by field into its place: a field has some hundred bytes, and moves of them take longer than the copies.
     fn clone(&self) -> Result<CronPattern, AllocError> {
-        Ok(CronPattern {
-            seconds: self.seconds.clone()?,
-            minutes: self.minutes.clone()?,
-            hours: self.hours.clone()?,
-            days: self.days.clone()?,
-            months: self.months.clone()?,
-            days_of_week: self.days_of_week.clone()?,
-            years: self.years.clone()?,
-            text: self.text.clone()?,
-            star_day: self.star_day,
-            star_weekday: self.star_weekday,
-            day_and_weekday: self.day_and_weekday,
-            alloc: self.alloc,
-        })
+        let mut copy = CronPattern::blank(self.alloc);
+        copy.copy_from(self)?;
+        Ok(copy)
     }
 }
 
