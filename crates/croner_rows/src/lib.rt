@@ -14,9 +14,13 @@ mod command_line;
 #[cfg(test)]
 mod debug;
 #[cfg(test)]
+mod edges;
+#[cfg(test)]
 mod fault;
 #[cfg(test)]
 mod faults;
+#[cfg(test)]
+mod hostile;
 #[cfg(test)]
 mod iterators;
 #[cfg(test)]
