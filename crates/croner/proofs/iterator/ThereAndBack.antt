@@ -20,7 +20,7 @@ use Rattle.croner.specs.search.PatternJob.{timetable_of, pattern_job}
 use Rattle.croner.specs.search.Premises.{IsSearchable, StartsCalm}
 use Rattle.croner.specs.search.Runs.{Run, Nearest}
 use Rattle.croner.specs.search.Searches.{IsFound, IsRefused, IsReturnable}
-use Rattle.croner.proofs.search.CalmZone.{calm_of}
+use Rattle.croner.proofs.CalmZone.{calm_of}
 use Rattle.croner.proofs.search.HeldRuns.{holds_from}
 use Rattle.croner.proofs.iterator.Listings.{is_run, there_and_back}
 use Rattle.croner.proofs.cursor.SearchedYears.{searched_run}

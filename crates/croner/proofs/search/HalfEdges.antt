@@ -10,7 +10,7 @@ use Rattle.croner.proofs.search.WalkLoop.{never_true}
 use Rattle.croner_base.specs.Zone.{Zone, Moment, reading, nanos_of, IsUnheld}
 use Rattle.croner_base.specs.Calm.{IsCalm, HoldsAround, IsNear}
 use Rattle.croner.specs.Private.search.Halves.{edge_limit, Break, HasTwin, EdgeOf, offset_from, CountsBoth, moment_from, IsEdge}
-use Rattle.croner.proofs.search.CalmZone.{Exactly, calm_of, exact_of}
+use Rattle.croner.proofs.CalmZone.{Exactly, calm_of, exact_of}
 use Rattle.croner.proofs.search.ZoneOrder.{Calm, window}
 use Rattle.croner_base.specs.declared.time.civil.CivilDateTime.{CivilDateTime}
 use Rattle.croner_base.specs.Civil.{wall_second}

@@ -17,7 +17,7 @@ use Rattle.croner.specs.Private.search.Walk.{RunOf, NoneOf, Walked, WalkedFrom, 
 use Rattle.croner.specs.search.Searches.{IsFound, IsRefused}
 use Rattle.croner.specs.Private.search.Halves.{edge_limit, EdgeOf, HasTwin, CountsBoth, IsEdge, HasOtherHalf, opposite_way, offset_from, moment_from}
 use Rattle.croner.proofs.search.ZoneOrder.{Calm, cases_lt_z, before_break, after_break}
-use Rattle.croner.proofs.search.CalmZone.{calm_of}
+use Rattle.croner.proofs.CalmZone.{calm_of}
 use Rattle.croner.proofs.search.RunsOfSeconds.{true_or_false}
 use Rattle.croner.proofs.search.WalkSteps.{Seen}
 use Rattle.croner.proofs.search.WalkLoop.{never_true, backend_error}

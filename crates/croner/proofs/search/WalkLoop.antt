@@ -16,7 +16,7 @@ use Rattle.croner.specs.search.Premises.{IsCalmStart, HoldsYears, HasOneInstantE
 use Rattle.croner.specs.search.Refusal.{IsBackendError}
 use Rattle.croner.specs.Private.search.Wall.{IsLastYear}
 use Rattle.croner.specs.Private.search.Walk.{NoneOf, WalkedFrom, Walking, walk_start, one_on, ChosenOf, IsOneOf, GapEnd, Unread, Onward, Paces, CannotMove, IsWalked, OutFrom, HasGapEnd, HasGapFront}
-use Rattle.croner.proofs.search.CalmZone.{calm_of, exact_of}
+use Rattle.croner.proofs.CalmZone.{calm_of, exact_of}
 use Rattle.croner.proofs.search.ZoneOrder.{cases_lt_z}
 use Rattle.croner.proofs.search.RunsOfSeconds.{true_or_false}
 use Rattle.croner.proofs.search.WalkSteps.{none_at_start, reaches_itself, none_to_next, on_reaches, one_on_reaches}

@@ -2,7 +2,7 @@ use Rattle.std.proofs.Common.{◌∙◌, ap, arith}
 use Rattle.croner_base.specs.Civil.{wall_second}
 use Rattle.croner.specs.search.Runs.{job_in}
 use Rattle.croner.specs.Private.search.Walk.{walk_start}
-use Rattle.croner.proofs.search.CalmZone.{calm_of}
+use Rattle.croner.proofs.CalmZone.{calm_of}
 use Rattle.croner.proofs.search.WalkPace.{paced_start, paced_on, paced_ends}
 use Rattle.croner.proofs.search.WalkLoop.{walking_start, walking_next, walk_reaches, something_ahead, out_far}
 use Rattle.croner.proofs.search.ErrorsKept.{error_kept}
