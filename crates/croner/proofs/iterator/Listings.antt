@@ -8,7 +8,7 @@ use Rattle.std.specs.List.{All, AllPairs, Contains}
 use Rattle.croner.specs.search.Runs.{Job, Run, Counts, Nearest, Precedes, Reaches}
 use Rattle.croner_base.specs.Zone.{Moment}
 use Rattle.croner_pattern.specs.Meaning.{Meaning}
-use Rattle.croner.specs.iterator.Listing.{Begins, Standing, IsLeft, moved, new_standing}
+use Rattle.croner.specs.iterator.Listing.{Begins, BeginsWhere, Standing, IsLeft, moved, new_standing}
 use Rattle.croner_base.specs.declared.time.Direction.{Direction}
 use Rattle.croner_base.specs.declared.time.Direction.TheVariants.{Forward, Backward}
 
@@ -71,7 +71,7 @@ counts_after Backward inclusive job s t i near counts =
     ]
 
 -- an exclusive search counts nothing that comes no later than its start
-past_start : (direction : Direction) (job : Job) (t i : ℤ) → Counts direction false job t i → Precedes direction t i
+pub past_start : (direction : Direction) (job : Job) (t i : ℤ) → Counts direction false job t i → Precedes direction t i
 past_start direction job t i counts = elim counts [ inl (past, run) ↦ past | inr (is, e, own) ↦ absurd (false≢true is) ]
 
 -- what counts is a run
@@ -125,8 +125,8 @@ splits_next direction left rest after items t s n = record {
 }
 
 -- such items begin the listing
-pub begins : (direction : Direction) (inclusive : Bool) (job : Job) (s : ℤ) (rest : ℤ → Type 0) (items : List ℤ) → Splits direction (Counts direction inclusive job s) rest items → Begins direction inclusive job s items
-begins direction inclusive job s rest items h = record {
+pub begins_where : (direction : Direction) (left rest : ℤ → Type 0) (items : List ℤ) → Splits direction left rest items → BeginsWhere direction left items
+begins_where direction left rest items h = record {
   ordered = h.ordered;
   counts = h.counts;
   complete = λ i last counts has reaches.
@@ -135,6 +135,9 @@ begins direction inclusive job s rest items h = record {
         | inr r ↦ absurd (no_later direction last i (All-contains (λ x. Precedes direction x i) items last (h.behind i r) has) reaches)
       ];
 }
+
+pub begins : (direction : Direction) (inclusive : Bool) (job : Job) (s : ℤ) (rest : ℤ → Type 0) (items : List ℤ) → Splits direction (Counts direction inclusive job s) rest items → Begins direction inclusive job s items
+begins direction inclusive job s rest items h = begins_where direction (Counts direction inclusive job s) rest items h
 
 -- the nearest run is the next of what counts, and what counts from it is left
 pub is_next : (direction : Direction) (inclusive : Bool) (job : Job) (s t : ℤ) → Nearest direction inclusive job s t → IsNext direction (Counts direction inclusive job s) (Counts direction false job t) t

@@ -13,12 +13,16 @@ use Rattle.croner.specs.search.PatternJob.{pattern_job, timetable_of}
 use Rattle.croner.specs.search.Searches.{IsFound, IsRefused}
 use Rattle.croner.specs.declared.iterator.CronIterator.{CronIterator}
 
--- the items begin the listing from s: they go strictly in the direction, each counts from s, and each run that counts and
+-- the items begin the listing of what counts: they go strictly in the direction, each counts, and each instant that counts and
 -- comes no later than one of them is among them
-pub record Begins (direction : Direction) (inclusive : Bool) (job : Job) (s : ℤ) (items : List ℤ) : Type 0 where
+pub record BeginsWhere (direction : Direction) (counted : ℤ → Type 0) (items : List ℤ) : Type 0 where
   pub ordered : AllPairs (Precedes direction) items
-  pub counts : All (Counts direction inclusive job s) items
-  pub complete : (i last : ℤ) → Counts direction inclusive job s i → Contains items last → Reaches direction i last → Contains items i
+  pub counts : All counted items
+  pub complete : (i last : ℤ) → counted i → Contains items last → Reaches direction i last → Contains items i
+
+-- the items begin the listing of a job's runs from s
+abbrev pub Begins : Direction → Bool → Job → ℤ → List ℤ → Type 0
+Begins direction inclusive job s items = BeginsWhere direction (Counts direction inclusive job s) items
 
 -- where an iterator stands. The first mark is set until its first item; an inclusive search is made only while it is set.
 pub record Standing : Type 0 where

@@ -23,9 +23,13 @@ IsWithin Backward w = year_2 ≤ℤ w
 abbrev pub InSpan : Direction → (ℤ → ℤ) → ℤ → Type 0
 InSpan direction reads i = (j : ℤ) → Reaches direction j i → IsWithin direction (reads j)
 
--- no run that counts from s lies in the span
+-- nothing that counts lies in the span
+abbrev pub NoneInSpanWhere : Direction → (ℤ → ℤ) → (ℤ → Type 0) → Type 0
+NoneInSpanWhere direction reads counted = (i : ℤ) → InSpan direction reads i → ¬ (counted i)
+
+-- no run of a job that counts from s lies in the span
 abbrev pub NoneInSpan : Direction → Bool → Job → ℤ → Type 0
-NoneInSpan direction inclusive job s = (i : ℤ) → InSpan direction job.zone.reads i → ¬ (Counts direction inclusive job s i)
+NoneInSpan direction inclusive job s = NoneInSpanWhere direction job.zone.reads (Counts direction inclusive job s)
 
 -- nothing is scheduled ahead of a wall second
 abbrev pub NoneAhead : Direction → Bool → (ℤ → Type 0) → ℤ → Type 0

@@ -61,7 +61,11 @@ abbrev pub Counts : Direction → Bool → Job → ℤ → ℤ → Type 0
 Counts direction inclusive job s i =
     (Precedes direction s i × Run job i) ⊎ ((inclusive ≡ true) × (i ≡ s) × StartCounts direction job s)
 
--- t counts from s, and nothing that counts comes before it
-pub record Nearest (direction : Direction) (inclusive : Bool) (job : Job) (s t : ℤ) : Type 0 where
-  pub counts : Counts direction inclusive job s t
-  pub nearest : (j : ℤ) → Counts direction inclusive job s j → Reaches direction t j
+-- t counts, and nothing that counts comes before it
+pub record NearestWhere (direction : Direction) (counted : ℤ → Type 0) (t : ℤ) : Type 0 where
+  pub counts : counted t
+  pub nearest : (j : ℤ) → counted j → Reaches direction t j
+
+-- the nearest run of a job from s
+abbrev pub Nearest : Direction → Bool → Job → ℤ → ℤ → Type 0
+Nearest direction inclusive job s t = NearestWhere direction (Counts direction inclusive job s) t
