@@ -2,11 +2,13 @@
 ghost use Rattle.std.specs.Prelude.{◌≡◌, ◌↔◌, ◌≤◌, IsTrue, IfOk, IfErr};
 ghost use Rattle.croner_base.specs.Zone.{reading};
 ghost use Rattle.croner_base.specs.Calm.{HoldsAround};
-ghost use Rattle.croner.specs.search.Premises.{IsCalmStart, HoldsSecond};
+ghost use Rattle.croner.specs.search.Limit.{InSpan};
+ghost use Rattle.croner.specs.search.Premises.{IsCalmStart, HoldsSecond, IsSearchable};
 ghost use Rattle.croner.specs.Private.search.Halves.{edge_limit, HasTwin, IsEdge, offset_from};
 ghost use Rattle.croner.specs.search.Refusal.{IsBackendError};
 
-use crate::search::instant::{moved, precedes};
+use crate::search::instant::{moved, opposite, precedes};
+use crate::search::wall::is_within;
 use croner_base::errors::CronError;
 use croner_base::time::{CronDateTime, Direction, Resolution};
 use std::alloc::Global;
@@ -90,6 +92,34 @@ fn is_offset_on_first_half<T: CronDateTime>(
             Ok(is_on) => Ok(is_on),
             Err(error) => Err(error),
         },
+        Err(error) => Err(error),
+    }
+}
+
+/// Whether a run lies in the span of a search in the direction: it reads a year before 5000 forward, after 1 backward, and on
+/// the half of a repeated range that the search meets last the nearest instant of the other half does too.
+pub(crate) fn is_in_span<T: CronDateTime>(
+    alloc: Global,
+    run: &T,
+    direction: Direction,
+) -> Result<bool, CronError>
+    ensures value { IsCalmStart (T.moment run.now).zone (T.moment run.now).fraction
+        → IfOk result (λ b. IsTrue b
+        ↔ InSpan direction (T.moment run.now).zone.reads (T.moment run.now).instant) }
+    ensures err { IfErr result (IsBackendError T.can_lack_memory (¬ (IsSearchable (T.moment run.now)))) }
+{
+    if !is_within(run.to_civil(), direction) {
+        return Ok(false);
+    }
+    let back = opposite(direction);
+    match is_on_first_half(alloc, run, back) {
+        Ok(true) => {}
+        Ok(false) => return Ok(true),
+        Err(error) => return Err(error),
+    }
+    match other_edge(alloc, run, back) {
+        Ok(Some(edge)) => Ok(is_within(edge.to_civil(), direction)),
+        Ok(None) => Ok(false),
         Err(error) => Err(error),
     }
 }

@@ -2,7 +2,7 @@
 ghost use Rattle.std.specs.Prelude.{◌≡◌, ◌↔◌, ◌≤◌, ℤ, pos, IsTrue, IfOk, IfErr, false};
 ghost use Rattle.croner_base.specs.Zone.{nanos_of};
 ghost use Rattle.croner.specs.search.Runs.{Precedes, Reaches, Ahead};
-ghost use Rattle.croner.specs.Private.search.Halves.{moment_from, offset_from};
+ghost use Rattle.croner.specs.Private.search.Halves.{moment_from, offset_from, opposite_way};
 ghost use Rattle.croner.specs.Private.search.Walk.{CannotMove};
 ghost use Rattle.croner.specs.search.Refusal.{IsBackendError};
 
@@ -20,6 +20,16 @@ pub(crate) fn precedes<T: CronDateTime>(one: &T, other: &T, direction: Direction
         Ordering::Less => direction == Direction::Forward,
         Ordering::Equal => false,
         Ordering::Greater => direction == Direction::Backward,
+    }
+}
+
+/// The other direction.
+pub(crate) fn opposite(direction: Direction) -> Direction
+    ensures { result ≡ opposite_way direction }
+{
+    match direction {
+        Direction::Forward => Direction::Backward,
+        Direction::Backward => Direction::Forward,
     }
 }
 

@@ -15,11 +15,11 @@ ghost use Rattle.croner.specs.search.Limit.{IsWithin};
 ghost use Rattle.croner.specs.search.Premises.{IsSearchable};
 ghost use Rattle.croner.specs.search.Searches.{IsFound, IsRefused};
 ghost use Rattle.croner.specs.Private.search.Walk.{IsWalked, HasWalked};
-ghost use Rattle.croner.specs.Private.search.Halves.{CountsBoth, HasOtherHalf, opposite_way};
+ghost use Rattle.croner.specs.Private.search.Halves.{CountsBoth, HasOtherHalf};
 ghost use Rattle.croner.specs.search.Refusal.{IsBackendError};
 
 use crate::search::fold::{is_on_first_half, other_edge};
-use crate::search::instant::{moved, precedes};
+use crate::search::instant::{moved, opposite, precedes};
 use crate::search::wall::is_within;
 use croner_base::errors::CronError;
 use croner_base::time::{CronDateTime, Direction};
@@ -34,15 +34,6 @@ fn counts_both(fixed_time: bool, direction: Direction) -> bool
     match direction {
         Direction::Forward => !fixed_time,
         Direction::Backward => true,
-    }
-}
-
-fn opposite(direction: Direction) -> Direction
-    ensures { result ≡ opposite_way direction }
-{
-    match direction {
-        Direction::Forward => Direction::Backward,
-        Direction::Backward => Direction::Forward,
     }
 }
 
