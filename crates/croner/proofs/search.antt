@@ -6,6 +6,7 @@ pub mod HalfEdges
 pub mod HeldRuns
 pub mod RunsOfSeconds
 pub mod SearchLimit
+pub mod Span
 pub mod TwoHalves
 pub mod WalkArms
 pub mod WalkLoop

@@ -5,3 +5,4 @@ pub mod laws
 pub mod Json
 pub mod Views
 pub mod Private
+pub mod crontable

@@ -106,7 +106,7 @@ impl<T: CronDateTime> CronIterator<T> {
 }
 
 // The error that a call without an item keeps: none for the limit, else the very one that refused its search.
-fn fault_of(refusal: CronError) -> Option<CronError>
+pub(crate) fn fault_of(refusal: CronError) -> Option<CronError>
     ensures { result ≡ fault_of refusal }
 {
     match refusal {
@@ -116,7 +116,7 @@ fn fault_of(refusal: CronError) -> Option<CronError>
 }
 
 // A copy of a fault, which has no message: it takes no memory.
-fn copied(fault: &Option<CronError>) -> Option<CronError>
+pub(crate) fn copied(fault: &Option<CronError>) -> Option<CronError>
     requires { IsTrue (is_kept fault.now) }
     ensures { result ≡ fault.now }
 {

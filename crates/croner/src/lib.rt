@@ -1,6 +1,7 @@
 //! Cron patterns and their runs.
 #![tactic(auto)]
 
+pub mod crontable;
 mod cursor;
 mod description;
 mod iterator;

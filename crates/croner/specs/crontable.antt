@@ -1,0 +1,3 @@
+-- Tables of patterns: when they run, and the listing of their runs.
+pub mod TableListing
+pub mod Tables

@@ -1,0 +1,141 @@
+//! Iterators over the runs of a table.
+ghost use Rattle.std.specs.Prelude.{◌≡◌, true, None, IsTrue};
+ghost use Rattle.croner_base.specs.declared.time.Direction.{Direction};
+ghost use Rattle.croner.specs.iterator.Faults.{is_kept};
+
+use super::CronTable;
+use crate::iterator::{copied, fault_of};
+use croner_base::errors::CronError;
+use croner_base::time::{CronDateTime, Direction};
+use std::alloc::AllocError;
+
+/// The runs of a table's jobs from a start, in one direction: each instant at which some job runs once, with the places of all
+/// jobs that run then, ascending.
+///
+/// It borrows the table. Each item's instant is the position from which the next search starts. A call of `next` that gives no
+/// item leaves the iterator where it stands, so a later call can go on; `fault` says why it gave none where the end of the
+/// searched years is not the reason. In a calm zone (see [`Cron::find_next_occurrence`](crate::Cron::find_next_occurrence)) and from a
+/// whole second, no item and no fault says that no run of any job is left in the searched years, over whatever backend.
+#[derive(Debug, Drop)]
+pub struct CronTableIterator<'t, T> {
+    table: &'t CronTable,
+    position: T,
+    is_first: bool,
+    inclusive: bool,
+    direction: Direction,
+    fault: Option<CronError>,
+    ghost kept: { IsTrue (is_kept fault) },
+}
+
+impl<'t, T: CronDateTime> CronTableIterator<'t, T> {
+    ghost use Rattle.std.specs.Prelude.{IfSome, IfNone, IfErr, Some, option_map};
+    ghost use Rattle.croner.specs.search.Refusal.{IsRefusal};
+    ghost use Rattle.croner.specs.crontable.TableListing.{table_standing_of, new_table_standing, counts_table_position, table_moved, TableSettles};
+    ghost use Rattle.croner.specs.crontable.Tables.{patterns_of};
+
+    // An iterator from a start: it counts the start where it is inclusive and some job runs there.
+    pub(crate) fn new(
+        table: &'t CronTable,
+        start: T,
+        inclusive: bool,
+        direction: Direction,
+    ) -> CronTableIterator<'t, T>
+        ensures { table_standing_of T.moment result ≡ new_table_standing (patterns_of table.now) (T.moment start) inclusive direction }
+    {
+        CronTableIterator {
+            table,
+            position: start,
+            is_first: true,
+            inclusive,
+            direction,
+            fault: None,
+        }
+    }
+
+    /// The error, other than the limit, that ended the last call of `next`; none where that call gave an item or found none left.
+    pub fn fault(&self) -> Option<&CronError>
+        ensures { option_map (λ e. e.now) result ≡ (table_standing_of T.moment self.now).fault }
+    {
+        self.fault.as_ref()
+    }
+
+    // Whether the next search counts the position.
+    fn counts_position(&self) -> bool
+        ensures { result ≡ counts_table_position (table_standing_of T.moment self.now) }
+    {
+        self.is_first && self.inclusive
+    }
+
+    // Stands at the run that was found from now on, and gives it with its places; or keeps the want of memory for its copy.
+    fn step_to(&mut self, found: T, places: Vec<usize>) -> Option<(T, Vec<usize>)>
+        ensures item { IfSome result (λ item. T.moment item.0 ≡ T.moment found) }
+        ensures places { IfSome result (λ item. item.1 ≡ places) }
+        ensures moved { IfSome result
+            (λ item. table_standing_of T.moment self.new ≡ table_moved (table_standing_of T.moment self.old) (T.moment item.0)) }
+        ensures kept { IfNone result
+            (table_standing_of T.moment self.new ≡ record (table_standing_of T.moment self.old) { fault = Some CronError.OutOfMemory }) }
+        ensures memory { IfNone result (IsTrue T.can_lack_memory) }
+    {
+        match found.clone() {
+            Ok(item) => {
+                self.position = found;
+                self.is_first = false;
+                self.fault = None;
+                Some((item, places))
+            }
+            Err(_) => {
+                self.fault = Some(CronError::OutOfMemory);
+                None
+            }
+        }
+    }
+
+    // What a call gives once its search has answered, and where the iterator stands then.
+    fn settle(&mut self, answer: Result<(T, Vec<usize>), CronError>) -> Option<(T, Vec<usize>)>
+        requires { IfErr answer (IsRefusal true) }
+        ensures { TableSettles T.moment T.can_lack_memory (table_standing_of T.moment self.old) answer result (table_standing_of T.moment self.new) }
+    {
+        match answer {
+            Ok((found, places)) => self.step_to(found, places),
+            Err(refusal) => {
+                self.fault = fault_of(refusal);
+                None
+            }
+        }
+    }
+}
+
+/// A copy stands where the original stands, over the same table, and gives the same runs from there. The only error is want of
+/// memory.
+impl<'t, T: CronDateTime> Clone for CronTableIterator<'t, T> {
+    ghost use Rattle.croner.specs.crontable.TableListing.{table_standing_of};
+
+    ghost is_clone = { λ original copy. table_standing_of T.moment copy ≡ table_standing_of T.moment original };
+
+    fn clone(&self) -> Result<CronTableIterator<'t, T>, AllocError> {
+        Ok(CronTableIterator {
+            table: self.table,
+            position: self.position.clone()?,
+            is_first: self.is_first,
+            inclusive: self.inclusive,
+            direction: self.direction,
+            fault: copied(&self.fault),
+        })
+    }
+}
+
+impl<'t, T: CronDateTime> Iterator for CronTableIterator<'t, T> {
+    type Item = (T, Vec<usize>);
+
+    ghost use Rattle.croner.specs.crontable.TableListing.{TableSteps};
+
+    ghost next_gives = { TableSteps T.moment };
+
+    fn next(&mut self) -> Option<(T, Vec<usize>)> {
+        let inclusive = self.counts_position();
+        let answer = self
+            .table
+            .find_occurrence(&self.position, inclusive, self.direction);
+        self.settle(answer)
+    }
+}
