@@ -1,0 +1,237 @@
+-- What an iterator over a table gave between two standings, call by call.
+use Rattle.std.proofs.Common.{◌≡◌, ◌↔◌, ℕ, zero, suc, ◌+◌, ℤ, ◌⊎◌, inl, inr, refl, sym, subst, arith, Bool, true, false, IsTrue, List, [], ◌∷◌, ◌++◌, Option, None, ap, ◌∙◌, length, map, get_or}
+use Rattle.std.proofs.lemmas.Bool.{false≢true}
+use Rattle.std.proofs.lemmas.Int.{ints}
+use Rattle.std.proofs.lemmas.List.{map_push}
+use Rattle.std.proofs.lemmas.List.Elements.{All-push}
+use Rattle.std.specs.List.{All}
+use Rattle.std.specs.declared.alloc.Global.{Global}
+use Rattle.std.specs.declared.vec.Vec.{Vec}
+use Rattle.croner_base.specs.Calm.{IsCalm}
+use Rattle.croner_base.specs.Zone.{Zone, Moment}
+use Rattle.croner_base.specs.declared.errors.CronError.{CronError}
+use Rattle.croner_base.specs.declared.errors.CronError.TheVariants.{TimeSearchLimitExceeded}
+use Rattle.croner_base.specs.declared.time.Direction.{Direction}
+use Rattle.croner_base.specs.declared.time.Direction.TheVariants.{Forward, Backward}
+use Rattle.croner_pattern.specs.Meaning.{Meaning}
+use Rattle.croner.specs.search.Runs.{Job, Run, Counts, Precedes, Reaches}
+use Rattle.croner.specs.iterator.Faults.{fault_of}
+use Rattle.croner.specs.search.Premises.{StartsCalm}
+use Rattle.croner.specs.search.PatternJob.{pattern_job}
+use Rattle.croner.specs.search.Limit.{InSpan}
+use Rattle.croner.specs.crontable.Tables.{CountsAt, TableCounts, ArePlaces}
+use Rattle.croner.specs.crontable.TableListing.{TableStanding, table_standing_of, new_table_standing, counts_table_position, table_moved, IsLeftAt, IsTableLeft, GivesTableItem, GivesNoTableItem}
+use Rattle.croner.specs.crontable.TableItems.{instants_of, HavePlaces, BeginsTableRest, GaveTable, GaveAllTable, table_items, TakesTable, TakesTableInTurn}
+use Rattle.croner.specs.declared.crontable.iterator.CronTableIterator.{CronTableIterator}
+use Rattle.croner.proofs.cursor.Ahead.{precedes-trans, same_or_ahead}
+use Rattle.croner.proofs.iterator.Faults.{no_fault_is_limit}
+use Rattle.croner.proofs.iterator.Listings.{Splits, splits_none, splits_next, IsNext, is_run, begins_where, past_start}
+
+-- ---- one place
+
+-- what counts from the start, of a position that lies no earlier: ahead of the position it counts from there too
+at_reaches : (direction : Direction) (inclusive : Bool) (job : Job) (s i : ℤ) → Counts direction inclusive job s i → Reaches direction s i
+at_reaches Forward inclusive job s i counts = elim counts [ inl (lt, run) ↦ omega (arith, ints) | inr (is, e, own) ↦ omega (arith, ints) ]
+at_reaches Backward inclusive job s i counts = elim counts [ inl (lt, run) ↦ omega (arith, ints) | inr (is, e, own) ↦ omega (arith, ints) ]
+
+then_ahead : (direction : Direction) (s t i : ℤ) → Reaches direction s t → Precedes direction t i → Precedes direction s i
+then_ahead Forward s t i h k = omega (arith, ints)
+then_ahead Backward s t i h k = omega (arith, ints)
+
+module _ (direction : Direction) (inclusive : Bool) (patterns : List Meaning) (z : Zone) (s t : ℤ) (on : Reaches direction s t) where
+  -- what is left behind an item
+  at_within : (k : ℕ) (i : ℤ) → CountsAt direction false patterns z t k i → CountsAt direction inclusive patterns z s k i
+  at_within k i at = record {
+    pattern = at.pattern;
+    stands = at.stands;
+    counts = inl (
+      then_ahead direction s t i on (past_start direction (pattern_job at.pattern z) t i at.counts),
+      is_run direction false (pattern_job at.pattern z) t i at.counts,
+    );
+  }
+
+  at_back : (k : ℕ) (i : ℤ) → Precedes direction t i → CountsAt direction inclusive patterns z s k i → CountsAt direction false patterns z t k i
+  at_back k i ahead at = record {
+    pattern = at.pattern;
+    stands = at.stands;
+    counts = inl (ahead, is_run direction inclusive (pattern_job at.pattern z) s i at.counts);
+  }
+
+-- ---- a call
+
+-- the invariant of repeated calls
+pub record TableGoes (old cur : TableStanding) (items : List (ℤ × List ℕ)) : Type 0 where
+  pub direction : cur.direction ≡ old.direction
+  pub zone : cur.position.zone ≡ old.position.zone
+  pub calm : StartsCalm old.position → StartsCalm cur.position
+  pub splits : StartsCalm old.position → Splits old.direction (IsTableLeft old) (IsTableLeft cur) (instants_of items)
+  pub within_at : StartsCalm old.position → (k : ℕ) (i : ℤ) → IsLeftAt cur k i → IsLeftAt old k i
+  pub back_at : StartsCalm old.position → (k : ℕ) (i : ℤ) → IsTableLeft cur i → IsLeftAt old k i → IsLeftAt cur k i
+  pub places : StartsCalm old.position → HavePlaces old items
+
+pub goes_none : (s : TableStanding) → TableGoes s s []
+goes_none s = record {
+  direction = refl;
+  zone = refl;
+  calm = λ p. p;
+  splits = λ p. splits_none s.direction (IsTableLeft s);
+  within_at = λ p k i at. at;
+  back_at = λ p k i left at. at;
+  places = λ p k d within. absurd (omega arith);
+}
+
+-- a call without an item
+goes_on : (old cur new : TableStanding) (items : List (ℤ × List ℕ)) → TableGoes old cur items → GivesNoTableItem cur new → TableGoes old new items
+goes_on old cur new items g n =
+    let P : TableStanding → Type 0 = λ s. TableGoes old s items in
+    subst P (sym n.stands) (record {
+      direction = g.direction;
+      zone = g.zone;
+      calm = g.calm;
+      splits = g.splits;
+      within_at = g.within_at;
+      back_at = g.back_at;
+      places = g.places;
+    })
+
+module _ (cur : TableStanding) (item : Moment) (places : List ℕ) (new : TableStanding) (g : GivesTableItem cur item places new) (p : StartsCalm cur.position) where
+  first_at : IsTableLeft cur item.instant
+  first_at = (g.found.nearest p).counts
+
+  on_item : Reaches cur.direction cur.position.instant item.instant
+  on_item =
+      let at = first_at.1 in
+      at_reaches cur.direction (counts_table_position cur) (pattern_job at.pattern cur.position.zone) cur.position.instant item.instant at.counts
+
+  -- in the item's zone, which is that of the position
+  moved_at : (k : ℕ) (i : ℤ) → IsLeftAt (table_moved cur item) k i ↔ CountsAt cur.direction false cur.patterns cur.position.zone item.instant k i
+  moved_at k i =
+      let P : Zone → Type 0 = λ z. CountsAt cur.direction false cur.patterns z item.instant k i in (
+        λ h. subst P g.found.zone h,
+        λ h. subst P (sym g.found.zone) h,
+      )
+
+  moved_within : (k : ℕ) (i : ℤ) → IsLeftAt (table_moved cur item) k i → IsLeftAt cur k i
+  moved_within k i at = at_within cur.direction (counts_table_position cur) cur.patterns cur.position.zone cur.position.instant item.instant on_item k i ((moved_at k i).0 at)
+
+  moved_ahead : (i : ℤ) → IsTableLeft (table_moved cur item) i → Precedes cur.direction item.instant i
+  moved_ahead i (k, at) = past_start cur.direction (pattern_job at.pattern item.zone) item.instant i at.counts
+
+  moved_back : (k : ℕ) (i : ℤ) → Precedes cur.direction item.instant i → IsLeftAt cur k i → IsLeftAt (table_moved cur item) k i
+  moved_back k i ahead at =
+      (moved_at k i).1 (at_back cur.direction (counts_table_position cur) cur.patterns cur.position.zone cur.position.instant item.instant on_item k i ahead at)
+
+  next_item : IsNext cur.direction (IsTableLeft cur) (IsTableLeft (table_moved cur item)) item.instant
+  next_item = record {
+    is = first_at;
+    or_after = λ i (k, at).
+        elim (same_or_ahead cur.direction item.instant i ((g.found.nearest p).nearest i (k, at))) [
+          | inl e ↦ inl (sym e)
+          | inr ahead ↦ inr (k, moved_back k i ahead at)
+        ];
+    within = λ i (k, at). (k, moved_within k i at);
+    behind = moved_ahead;
+  }
+
+-- a call with an item
+goes_to : (old cur new : TableStanding) (items : List (ℤ × List ℕ)) (item : Moment) (places : List ℕ) → TableGoes old cur items → GivesTableItem cur item places new
+    → TableGoes old new (items ++ (item.instant, places) ∷ [])
+goes_to old cur new items item places g n =
+    let P : TableStanding → Type 0 = λ s. TableGoes old s (items ++ (item.instant, places) ∷ []) in
+    let pushed : instants_of (items ++ (item.instant, places) ∷ []) ≡ instants_of items ++ item.instant ∷ [] = map_push (λ (x : ℤ × List ℕ). x.0) items (item.instant, places) in
+    subst P (sym n.stands) (record {
+      direction = g.direction;
+      zone = n.found.zone ∙ g.zone;
+      calm = λ p. record { calm = subst IsCalm (sym n.found.zone) (g.calm p).calm; whole = n.found.whole };
+      splits = λ p.
+          let Q : Direction → Type 0 = λ d. IsNext d (IsTableLeft cur) (IsTableLeft (table_moved cur item)) item.instant in
+          let R : List ℤ → Type 0 = Splits old.direction (IsTableLeft old) (IsTableLeft (table_moved cur item)) in
+          subst R (sym pushed)
+          (splits_next old.direction (IsTableLeft old) (IsTableLeft cur) (IsTableLeft (table_moved cur item)) (instants_of items) item.instant (g.splits p)
+          (subst Q g.direction (next_item cur item places new n (g.calm p))));
+      within_at = λ p k i at. g.within_at p k i (moved_within cur item places new n (g.calm p) k i at);
+      back_at = λ p k i (j, left) at.
+          moved_back cur item places new n (g.calm p) k i (moved_ahead cur item places new n (g.calm p) i (j, left))
+          (g.back_at p k i (j, moved_within cur item places new n (g.calm p) j i left) at);
+      places = λ p.
+          let found = n.found.places (g.calm p) in
+          All-push (λ x. ArePlaces (λ k. IsLeftAt old k x.0) x.1) items (item.instant, places) (g.places p) (record {
+            ordered = found.ordered;
+            count = λ k d within. g.within_at p (get_or places k d) item.instant (found.count k d within);
+            complete = λ k at. found.complete k (g.back_at p k item.instant (first_at cur item places new n (g.calm p)) at);
+          });
+    })
+
+-- ---- what the calls show
+
+pub gave_table : (old cur : TableStanding) (items : List (ℤ × List ℕ)) → TableGoes old cur items → StartsCalm old.position → GaveTable old cur items
+gave_table old cur items g p =
+    let s = g.splits p in
+    record { ordered = s.ordered; counts = s.counts; either = s.either; behind = s.behind; within = s.within; places = g.places p }
+
+pub begins_table_rest : (old cur : TableStanding) (items : List (ℤ × List ℕ)) → TableGoes old cur items → StartsCalm old.position → BeginsTableRest old items
+begins_table_rest old cur items g p = record {
+  runs = begins_where old.direction (IsTableLeft old) (IsTableLeft cur) (instants_of items) (g.splits p);
+  places = g.places p;
+}
+
+-- nothing that is left lies in the span
+abbrev pub IsTableOver : TableStanding → TableStanding → Type 0
+IsTableOver old cur = StartsCalm old.position → (i : ℤ) → IsTableLeft cur i → InSpan old.direction old.position.zone.reads i → ⊥
+
+limit_without : (cur new : TableStanding) (n : GivesNoTableItem cur new) → new.fault ≡ None → n.refusal ≡ TimeSearchLimitExceeded
+limit_without cur new n without =
+    let fault : TableStanding → Option CronError = λ s. s.fault in
+    no_fault_is_limit n.refusal (sym (ap fault n.stands) ∙ without)
+
+-- a call without an item and without a fault says so
+is_over : (old cur new : TableStanding) (items : List (ℤ × List ℕ)) → TableGoes old cur items → GivesNoTableItem cur new → new.fault ≡ None → IsTableOver old new
+is_over old cur new items g n without =
+    let P : TableStanding → Type 0 = λ s. IsTableOver old s in
+    subst P (sym n.stands) (λ p i left span.
+    let in_direction : InSpan cur.direction old.position.zone.reads i = let Q : Direction → Type 0 = λ d. InSpan d old.position.zone.reads i in subst Q (sym g.direction) span in
+    let in_zone : InSpan cur.direction cur.position.zone.reads i = let R : Zone → Type 0 = λ z. InSpan cur.direction z.reads i in subst R (sym g.zone) in_direction in
+    n.refused.limit (g.calm p) (limit_without cur new n without) i in_zone left)
+
+pub gave_all_table : (old cur : TableStanding) (items : List (ℤ × List ℕ)) → TableGoes old cur items → IsTableOver old cur → StartsCalm old.position → GaveAllTable old items
+gave_all_table old cur items g over p = λ i left span.
+    elim ((g.splits p).either i left) [
+      | inl had ↦ had
+      | inr rest ↦ absurd (over p i rest span)
+    ]
+
+-- one call more
+module _ {T : Type 0} (moment : T → Moment) (old : TableStanding) (cur new : CronTableIterator T) (before after : List (T × Vec ℕ Global)) where
+  pub goes_by_call : (b : Bool) → TableGoes old (table_standing_of moment cur) (table_items moment before) → TakesTable moment cur new before after b → TableGoes old (table_standing_of moment new) (table_items moment after)
+  goes_by_call true g (none, without, e) =
+      let P : List (T × Vec ℕ Global) → Type 0 = λ ts. TableGoes old (table_standing_of moment new) (table_items moment ts) in
+      subst P (sym e) (goes_on old (table_standing_of moment cur) (table_standing_of moment new) (table_items moment before) g none)
+  goes_by_call false g takes =
+      let P : List (T × Vec ℕ Global) → Type 0 = λ ts. TableGoes old (table_standing_of moment new) (table_items moment ts) in
+      let Q : List (ℤ × List ℕ) → Type 0 = λ is. TableGoes old (table_standing_of moment new) is in
+      let F : T × Vec ℕ Global → ℤ × List ℕ = λ x. ((moment x.0).instant, x.1.items) in
+      elim takes [
+        | inl (none, with_fault, e) ↦ subst P (sym e) (goes_on old (table_standing_of moment cur) (table_standing_of moment new) (table_items moment before) g none)
+        | inr (t, item, e) ↦
+            subst P (sym e) (subst Q (sym (map_push F before t))
+            (goes_to old (table_standing_of moment cur) (table_standing_of moment new) (table_items moment before) (moment t.0) t.1.items g item))
+      ]
+
+  pub over_by_call : (b : Bool) → TableGoes old (table_standing_of moment cur) (table_items moment before) → TakesTable moment cur new before after b → IsTrue b → IsTableOver old (table_standing_of moment new)
+  over_by_call true g (none, without, e) h = is_over old (table_standing_of moment cur) (table_standing_of moment new) (table_items moment before) g none without
+  over_by_call false g takes h = absurd (false≢true h)
+
+  -- and one more of the calls in turn
+  pub called_again : (start : CronTableIterator T) (calls : ℕ) (b mark : Bool) → TakesTableInTurn moment calls start cur before b → TakesTable moment cur new before after mark
+      → TakesTableInTurn moment (calls + 1) start new after mark
+  called_again start calls b mark called takes =
+      let P : ℕ → Type 0 = λ n. TakesTableInTurn moment n start new after mark in
+      let each : suc calls ≡ calls + 1 = omega arith in
+      subst P each (cur, before, b, called, takes)
+
+-- ---- taken up at an item
+
+-- what is left behind an item hangs on patterns, direction and item alone
+pub same_table_rest : (s : TableStanding) (ms : List Meaning) (d : Direction) (at : Moment) → s.patterns ≡ ms → s.direction ≡ d → (k : ℕ) (i : ℤ)
+    → IsLeftAt (table_moved s at) k i ↔ IsLeftAt (new_table_standing ms at false d) k i
+same_table_rest s ms d at p q k i = rw (p, q) (λ h. h, λ h. h)

@@ -1,0 +1,82 @@
+//! Laws of iterators over tables of patterns.
+//!
+//! When a zone is calm is said at [`Cron::find_next_occurrence`](crate::Cron::find_next_occurrence).
+ghost use Rattle.std.specs.Prelude.{◌≡◌, ◌≤◌, ◌<◌, ◌+◌, ◌↔◌, ℕ, ℤ, true, false, IfOk, IfErr, IsTrue, length, vec_len, vec_capacity};
+ghost use Rattle.croner.specs.search.Premises.{StartsCalm};
+ghost use Rattle.croner.specs.crontable.Tables.{patterns_of};
+ghost use Rattle.croner.specs.crontable.TableListing.{TableStanding, table_standing_of, new_table_standing, table_moved, IsLeftAt, IsTableLeft};
+ghost use Rattle.croner.specs.crontable.TableItems.{BeginsTableRest, GaveTable, GaveAllTable, table_items, TakesTable, TakesTableInTurn};
+
+use crate::crontable::{CronTable, CronTableIterator};
+use croner_base::errors::CronError;
+use croner_base::time::{CronDateTime, Direction};
+use std::alloc::Global;
+
+/// The items of up to so many calls of `next`, whatever calls without an item come between, and whether the last call gave
+/// none and kept no fault, so that nothing is left.
+///
+/// The items and the mark are those of just so many calls, one after the other. In a calm zone and from a whole second, over
+/// whatever backend, the items begin the listing of what the iterator had yet to give, strictly in its direction, each with
+/// exactly the places that count at its instant, and the iterator goes on with the rest; where nothing is said to be left, they
+/// are all of it up to the end of the searched years. The only error is `OutOfMemory`, for the room of as many items as there are
+/// calls, which is taken first: the iterator then stands where it stood.
+pub fn next_table_runs<T: CronDateTime>(
+    alloc: Global,
+    iterator: &mut CronTableIterator<'_, T>,
+    calls: u32,
+) -> Result<(Vec<(T, Vec<usize>)>, bool), CronError>
+    ensures listing { StartsCalm (table_standing_of T.moment iterator.old).position →
+        IfOk result (λ r. BeginsTableRest (table_standing_of T.moment iterator.old) (table_items T.moment r.0.items)) }
+    ensures rest { StartsCalm (table_standing_of T.moment iterator.old).position →
+        IfOk result (λ r. GaveTable (table_standing_of T.moment iterator.old) (table_standing_of T.moment iterator.new) (table_items T.moment r.0.items)) }
+    ensures all { StartsCalm (table_standing_of T.moment iterator.old).position →
+        IfOk result (λ r. IsTrue r.1 → GaveAllTable (table_standing_of T.moment iterator.old) (table_items T.moment r.0.items)) }
+    ensures called { IfOk result (λ r. TakesTableInTurn T.moment calls iterator.old iterator.new r.0.items r.1) }
+    ensures most { IfOk result (λ r. length r.0.items ≤ calls) }
+    ensures kept { IfErr result (λ e. table_standing_of T.moment iterator.new ≡ table_standing_of T.moment iterator.old) }
+    ensures err { IfErr result (λ e. e ≡ CronError.OutOfMemory) }
+{
+    let Ok(mut runs) = Vec::with_capacity(alloc, calls as usize) else {
+        return Err(CronError::OutOfMemory);
+    };
+    let mut is_over = false;
+    for _call in 0..calls {
+        is_over = take_next(iterator, &mut runs);
+    }
+    Ok((runs, is_over))
+}
+
+/// An iterator that goes on from an item, which it does not give again.
+///
+/// Whatever iterator gave the item, over the same patterns and in the same direction: both have the same runs yet to give, each
+/// at the same places. So a listing can be taken up from any item that was kept.
+pub fn resumed_table<T: CronDateTime>(
+    table: &CronTable,
+    item: T,
+    direction: Direction,
+) -> CronTableIterator<'_, T>
+    ensures stands { table_standing_of T.moment result ≡ new_table_standing (patterns_of table.now) (T.moment item) false direction }
+    ensures same_rest { (s : TableStanding) → s.patterns ≡ patterns_of table.now → s.direction ≡ direction → (k : ℕ) (i : ℤ) →
+        IsLeftAt (table_moved s (T.moment item)) k i ↔ IsLeftAt (new_table_standing (patterns_of table.now) (T.moment item) false direction) k i }
+{
+    CronTableIterator::new(table, item, false, direction)
+}
+
+// Puts the item of one call behind the others, or answers whether nothing is left.
+fn take_next<T: CronDateTime>(
+    iterator: &mut CronTableIterator<'_, T>,
+    runs: &mut Vec<(T, Vec<usize>)>,
+) -> bool
+    requires room { vec_len runs.old < vec_capacity runs.old }
+    ensures takes { TakesTable T.moment iterator.old iterator.new runs.old.items runs.new.items result }
+    ensures longer { vec_len runs.new ≤ vec_len runs.old + 1 }
+    ensures room { vec_capacity runs.new ≡ vec_capacity runs.old }
+{
+    match iterator.next() {
+        Some(run) => {
+            runs.push_reserved(run);
+            false
+        }
+        None => iterator.fault().is_none(),
+    }
+}
