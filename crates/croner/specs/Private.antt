@@ -3,3 +3,4 @@ pub mod cursor
 pub mod parser
 pub mod search
 pub mod crontable
+pub mod Steps

@@ -1,7 +1,7 @@
 -- How a search goes over the wall clock, before any zone: what it looks for, and how far it goes. The source is this
 -- crate's documentation.
 -- Private contracts alone cite these definitions.
-use Rattle.std.specs.Prelude.{◌≡◌, ◌↔◌, ℕ, ◌+◌, ◌-◌, ◌*◌, ◌<◌, ◌≤◌, Bool, true, false, ℤ, pos, ◌+ℤ◌, ◌-ℤ◌, int_lt, Option, MatchOption, if◌then◌else◌}
+use Rattle.std.specs.Prelude.{◌≡◌, ◌↔◌, ℕ, ◌+◌, ◌-◌, ◌*◌, ◌<◌, ◌≤◌, Bool, true, false, ℤ, pos, int_lt, Option, MatchOption, if◌then◌else◌}
 use Rattle.std.specs.Int.{IsInRange, bit_at}
 use Rattle.croner_base.specs.declared.time.Direction.{Direction}
 use Rattle.croner_base.specs.declared.time.Direction.TheVariants.{Forward, Backward}
@@ -15,11 +15,7 @@ use Rattle.croner_base.specs.Field.{Field}
 use Rattle.croner_pattern.specs.Meaning.{Meaning}
 use Rattle.croner_pattern.specs.Schedule.{is_plain, is_day_matching, is_year_matching, is_date_matching, is_scheduled, first_weekday}
 use Rattle.croner.specs.search.Runs.{Precedes, Reaches}
-
--- the next whole number in the direction
-abbrev pub one_on : Direction → ℤ → ℤ
-one_on Forward n = n +ℤ pos 1
-one_on Backward n = n -ℤ pos 1
+pub use Rattle.croner.specs.Private.Steps.{one_on}
 
 -- x is the nearest of those that match, from a place on, the place itself included
 pub record IsNearest {X : Type 0} (place : X → ℤ) (matches : X → Type 0) (direction : Direction) (from : ℤ) (x : X) : Type 0 where

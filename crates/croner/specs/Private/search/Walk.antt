@@ -1,6 +1,6 @@
 -- The words of one walk along the wall clock.
 -- Private contracts alone cite these definitions.
-use Rattle.std.specs.Prelude.{◌≡◌, ⊤, ℕ, ℤ, pos, ◌+ℤ◌, ◌-ℤ◌, ◌<ℤ◌, ◌≤ℤ◌, ◌⊎◌, Bool, true, false, Option, Some, None}
+use Rattle.std.specs.Prelude.{◌≡◌, ⊤, ℕ, ℤ, pos, ◌+ℤ◌, ◌<ℤ◌, ◌≤ℤ◌, ◌⊎◌, Bool, true, false, Option, Some, None}
 use Rattle.croner_base.specs.declared.errors.CronError.{CronError}
 use Rattle.croner_base.specs.declared.time.Direction.{Direction}
 use Rattle.croner_base.specs.declared.time.Direction.TheVariants.{Forward, Backward}
@@ -15,11 +15,7 @@ use Rattle.croner.specs.Private.search.Schedule.{NoneScheduled}
 use Rattle.croner.specs.search.Premises.{IsCalmStart, HasOneInstantEach, HoldsYears, Shows}
 use Rattle.croner.specs.declared.search.walk.Passed.{Passed}
 use Rattle.croner.specs.declared.search.walk.Passed.TheVariants.{Answer, GoOn, Limit}
-
--- the next second in the direction
-abbrev pub one_on : Direction → ℤ → ℤ
-one_on Forward w = w +ℤ pos 1
-one_on Backward w = w -ℤ pos 1
+pub use Rattle.croner.specs.Private.Steps.{one_on}
 
 -- the most passes of a walk
 abbrev pub pass_limit : ℕ
