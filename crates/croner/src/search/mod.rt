@@ -1,6 +1,6 @@
 //! The nearest run of a schedule in a zone.
 mod distance;
-mod fold;
+pub(crate) mod fold;
 mod gap;
 mod instant;
 mod schedule;
