@@ -1,4 +1,4 @@
-pub mod CalmZone
 pub mod ExamplesJson
 pub mod JsonTexts
 pub mod Matching
+pub mod zone

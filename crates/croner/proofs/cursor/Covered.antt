@@ -19,7 +19,7 @@ use Rattle.croner.proofs.cursor.CivilOrder.{seconds_bound, same_date, reach-date
 use Rattle.croner.proofs.cursor.DateSearch.{bool_cases, same_match, last_day-room, last_day-no_room}
 use Rattle.croner.proofs.cursor.Scheduled.{scheduled_parts}
 use Rattle.croner.proofs.cursor.Singles.{single-value, hour_bounds, minute_bounds, single_time}
-use Rattle.croner.proofs.search.WallSeconds.{first_of_5000, last_of_1}
+use Rattle.croner.proofs.zone.WallSeconds.{first_of_5000, last_of_1}
 
 -- the nearest of date-times is the nearest of wall seconds
 pub next_second : (m : Meaning) (dir : Direction) (from c : CivilDateTime) → IsNearest wall_second (IsOnSchedule m) dir (wall_second from) c → NextScheduled dir (IsScheduled m) (wall_second from) (wall_second c)

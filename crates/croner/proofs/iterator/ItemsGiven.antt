@@ -19,7 +19,7 @@ use Rattle.std.proofs.lemmas.List.{map_push, length_push}
 use Rattle.std.proofs.lemmas.List.Elements.{All-push}
 use Rattle.croner.proofs.iterator.Listings.{Splits, splits_none, splits_next, IsNext, is_next, is_run, begins}
 use Rattle.croner.proofs.iterator.Faults.{no_fault_is_limit}
-use Rattle.croner.proofs.search.SearchLimit.{calm_start}
+use Rattle.croner.proofs.zone.SearchLimit.{calm_start}
 use Rattle.croner.proofs.iterator.ThereAndBack.{searchable_run}
 
 -- the invariant of repeated calls

@@ -20,11 +20,11 @@ use Rattle.croner.specs.search.PatternJob.{timetable_of, pattern_job}
 use Rattle.croner.specs.search.Premises.{IsSearchable, StartsCalm}
 use Rattle.croner.specs.search.Runs.{Run, Nearest}
 use Rattle.croner.specs.search.Searches.{IsFound, IsRefused, IsReturnable}
-use Rattle.croner.proofs.CalmZone.{calm_of}
-use Rattle.croner.proofs.search.HeldRuns.{holds_from}
+use Rattle.croner.proofs.zone.CalmZone.{calm_of}
+use Rattle.croner.proofs.zone.HeldRuns.{holds_from}
 use Rattle.croner.proofs.iterator.Listings.{is_run, there_and_back}
 use Rattle.croner.proofs.cursor.SearchedYears.{searched_run}
-use Rattle.croner.proofs.search.ZoneOrder.{cases_lt_z, gains, far}
+use Rattle.croner.proofs.zone.ZoneOrder.{cases_lt_z, gains, far}
 
 last_of_2 : day_number (pos 2) 12 31 ≡ neg_ℤ (pos 718_433)
 unfolding day_number year_start days_since_zero days_until_zero days_of_months

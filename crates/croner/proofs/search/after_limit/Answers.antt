@@ -1,5 +1,5 @@
-use Rattle.croner.proofs.search.HalfEdges.{both_or_not, is_so}
-use Rattle.croner.proofs.search.SearchLimit.{limit_one_half, limit_alone, limit_late, second_found, limit_twice, second_error, refused_limit, refused_backend, none_outside, not_past, start_within, start_outside}
+use Rattle.croner.proofs.zone.HalfEdges.{both_or_not, is_so}
+use Rattle.croner.proofs.zone.SearchLimit.{limit_one_half, limit_alone, limit_late, second_found, limit_twice, second_error, refused_limit, refused_backend, none_outside, not_past, start_within, start_outside}
 use Rattle.croner.proofs.search.after_limit.Goals as goal
 
 pub returns-then-not-counts_both-clause-refused : goal.returns-then-not-counts_both-clause-refused

@@ -1,4 +1,4 @@
-use Rattle.croner.proofs.search.SearchLimit.{own_error}
+use Rattle.croner.proofs.zone.SearchLimit.{own_error}
 use Rattle.croner.proofs.search.edge_and_last.Goals as goal
 
 pub returns-in-Err-moved-clause-err : goal.returns-in-Err-moved-clause-err

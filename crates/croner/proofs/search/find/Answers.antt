@@ -1,4 +1,4 @@
-use Rattle.croner.proofs.search.SearchLimit.{refused_walk}
+use Rattle.croner.proofs.zone.SearchLimit.{refused_walk}
 use Rattle.croner.proofs.search.find.Goals as goal
 
 pub returns-in-Err-clause-refused : goal.returns-in-Err-clause-refused

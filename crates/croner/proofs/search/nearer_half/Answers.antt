@@ -1,5 +1,5 @@
-use Rattle.croner.proofs.search.WalkLoop.{backend_error}
-use Rattle.croner.proofs.search.SearchLimit.{calm_start, holds_here, first_one_half, first_alone, at_edge, first_before, second_nearer, first_nearer, second_none, second_error, refused_limit, refused_backend}
+use Rattle.croner.proofs.zone.WalkLoop.{backend_error}
+use Rattle.croner.proofs.zone.SearchLimit.{calm_start, holds_here, first_one_half, first_alone, at_edge, first_before, second_nearer, first_nearer, second_none, second_error, refused_limit, refused_backend}
 use Rattle.croner.proofs.search.nearer_half.Goals as goal
 
 pub returns-then-not-counts_both-clause-found : goal.returns-then-not-counts_both-clause-found

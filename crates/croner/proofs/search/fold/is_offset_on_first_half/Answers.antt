@@ -1,5 +1,5 @@
-use Rattle.croner.proofs.search.HalfEdges.{test_moved, holds_there, holds_second_there}
-use Rattle.croner.proofs.search.WalkLoop.{backend_error}
+use Rattle.croner.proofs.zone.HalfEdges.{test_moved, holds_there, holds_second_there}
+use Rattle.croner.proofs.zone.WalkLoop.{backend_error}
 use Rattle.croner.proofs.search.fold.is_offset_on_first_half.Goals as goal
 
 pub returns-in-Ok-is_on_first_half-clause-value : goal.returns-in-Ok-is_on_first_half-clause-value

@@ -1,4 +1,4 @@
-use Rattle.croner.proofs.search.HalfEdges.{test_forward, test_backward, test_one, test_gap}
+use Rattle.croner.proofs.zone.HalfEdges.{test_forward, test_backward, test_one, test_gap}
 use Rattle.croner.proofs.search.fold.is_on_first_half.Goals as goal
 
 pub returns-in-Forward-clause-value : goal.returns-in-Forward-clause-value

@@ -1,5 +1,5 @@
 use Rattle.std.proofs.Common.{◌-◌}
-use Rattle.croner.proofs.search.HalfEdges.{Bisected}
+use Rattle.croner.proofs.zone.HalfEdges.{Bisected}
 use Rattle.croner.proofs.search.fold.other_edge.Given as goal
 
 abbrev pub invariant-loop-outside : goal.invariant-loop-outside

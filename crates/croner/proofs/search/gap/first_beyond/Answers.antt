@@ -2,7 +2,7 @@ use Rattle.std.proofs.Common.{arith, ◌≡◌, ℕ, subst}
 use Rattle.croner_base.specs.Civil.{wall_second}
 use Rattle.croner.specs.Private.search.Gaps.{IsSkipped}
 use Rattle.croner.specs.Private.search.Halves.{offset_from}
-use Rattle.croner.proofs.search.GapSides.{held_skipped}
+use Rattle.croner.proofs.zone.GapSides.{held_skipped}
 use Rattle.croner.proofs.search.gap.first_beyond.Goals as goal
 
 pub loop-inside-init : goal.loop-inside-init

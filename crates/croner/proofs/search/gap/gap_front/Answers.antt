@@ -1,5 +1,5 @@
 use Rattle.croner_base.specs.declared.time.Direction.TheVariants.{Backward}
-use Rattle.croner.proofs.search.GapSides.{gap_front_of, side_out}
+use Rattle.croner.proofs.zone.GapSides.{gap_front_of, side_out}
 use Rattle.croner.proofs.search.gap.gap_front.Goals as goal
 
 pub returns-in-Ok-Some-clause-value : goal.returns-in-Ok-Some-clause-value

@@ -1,5 +1,5 @@
 use Rattle.std.proofs.Common.{arith}
-use Rattle.croner.proofs.search.GapSides.{side_found, side_refused}
+use Rattle.croner.proofs.zone.GapSides.{side_found, side_refused}
 use Rattle.croner.proofs.search.gap.gap_side.Goals as goal
 
 pub returns-in-Ok-clause-value : goal.returns-in-Ok-clause-value

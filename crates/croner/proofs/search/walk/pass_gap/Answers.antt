@@ -1,6 +1,6 @@
 use Rattle.std.proofs.Common.{sym, ◌∙◌}
 use Rattle.croner_base.specs.Civil.{wall_second}
-use Rattle.croner.proofs.search.WalkLoop.{past_gap_each, carried_walked, past_gap_forward, past_gap_backward, searched_not_last, never_true}
+use Rattle.croner.proofs.zone.WalkLoop.{past_gap_each, carried_walked, past_gap_forward, past_gap_backward, searched_not_last, never_true}
 use Rattle.croner.proofs.search.walk.pass_gap.Goals as goal
 use Rattle.croner.proofs.search.walk.pass_gap.Goals.{else-matches_date-via-then-matches_date+else-lies_ahead, else-matches_date-via-else-matches_date}
 

@@ -1,5 +1,5 @@
 use Rattle.croner_base.specs.Civil.{wall_second}
-use Rattle.croner.proofs.search.WalkLoop.{chosen_walked, past_two, can_move, backend_error, searched_not_last}
+use Rattle.croner.proofs.zone.WalkLoop.{chosen_walked, past_two, can_move, backend_error, searched_not_last}
 use Rattle.croner.proofs.search.walk.pass_two.Goals as goal
 use Rattle.std.proofs.Common.{inl, inr}
 

@@ -2,10 +2,10 @@ use Rattle.std.proofs.Common.{◌∙◌, ap, arith}
 use Rattle.croner_base.specs.Civil.{wall_second}
 use Rattle.croner.specs.search.Runs.{job_in}
 use Rattle.croner.specs.Private.search.Walk.{walk_start}
-use Rattle.croner.proofs.CalmZone.{calm_of}
-use Rattle.croner.proofs.search.WalkPace.{paced_start, paced_on, paced_ends}
-use Rattle.croner.proofs.search.WalkLoop.{walking_start, walking_next, walk_reaches, something_ahead, out_far}
-use Rattle.croner.proofs.search.ErrorsKept.{error_kept}
+use Rattle.croner.proofs.zone.CalmZone.{calm_of}
+use Rattle.croner.proofs.zone.WalkPace.{paced_start, paced_on, paced_ends}
+use Rattle.croner.proofs.zone.WalkLoop.{walking_start, walking_next, walk_reaches, something_ahead, out_far}
+use Rattle.croner.proofs.zone.ErrorsKept.{error_kept}
 use Rattle.croner.proofs.search.walk.walk.Goals as goal
 
 pub returns-in_default-clause-value : goal.returns-in_default-clause-value

@@ -2,7 +2,7 @@ use Rattle.croner.specs.search.Runs.{job_in}
 use Rattle.croner.specs.search.Premises.{IsCalmStart}
 use Rattle.croner.specs.Private.search.Walk.{Walking}
 use Rattle.croner_base.specs.Civil.{wall_second}
-use Rattle.croner.proofs.search.WalkPace.{Paced}
+use Rattle.croner.proofs.zone.WalkPace.{Paced}
 use Rattle.croner.proofs.search.walk.walk.Given as goal
 
 abbrev pub invariant-loop : goal.invariant-loop

@@ -1,6 +1,6 @@
 use Rattle.std.proofs.Common.{arith}
 use Rattle.std.proofs.lemmas.Int.{ints}
-use Rattle.croner.proofs.search.WallSeconds.{within_forward, within_backward}
+use Rattle.croner.proofs.zone.WallSeconds.{within_forward, within_backward}
 use Rattle.croner.proofs.search.wall.is_within.Goals as goal
 
 pub returns-in-Forward : goal.returns-in-Forward

@@ -1,4 +1,4 @@
-use Rattle.croner.proofs.search.WallSeconds.{step_forward, step_backward}
+use Rattle.croner.proofs.zone.WallSeconds.{step_forward, step_backward}
 use Rattle.croner.proofs.search.wall.one_second_on.Goals as goal
 
 pub returns-in-Forward : goal.returns-in-Forward

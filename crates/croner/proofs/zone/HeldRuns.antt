@@ -4,8 +4,8 @@ use Rattle.std.proofs.lemmas.Int.{ints}
 use Rattle.croner_base.specs.Zone.{Zone, Moment, at_instant}
 use Rattle.croner_base.specs.Calm.{IsCalm, IsSearched, IsInReach, IsNear, HoldsAround}
 use Rattle.croner_base.specs.Limits.{gap_limit, fold_limit, apart_limit}
-use Rattle.croner.proofs.search.ZoneOrder.{Calm, window, cases_lt_z}
-use Rattle.croner.proofs.CalmZone.{calm_of}
+use Rattle.croner.proofs.zone.ZoneOrder.{Calm, window, cases_lt_z}
+use Rattle.croner.proofs.zone.CalmZone.{calm_of}
 
 -- in a window a calm clock goes on by what passes, give or take one change
 reads_near : (z : Zone) → Calm z.reads → (i j : ℤ) → i ≤ℤ j → j ≤ℤ (i +ℤ pos apart_limit) → ((z.reads i -ℤ pos fold_limit) ≤ℤ z.reads j) × (z.reads j ≤ℤ (z.reads i +ℤ pos (apart_limit + gap_limit)))

@@ -3,9 +3,9 @@ use Rattle.std.proofs.Common.{◌≡◌, ℤ, ◌≤ℤ◌, ◌⊎◌, arith, re
 use Rattle.std.proofs.lemmas.Int.{ints}
 use Rattle.croner_base.specs.declared.time.Direction.{Direction}
 use Rattle.croner_base.specs.declared.time.Direction.TheVariants.{Forward, Backward}
-use Rattle.croner.proofs.search.ZoneOrder.{cases_lt_z}
-use Rattle.croner.proofs.search.FirstInstants.{first_ordered, forward_order, backward_order}
-use Rattle.croner.proofs.search.ZoneOrder.{Calm}
+use Rattle.croner.proofs.zone.ZoneOrder.{cases_lt_z}
+use Rattle.croner.proofs.zone.FirstInstants.{first_ordered, forward_order, backward_order}
+use Rattle.croner.proofs.zone.ZoneOrder.{Calm}
 use Rattle.croner.specs.Private.search.Schedule.{NextScheduled}
 use Rattle.croner.specs.Private.search.Walk.{First, RunOf, NoneOf, Walked, walk_start, one_on}
 use Rattle.croner.specs.search.Runs.{Job, Reaches, Ahead}

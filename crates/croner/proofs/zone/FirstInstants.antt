@@ -2,8 +2,8 @@
 use Rattle.std.proofs.Common.{◌≡◌, ℤ, pos, ◌+ℤ◌, ◌-ℤ◌, ◌<ℤ◌, ◌≤ℤ◌, arith, refl, inl, inr}
 use Rattle.std.proofs.lemmas.Int.{ints}
 use Rattle.croner_base.specs.Limits.{fold_limit}
-use Rattle.croner.proofs.search.ZoneOrder.{cases_lt_z, put_back, put_back_once, before_break, after_break}
-use Rattle.croner.proofs.search.ZoneOrder.{Calm}
+use Rattle.croner.proofs.zone.ZoneOrder.{cases_lt_z, put_back, put_back_once, before_break, after_break}
+use Rattle.croner.proofs.zone.ZoneOrder.{Calm}
 use Rattle.croner.specs.Private.search.Walk.{First}
 
 module _ (reads : ℤ → ℤ) (calm : Calm reads) where

@@ -3,14 +3,14 @@ use Rattle.std.proofs.Common.{◌≡◌, ℤ, pos, ◌+ℤ◌, ◌<ℤ◌, ◌�
 use Rattle.std.proofs.lemmas.Int.{ints}
 use Rattle.croner_base.specs.declared.time.Direction.{Direction}
 use Rattle.croner_base.specs.declared.time.Direction.TheVariants.{Forward, Backward}
-use Rattle.croner.proofs.search.ZoneOrder.{cases_lt_z, before_break, after_break, below_before, above_after}
-use Rattle.croner.proofs.search.FirstInstants.{earlier_twin, later_twin, first_if_least}
-use Rattle.croner.proofs.search.RunsOfSeconds.{true_or_false, run_has_second, second_gives_run, own_of_first}
+use Rattle.croner.proofs.zone.ZoneOrder.{cases_lt_z, before_break, after_break, below_before, above_after}
+use Rattle.croner.proofs.zone.FirstInstants.{earlier_twin, later_twin, first_if_least}
+use Rattle.croner.proofs.zone.RunsOfSeconds.{true_or_false, run_has_second, second_gives_run, own_of_first}
 use Rattle.croner.specs.Private.search.Halves.{EdgeAfter, EdgeBefore}
-use Rattle.croner.proofs.search.ZoneOrder.{Calm}
+use Rattle.croner.proofs.zone.ZoneOrder.{Calm}
 use Rattle.croner.specs.Private.search.Walk.{RunOf, Walked, walk_start}
 use Rattle.croner.specs.search.Runs.{Job, Run, OwnRun, Nearest, Counts, Reaches, Ahead}
-use Rattle.croner.proofs.search.WalkSteps.{Seen}
+use Rattle.croner.proofs.zone.WalkSteps.{Seen}
 
 past_start : (inclusive : Bool) (r w : ℤ) → r <ℤ w → Reaches Forward (walk_start Forward inclusive r) w
 past_start true r w h = omega (arith, ints)

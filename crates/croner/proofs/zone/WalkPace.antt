@@ -13,9 +13,9 @@ use Rattle.croner_base.specs.Limits.{fold_limit, most_gap_seconds, first_searche
 use Rattle.croner.specs.search.Runs.{Precedes, Reaches}
 use Rattle.croner.specs.Private.search.Halves.{Break}
 use Rattle.croner.specs.Private.search.Walk.{one_on, pass_limit, Onward, Paces}
-use Rattle.croner.proofs.CalmZone.{Exactly, change_of_break}
-use Rattle.croner.proofs.search.ZoneOrder.{Calm, cases_lt_z, nonnegative, put_back, below_before, above_after}
-use Rattle.croner.proofs.search.GapSides.{unread_is_in_gap}
+use Rattle.croner.proofs.zone.CalmZone.{Exactly, change_of_break}
+use Rattle.croner.proofs.zone.ZoneOrder.{Calm, cases_lt_z, nonnegative, put_back, below_before, above_after}
+use Rattle.croner.proofs.zone.GapSides.{unread_is_in_gap}
 
 -- how many seconds the clock skips after p: none where it is put back
 abbrev pub skipped : (ℤ → ℤ) → ℤ → ℕ

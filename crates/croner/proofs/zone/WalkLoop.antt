@@ -16,12 +16,12 @@ use Rattle.croner.specs.search.Premises.{IsCalmStart, HoldsYears, HasOneInstantE
 use Rattle.croner.specs.search.Refusal.{IsBackendError}
 use Rattle.croner.specs.Private.search.Wall.{IsLastYear}
 use Rattle.croner.specs.Private.search.Walk.{NoneOf, WalkedFrom, Walking, walk_start, one_on, ChosenOf, IsOneOf, GapEnd, Unread, Onward, Paces, CannotMove, IsWalked, OutFrom, HasGapEnd, HasGapFront}
-use Rattle.croner.proofs.CalmZone.{calm_of, exact_of}
-use Rattle.croner.proofs.search.ZoneOrder.{cases_lt_z}
-use Rattle.croner.proofs.search.RunsOfSeconds.{true_or_false}
-use Rattle.croner.proofs.search.WalkSteps.{none_at_start, reaches_itself, none_to_next, on_reaches, one_on_reaches}
-use Rattle.croner.proofs.search.WalkArms.{single_answer, two_each_answer, two_each_past, gap_each_past, two_fixed_answer, two_fixed_past, gap_answer, gap_fixed_past_forward, gap_fixed_past_backward}
-use Rattle.croner.proofs.search.WallSeconds.{IsFar, last_year_far}
+use Rattle.croner.proofs.zone.CalmZone.{calm_of, exact_of}
+use Rattle.croner.proofs.zone.ZoneOrder.{cases_lt_z}
+use Rattle.croner.proofs.zone.RunsOfSeconds.{true_or_false}
+use Rattle.croner.proofs.zone.WalkSteps.{none_at_start, reaches_itself, none_to_next, on_reaches, one_on_reaches}
+use Rattle.croner.proofs.zone.WalkArms.{single_answer, two_each_answer, two_each_past, gap_each_past, two_fixed_answer, two_fixed_past, gap_answer, gap_fixed_past_forward, gap_fixed_past_backward}
+use Rattle.croner.proofs.zone.WallSeconds.{IsFar, last_year_far}
 
 le_of_lt : (a b : ℤ) → a <ℤ b → a ≤ℤ b
 le_of_lt a b h = omega (arith, ints)

@@ -18,9 +18,9 @@ use Rattle.croner.specs.declared.search.gap.Around.{Around}
 use Rattle.croner.specs.Private.search.Gaps.{IsSkipped, UnreadTo, IsShown, IsBeyond, IsAround, HasGapSide}
 use Rattle.croner.specs.Private.search.Halves.{Break, offset_from}
 use Rattle.croner.specs.Private.search.Walk.{HasGapEnd, HasGapFront}
-use Rattle.croner.proofs.CalmZone.{Exactly, calm_of, exact_of}
-use Rattle.croner.proofs.search.ZoneOrder.{Calm, cases_lt_z, distance, gains, read_or_skipped, after_break, below_before, above_after}
-use Rattle.croner.proofs.search.WalkArms.{first_of_one, first_of_two}
+use Rattle.croner.proofs.zone.CalmZone.{Exactly, calm_of, exact_of}
+use Rattle.croner.proofs.zone.ZoneOrder.{Calm, cases_lt_z, distance, gains, read_or_skipped, after_break, below_before, above_after}
+use Rattle.croner.proofs.zone.WalkArms.{first_of_one, first_of_two}
 
 -- ---- each wall second is passed somewhere
 

@@ -3,12 +3,12 @@ use Rattle.std.proofs.Common.{◌≡◌, ℤ, pos, ◌+ℤ◌, ◌<ℤ◌, ◌�
 use Rattle.std.proofs.lemmas.Int.{ints}
 use Rattle.croner_base.specs.declared.time.Direction.{Direction}
 use Rattle.croner_base.specs.declared.time.Direction.TheVariants.{Forward, Backward}
-use Rattle.croner.proofs.search.ZoneOrder.{cases_lt_z}
-use Rattle.croner.proofs.search.FirstInstants.{first_if_least, first_ordered, first_over_gap, last_is_ahead, first_is_behind}
-use Rattle.croner.proofs.search.RunsOfSeconds.{true_or_false}
-use Rattle.croner.proofs.search.WalkSteps.{above_start, below_start, ahead_forward, ahead_backward, ahead_or_at, behind_or_at, each_reads, first_of_run, forward_each, backward_each, forward_first_of, backward_first_of, none_past}
-use Rattle.croner.proofs.CalmZone.{Exactly}
-use Rattle.croner.proofs.search.ZoneOrder.{Calm}
+use Rattle.croner.proofs.zone.ZoneOrder.{cases_lt_z}
+use Rattle.croner.proofs.zone.FirstInstants.{first_if_least, first_ordered, first_over_gap, last_is_ahead, first_is_behind}
+use Rattle.croner.proofs.zone.RunsOfSeconds.{true_or_false}
+use Rattle.croner.proofs.zone.WalkSteps.{above_start, below_start, ahead_forward, ahead_backward, ahead_or_at, behind_or_at, each_reads, first_of_run, forward_each, backward_each, forward_first_of, backward_first_of, none_past}
+use Rattle.croner.proofs.zone.CalmZone.{Exactly}
+use Rattle.croner.proofs.zone.ZoneOrder.{Calm}
 use Rattle.croner_base.specs.declared.time.value.Resolution.TheVariants.{Single, Ambiguous, Gap}
 use Rattle.croner.specs.Private.search.Walk.{First, RunOf, NoneOf, Walked, walk_start, one_on, Unread, ChosenOf}
 use Rattle.croner_base.specs.Zone.{Moment}

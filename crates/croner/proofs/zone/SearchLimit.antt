@@ -16,13 +16,13 @@ use Rattle.croner.specs.search.Refusal.{IsBackendError, IsRefusal}
 use Rattle.croner.specs.Private.search.Walk.{RunOf, NoneOf, Walked, WalkedFrom, walk_start, one_on, OutFrom, IsWalked, IsWalkRefused}
 use Rattle.croner.specs.search.Searches.{IsFound, IsRefused}
 use Rattle.croner.specs.Private.search.Halves.{edge_limit, EdgeOf, HasTwin, CountsBoth, IsEdge, HasOtherHalf, opposite_way, offset_from, moment_from}
-use Rattle.croner.proofs.search.ZoneOrder.{Calm, cases_lt_z, before_break, after_break}
-use Rattle.croner.proofs.CalmZone.{calm_of}
-use Rattle.croner.proofs.search.RunsOfSeconds.{true_or_false}
-use Rattle.croner.proofs.search.WalkSteps.{Seen}
-use Rattle.croner.proofs.search.WalkLoop.{never_true, backend_error}
-use Rattle.croner.proofs.search.TwoHalves.{forward_seen, backward_seen, forward_seen_twice, backward_seen_twice, walked_counts, edge_counts_forward, edge_counts_backward}
-use Rattle.croner.proofs.search.HalfEdges.{found_alone, found_one_half, found_before_edge, found_second, found_first}
+use Rattle.croner.proofs.zone.ZoneOrder.{Calm, cases_lt_z, before_break, after_break}
+use Rattle.croner.proofs.zone.CalmZone.{calm_of}
+use Rattle.croner.proofs.zone.RunsOfSeconds.{true_or_false}
+use Rattle.croner.proofs.zone.WalkSteps.{Seen}
+use Rattle.croner.proofs.zone.WalkLoop.{never_true, backend_error}
+use Rattle.croner.proofs.zone.TwoHalves.{forward_seen, backward_seen, forward_seen_twice, backward_seen_twice, walked_counts, edge_counts_forward, edge_counts_backward}
+use Rattle.croner.proofs.zone.HalfEdges.{found_alone, found_one_half, found_before_edge, found_second, found_first}
 
 -- ---- a run in the span is of a second that is covered
 

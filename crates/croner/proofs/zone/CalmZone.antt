@@ -9,7 +9,7 @@ use Rattle.croner_base.specs.Zone.{Zone}
 use Rattle.croner_base.specs.Calm.{IsChange, IsCalm, NamesAll}
 use Rattle.croner_base.specs.Limits.{gap_limit, fold_limit}
 use Rattle.croner.specs.Private.search.Halves.{Break}
-use Rattle.croner.proofs.search.ZoneOrder.{Calm, same_or_not}
+use Rattle.croner.proofs.zone.ZoneOrder.{Calm, same_or_not}
 
 -- these are exactly the instants that show w, in order
 abbrev pub Exactly : (ℤ → ℤ) → ℤ → Resolution ℤ → Type 0

@@ -3,15 +3,15 @@ use Rattle.std.proofs.Common.{◌≡◌, ℕ, ◌+◌, ◌≤◌, ◌<◌, ℤ, 
 use Rattle.std.proofs.lemmas.Int.{ints}
 use Rattle.croner_base.specs.declared.time.Direction.{Direction}
 use Rattle.croner_base.specs.declared.time.Direction.TheVariants.{Forward, Backward}
-use Rattle.croner.proofs.search.ZoneOrder.{cases_lt_z, put_back, put_back_once, before_break, after_break}
-use Rattle.croner.proofs.search.TwoHalves.{forward_found, backward_found, forward_before_edge, backward_before_edge, forward_first, forward_second, backward_first, backward_second}
-use Rattle.croner.proofs.search.RunsOfSeconds.{true_or_false}
-use Rattle.croner.proofs.search.WalkLoop.{never_true}
+use Rattle.croner.proofs.zone.ZoneOrder.{cases_lt_z, put_back, put_back_once, before_break, after_break}
+use Rattle.croner.proofs.zone.TwoHalves.{forward_found, backward_found, forward_before_edge, backward_before_edge, forward_first, forward_second, backward_first, backward_second}
+use Rattle.croner.proofs.zone.RunsOfSeconds.{true_or_false}
+use Rattle.croner.proofs.zone.WalkLoop.{never_true}
 use Rattle.croner_base.specs.Zone.{Zone, Moment, reading, nanos_of, IsUnheld}
 use Rattle.croner_base.specs.Calm.{IsCalm, HoldsAround, IsNear}
 use Rattle.croner.specs.Private.search.Halves.{edge_limit, Break, HasTwin, EdgeOf, offset_from, CountsBoth, moment_from, IsEdge}
-use Rattle.croner.proofs.CalmZone.{Exactly, calm_of, exact_of}
-use Rattle.croner.proofs.search.ZoneOrder.{Calm, window}
+use Rattle.croner.proofs.zone.CalmZone.{Exactly, calm_of, exact_of}
+use Rattle.croner.proofs.zone.ZoneOrder.{Calm, window}
 use Rattle.croner_base.specs.declared.time.civil.CivilDateTime.{CivilDateTime}
 use Rattle.croner_base.specs.Civil.{wall_second}
 use Rattle.croner.specs.search.Premises.{IsCalmStart, HoldsSecond}
