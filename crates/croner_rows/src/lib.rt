@@ -12,6 +12,8 @@ mod clock;
 #[cfg(test)]
 mod command_line;
 #[cfg(test)]
+mod crontable;
+#[cfg(test)]
 mod debug;
 #[cfg(test)]
 mod edges;

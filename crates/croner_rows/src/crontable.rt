@@ -1,0 +1,197 @@
+//! Tables of patterns: their nearest runs with the places of the patterns that run then, and their listings.
+
+use crate::clock::{civil, clock};
+use crate::fault::Fault;
+use crate::job::job;
+use crate::table::{Question, differing};
+use crate::words::number;
+use croner::Direction;
+use croner::crontable::{CronTable, CronTableIterator};
+use croner::laws::crontable::{next_table_runs, resumed_table};
+use croner::time::CronDateTime;
+use croner::time::table::TableTime;
+use jiff::civil::DateTime;
+use std::alloc::Global;
+use std::test::Fail;
+
+/// Texts, which semicolons part; `civil` or a clock; a search and its start: the run and its places.
+struct Search;
+
+impl Question for Search {
+    fn answer(&self, alloc: Global, cells: &[&str]) -> Result<String, Fault> {
+        let [texts, zone, search, start] = cells else {
+            return Err(Fault::Malformed);
+        };
+        let table = table_of(alloc, texts)?;
+        if *zone == "civil" {
+            let (run, places) = found(&table, search, &civil(start)?)?;
+            return Ok(format!(in alloc; "{run} {places:?}")?);
+        }
+        let clock = clock(alloc, zone)?;
+        let (run, places) = found(&table, search, &TableTime::new(&clock, number(start)?)?)?;
+        let second = run.second();
+        Ok(format!(in alloc; "{second} {places:?}")?)
+    }
+}
+
+/// Texts, which semicolons part; an iterator and its civil start: its first three items.
+struct Listing;
+
+impl Question for Listing {
+    fn answer(&self, alloc: Global, cells: &[&str]) -> Result<String, Fault> {
+        let [texts, way, start] = cells else {
+            return Err(Fault::Malformed);
+        };
+        let table = table_of(alloc, texts)?;
+        let mut runs = iterator(&table, way, civil(start)?)?;
+        let mut listed = String::new(alloc);
+        for _call in 0..3 {
+            listed.push_str(item(alloc, &mut runs)?.as_str())?;
+        }
+        Ok(listed)
+    }
+}
+
+/// Texts, and a civil start: two items, and the next one of an iterator that is taken up at the second.
+struct TakenUp;
+
+impl Question for TakenUp {
+    fn answer(&self, alloc: Global, cells: &[&str]) -> Result<String, Fault> {
+        let [texts, start] = cells else {
+            return Err(Fault::Malformed);
+        };
+        let table = table_of(alloc, texts)?.clone()?;
+        let mut runs = table.iter_after(civil(start)?).clone()?;
+        let (mut items, is_over) = next_table_runs(alloc, &mut runs, 2)?;
+        let (second, places) = items.pop().ok_or(Fault::Malformed)?;
+        let (first, others) = items.pop().ok_or(Fault::Malformed)?;
+        let mut rest = resumed_table(&table, second, Direction::Forward);
+        let next = item(alloc, &mut rest)?;
+        Ok(format!(in alloc; "{first} {others:?} {second} {places:?} {next}{is_over}")?)
+    }
+}
+
+// The jobs of texts that semicolons part; of an empty text none.
+fn table_of(alloc: Global, texts: &str) -> Result<CronTable, Fault> {
+    let mut table = CronTable::new(alloc);
+    for text in texts.split(';') {
+        if !text.trim().is_empty() {
+            table.push(job(alloc, "", text)?)?;
+        }
+    }
+    Ok(table)
+}
+
+fn found<T: CronDateTime>(
+    table: &CronTable,
+    search: &str,
+    start: &T,
+) -> Result<(T, Vec<usize>), Fault> {
+    match search {
+        "after" => Ok(table.find_next_occurrence(start, false)?),
+        "from" => Ok(table.find_next_occurrence(start, true)?),
+        "before" => Ok(table.find_previous_occurrence(start, false)?),
+        "back from" => Ok(table.find_previous_occurrence(start, true)?),
+        _ => Err(Fault::Malformed),
+    }
+}
+
+fn iterator<'t>(
+    table: &'t CronTable,
+    way: &str,
+    start: DateTime,
+) -> Result<CronTableIterator<'t, DateTime>, Fault> {
+    match way {
+        "after" => Ok(table.iter_after(start)),
+        "before" => Ok(table.iter_before(start)),
+        "from" => Ok(table.iter_from(start, Direction::Forward)),
+        "back from" => Ok(table.iter_from(start, Direction::Backward)),
+        _ => Err(Fault::Malformed),
+    }
+}
+
+fn item(alloc: Global, runs: &mut CronTableIterator<'_, DateTime>) -> Result<String, Fault> {
+    match runs.next() {
+        Some((run, places)) => Ok(format!(in alloc; "{run} {places:?} ")?),
+        None => {
+            let fault = runs.fault();
+            Ok(format!(in alloc; "none, {fault:?} ")?)
+        }
+    }
+}
+
+const SEARCHES: &str = "
+    0 0 * * 1; 0 0 1 * *; 30 9 * * *       | civil | before | 2024-07-01T09:30:00 | 2024-07-01T00:00:00 [0, 1]
+    0 0 * * 1; 0 0 1 * *; 30 9 * * *       | civil | after | 2024-06-30T09:30:00 | 2024-07-01T00:00:00 [0, 1]
+    45 2 * * *; 30 2 * * *; */30 * * * *   | 3600: 1711846800 7200, 1729990800 3600 | after | 1711845900 | 1711846800 [0, 1, 2]
+    45 2 * * *; 30 2 * * *; */30 * * * *   | 3600: 1711846800 7200, 1729990800 3600 | after | 1711846800 | 1711848600 [2]
+    45 2 * * *; 30 2 * * *; */30 * * * *   | 3600: 1711846800 7200, 1729990800 3600 | from | 1711846800 | 1711846800 [2]
+    0 0 * * *; 0 0 * * *                   | civil | after | 2024-01-01T00:00:00 | 2024-01-02T00:00:00 [0, 1]
+    0 0 1 1 *                              | civil | after | 4999-12-31T00:00:00 | 5000-01-01T00:00:00 [0]
+    0 0 2 1 *; 0 0 1 1 *                   | civil | after | 4999-12-31T00:00:00 | limit
+    0 0 2 1 *; 0 12 31 12 *                | civil | after | 4999-12-31T00:00:00 | 4999-12-31T12:00:00 [1]
+                                           | civil | after | 2024-01-01T00:00:00 | limit
+                                           | civil | before | 2024-01-01T00:00:00 | limit
+    0 0 31 12 *                            | civil | before | 0002-01-01T00:00:00 | 0001-12-31T00:00:00 [0]
+    0 0 30 12 *; 0 0 31 12 *               | civil | before | 0002-01-01T00:00:00 | limit
+    0 0 30 12 *; 0 12 1 1 *                | civil | before | 0002-01-02T00:00:00 | 0002-01-01T12:00:00 [1]
+    5 * * * *; 45 23,0 * * *               | 3600: 95617582200 0 | after | 95617581000 | limit
+    45 23,0 * * *                          | 3600: 95617582200 0 | after | 95617581000 | 95617583100 [0]
+";
+
+const LISTINGS: &str = "
+    0 0 * * 1; 0 0 1 * *; 30 9 * * * | after | 2024-06-30T09:30:00 | \"2024-07-01T00:00:00 [0, 1] 2024-07-01T09:30:00 [2] 2024-07-02T09:30:00 [2] \"
+    0 0 1 1 *; 0 0 0 * 1 * 2024      | from  | 2024-01-01T00:00:00 | \"2024-01-01T00:00:00 [0, 1] 2024-01-02T00:00:00 [1] 2024-01-03T00:00:00 [1] \"
+    0 0 1 1 *; 0 0 0 * 1 * 2024      | back from | 2024-01-01T00:00:00 | \"2024-01-01T00:00:00 [0, 1] 2023-01-01T00:00:00 [0] 2022-01-01T00:00:00 [0] \"
+    0 0 1 1 *; 0 0 0 * 1 * 2024      | before | 2024-01-01T00:00:00 | \"2023-01-01T00:00:00 [0] 2022-01-01T00:00:00 [0] 2021-01-01T00:00:00 [0] \"
+    0 0 0 1 1 * 2025; 0 0 0 1 1 * 2025-2026 | from | 2024-01-01T00:00:00 | \"2025-01-01T00:00:00 [0, 1] 2026-01-01T00:00:00 [1] none, None \"
+                                     | from  | 2024-01-01T00:00:00 | \"none, None none, None none, None \"
+";
+
+const TAKEN_UP: &str = "
+    0 0 * * 1; 0 0 1 * *; 30 9 * * * | 2024-06-30T09:30:00 | 2024-07-01T00:00:00 [0, 1] 2024-07-01T09:30:00 [2] 2024-07-02T09:30:00 [2] false
+";
+
+/// Texts, which semicolons part, and a place: how many jobs there are, and the text of the one there.
+struct Place;
+
+impl Question for Place {
+    fn answer(&self, alloc: Global, cells: &[&str]) -> Result<String, Fault> {
+        let [texts, place] = cells else {
+            return Err(Fault::Malformed);
+        };
+        let table = table_of(alloc, texts)?;
+        let (count, is_empty) = (table.len(), table.is_empty());
+        let text = match table.get(number(place)?) {
+            Some(job) => job.as_str(),
+            None => "none",
+        };
+        Ok(format!(in alloc; "{count} {is_empty} {text}")?)
+    }
+}
+
+const PLACES: &str = "
+                         | 0 | 0 true none
+    0 0 * * MON; @monthly | 0 | 2 false 0 0 * * 1
+    0 0 * * MON; @monthly | 1 | 2 false 0 0 1 * *
+    0 0 * * MON; @monthly | 2 | 2 false none
+";
+
+#[test]
+fn tables_are_searched(rt: HostRuntime) -> Result<(), Fail> {
+    assert_eq!(rt; differing(rt.alloc(), &Search, SEARCHES)?.as_str(), "");
+    Ok(())
+}
+
+#[test]
+fn tables_are_listed(rt: HostRuntime) -> Result<(), Fail> {
+    assert_eq!(rt; differing(rt.alloc(), &Listing, LISTINGS)?.as_str(), "");
+    Ok(())
+}
+
+#[test]
+fn listings_are_taken_up(rt: HostRuntime) -> Result<(), Fail> {
+    assert_eq!(rt; differing(rt.alloc(), &TakenUp, TAKEN_UP)?.as_str(), "");
+    assert_eq!(rt; differing(rt.alloc(), &Place, PLACES)?.as_str(), "");
+    Ok(())
+}
