@@ -5,7 +5,6 @@ use crate::clones::{
     error_clone, field_clone, iterator_clone, job_clone, pattern_clone, resolution_clone,
     time_clone,
 };
-use crate::comparisons;
 use crate::fault::Fault;
 use crate::field_calls::call_of_field;
 use crate::fields::new_field;
@@ -16,6 +15,7 @@ use crate::patterns::{new_pattern, parse, parser, questions};
 use crate::searches::{matching, search};
 use crate::texts::{description, words_of_language};
 use crate::time_calls::{reading, resolution, sum};
+use crate::{comparisons, tables};
 use std::alloc::Global;
 
 /// What the calls of a case gave.
@@ -70,6 +70,17 @@ fn calls_with_times(rt: &HostRuntime, kind: &str, given: &[&str]) -> Result<Outc
         "list" => listing(rt, given),
         "list of a job handed over" => handed(rt, given),
         "comparison of iterators" => comparisons::of_iterators(rt, given),
+        kind => calls_of_tables(rt, kind, given),
+    }
+}
+
+fn calls_of_tables(rt: &HostRuntime, kind: &str, given: &[&str]) -> Result<Outcome, Fault> {
+    match kind {
+        "push to a table" => tables::pushed(rt, given),
+        "questions of a table" => tables::asked(rt, given),
+        "search of a table" => tables::search(rt, given),
+        "list of a table" => tables::listing(rt, given),
+        "clone of a table" => tables::copied(rt, given),
         kind => copies(rt, kind, given),
     }
 }

@@ -22,6 +22,7 @@ mod pattern_calls;
 mod patterns;
 mod searches;
 mod shown;
+mod tables;
 mod texts;
 mod time_calls;
 mod times;

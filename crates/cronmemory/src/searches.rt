@@ -13,16 +13,17 @@ use croner::Cron;
 use croner::errors::CronError;
 use std::alloc::Global;
 
-// The run after a time or from it on, or the one before it or back from it.
+/// The run after a time or from it on, or the one before it or back from it.
 #[derive(Clone, Copy)]
-enum Way {
+pub enum Way {
     After,
     From,
     Before,
     BackFrom,
 }
 
-fn read_way(word: &str) -> Result<Way, Fault> {
+/// Which run a search is for, by its word.
+pub fn read_way(word: &str) -> Result<Way, Fault> {
     match word {
         "after" => Ok(Way::After),
         "from" => Ok(Way::From),
