@@ -1,6 +1,7 @@
 //! The groups of calls that are measured.
 
 use crate::answers::Answers;
+use crate::many;
 use crate::passes::{
     compare, copy, describe, iterate, limit, matching, next, parse, previous, read_hostile,
 };
@@ -35,11 +36,14 @@ pub enum Group {
     HostileShort,
     HostileMiddle,
     HostileLong,
+    NextOfEach,
+    NextOfMany,
+    IterateMany,
 }
 
 impl Group {
     /// Every group, in the order in which they are shown.
-    pub const ALL: [Group; 21] = [
+    pub const ALL: [Group; 24] = [
         Group::Parse,
         Group::MatchCivil,
         Group::NextCivil,
@@ -61,6 +65,9 @@ impl Group {
         Group::HostileShort,
         Group::HostileMiddle,
         Group::HostileLong,
+        Group::NextOfEach,
+        Group::NextOfMany,
+        Group::IterateMany,
     ];
 
     /// Makes each call of the group once.
@@ -91,6 +98,9 @@ impl Group {
             Group::HostileShort => read_hostile(alloc, hostile.short.as_slice()),
             Group::HostileMiddle => read_hostile(alloc, hostile.middle.as_slice()),
             Group::HostileLong => read_hostile(alloc, hostile.long.as_slice()),
+            Group::NextOfEach => many::next_each(jobs, times.civil.as_slice()),
+            Group::NextOfMany => many::next(&subjects.table, times.civil.as_slice()),
+            Group::IterateMany => many::iterate(&subjects.table, times.civil.as_slice()),
         }
     }
 }
@@ -119,6 +129,9 @@ impl fmt::Display for Group {
             Group::HostileShort => "hostile texts of 10,000 bytes",
             Group::HostileMiddle => "hostile texts of 100,000 bytes",
             Group::HostileLong => "hostile texts of 1,000,000 bytes",
+            Group::NextOfEach => "next run of 1,000 patterns, each by itself",
+            Group::NextOfMany => "next run of a table of 1,000 patterns",
+            Group::IterateMany => "64 runs of a table of 1,000 patterns",
         };
         write!(f, "{name}")
     }

@@ -10,6 +10,7 @@ mod given;
 mod group;
 mod hostile;
 mod job;
+mod many;
 mod measure;
 mod moment;
 mod paris;

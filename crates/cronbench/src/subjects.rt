@@ -2,8 +2,10 @@
 
 use crate::hostile::texts;
 use crate::job::Job;
+use crate::many;
 use crate::starts::{FIRST_SECOND, civil_at, far_seconds, seconds, table_at, zoned_at};
 use crate::stop::Stop;
+use croner::crontable::CronTable;
 use croner::errors::CronError;
 use croner::time::table::{ClockTable, TableTime};
 use jiff::Zoned;
@@ -37,6 +39,8 @@ pub struct Subjects<'t> {
     pub patterns: Vec<String>,
     /// A job for each pattern.
     pub jobs: Vec<Job>,
+    /// The table of a thousand patterns.
+    pub table: CronTable,
     /// A job that runs in few years.
     pub rare: Vec<Job>,
     /// The jobs that never run.
@@ -58,6 +62,7 @@ impl<'t> Subjects<'t> {
     ) -> Result<Subjects<'t>, Stop> {
         let jobs = jobs(alloc, patterns.as_slice())?;
         let times = Times::new(alloc, table, long_table, zone)?;
+        let many = many::table(alloc, patterns.as_slice())?;
         let mut rare = Vec::new(alloc);
         rare.push(Job::read(alloc, LEAP_MONDAY)?)?;
         let never = Never::new(alloc)?;
@@ -65,6 +70,7 @@ impl<'t> Subjects<'t> {
         Ok(Subjects {
             patterns,
             jobs,
+            table: many,
             rare,
             never,
             times,
