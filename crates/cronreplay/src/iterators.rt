@@ -1,43 +1,30 @@
 //! Iterators: the answers of their calls.
 
 use crate::fault::Fault;
-use crate::job::Job;
 use crate::member::{number_at, text};
 use crate::shown::Shown;
-use croner::CronIterator;
+use crate::subject::{How, Runs, Subject};
 use croner::errors::CronError;
 use croner::time::Direction;
 use serde_json::Value;
 use std::alloc::Global;
 
-// How an iterator is made.
-#[derive(Clone, Copy)]
-enum How {
-    From(Direction),
-    After,
-    Before,
-}
-
 /// The answers of so many calls of `next`, null for None.
 pub fn items<T: Shown>(
     alloc: Global,
     question: &Value,
-    job: &Job,
+    subject: Subject<'_>,
     start: T,
 ) -> Result<Value, Fault> {
     let (how, count) = (how_made(question)?, number_at(question, "count")?);
-    let mut iterator = iterator(job, start, how)?;
-    listed(alloc, &mut iterator, count)
+    let mut runs = Runs::new(subject, start, how)?;
+    listed(alloc, &mut runs, count)
 }
 
-fn listed<T: Shown>(
-    alloc: Global,
-    iterator: &mut CronIterator<T>,
-    count: u64,
-) -> Result<Value, Fault> {
+fn listed<T: Shown>(alloc: Global, runs: &mut Runs<'_, T>, count: u64) -> Result<Value, Fault> {
     let mut items = Vec::new(alloc);
     for _ in 0..count {
-        items.push(item(alloc, iterator)?)?;
+        items.push(item(alloc, runs)?)?;
     }
     Ok(Value::Array(items))
 }
@@ -52,19 +39,11 @@ fn how_made(question: &Value) -> Result<How, Fault> {
     }
 }
 
-fn iterator<T: Shown>(job: &Job, start: T, how: How) -> Result<CronIterator<T>, CronError> {
-    match how {
-        How::From(direction) => job.cron.iter_from(start, direction),
-        How::After => job.cron.iter_after(start),
-        How::Before => job.cron.iter_before(start),
-    }
-}
-
 // The answer of one call. Want of memory ends the replay and is no answer.
-fn item<T: Shown>(alloc: Global, iterator: &mut CronIterator<T>) -> Result<Value, Fault> {
-    match iterator.next() {
-        Some(item) => item.shown(alloc),
-        None => match iterator.fault() {
+fn item<T: Shown>(alloc: Global, runs: &mut Runs<'_, T>) -> Result<Value, Fault> {
+    match runs.next() {
+        Some(run) => run.shown(alloc),
+        None => match runs.fault() {
             Some(CronError::OutOfMemory) => Err(Fault::OutOfMemory),
             _ => Ok(Value::Null),
         },

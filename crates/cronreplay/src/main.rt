@@ -17,6 +17,7 @@ mod question;
 mod replay;
 mod searches;
 mod shown;
+mod subject;
 mod time;
 mod wanted;
 mod words;

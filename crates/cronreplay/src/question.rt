@@ -9,9 +9,11 @@ use crate::job::Job;
 use crate::json::{from_json, reread};
 use crate::member::text;
 use crate::pattern::parsed;
+use crate::subject::{Subject, table};
 use crate::time::{Ask, answer_from_start};
 use crate::words::described;
 use crate::zone::clock_table;
+use croner::crontable::CronTable;
 use croner::time::Direction;
 use serde_json::Value;
 use std::alloc::Global;
@@ -28,7 +30,49 @@ pub fn answer(alloc: Global, question: &Value) -> Result<Value, Fault> {
         "clock_table" => clock_table(alloc, question),
         "cronrun" => cronrun(alloc, question),
         "from_json" => from_json(alloc, question),
+        "table_next" => answer_of_table(
+            alloc,
+            question,
+            TableOperation::Search(Direction::Forward),
+        ),
+        "table_prev" => answer_of_table(
+            alloc,
+            question,
+            TableOperation::Search(Direction::Backward),
+        ),
+        "table_iter" => answer_of_table(alloc, question, TableOperation::Items),
         op => answer_of_job(alloc, question, job_operation(op)?),
+    }
+}
+
+// An operation on a table of jobs.
+#[derive(Clone, Copy)]
+enum TableOperation {
+    Search(Direction),
+    Items,
+}
+
+fn answer_of_table(
+    alloc: Global,
+    question: &Value,
+    operation: TableOperation,
+) -> Result<Value, Fault> {
+    let table = table(alloc, question)?;
+    answer_on_table(alloc, question, operation, &table)
+}
+
+fn answer_on_table(
+    alloc: Global,
+    question: &Value,
+    operation: TableOperation,
+    table: &CronTable,
+) -> Result<Value, Fault> {
+    let subject = Subject::Table(table);
+    match operation {
+        TableOperation::Search(direction) => {
+            answer_from_start(alloc, question, Ask::Search(subject, direction))
+        }
+        TableOperation::Items => answer_from_start(alloc, question, Ask::Items(subject)),
     }
 }
 
@@ -87,8 +131,9 @@ fn answer_on(
         JobOperation::Describe => described(question, job),
         JobOperation::Reread => reread(alloc, question, job),
         JobOperation::Search(direction) => {
-            answer_from_start(alloc, question, Ask::Search(job, direction))
+            let ask = Ask::Search(Subject::Job(job), direction);
+            answer_from_start(alloc, question, ask)
         }
-        JobOperation::Items => answer_from_start(alloc, question, Ask::Items(job)),
+        JobOperation::Items => { answer_from_start(alloc, question, Ask::Items(Subject::Job(job))) }
     }
 }

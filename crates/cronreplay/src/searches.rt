@@ -1,10 +1,9 @@
 //! Searches: the runs that they find, each search from the answer of the one before.
 
 use crate::fault::Fault;
-use crate::job::Job;
 use crate::member::{flag, number_at};
 use crate::shown::{Shown, refusal};
-use croner::errors::CronError;
+use crate::subject::Subject;
 use croner::time::Direction;
 use serde_json::Value;
 use std::alloc::Global;
@@ -13,7 +12,7 @@ use std::alloc::Global;
 pub fn runs<T: Shown>(
     alloc: Global,
     question: &Value,
-    job: &Job,
+    subject: Subject<'_>,
     start: T,
     direction: Direction,
 ) -> Result<Value, Fault> {
@@ -24,10 +23,10 @@ pub fn runs<T: Shown>(
     let mut position = start;
     let mut runs = Vec::new(alloc);
     for _ in 0..count {
-        match run_from(job, &position, inclusive, direction) {
+        match subject.run_from(&position, inclusive, direction) {
             Ok(run) => {
                 runs.push(run.shown(alloc)?)?;
-                position = run;
+                position = run.instant;
                 inclusive = false;
             }
             Err(refused) => {
@@ -37,16 +36,4 @@ pub fn runs<T: Shown>(
         }
     }
     Ok(Value::Array(runs))
-}
-
-fn run_from<T: Shown>(
-    job: &Job,
-    position: &T,
-    inclusive: bool,
-    direction: Direction,
-) -> Result<T, CronError> {
-    match direction {
-        Direction::Forward => job.cron.find_next_occurrence(position, inclusive),
-        Direction::Backward => job.cron.find_previous_occurrence(position, inclusive),
-    }
 }

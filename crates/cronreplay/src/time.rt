@@ -2,11 +2,11 @@
 
 use crate::fault::Fault;
 use crate::iterators::items;
-use crate::job::Job;
 use crate::member::{civil, number_at};
 use crate::searches::runs;
 use crate::shown;
 use crate::shown::Shown;
+use crate::subject::Subject;
 use crate::zone::{Zone, civil_value, zone_of};
 use croner::time::table::TableTime;
 use croner::time::{Direction, Resolution};
@@ -18,10 +18,10 @@ use std::alloc::Global;
 /// What is asked of a start.
 #[derive(Clone, Copy)]
 pub enum Ask<'j> {
-    /// Searches of a job in a direction.
-    Search(&'j Job, Direction),
-    /// The items of an iterator over the runs of a job.
-    Items(&'j Job),
+    /// Searches in a direction.
+    Search(Subject<'j>, Direction),
+    /// The items of an iterator.
+    Items(Subject<'j>),
     Resolve,
     Reading,
     Add,
@@ -64,8 +64,8 @@ fn answer_at<T: Shown>(
     start: T,
 ) -> Result<Value, Fault> {
     match ask {
-        Ask::Search(job, direction) => runs(alloc, question, job, start, direction),
-        Ask::Items(job) => items(alloc, question, job, start),
+        Ask::Search(subject, direction) => runs(alloc, question, subject, start, direction),
+        Ask::Items(subject) => items(alloc, question, subject, start),
         Ask::Resolve => resolve(alloc, question, &start),
         Ask::Reading => reading(alloc, &start),
         Ask::Add => add(alloc, question, &start),
