@@ -134,7 +134,7 @@ fn doubled(seconds: u32, limit: u32) -> u32
     requires { seconds < limit }
     ensures farther { seconds < result }
     ensures near { result ≤ limit }
-    ensures twice { (result ≡ 2 * seconds + 1) ⊎ (result ≡ limit) }
+    ensures twice { (result ≡ 2 * seconds + 1) ⊎ ((result ≡ limit) × (limit ≤ 2 * seconds + 1)) }
 {
     if seconds < limit / 2 {
         2 * seconds + 1
