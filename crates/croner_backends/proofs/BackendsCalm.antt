@@ -24,5 +24,4 @@ narrow_starts_calm t =
 
 -- a table holds what a search needs
 pub boxed_searchable : (b : BoxedTime) → IsStart (reading (boxed_moment b)) → IsSearchable (boxed_moment b)
-boxed_searchable b h =
-    record { calm = table_calm b.time.value.table.now; whole = refl; held = table_holds b.time.value h.0 h.1 }
+boxed_searchable b h = record { starts = boxed_starts_calm b; held = table_holds b.time.value h.0 h.1 }

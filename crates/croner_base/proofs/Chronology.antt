@@ -17,6 +17,7 @@ use Rattle.croner_base.specs.declared.time.civil.Weekday.TheVariants.{Sunday, Mo
 use Rattle.croner_base.specs.Calendar.{IsRealDate, day_number, weekday_of_day, day_seconds}
 use Rattle.croner_base.specs.Civil.{wall_second, day_of_date, seconds_of_time, weekday_index}
 use Rattle.croner_base.specs.Calm.{IsSearched, IsInReach, IsStart}
+use Rattle.croner_base.specs.Limits.{first_year, last_year}
 use Rattle.croner_base.proofs.ExamplesCalendar.{year_0, year_1, year_5001, year_5002, year_before_9996, year_9998}
 use Rattle.croner_base.proofs.Days.{day_number-parts, day_number-lt_year, day_number-lt_month}
 use Rattle.croner_base.proofs.JiffSeconds.{wall_second-parts}
@@ -213,8 +214,8 @@ years_between c y z a b first next =
       ),
     )
 
-pub searched_years : (c : CivilDateTime) → IsSearched (wall_second c) ↔ ((pos 1 ≤ℤ c.date.year) × (c.date.year ≤ℤ pos 5000))
-searched_years c = years_between c (pos 1) (pos 5000) _ _ year_1 year_5001
+pub searched_years : (c : CivilDateTime) → IsSearched (wall_second c) ↔ ((pos first_year ≤ℤ c.date.year) × (c.date.year ≤ℤ pos last_year))
+searched_years c = years_between c (pos first_year) (pos last_year) _ _ year_1 year_5001
 
 pub needed_years : (c : CivilDateTime) → IsInReach (wall_second c) ↔ ((pos 0 ≤ℤ c.date.year) × (c.date.year ≤ℤ pos 5001))
 needed_years c = years_between c (pos 0) (pos 5001) _ _ year_0 year_5002

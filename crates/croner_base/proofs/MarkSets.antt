@@ -12,7 +12,7 @@ use Rattle.std.proofs.lemmas.List.Kept.{IsStrictlyIncreasing-filter}
 use Rattle.std.proofs.lemmas.Nat.Bits.{bit_at_and, bit_at_or, bit_at-lt, bit_at_not, bit_at-zero, same_from_bits}
 use native.Mathlib.Nat.{le-div_iff_mul-le}
 use Rattle.croner_base.specs.Field.{Shape, Field, has_any, has_all, can_ask, can_mark, is_marked, with_mark, without_mark, values_between, room}
-use Rattle.croner_base.specs.Marks.{is_in, has_modifier, is_among, names_here, names, IsStep, IsWhole, AddsOne, TakesOne, ListsSet}
+use Rattle.croner_base.specs.Marks.{is_in, has_modifier, is_among, names_here, names, IsStep, IsWellFormed, AddsOne, TakesOne, ListsSet}
 use Rattle.croner_base.specs.Part.{all_marked, stepped, stepped_marks, part_of, parts_of}
 use Rattle.croner_base.specs.Reading.{Effect, marks, enables, steps, stars, Reading, nothing, ◌then◌, wants, applied, applied_one}
 use Rattle.croner_base.proofs.Sets.{has_bit, is_marked-with_mark_same, is_marked-with_mark_other}
@@ -80,14 +80,14 @@ is_in-without_mark k f v w bits h low byte = elim (cases_eq v w) [
 ask_within : (shape : Shape) (v bits size : ℕ) → size ≡ room shape.max → can_ask shape v bits ≡ true → v < size
 ask_within shape v bits size e h = grind (arith, nat_tests)
 
-pub adds_one : (f : Field) (v bits : ℕ) → IsWhole f → can_ask f.shape v bits ≡ true → AddsOne f v bits
+pub adds_one : (f : Field) (v bits : ℕ) → IsWellFormed f → can_ask f.shape v bits ≡ true → AddsOne f v bits
 adds_one f v bits whole h =
     let there : v < length f.marks = ask_within f.shape v bits (length f.marks) whole.room h in (
       record { shape = refl; length = length-set f.marks v _; enabled = refl; step = refl; wildcard = refl },
       λ k w. is_in-with_mark k f v w bits (λ e. subst (λ x. x < length f.marks) e there),
     )
 
-pub takes_one : (f : Field) (v bits : ℕ) → IsWhole f → can_ask f.shape v bits ≡ true → bits < 256 → TakesOne f v bits
+pub takes_one : (f : Field) (v bits : ℕ) → IsWellFormed f → can_ask f.shape v bits ≡ true → bits < 256 → TakesOne f v bits
 takes_one f v bits whole h byte =
     let there : v < length f.marks = ask_within f.shape v bits (length f.marks) whole.room h in (
       record { shape = refl; length = length-set f.marks v _; enabled = refl; step = refl; wildcard = refl },

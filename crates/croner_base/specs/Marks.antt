@@ -8,7 +8,7 @@ use Rattle.croner_base.specs.Part.{all_marked, stepped_marks, part_of, parts_of}
 use Rattle.croner_base.specs.Reading.{Effect, marks, Reading, applied}
 
 -- what holds of every component
-pub record IsWhole (f : Field) : Type 0 where
+pub record IsWellFormed (f : Field) : Type 0 where
   pub room : length f.marks ≡ room f.shape.max
   pub ordered : f.shape.min ≤ f.shape.max
   pub fits : f.shape.max + f.shape.offset < 65536

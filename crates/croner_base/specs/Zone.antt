@@ -32,11 +32,7 @@ nanos_of m = m.instant *ℤ pos 1_000_000_000 +ℤ pos m.fraction
 
 -- the whole-second instant i of a zone
 abbrev pub at_instant : Zone → ℤ → Moment
-at_instant z i = record {
-  zone = z;
-  instant = i;
-  fraction = 0;
-}
+at_instant z i = record { zone = z; instant = i; fraction = 0 }
 
 -- the value names a whole-second instant of the zone that shows the wall second
 pub record Names {T : Type 0} (moment : T → Moment) (z : Zone) (w : ℤ) (t : T) : Type 0 where

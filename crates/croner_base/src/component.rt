@@ -7,7 +7,7 @@ ghost use Rattle.std.specs.Prelude.{◌≡◌, ◌+◌, ◌-◌, ◌≤◌, ◌<
 ghost use Rattle.std.specs.Int.{bit_at};
 ghost use Rattle.croner_base.specs.Answers.{SucceedsIff};
 ghost use Rattle.croner_base.specs.Field.{with_mark, without_mark, with_sloppy, is_marked, can_mark, can_ask, default_field, empty_field, new_shape, has_all, has_any, has_modifiers, marked_values};
-ghost use Rattle.croner_base.specs.Marks.{IsWhole, HasNoPlainFrom, IsLeastPlainValue, HasNoPlainTo, IsGreatestPlainValue};
+ghost use Rattle.croner_base.specs.Marks.{IsWellFormed, HasNoPlainFrom, IsLeastPlainValue, HasNoPlainTo, IsGreatestPlainValue};
 ghost use Rattle.croner_base.specs.Part.{enabled};
 ghost use Rattle.croner_base.specs.Reading.{Reads};
 
@@ -156,7 +156,7 @@ impl CronComponent {
     /// The greatest value that the component may hold. Where it is 0 there is none.
     pub fn max(&self) -> u16
         ensures value { result ≡ self.now.shape.max }
-        ensures whole { IsWhole self.now }
+        ensures whole { IsWellFormed self.now }
     {
         self.marks.max()
     }

@@ -5,9 +5,9 @@ use Rattle.std.proofs.lemmas.Bool.{and_parts, cases_Bool, cases_eq, false≢true
 use Rattle.std.proofs.lemmas.Bool.Decides.{nat_tests}
 use Rattle.std.proofs.lemmas.List.{get_or_past}
 use Rattle.croner_base.specs.Field.{Field, has_all, has_any, is_in_bounds, is_marked, room, values_between}
-use Rattle.croner_base.specs.Marks.{IsWhole, HasNoPlainFrom, IsLeastPlainValue}
+use Rattle.croner_base.specs.Marks.{IsWellFormed, HasNoPlainFrom, IsLeastPlainValue}
 use Rattle.croner_pattern.specs.Schedule.{is_plain}
-use Rattle.croner_pattern.specs.Description.{plain_values, value_of, is_only, is_one, begins_with}
+use Rattle.croner_pattern.specs.Description.{plain_values, first_value, is_only, is_one, begins_with}
 
 -- values from a place on don't begin with an earlier one
 later : (p : ℕ → Bool) (n a value : ℕ) → value < a → begins_with value (filter p (range_with_len a n)) ≡ false
@@ -45,7 +45,7 @@ plain-marked f value low high given some =
     rw (a, b, given, some) refl
 
 -- and one whose greatest value is 0 has no mark
-no_mark : (f : Field) → IsWhole f → f.shape.max ≡ 0 → (value : ℕ) → is_marked 1 f value ≡ false
+no_mark : (f : Field) → IsWellFormed f → f.shape.max ≡ 0 → (value : ℕ) → is_marked 1 f value ≡ false
 no_mark f w h value =
     let none : length f.marks ≡ 0 = w.room ∙ ap room h in
     let past : get_or f.marks value 0 ≡ 0 = get_or_past f.marks value 0 (omega (arith, none)) in
@@ -60,7 +60,7 @@ no_plain : (f : Field) → f.shape.max ≡ 0 → (value : ℕ) → is_plain f va
 no_plain f h value = barred (is_in_bounds f.shape value) (has_all f.shape.supported 1) (eqb f.shape.max 0) (is_marked 1 f value) (ap (λ n. eqb n 0) h)
 
 -- the same in each case
-pub plain_is_marked : (f : Field) (value : ℕ) → IsWhole f → f.shape.min ≤ value → value ≤ f.shape.max → has_all f.shape.supported 1 ≡ true → is_plain f value ≡ is_marked 1 f value
+pub plain_is_marked : (f : Field) (value : ℕ) → IsWellFormed f → f.shape.min ≤ value → value ≤ f.shape.max → has_all f.shape.supported 1 ≡ true → is_plain f value ≡ is_marked 1 f value
 plain_is_marked f value w low high given =
     elim (cases_eq f.shape.max 0) [
       | inl none ↦ no_plain f none value ∙ sym (no_mark f w none value)
@@ -75,7 +75,7 @@ range_begins : (a b : ℕ) → a ≤ b → values_between a b ≡ range_with_len
 range_begins a b h = let n : (b + 1) - a ≡ suc (b - a) = omega arith in rw n refl
 
 -- the first plain value is the least value where that is plain
-pub begins_at_least : (f : Field) → IsWhole f → is_plain f f.shape.min ≡ begins_with f.shape.min (plain_values f)
+pub begins_at_least : (f : Field) → IsWellFormed f → is_plain f f.shape.min ≡ begins_with f.shape.min (plain_values f)
 begins_at_least f w =
     let o = w.ordered in
     sym (where_supported (has_all f.shape.supported 1) (filter (is_marked 1 f) (values_between f.shape.min f.shape.max)) f.shape.min (is_plain f f.shape.min)
@@ -86,7 +86,7 @@ begins_at_least f w =
     (λ lacking. not_plain f f.shape.min lacking))
 
 -- a field whose greatest value is 0 begins with none
-pub begins_with_none : (f : Field) → IsWhole f → f.shape.max ≡ 0 → begins_with f.shape.min (plain_values f) ≡ false
+pub begins_with_none : (f : Field) → IsWellFormed f → f.shape.max ≡ 0 → begins_with f.shape.min (plain_values f) ≡ false
 begins_with_none f w h = sym (begins_at_least f w) ∙ no_plain f h f.shape.min
 
 -- and one whose least value is above 0 doesn't begin with 0
@@ -140,7 +140,7 @@ all_kept p q (suc n) a same_as =
     ]
 
 -- each value of a field is plain where as many are marked as it may hold
-pub all_by_count : (f : Field) → IsWhole f → eqb (length (plain_values f)) ((f.shape.max - f.shape.min) + 1) ≡ list_all (is_plain f) (values_between f.shape.min f.shape.max)
+pub all_by_count : (f : Field) → IsWellFormed f → eqb (length (plain_values f)) ((f.shape.max - f.shape.min) + 1) ≡ list_all (is_plain f) (values_between f.shape.min f.shape.max)
 all_by_count f w =
     let o = w.ordered in
     let n : (f.shape.max - f.shape.min) + 1 ≡ (f.shape.max + 1) - f.shape.min = omega (arith, o) in
@@ -169,7 +169,7 @@ none_kept : (p : ℕ → Bool) (n a : ℕ) → ((x : ℕ) → a ≤ x → x < a 
 none_kept p zero a h = refl
 none_kept p (suc n) a h = let here = h a (omega arith) (omega arith) in rw here (none_kept p n (a + 1) (λ x low high. h x (omega arith) (omega arith)))
 
-pub first_is : (f : Field) (v : ℕ) → eqb f.shape.max 0 ≡ false → IsLeastPlainValue f 0 v → value_of f ≡ v
+pub first_is : (f : Field) (v : ℕ) → eqb f.shape.max 0 ≡ false → IsLeastPlainValue f 0 v → first_value f ≡ v
 first_is f v some l =
     let able = and_parts ((is_in_bounds f.shape v && has_all f.shape.supported 1) && not (eqb f.shape.max 0)) (is_marked 1 f v) l.plain in
     let held = and_parts (is_in_bounds f.shape v && has_all f.shape.supported 1) (not (eqb f.shape.max 0)) able.0 in
@@ -185,7 +185,7 @@ first_is f v some l =
       | inr miss ↦ miss
     ]))
 
-pub first_of_none : (f : Field) → eqb f.shape.max 0 ≡ false → HasNoPlainFrom f 0 → value_of f ≡ 0
+pub first_of_none : (f : Field) → eqb f.shape.max 0 ≡ false → HasNoPlainFrom f 0 → first_value f ≡ 0
 first_of_none f some h =
     elim (cases_Bool (has_all f.shape.supported 1)) [
       | inl given ↦ rw given (none_kept (is_marked 1 f) ((f.shape.max + 1) - f.shape.min) f.shape.min (λ x low high. sym (plain-marked f x low (omega arith) given some) ∙ h x (omega arith)))
@@ -193,7 +193,7 @@ first_of_none f some h =
     ]
 
 -- a field whose greatest value is 0 has none
-pub first_of_zero : (f : Field) → IsWhole f → f.shape.max ≡ 0 → value_of f ≡ 0
+pub first_of_zero : (f : Field) → IsWellFormed f → f.shape.max ≡ 0 → first_value f ≡ 0
 first_of_zero f w h =
     elim (cases_Bool (has_all f.shape.supported 1)) [
       | inl given ↦ rw given (none_kept (is_marked 1 f) ((f.shape.max + 1) - f.shape.min) f.shape.min (λ x _ _. no_mark f w h x))

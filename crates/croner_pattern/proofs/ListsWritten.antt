@@ -4,7 +4,7 @@ use Rattle.std.specs.Prelude.{codes}
 use Rattle.std.proofs.lemmas.Bool.Decides.{nat_tests}
 use Rattle.std.proofs.lemmas.List.{at_drop_more, append-nil, length-drop, length-map, get_or-map}
 use Rattle.std.proofs.Math.Nat.{mod-lt}
-use Rattle.croner_pattern.specs.Description.{name_at}
+use Rattle.croner_pattern.specs.Description.{cyclic_name}
 use Rattle.croner_pattern.specs.Lists.{but_last, last_of, each_behind, joined, text_list}
 use Rattle.croner_pattern.specs.Private.Lists.{is_empty, separator, comma, from_place}
 
@@ -77,9 +77,9 @@ pub joined-begun : (text : List ℕ) (items : List (List ℕ)) → text ≡ [] �
 joined-begun text items e = rw e (sym (joined-from_place items))
 
 -- the name at a place, in a list of references
-pub name_at-map : {X : Type 0} (text : X → List ℕ) (names : List X) (place : ℕ) (other : X) → 0 < length names
-    → text (get_or names (place % length names) other) ≡ name_at (map text names) place
-name_at-map text names place other h =
+pub cyclic_name-map : {X : Type 0} (text : X → List ℕ) (names : List X) (place : ℕ) (other : X) → 0 < length names
+    → text (get_or names (place % length names) other) ≡ cyclic_name (map text names) place
+cyclic_name-map text names place other h =
     let within : place % length names < length names = mod-lt place h in
     let count = length-map names text in
     rw count (sym (get_or-map text names (place % length names) other [] within))

@@ -7,22 +7,22 @@ use Rattle.std.proofs.lemmas.Bool.Decides.{nat_tests}
 use Rattle.std.proofs.lemmas.List.{at_drop_more, at_drop_all, append-nil, map-append}
 use Rattle.std.proofs.lemmas.Grind.{flat_map-append}
 use Rattle.croner_base.specs.Field.{values_between}
-use Rattle.croner_pattern.specs.Lists.{Run, with_value, runs_of, Item, number, items_of, item_text, number_items, covered}
+use Rattle.croner_pattern.specs.Lists.{Streak, with_value, runs_of, Item, number, items_of, item_text, number_items, covered}
 use Rattle.croner_pattern.specs.Private.Lists.{is_empty, separator, from_place, RunWritten}
 
 -- the runs, the first of which begins at another value
-abbrev pub begun_at : ℕ → List Run → List Run
+abbrev pub begun_at : ℕ → List Streak → List Streak
 begun_at value [] = []
 begun_at value (run ∷ more) = record { first = value; last = run.last } ∷ more
 
 -- the runs begin at a value
-pub record Begins (value : ℕ) (runs : List Run) : Type 0 where
+pub record Begins (value : ℕ) (runs : List Streak) : Type 0 where
   pub last : ℕ
-  pub more : List Run
+  pub more : List Streak
   pub ordered : value ≤ last
   pub is : runs ≡ record { first = value; last = last } ∷ more
 
-with_begun : (value next : ℕ) (runs : List Run) → Begins next runs → Begins value (with_value value runs)
+with_begun : (value next : ℕ) (runs : List Streak) → Begins next runs → Begins value (with_value value runs)
 with_begun value next runs b =
     elim (cases_Bool (eqb next (value + 1))) [
       | inl hit ↦ record { last = b.last; more = b.more; ordered = let e = eqb-true next (value + 1) hit in let o = b.ordered in omega (arith, e, o); is = ap (with_value value) b.is ∙ rw hit refl }
@@ -38,7 +38,7 @@ at_next F values i h = at_drop_more F values i 0 h
 
 begins_at : (values : List ℕ) (i : ℕ) → i < length values → Begins (get_or values i 0) (runs_of (drop i values))
 begins_at values i h =
-    let P : List Run → Type 0 = λ runs. Begins (get_or values i 0) runs in
+    let P : List Streak → Type 0 = λ runs. Begins (get_or values i 0) runs in
     subst P (sym (at_next runs_of values i h)) (begins (get_or values i 0) (drop (i + 1) values))
 
 -- a run has an item
@@ -66,7 +66,7 @@ items_left values end h =
     ]
 
 -- one run more is written
-pub run_more : (and : List ℕ) (place next : ℕ) (is_last : Bool) (first last : ℕ) (old new whole : List ℕ) (runs more : List Run) → runs ≡ record { first = first; last = last } ∷ more
+pub run_more : (and : List ℕ) (place next : ℕ) (is_last : Bool) (first last : ℕ) (old new whole : List ℕ) (runs more : List Streak) → runs ≡ record { first = first; last = last } ∷ more
     → is_empty (map item_text (flat_map items_of more)) ≡ is_last
     → RunWritten and place is_last first last old new next
     → old ++ from_place (separator and) place (map item_text (flat_map items_of runs)) ≡ whole
@@ -99,14 +99,14 @@ covered_numbers : (values : List ℕ) → flat_map covered (map number values) �
 covered_numbers [] = refl
 covered_numbers (value ∷ more) = ap (λ l. value ∷ l) (covered_numbers more)
 
-covered_items : (run : Run) → flat_map covered (items_of run) ≡ values_between run.first run.last
+covered_items : (run : Streak) → flat_map covered (items_of run) ≡ values_between run.first run.last
 covered_items run =
     elim (cases_Bool (leb (run.first + 2) run.last)) [
       | inl far ↦ rw far (append-nil (values_between run.first run.last))
       | inr near ↦ rw near (covered_numbers (values_between run.first run.last))
     ]
 
-covered_runs : (runs : List Run) → flat_map covered (flat_map items_of runs) ≡ flat_map (λ run. values_between run.first run.last) runs
+covered_runs : (runs : List Streak) → flat_map covered (flat_map items_of runs) ≡ flat_map (λ run. values_between run.first run.last) runs
 covered_runs [] = refl
 covered_runs (run ∷ more) =
     flat_map-append covered (items_of run) (flat_map items_of more)
@@ -120,10 +120,10 @@ covered_one value = let n : (value + 1) - value ≡ 1 = omega arith in rw n refl
 covered_more : (value last : ℕ) → value ≤ last → values_between value last ≡ value ∷ values_between (value + 1) last
 covered_more value last h = let n : (last + 1) - value ≡ suc ((last + 1) - (value + 1)) = omega arith in rw n refl
 
-covered_with : (value next : ℕ) (runs : List Run) → Begins next runs
+covered_with : (value next : ℕ) (runs : List Streak) → Begins next runs
     → flat_map (λ run. values_between run.first run.last) (with_value value runs) ≡ value ∷ flat_map (λ run. values_between run.first run.last) runs
 covered_with value next runs b =
-    let cover : List Run → List ℕ = flat_map (λ run. values_between run.first run.last) in
+    let cover : List Streak → List ℕ = flat_map (λ run. values_between run.first run.last) in
     ap (λ r. cover (with_value value r)) b.is
     ∙ elim (cases_Bool (eqb next (value + 1))) [
       | inl hit ↦

@@ -17,8 +17,7 @@ occurrence first day = count_by (λ other. weekday_of first other == weekday_of 
 
 -- no later day of the month has the same weekday
 abbrev pub is_last_weekday : ℕ → ℕ → ℕ → Bool
-is_last_weekday len first day =
-    list_all (λ other. nat_le other day || not (weekday_of first other == weekday_of first day)) (days_of len)
+is_last_weekday len first day = list_all (λ other. nat_le other day || not (weekday_of first other == weekday_of first day)) (days_of len)
 
 -- no later day in the month
 abbrev pub is_last_day : ℕ → ℕ → Bool
@@ -26,8 +25,7 @@ is_last_day len day = list_all (λ other. nat_le other day) (days_of len)
 
 -- a Monday-to-Friday day, and no later one in the month
 abbrev pub is_last_working : ℕ → ℕ → ℕ → Bool
-is_last_working len first day =
-    is_working first day && list_all (λ other. nat_le other day || not (is_working first other)) (days_of len)
+is_last_working len first day = is_working first day && list_all (λ other. nat_le other day || not (is_working first other)) (days_of len)
 
 abbrev pub distance : ℕ → ℕ → ℕ
 distance a b = (a - b) + (b - a)

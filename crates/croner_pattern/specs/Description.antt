@@ -43,8 +43,8 @@ abbrev pub is_one_value : Field → Bool
 is_one_value f = f.step == 1 && is_one (plain_values f)
 
 -- the first value, where there is one
-abbrev pub value_of : Field → ℕ
-value_of f = slice_index (plain_values f) 0
+abbrev pub first_value : Field → ℕ
+first_value f = slice_index (plain_values f) 0
 
 -- a number list and a text list, with the language's word
 abbrev pub numbers : Wording → List ℕ → List ℕ
@@ -64,7 +64,7 @@ abbrev pub at_one_minute : Wording → Field → ℕ → ℕ → List ℕ
 at_one_minute w seconds hour minute =
     if is_zero seconds then w.at_time (w.time_of_day hour minute None)
     else (if is_stepped seconds then w.at_time_and_every_x_seconds (w.time_of_day hour minute None) seconds.step
-    else (if is_one (plain_values seconds) then w.at_time (w.time_of_day hour minute (Some (value_of seconds)))
+    else (if is_one (plain_values seconds) then w.at_time (w.time_of_day hour minute (Some (first_value seconds)))
     else w.at_time_at_second (w.time_of_day hour minute None) (numbers w (plain_values seconds))))
 
 -- the parts of a time that has no form of its own: the seconds, the minutes and the hours, each a part or none
@@ -107,12 +107,12 @@ parts_text w parts =
     else w.at_phrase (joined (codes ", ") parts))
 
 -- the time, by the first case that holds
-abbrev pub time_text : Wording → Meaning → List ℕ
-time_text w m =
+abbrev pub times_text : Wording → Meaning → List ℕ
+times_text w m =
     if is_all m.seconds && (is_all m.minutes && is_all m.hours) then w.every_second_phrase
     else (if is_zero m.seconds && (is_all m.minutes && is_all m.hours) then w.every_minute
     else (if is_zero m.seconds && (is_stepped m.minutes && is_all m.hours) then w.at_phrase (w.every_x_minutes m.minutes.step)
-    else (if not (is_all m.seconds) && (is_one_value m.hours && is_one_value m.minutes) then at_one_minute w m.seconds (value_of m.hours) (value_of m.minutes)
+    else (if not (is_all m.seconds) && (is_one_value m.hours && is_one_value m.minutes) then at_one_minute w m.seconds (first_value m.hours) (first_value m.minutes)
     else (if is_zero m.seconds && (is_all m.minutes && not (is_all m.hours)) then w.every_past_phrase w.every_minute (past_hours w m.hours)
     else (if is_all m.seconds && (is_all m.minutes && not (is_all m.hours)) then w.every_past_phrase w.every_second_phrase (past_hours w m.hours)
     else parts_text w (time_parts w m))))))
@@ -132,15 +132,15 @@ abbrev pub days_text : Wording → Field → List ℕ
 days_text w days = texts w (day_parts w days)
 
 -- the name at a place; behind the last name the first comes again, so that weekday 7 is Sunday as 0 is
-abbrev pub name_at : List (List ℕ) → ℕ → List ℕ
-name_at names place = slice_index_or names (place % length names) []
+abbrev pub cyclic_name : List (List ℕ) → ℕ → List ℕ
+cyclic_name names place = slice_index_or names (place % length names) []
 
 -- the names of weekdays, of which the first is 0, and of months, of which the first is 1
 abbrev pub weekday_names : Wording → List ℕ → List ℕ
-weekday_names w weekdays = texts w (map (λ weekday. name_at w.day_of_week_names weekday) weekdays)
+weekday_names w weekdays = texts w (map (λ weekday. cyclic_name w.day_of_week_names weekday) weekdays)
 
 abbrev pub month_names : Wording → List ℕ → List ℕ
-month_names w months = texts w (map (λ month. name_at w.month_names (month - 1)) months)
+month_names w months = texts w (map (λ month. cyclic_name w.month_names (month - 1)) months)
 
 -- the weekdays: the last of the month, the first to the fifth, and plain ones
 abbrev pub last_weekdays : Wording → Field → List (List ℕ)
@@ -179,8 +179,8 @@ month_text w months =
     else (if nat_lt 1 months.step then w.in_phrase (w.every_x_months months.step)
     else w.in_phrase (month_names w (plain_values months)))
 
-abbrev pub year_text : Wording → Field → List ℕ
-year_text w years =
+abbrev pub years_text : Wording → Field → List ℕ
+years_text w years =
     if is_all years then []
     else (if nat_lt 1 years.step then w.in_phrase (w.every_x_years years.step)
     else w.in_phrase (w.year_phrase (numbers w (plain_values years))))
@@ -196,4 +196,4 @@ is_some_text text = nat_lt 0 (length text)
 -- the texts that aren't empty, joined by commas
 abbrev pub description : Wording → Meaning → List ℕ
 description w m =
-    sentence (joined (codes ", ") (filter is_some_text (time_text w m ∷ day_text w m ∷ month_text w m.months ∷ year_text w m.years ∷ [])))
+    sentence (joined (codes ", ") (filter is_some_text (times_text w m ∷ day_text w m ∷ month_text w m.months ∷ years_text w m.years ∷ [])))

@@ -31,18 +31,18 @@ text_list and (one ∷ two ∷ three ∷ more) =
     joined (codes ", ") (but_last one (two ∷ three ∷ more)) ++ (codes ", " ++ (and ++ (codes " " ++ last_of one (two ∷ three ∷ more))))
 
 -- values in a row, from the first to the last
-pub record Run : Type 0 where
+pub record Streak : Type 0 where
   pub first : ℕ
   pub last : ℕ
 
 -- the maximal runs of ascending values: a value lengthens the run that begins right after it
-abbrev pub with_value : ℕ → List Run → List Run
+abbrev pub with_value : ℕ → List Streak → List Streak
 with_value value [] = record { first = value; last = value } ∷ []
 with_value value (run ∷ more) =
     if run.first == value + 1 then (record { first = value; last = run.last } ∷ more)
     else (record { first = value; last = value } ∷ run ∷ more)
 
-abbrev pub runs_of : List ℕ → List Run
+abbrev pub runs_of : List ℕ → List Streak
 runs_of [] = []
 runs_of (value ∷ more) = with_value value (runs_of more)
 
@@ -52,7 +52,7 @@ pub data Item : Type 0 where
   range : ℕ → ℕ → Item
 
 -- a run of three or more is a range, and the values of a shorter one are numbers
-abbrev pub items_of : Run → List Item
+abbrev pub items_of : Streak → List Item
 items_of run =
     if nat_le (run.first + 2) run.last then (range run.first run.last ∷ [])
     else map number (values_between run.first run.last)

@@ -8,6 +8,7 @@ use Rattle.croner_base.specs.declared.time.civil.CivilDateTime.{CivilDateTime}
 use Rattle.croner_base.specs.Calendar.{day_number, weekday_of_day}
 use Rattle.croner_base.specs.Civil.{wall_second}
 use Rattle.croner_base.specs.Field.{Field, has_all, can_ask, is_marked, marked_values}
+use Rattle.croner_base.specs.Limits.{first_year, last_year}
 use Rattle.croner_pattern.specs.Days.{days_of, weekday_of, occurrence, is_last_weekday, is_last_day, is_last_working, is_nearest}
 use Rattle.croner_pattern.specs.Meaning.{Meaning}
 
@@ -29,8 +30,7 @@ names_last_working_day days = has_all days.enabled 64 && has_all days.enabled 12
 
 -- `nW`: a target of the month, marked CLOSEST_WEEKDAY_BIT, has this day as its nearest working day
 abbrev pub is_near_target : Field → ℕ → ℕ → ℕ → Bool
-is_near_target days len first day =
-    list_any (λ target. is_named 128 days target && is_nearest len first target day) (days_of len)
+is_near_target days len first day = list_any (λ target. is_named 128 days target && is_nearest len first target day) (days_of len)
 
 -- the day of month fits
 abbrev pub is_day_side : Field → ℕ → ℕ → ℕ → Bool
@@ -66,9 +66,9 @@ abbrev pub IsDayMask : Meaning → ℕ → ℕ → ℕ → Type 0
 IsDayMask m len first mask =
     (place : ℕ) → bit_at mask place ≡ (if nat_lt place len && is_day_matching m len first (place + 1) then 1 else 0)
 
--- the years that a pattern can name
+-- the year lies among those that a pattern can name, and fits
 abbrev pub is_year_matching : Meaning → ℤ → Bool
-is_year_matching m year = (int_le (pos 1) year && int_le year (pos 5000)) && is_plain m.years (unsigned_abs year)
+is_year_matching m year = (int_le (pos first_year) year && int_le year (pos last_year)) && is_plain m.years (unsigned_abs year)
 
 -- the weekday of the first of a month
 abbrev pub first_weekday : ℤ → ℕ → ℕ

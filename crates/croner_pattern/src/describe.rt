@@ -2,7 +2,7 @@
 
 ghost use Rattle.std.specs.Prelude.{◌≡◌, ◌∷◌, [], codes, map, string_bytes};
 ghost use Rattle.std.specs.List.{filter};
-ghost use Rattle.croner_pattern.specs.Description.{day_text, description, is_some_text, month_text, sentence, time_text, year_text};
+ghost use Rattle.croner_pattern.specs.Description.{day_text, description, is_some_text, month_text, sentence, times_text, years_text};
 ghost use Rattle.croner_pattern.specs.Private.Lists.{AddsTexts, ListsTexts};
 ghost use Rattle.croner_pattern.specs.Meaning.{meaning_of};
 ghost use Rattle.croner_words.specs.English.{english};
@@ -48,10 +48,10 @@ fn texts<L: Language>(
     language: &L,
 ) -> Result<Vec<String>, CronError>
     ensures { let w = L.meaning language.now in let m = meaning_of pattern.now in
-        ListsTexts (filter is_some_text (time_text w m ∷ day_text w m ∷ month_text w m.months ∷ year_text w m.years ∷ [])) result }
+        ListsTexts (filter is_some_text (times_text w m ∷ day_text w m ∷ month_text w m.months ∷ years_text w m.years ∷ [])) result }
 {
     let mut parts = Vec::new(alloc);
-    push_text(&mut parts, times::time_text(alloc, language, pattern)?)?;
+    push_text(&mut parts, times::times_text(alloc, language, pattern)?)?;
     push_text(&mut parts, days::day_text(alloc, language, pattern)?)?;
     push_text(
         &mut parts,
@@ -59,7 +59,7 @@ fn texts<L: Language>(
     )?;
     push_text(
         &mut parts,
-        dates::year_text(alloc, language, &pattern.years)?,
+        dates::years_text(alloc, language, &pattern.years)?,
     )?;
     Ok(parts)
 }

@@ -26,8 +26,8 @@ every_step step = codes "every " ++ decimal step
 abbrev pub every_years : (List ℕ → List ℕ) → ℕ → List ℕ
 every_years year_phrase step = year_phrase (every_step step)
 
-abbrev pub year : List ℕ → List ℕ
-year years = codes "year " ++ years
+abbrev pub with_year : List ℕ → List ℕ
+with_year years = codes "year " ++ years
 
 abbrev pub english : Wording
 english = record {
@@ -47,7 +47,7 @@ english = record {
   minute_phrase = λ minutes. codes "minute " ++ minutes;
   minute_past_every_hour_phrase = λ minutes. minutes ++ codes " past every hour";
   hour_phrase = λ hours. codes "of hour " ++ hours;
-  year_phrase = year;
+  year_phrase = with_year;
   day_phrase = λ days. codes "day " ++ days;
   the_last_day_of_the_month = codes "the last day of the month";
   the_weekday_nearest_day = λ days. codes "the weekday nearest day " ++ days;
@@ -64,5 +64,5 @@ english = record {
   every_past_phrase = past;
   past_hour_phrase = past_hour;
   every_x_months = every_months;
-  every_x_years = every_years year;
+  every_x_years = every_years with_year;
 }

@@ -1,9 +1,6 @@
 -- How numbers are written in a text.
-use Rattle.std.specs.Prelude.{ℕ, ◌-◌, List, ◌++◌, length, replicate, codes, decimal, Option, Some, None}
-
--- zeros in front, up to two places
-abbrev pub two_places : ℕ → List ℕ
-two_places n = replicate (2 - length (decimal n)) 48 ++ decimal n
+use Rattle.std.specs.Prelude.{ℕ, List, ◌++◌, codes, Option, Some, None}
+use Rattle.croner_base.specs.CivilText.{two_places}
 
 -- hours and minutes, and seconds where there are any
 abbrev pub clock_text : ℕ → ℕ → Option ℕ → List ℕ

@@ -21,7 +21,7 @@ use Rattle.croner.specs.search.PatternJob.{pattern_job}
 use Rattle.croner.specs.search.Limit.{InSpan}
 use Rattle.croner.specs.crontable.Tables.{CountsAt, TableCounts, ArePlaces}
 use Rattle.croner.specs.crontable.TableListing.{TableStanding, table_standing_of, new_table_standing, counts_table_position, table_moved, IsLeftAt, IsTableLeft, GivesTableItem, GivesNoTableItem}
-use Rattle.croner.specs.crontable.TableItems.{instants_of, HavePlaces, BeginsTableRest, GaveTable, GaveAllTable, table_items, TakesTable, TakesTableInTurn}
+use Rattle.croner.specs.crontable.TableItems.{item_instants, HavePlaces, BeginsTableRest, GaveTable, GaveAllTable, table_items, TakesTable, TakesTableInTurn}
 use Rattle.croner.specs.declared.crontable.iterator.CronTableIterator.{CronTableIterator}
 use Rattle.croner.proofs.cursor.Ahead.{precedes-trans, same_or_ahead}
 use Rattle.croner.proofs.iterator.Faults.{no_fault_is_limit}
@@ -64,7 +64,7 @@ pub record TableGoes (old cur : TableStanding) (items : List (ℤ × List ℕ)) 
   pub direction : cur.direction ≡ old.direction
   pub zone : cur.position.zone ≡ old.position.zone
   pub calm : StartsCalm old.position → StartsCalm cur.position
-  pub splits : StartsCalm old.position → Splits old.direction (IsTableLeft old) (IsTableLeft cur) (instants_of items)
+  pub splits : StartsCalm old.position → Splits old.direction (IsTableLeft old) (IsTableLeft cur) (item_instants items)
   pub within_at : StartsCalm old.position → (k : ℕ) (i : ℤ) → IsLeftAt cur k i → IsLeftAt old k i
   pub back_at : StartsCalm old.position → (k : ℕ) (i : ℤ) → IsTableLeft cur i → IsLeftAt old k i → IsLeftAt cur k i
   pub places : StartsCalm old.position → HavePlaces old items
@@ -138,7 +138,7 @@ goes_to : (old cur new : TableStanding) (items : List (ℤ × List ℕ)) (item :
     → TableGoes old new (items ++ (item.instant, places) ∷ [])
 goes_to old cur new items item places g n =
     let P : TableStanding → Type 0 = λ s. TableGoes old s (items ++ (item.instant, places) ∷ []) in
-    let pushed : instants_of (items ++ (item.instant, places) ∷ []) ≡ instants_of items ++ item.instant ∷ [] = map_push (λ (x : ℤ × List ℕ). x.0) items (item.instant, places) in
+    let pushed : item_instants (items ++ (item.instant, places) ∷ []) ≡ item_instants items ++ item.instant ∷ [] = map_push (λ (x : ℤ × List ℕ). x.0) items (item.instant, places) in
     subst P (sym n.stands) (record {
       direction = g.direction;
       zone = n.found.zone ∙ g.zone;
@@ -147,7 +147,7 @@ goes_to old cur new items item places g n =
           let Q : Direction → Type 0 = λ d. IsNext d (IsTableLeft cur) (IsTableLeft (table_moved cur item)) item.instant in
           let R : List ℤ → Type 0 = Splits old.direction (IsTableLeft old) (IsTableLeft (table_moved cur item)) in
           subst R (sym pushed)
-          (splits_next old.direction (IsTableLeft old) (IsTableLeft cur) (IsTableLeft (table_moved cur item)) (instants_of items) item.instant (g.splits p)
+          (splits_next old.direction (IsTableLeft old) (IsTableLeft cur) (IsTableLeft (table_moved cur item)) (item_instants items) item.instant (g.splits p)
           (subst Q g.direction (next_item cur item places new n (g.calm p))));
       within_at = λ p k i at. g.within_at p k i (moved_within cur item places new n (g.calm p) k i at);
       back_at = λ p k i (j, left) at.
@@ -171,7 +171,7 @@ gave_table old cur items g p =
 
 pub begins_table_rest : (old cur : TableStanding) (items : List (ℤ × List ℕ)) → TableGoes old cur items → StartsCalm old.position → BeginsTableRest old items
 begins_table_rest old cur items g p = record {
-  runs = begins_where old.direction (IsTableLeft old) (IsTableLeft cur) (instants_of items) (g.splits p);
+  runs = begins_where old.direction (IsTableLeft old) (IsTableLeft cur) (item_instants items) (g.splits p);
   places = g.places p;
 }
 

@@ -19,12 +19,13 @@ use Rattle.croner_base.specs.Zone.{Zone, Moment, reading, nanos_of}
 use Rattle.croner_pattern.specs.Meaning.{Meaning}
 use Rattle.croner.specs.search.Limit.{InSpan, NoneInSpanWhere, IsPast}
 use Rattle.croner.specs.search.PatternJob.{pattern_job, timetable_of}
+use Rattle.croner.specs.Private.search.Held.{IsBackendError}
 use Rattle.croner.specs.search.Premises.{IsSearchable, StartsCalm, Shows}
-use Rattle.croner.specs.search.Refusal.{IsRefusal, IsBackendError, IsLimitOrMemory}
+use Rattle.croner.specs.search.Refusal.{IsRefusal, IsLimitOrMemory}
 use Rattle.croner.specs.search.Runs.{Precedes, Reaches, Counts}
 use Rattle.croner.specs.search.Searches.{IsFound, IsRefused}
 use Rattle.croner.specs.crontable.Tables.{CountsAt, TableCounts, ArePlaces, ShowsAt, AllPast, IsTableFound, IsTableRefused}
-use Rattle.croner.specs.Private.crontable.Met.{Answers, new_met, IsOrdered, Meets, TakesIn}
+use Rattle.croner.specs.Private.crontable.Met.{MetAnswers, new_met, IsOrdered, Meets, TakesIn}
 use Rattle.croner.proofs.cursor.Ahead.{reaches-trans, precedes-reaches, not_both, either, reaches-equal}
 use Rattle.croner.proofs.iterator.Listings.{is_run}
 use Rattle.croner.proofs.iterator.ThereAndBack.{searchable_run}
@@ -46,10 +47,9 @@ same_err r e f one other = cc
 with_memory : (lack : Bool) (e : CronError) → IsRefusal lack e → IsRefusal true e
 with_memory lack e kind =
     elim kind [
-      | inl limit ↦ inl limit
-      | inr (inl date) ↦ inr (inl date)
-      | inr (inr (inl time)) ↦ inr (inr (inl time))
-      | inr (inr (inr (memory, can))) ↦ inr (inr (inr (memory, refl)))
+      | inl (inl limit) ↦ inl (inl limit)
+      | inl (inr (memory, can)) ↦ inl (inr (memory, refl))
+      | inr other ↦ inr other
     ]
 
 backend_no_limit : (lack : Bool) (unheld : Type 0) (e : CronError) → IsBackendError lack unheld e → e ≡ TimeSearchLimitExceeded → ⊥
@@ -79,14 +79,14 @@ order_nanos Backward a b f g lt = omega (arith, ints)
 -- the limit, with what it says
 table_limit : (direction : Direction) (inclusive : Bool) (patterns : List Meaning) (start : Moment) → (StartsCalm start → NoneInSpanWhere direction start.zone.reads (TableCounts direction inclusive patterns start.zone start.instant))
     → IsTableRefused direction inclusive patterns start TimeSearchLimitExceeded
-table_limit direction inclusive patterns start none = record { limit = λ calm e. none calm; promised = λ p. inl refl; kind = inl refl; past = λ p. inl refl }
+table_limit direction inclusive patterns start none = record { limit = λ calm e. none calm; promised = λ p. inl refl; kind = inl (inl refl); past = λ p. inl refl }
 
 -- there is no memory for the places
 pub room_refused : (direction : Direction) (inclusive : Bool) (patterns : List Meaning) (start : Moment) → IsTableRefused direction inclusive patterns start OutOfMemory
 room_refused direction inclusive patterns start = record {
   limit = λ calm is. absurd (cc);
   promised = λ p. inr (refl, refl);
-  kind = inr (inr (inr (refl, refl)));
+  kind = inl (inr (refl, refl));
   past = λ p. inr (refl, refl);
 }
 
@@ -135,13 +135,13 @@ module _ {T : Type 0} (moment : T → Moment) (direction : Direction) (inclusive
     pub left : ¬ (AllPast direction inclusive patterns start)
 
   -- what holds of the first places after their searches, in a calm zone
-  pub record Looked (n : ℕ) (met : Answers T) : Type 0 where
+  pub record Looked (n : ℕ) (met : MetAnswers T) : Type 0 where
     pub reached : (k : ℕ) (j : ℤ) → k < n → At k j → ((t : T) × (met.nearest ≡ Some t) × Reaches direction (moment t).instant j) ⊎ ((met.is_limited ≡ true) × ¬ (Span j))
     pub complete : (k : ℕ) (t : T) → k < n → met.nearest ≡ Some t → At k (moment t).instant → Contains met.places k ⊎ ((met.is_limited ≡ true) × ¬ (Span (moment t).instant))
     pub counts : (t : T) → met.nearest ≡ Some t → All (λ k. At k (moment t).instant) met.places
 
   -- and in every zone
-  pub record Searched (n : ℕ) (met : Answers T) : Type 0 where
+  pub record Searched (n : ℕ) (met : MetAnswers T) : Type 0 where
     pub ordered : AllPairs (◌<◌) met.places
     pub below : All (λ k. k < n) met.places
     pub best : (t : T) → met.nearest ≡ Some t → IsBest (moment t) met.places
@@ -161,7 +161,7 @@ module _ {T : Type 0} (moment : T → Moment) (direction : Direction) (inclusive
 
   -- ---- one place more
 
-  module _ (n : ℕ) (old : Answers T) (s : Searched n old) (m : Meaning) (stands : slice_get patterns n ≡ Some m) where
+  module _ (n : ℕ) (old : MetAnswers T) (s : Searched n old) (m : Meaning) (stands : slice_get patterns n ≡ Some m) where
     -- the limit is remembered
     limited : (lack : Bool) → IsRefused lack direction inclusive (timetable_of m) start TimeSearchLimitExceeded → Searched (n + 1) (record old { is_limited = true })
     limited lack refused = record {
@@ -324,7 +324,7 @@ module _ {T : Type 0} (moment : T → Moment) (direction : Direction) (inclusive
         is.left (subst P same (past n m lt))
 
     -- what is met after the search of the place
-    pub taken : (lack : Bool) (answer : Result T CronError) (new : Answers T) (result : Result (Unit {0}) CronError)
+    pub taken : (lack : Bool) (answer : Result T CronError) (new : MetAnswers T) (result : Result (Unit {0}) CronError)
         → IfOk answer (λ t. IsFound direction inclusive (timetable_of m) start (moment t)) → IfErr answer (IsRefused lack direction inclusive (timetable_of m) start)
         → TakesIn moment direction n answer old new result → (u : Unit {0}) → result ≡ Ok u → Searched (n + 1) new
     taken lack (Ok found) new result is refused (order, ordered, step, ok) u good =
@@ -338,7 +338,7 @@ module _ {T : Type 0} (moment : T → Moment) (direction : Direction) (inclusive
         ]
 
     -- the error of the place that ends the search of the table
-    pub refused_place : (lack : Bool) (answer : Result T CronError) (new : Answers T) (result : Result (Unit {0}) CronError) (e : CronError)
+    pub refused_place : (lack : Bool) (answer : Result T CronError) (new : MetAnswers T) (result : Result (Unit {0}) CronError) (e : CronError)
         → IfErr answer (IsRefused lack direction inclusive (timetable_of m) start)
         → TakesIn moment direction n answer old new result → result ≡ Err e → IsTableRefused direction inclusive patterns start e
     refused_place lack (Ok found) new result e refused (order, ordered, step, ok) bad = absurd (ok_is_err result tt e ok bad)
@@ -361,7 +361,7 @@ module _ {T : Type 0} (moment : T → Moment) (direction : Direction) (inclusive
 
   -- ---- what they come to
 
-  module _ (met : Answers T) (s : Searched (length patterns) met) where
+  module _ (met : MetAnswers T) (s : Searched (length patterns) met) where
     within : (k : ℕ) (j : ℤ) → At k j → k < length patterns
     within k j at = slice_get_within patterns k at.pattern at.stands
 
@@ -410,9 +410,9 @@ module _ {T : Type 0} (moment : T → Moment) (direction : Direction) (inclusive
         limit = λ calm is. absurd (backend_no_limit lack _ e error is);
         promised = λ p. elim error [ inl (memory, can) ↦ inr (memory, refl) | inr (kind, stuck) ↦ absurd (stuck (searchable_best p)) ];
         kind = elim error [
-          | inl (memory, can) ↦ inr (inr (inr (memory, refl)))
+          | inl (memory, can) ↦ inl (inr (memory, refl))
           | inr (inl date, stuck) ↦ inr (inl date)
-          | inr (inr time, stuck) ↦ inr (inr (inl time))
+          | inr (inr time, stuck) ↦ inr (inr time)
         ];
         past = λ past. absurd (best.left past);
       }

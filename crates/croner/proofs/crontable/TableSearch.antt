@@ -16,7 +16,7 @@ use Rattle.croner_pattern.specs.Shapes.{has_field_shapes}
 use Rattle.croner.specs.declared.job.Cron.{Cron}
 use Rattle.croner.specs.Views.{job_of}
 use Rattle.croner.specs.crontable.Tables.{IsTableFound, IsTableRefused}
-use Rattle.croner.specs.Private.crontable.Met.{Answers, new_met, Decides, DecidesRefusal}
+use Rattle.croner.specs.Private.crontable.Met.{MetAnswers, new_met, Decides, DecidesRefusal}
 use Rattle.croner.proofs.crontable.TableRuns.{Searched, searched_none, none_met, outside_met, test_refused, found_met}
 
 -- the pattern of the job at a place
@@ -51,14 +51,14 @@ pub some_pattern : (jobs : List Cron) → map job_of jobs ≡ [] → length jobs
 some_pattern jobs none = sym (length-map jobs job_of) ∙ ap length none
 
 module _ {T : Type 0} (moment : T → Moment) (lack : Bool) (direction : Direction) (inclusive : Bool) (start : Moment) where
-  pub searched_first : (patterns : List Meaning) (met : Answers T) → met ≡ new_met → Searched moment direction inclusive patterns start 0 met
+  pub searched_first : (patterns : List Meaning) (met : MetAnswers T) → met ≡ new_met → Searched moment direction inclusive patterns start 0 met
   searched_first patterns met new = subst (Searched moment direction inclusive patterns start 0) (sym new) (searched_none moment direction inclusive patterns start)
 
   -- after the last place
-  pub searched_all : (jobs : List Cron) (k : ℕ) (met : Answers T) → k ≡ length jobs → Searched moment direction inclusive (map job_of jobs) start k met → Searched moment direction inclusive (map job_of jobs) start (length (map job_of jobs)) met
+  pub searched_all : (jobs : List Cron) (k : ℕ) (met : MetAnswers T) → k ≡ length jobs → Searched moment direction inclusive (map job_of jobs) start k met → Searched moment direction inclusive (map job_of jobs) start (length (map job_of jobs)) met
   searched_all jobs k met all s = subst (λ (n : ℕ). Searched moment direction inclusive (map job_of jobs) start n met) (all ∙ sym (length-map jobs job_of)) s
 
-  module _ (patterns : List Meaning) (met : Answers T) (s : Searched moment direction inclusive patterns start (length patterns) met) where
+  module _ (patterns : List Meaning) (met : MetAnswers T) (s : Searched moment direction inclusive patterns start (length patterns) met) where
     refused_by : (nearest : Option T) → met.nearest ≡ nearest → (is_limited : Bool) → (e : CronError) → DecidesRefusal moment lack direction nearest is_limited e → IsTableRefused direction inclusive patterns start e
     refused_by None at is_limited e limit = subst (IsTableRefused direction inclusive patterns start) (sym limit) (none_met moment direction inclusive patterns start met s at)
     refused_by (Some t) at false e none = absurd none

@@ -13,7 +13,7 @@ use Rattle.croner_pattern.specs.Schedule.{IsScheduled, DateMatches, is_scheduled
 use Rattle.croner.specs.search.Runs.{Precedes, Reaches}
 use Rattle.croner.specs.search.Limit.{year_5000, year_2}
 use Rattle.croner.specs.Private.search.Schedule.{last_of_year_1, NextScheduled, NoneScheduled}
-use Rattle.croner.specs.Private.cursor.Cursor.{has_room, edge_day, IsMatchingTime, IsMove, IsOpen, IsOnSchedule, IsNearest, NoneOn, Finds}
+use Rattle.croner.specs.Private.cursor.Cursor.{has_room, edge_day, IsMatchingTime, IsMove, IsOpen, IsOnSchedule, IsNearest, NoneOn, FindsNearest}
 use Rattle.croner.proofs.cursor.Ahead.{not_both, precedes-reaches, reaches-trans}
 use Rattle.croner.proofs.cursor.CivilOrder.{seconds_bound, same_date, reach-date, no_room-past}
 use Rattle.croner.proofs.cursor.DateSearch.{bool_cases, same_match, last_day-room, last_day-no_room}
@@ -89,7 +89,7 @@ none_covered m Backward true from shapes f none w r covered is =
     none is.shown reach (open_fixed m from is.shown shapes (f refl) reach is.matches within)
 
 -- what the civil search answers
-pub search_answer : (m : Meaning) (dir : Direction) (from : CivilDateTime) (r : Option CivilDateTime) → has_field_shapes m ≡ true → Finds wall_second (IsOpen m dir from) dir (wall_second from) r → IfSome r (IsNearest wall_second (IsOnSchedule m) dir (wall_second from)) → MatchOption r (NoneScheduled dir (is_fixed_time m) (IsScheduled m) (wall_second from)) (λ w. NextScheduled dir (IsScheduled m) (wall_second from) (wall_second w))
+pub search_answer : (m : Meaning) (dir : Direction) (from : CivilDateTime) (r : Option CivilDateTime) → has_field_shapes m ≡ true → FindsNearest wall_second (IsOpen m dir from) dir (wall_second from) r → IfSome r (IsNearest wall_second (IsOnSchedule m) dir (wall_second from)) → MatchOption r (NoneScheduled dir (is_fixed_time m) (IsScheduled m) (wall_second from)) (λ w. NextScheduled dir (IsScheduled m) (wall_second from) (wall_second w))
 search_answer m dir from None shapes f n = none_covered m dir (is_fixed_time m) from shapes (λ e. e) f
 search_answer m dir from (Some w) shapes f n = next_second m dir from w n
 

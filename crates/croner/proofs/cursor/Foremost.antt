@@ -1,5 +1,6 @@
--- The first in a direction, among what has a greater and a smaller unit: what lies in the first greater unit comes before
--- the rest. It serves days after months, months after years, and times of day after days.
+-- The nearest in a pair of a greater and a smaller unit: what lies in the first greater unit comes before the rest. `in_first`, and
+-- `passed` where nothing lies there, serve months after years, days after months, and, by numbers of the greater unit, minutes
+-- after hours and seconds after minutes.
 use Rattle.std.proofs.Common.{◌≡◌, ◌⊎◌, inl, inr, ℕ, Option, Some, None, sym, subst, arith, ℤ, pos}
 use Rattle.jiff_core.proofs.SignedLemmas.{signed_arith}
 use Rattle.croner_base.specs.declared.time.Direction.{Direction}
@@ -59,34 +60,38 @@ pub record Keyed {X : Type 0} (place : X → ℤ) (dir : Direction) (All : X →
   pub on : (y : X) → All y → Reaches dir (pos from) (pos (key y))
   pub apart : (a b : X) → All a → All b → Precedes dir (pos (key a)) (pos (key b)) → Reaches dir (place a) (place b)
 
+-- those with the number where it begins, and those with a later one
+split_here : {X : Type 0} (place : X → ℤ) (dir : Direction) (All : X → Type 0) (key : X → ℕ) (Named : ℕ → Type 0) (from : ℕ) → Keyed place dir All key Named from → Split place dir All (λ y. All y × (key y ≡ from)) (λ y. All y × Precedes dir (pos from) (pos (key y)))
+split_here place dir All key Named from k = record {
+  parts = λ y a. elim (same_or_ahead dir (pos from) (pos (key y)) (k.on y a)) [
+    | inl e ↦ inl (a, sym (same_number from (key y) e))
+    | inr later ↦ inr (a, later)
+  ];
+  first = λ y h. h.0;
+  second = λ y h. h.0;
+  order = λ a b h l. k.apart a b h.0 l.0 (subst (λ (n : ℕ). Precedes dir (pos n) (pos (key b))) (sym h.1) l.1);
+}
+
 -- the first of those with the number where it begins
 pub unit-here : {X : Type 0} (place : X → ℤ) (dir : Direction) (All : X → Type 0) (key : X → ℕ) (Named : ℕ → Type 0) (from : ℕ) → Keyed place dir All key Named from → (x : X) → All x → key x ≡ from → ((y : X) → All y → key y ≡ from → Reaches dir (place x) (place y)) → IsForemost place All dir x
-unit-here place dir All key Named from k x is same least = record {
-  is = is;
-  first = λ y a. elim (same_or_ahead dir (pos from) (pos (key y)) (k.on y a)) [
-    | inl e ↦ least y a (sym (same_number from (key y) e))
-    | inr later ↦ k.apart x y is a (subst (λ (n : ℕ). Precedes dir (pos n) (pos (key y))) (sym same) later)
-  ];
-}
+unit-here place dir All key Named from k x is same least =
+    in_first place dir All _ _ x (split_here place dir All key Named from k)
+    (record { is = (is, same); first = λ y h. least y h.0 h.1 })
 
 -- where there is none, the others have a later number
 later_unit : {X : Type 0} (place : X → ℤ) (dir : Direction) (All : X → Type 0) (key : X → ℕ) (Named : ℕ → Type 0) (from : ℕ) → Keyed place dir All key Named from → ((y : X) → All y → key y ≡ from → ⊥) → (y : X) → All y → Reaches dir (one_on dir (pos from)) (pos (key y))
-later_unit place dir All key Named from k none y a = elim (same_or_ahead dir (pos from) (pos (key y)) (k.on y a)) [
-  | inl e ↦ absurd (none y a (sym (same_number from (key y) e)))
-  | inr later ↦ one_on-next dir (pos from) (pos (key y)) later
-]
+later_unit place dir All key Named from k none y a =
+    let all = passed place dir All _ _ (split_here place dir All key Named from k) (λ z h. none z h.0 h.1) in
+    one_on-next dir (pos from) (pos (key y)) (all.on y a).1
 
--- then the first of those with the nearest later number
+-- then the first of those with the nearest later number, where it begins again
 pub unit-later : {X : Type 0} (place : X → ℤ) (dir : Direction) (All : X → Type 0) (key : X → ℕ) (Named : ℕ → Type 0) (from : ℕ) → Keyed place dir All key Named from → ((y : X) → All y → key y ≡ from → ⊥) → (n : ℕ) → IsNearest pos Named dir (one_on dir (pos from)) n → (x : X) → All x → key x ≡ n → ((y : X) → All y → key y ≡ n → Reaches dir (place x) (place y)) → IsForemost place All dir x
-unit-later place dir All key Named from k none n near x is same least = record {
-  is = is;
-  first = λ y a.
-      let on = near.first (key y) (later_unit place dir All key Named from k none y a) (k.plain y a) in
-      elim (same_or_ahead dir (pos n) (pos (key y)) on) [
-        | inl e ↦ least y a (sym (same_number n (key y) e))
-        | inr later ↦ k.apart x y is a (subst (λ (z : ℕ). Precedes dir (pos z) (pos (key y))) (sym same) later)
-      ];
-}
+unit-later place dir All key Named from k none n near =
+    unit-here place dir All key Named n (record {
+      plain = k.plain;
+      on = λ y a. near.first (key y) (later_unit place dir All key Named from k none y a) (k.plain y a);
+      apart = k.apart;
+    })
 
 pub unit-none : {X : Type 0} (place : X → ℤ) (dir : Direction) (All : X → Type 0) (key : X → ℕ) (Named : ℕ → Type 0) (from : ℕ) → Keyed place dir All key Named from → ((y : X) → All y → key y ≡ from → ⊥) → NoneOn pos Named dir (one_on dir (pos from)) → (y : X) → ¬ (All y)
 unit-none place dir All key Named from k none later y a =

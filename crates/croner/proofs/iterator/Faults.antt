@@ -21,10 +21,10 @@ pub refusal_kept : (lack : Bool) (e : CronError) → IsRefusal lack e → IsTrue
 refusal_kept lack e refusal =
     let P : CronError → Type 0 = λ x. IsTrue (is_kept (fault_of x)) in
     elim refusal [
-      | inl limit ↦ subst P (sym limit) refl
+      | inl (inl limit) ↦ subst P (sym limit) refl
+      | inl (inr (memory, can)) ↦ subst P (sym memory) refl
       | inr (inl date) ↦ subst P (sym date) refl
-      | inr (inr (inl time)) ↦ subst P (sym time) refl
-      | inr (inr (inr (memory, can))) ↦ subst P (sym memory) refl
+      | inr (inr time) ↦ subst P (sym time) refl
     ]
 
 -- no fault is left by the limit alone

@@ -1,5 +1,5 @@
 -- What a call of an iterator's `next` does, from the search that it makes.
-use Rattle.std.proofs.Common.{◌≡◌, IsTrue, Bool, Option, Some, None, Result, Ok, Err, IfOk, IfErr, sym, subst, inr, ap, ◌∙◌, refl}
+use Rattle.std.proofs.Common.{◌≡◌, IsTrue, Bool, Option, Some, None, Result, Ok, Err, IfOk, IfErr, sym, subst, inl, inr, ap, ◌∙◌, refl}
 use Rattle.croner_base.specs.Zone.{Moment}
 use Rattle.croner_base.specs.declared.errors.CronError.{CronError}
 use Rattle.croner_base.specs.declared.errors.CronError.TheVariants.{OutOfMemory}
@@ -15,7 +15,7 @@ memory_refused : (lack : Bool) (direction : Direction) (inclusive : Bool) (timet
 memory_refused lack direction inclusive timetable start found is memory = record {
   limit = λ h limit. absurd (cc);
   promised = λ h. inr (refl, memory);
-  kind = inr (inr (inr (refl, memory)));
+  kind = inl (inr (refl, memory));
   past = λ p. absurd (is.left p);
 }
 

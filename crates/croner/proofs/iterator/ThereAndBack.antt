@@ -56,11 +56,11 @@ in_span m start r j le =
 pub searchable_run : (m : Meaning) (start found : Moment) → IsSearchable start → found.zone ≡ start.zone → found.fraction ≡ 0
     → Run (pattern_job m start.zone) found.instant → IsSearchable found
 searchable_run m start found p same_zone whole run =
-    let held = holds_from start p.calm p.held found.instant (searched_run m start.zone found.instant run) in
+    let held = holds_from start p.starts.calm p.held found.instant (searched_run m start.zone found.instant run) in
     let in_zone : Zone → Moment = λ z. at_instant z found.instant in
     let with_fraction : ℕ → Moment = λ f. record { zone = found.zone; instant = found.instant; fraction = f } in
     let same : at_instant start.zone found.instant ≡ found = ap in_zone (sym same_zone) ∙ ap with_fraction (sym whole) in
-    subst IsSearchable same (record { calm = p.calm; whole = refl; held = held })
+    subst IsSearchable same (record { starts = record { calm = p.starts.calm; whole = refl }; held = held })
 
 module _ (m : Meaning) (start next : Moment) (r : IsReturnable m start) (there : IsFound Forward false (timetable_of m) start next) where
   near : Nearest Forward false (pattern_job m start.zone) start.instant next.instant

@@ -5,14 +5,14 @@ use Rattle.std.proofs.lemmas.Option.{none-some, same_Some}
 use Rattle.std.proofs.lemmas.Slice.Eq.{bytes_eq-Decides}
 use Rattle.std.specs.List.{flat_map}
 use Rattle.std.specs.Str.{bytes_eq}
-use Rattle.croner.specs.parser.Cut.{Piece, month, weekday, single, months, weekdays, name_at, letters, is_lost, IsPiece, ArePieces, IsCut, place_of, name_of, cut_of, onto, alone, named}
+use Rattle.croner.specs.parser.Cut.{Piece, month, weekday, single, months, weekdays, letters, is_lost, IsPiece, ArePieces, IsCut, place_of, name_of, cut_of, onto, alone, named}
 
 -- a capital that can't stand alone is no other letter
 lone_ne : (c n : ℕ) → is_lost c ≡ false → is_lost n ≡ true → eqb c n ≡ false
 lone_ne c n h m = ne_eqb c n (λ e. false≢true (sym h ∙ ap is_lost e ∙ m))
 
 -- a month's name is cut off
-cut_month : (n : ℕ) (rest : List ℕ) → ltb n 12 ≡ true → cut_of (name_at n months ++ rest) ≡ onto (month n) (cut_of rest)
+cut_month : (n : ℕ) (rest : List ℕ) → ltb n 12 ≡ true → cut_of (get_or months n [] ++ rest) ≡ onto (month n) (cut_of rest)
 cut_month zero rest h = refl
 cut_month (suc zero) rest h = refl
 cut_month (suc (suc zero)) rest h = refl
@@ -28,7 +28,7 @@ cut_month (suc (suc (suc (suc (suc (suc (suc (suc (suc (suc (suc zero)))))))))))
 cut_month (suc (suc (suc (suc (suc (suc (suc (suc (suc (suc (suc (suc n)))))))))))) rest h = absurd (omega (arith, ltb-true _ _ h))
 
 -- and a weekday's
-cut_weekday : (n : ℕ) (rest : List ℕ) → ltb n 7 ≡ true → cut_of (name_at n weekdays ++ rest) ≡ onto (weekday n) (cut_of rest)
+cut_weekday : (n : ℕ) (rest : List ℕ) → ltb n 7 ≡ true → cut_of (get_or weekdays n [] ++ rest) ≡ onto (weekday n) (cut_of rest)
 cut_weekday zero rest h = refl
 cut_weekday (suc zero) rest h = refl
 cut_weekday (suc (suc zero)) rest h = refl
@@ -39,7 +39,7 @@ cut_weekday (suc (suc (suc (suc (suc (suc zero)))))) rest h = refl
 cut_weekday (suc (suc (suc (suc (suc (suc (suc n))))))) rest h = absurd (omega (arith, ltb-true _ _ h))
 
 -- no piece begins with E
-month_head : (n : ℕ) (rest : List ℕ) → ltb n 12 ≡ true → eqb (get_or (name_at n months ++ rest) 0 0) 69 ≡ false
+month_head : (n : ℕ) (rest : List ℕ) → ltb n 12 ≡ true → eqb (get_or (get_or months n [] ++ rest) 0 0) 69 ≡ false
 month_head zero rest h = refl
 month_head (suc zero) rest h = refl
 month_head (suc (suc zero)) rest h = refl
@@ -54,7 +54,7 @@ month_head (suc (suc (suc (suc (suc (suc (suc (suc (suc (suc zero)))))))))) rest
 month_head (suc (suc (suc (suc (suc (suc (suc (suc (suc (suc (suc zero))))))))))) rest h = refl
 month_head (suc (suc (suc (suc (suc (suc (suc (suc (suc (suc (suc (suc n)))))))))))) rest h = absurd (omega (arith, ltb-true _ _ h))
 
-weekday_head : (n : ℕ) (rest : List ℕ) → ltb n 7 ≡ true → eqb (get_or (name_at n weekdays ++ rest) 0 0) 69 ≡ false
+weekday_head : (n : ℕ) (rest : List ℕ) → ltb n 7 ≡ true → eqb (get_or (get_or weekdays n [] ++ rest) 0 0) 69 ≡ false
 weekday_head zero rest h = refl
 weekday_head (suc zero) rest h = refl
 weekday_head (suc (suc zero)) rest h = refl
@@ -115,7 +115,7 @@ no_cut text ps e h = none-some ps (sym e ∙ cut_is text ps h)
 -- ---- and what is found is a cut
 
 -- a name found stands in the list, at its place
-pub place_of-at : (name : List ℕ) (n : ℕ) (xs : List (List ℕ)) (k : ℕ) → place_of name n xs ≡ Some k → (j : ℕ) × (k ≡ n + j) × (j < length xs) × (name_at j xs ≡ name)
+pub place_of-at : (name : List ℕ) (n : ℕ) (xs : List (List ℕ)) (k : ℕ) → place_of name n xs ≡ Some k → (j : ℕ) × (k ≡ n + j) × (j < length xs) × (get_or xs j [] ≡ name)
 place_of-at name n [] k e = absurd (none-some k e)
 place_of-at name n (x ∷ xs) k e = elim (cases_Bool (bytes_eq name x)) [
   | inl t ↦
@@ -126,11 +126,11 @@ place_of-at name n (x ∷ xs) k e = elim (cases_Bool (bytes_eq name x)) [
 ]
 
 -- the name found is the one at that place
-named_there : (xs : List (List ℕ)) (name : List ℕ) (k : ℕ) → place_of name 0 xs ≡ Some k → (ltb k (length xs) ≡ true) × (name_at k xs ≡ name)
+named_there : (xs : List (List ℕ)) (name : List ℕ) (k : ℕ) → place_of name 0 xs ≡ Some k → (ltb k (length xs) ≡ true) × (get_or xs k [] ≡ name)
 named_there xs name k e =
     let r = place_of-at name 0 xs k e in
     let same : k ≡ r.0 = omega (arith, r.1) in
-    let P : ℕ → Type 0 = λ n. (ltb n (length xs) ≡ true) × (name_at n xs ≡ name) in
+    let P : ℕ → Type 0 = λ n. (ltb n (length xs) ≡ true) × (get_or xs n [] ≡ name) in
     subst P (sym same) (lt-ltb r.0 (length xs) r.2, r.3)
 
 -- the name of a month, of a weekday, or none

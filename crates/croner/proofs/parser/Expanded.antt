@@ -11,7 +11,7 @@ use Rattle.std.specs.Str.{IsUtf8, chars, encode_utf8_all, all_scalars}
 use Rattle.std.proofs.Common.{take, take_at}
 use lib.Utf8.{scalar}
 use Rattle.croner_base.specs.Part.{contains_byte}
-use Rattle.croner.specs.parser.Cut.{Piece, month, weekday, single, months, weekdays, name_at, letters, ArePieces, decimal_of, weekday_number, expansion}
+use Rattle.croner.specs.parser.Cut.{Piece, month, weekday, single, months, weekdays, letters, ArePieces, decimal_of, weekday_number, expansion}
 use Rattle.croner.proofs.parser.Names.{AreHigh, high_bytes}
 use Rattle.croner.proofs.parser.Trimmed.{IsTrimmed, begins_white, ends_white, from_end, ends_at, scalar_at}
 
@@ -98,11 +98,11 @@ pub ends_alike : (quartz after_dash : Bool) (ps : List Piece) (r hs : List ℕ) 
 ends_alike quartz after_dash [] r hs legal other e =
     let none : hs ≡ [] = none_of hs (omega (arith, ap length e, length-append r hs)) in ([], sym none, λ _. refl)
 ends_alike quartz after_dash (month n ∷ ps) r hs legal other e =
-    name_ends (decimal_of (n + 1)) (name_at n months) (flat_map letters ps) (expansion quartz false ps) r hs (decimal_digits (n + 1) (omega (arith, ltb-true n 12 legal.0))) (decimal_some (n + 1)) other e
+    name_ends (decimal_of (n + 1)) (get_or months n []) (flat_map letters ps) (expansion quartz false ps) r hs (decimal_digits (n + 1) (omega (arith, ltb-true n 12 legal.0))) (decimal_some (n + 1)) other e
     (λ more same. let k = ends_alike quartz false ps more hs legal.1 other same in (k.0, k.1))
 ends_alike quartz after_dash (weekday n ∷ ps) r hs legal other e =
     let number = weekday_number quartz after_dash n in
-    name_ends (decimal_of number) (name_at n weekdays) (flat_map letters ps) (expansion quartz false ps) r hs (decimal_digits number (weekday_small quartz after_dash n (ltb-true n 7 legal.0))) (decimal_some number) other e
+    name_ends (decimal_of number) (get_or weekdays n []) (flat_map letters ps) (expansion quartz false ps) r hs (decimal_digits number (weekday_small quartz after_dash n (ltb-true n 7 legal.0))) (decimal_some number) other e
     (λ more same. let k = ends_alike quartz false ps more hs legal.1 other same in (k.0, k.1))
 ends_alike quartz after_dash (single c ∷ ps) [] [] legal other e = absurd (omega (arith, ap length e))
 ends_alike quartz after_dash (single c ∷ ps) [] (h ∷ hs) legal other e =
@@ -186,7 +186,7 @@ at_in (x ∷ a) b = elim (cases_Bool (eqb x 64)) [
 pub no_at_in : (a b : List ℕ) → contains_byte 64 (a ++ b) ≡ false → (contains_byte 64 a ≡ false) × (contains_byte 64 b ≡ false)
 no_at_in a b h = or_parts (contains_byte 64 a) (contains_byte 64 b) (sym (at_in a b) ∙ h)
 
-name_no_at : (xs : List (List ℕ)) (n : ℕ) → list_all (λ x. eqb (cond (contains_byte 64 x) 1 0) 0) xs ≡ true → contains_byte 64 (name_at n xs) ≡ false
+name_no_at : (xs : List (List ℕ)) (n : ℕ) → list_all (λ x. eqb (cond (contains_byte 64 x) 1 0) 0) xs ≡ true → contains_byte 64 (get_or xs n []) ≡ false
 name_no_at [] n h = refl
 name_no_at (x ∷ xs) zero h = elim (cases_Bool (contains_byte 64 x)) [
   | inl is_so ↦ absurd (false≢true (sym (ap (λ b. eqb (cond b 1 0) 0) is_so) ∙ (and_parts (eqb (cond (contains_byte 64 x) 1 0) 0) _ h).0))
@@ -199,10 +199,10 @@ pub no_at_before : (quartz after_dash : Bool) (ps : List Piece) → contains_byt
 no_at_before quartz after_dash [] h = refl
 no_at_before quartz after_dash (month n ∷ ps) h =
     let rest = no_at_before quartz false ps (no_at_in (decimal_of (n + 1)) (expansion quartz false ps) h).1 in
-    at_in (name_at n months) (flat_map letters ps) ∙ or_from (contains_byte 64 (name_at n months)) (contains_byte 64 (flat_map letters ps)) (name_no_at months n refl) rest
+    at_in (get_or months n []) (flat_map letters ps) ∙ or_from (contains_byte 64 (get_or months n [])) (contains_byte 64 (flat_map letters ps)) (name_no_at months n refl) rest
 no_at_before quartz after_dash (weekday n ∷ ps) h =
     let rest = no_at_before quartz false ps (no_at_in (decimal_of (weekday_number quartz after_dash n)) (expansion quartz false ps) h).1 in
-    at_in (name_at n weekdays) (flat_map letters ps) ∙ or_from (contains_byte 64 (name_at n weekdays)) (contains_byte 64 (flat_map letters ps)) (name_no_at weekdays n refl) rest
+    at_in (get_or weekdays n []) (flat_map letters ps) ∙ or_from (contains_byte 64 (get_or weekdays n [])) (contains_byte 64 (flat_map letters ps)) (name_no_at weekdays n refl) rest
 no_at_before quartz after_dash (single c ∷ ps) h =
     let parts = or_parts (eqb c 64) (contains_byte 64 (expansion quartz (eqb c 45) ps)) h in
     or_from (eqb c 64) (contains_byte 64 (flat_map letters ps)) parts.0 (no_at_before quartz (eqb c 45) ps parts.1)

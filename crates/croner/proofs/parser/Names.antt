@@ -8,7 +8,7 @@ use Rattle.std.proofs.lemmas.Str.{encode_ascii, length-encode, len_utf8_bounds, 
 use Rattle.std.specs.Char.{encode_utf8}
 use Rattle.std.specs.List.{list_all}
 use Rattle.std.specs.Str.{IsUtf8, IsCharBoundary}
-use Rattle.croner.specs.parser.Cut.{Piece, month, weekday, single, months, weekdays, name_at, is_lost, place_of, name_of, cut_of, onto, alone, named, decimal_of, weekday_number, shown, is_dash, expansion, replaced}
+use Rattle.croner.specs.parser.Cut.{Piece, month, weekday, single, months, weekdays, is_lost, place_of, name_of, cut_of, onto, alone, named, decimal_of, weekday_number, shown, is_dash, expansion, replaced}
 use Rattle.croner.specs.Private.parser.Steps.{behind, has_dash, HasNoName, IsShown, Advances}
 use Rattle.croner.proofs.parser.Cuts.{place_of-at, names_of}
 
@@ -45,7 +45,7 @@ behind-nil (Some t) = refl
 abbrev is_good : List ℕ → Bool
 is_good name = eqb (length name) 3 && (ltb (get_or name 0 0) 128 && (leb 65 (get_or name 0 0) && ltb (get_or name 2 0) 128))
 
-good_at : (xs : List (List ℕ)) (j : ℕ) → list_all is_good xs ≡ true → j < length xs → is_good (name_at j xs) ≡ true
+good_at : (xs : List (List ℕ)) (j : ℕ) → list_all is_good xs ≡ true → j < length xs → is_good (get_or xs j []) ≡ true
 good_at [] j h l = absurd (omega (arith, l))
 good_at (x ∷ xs) zero h l = (and_parts (is_good x) (list_all is_good xs) h).0
 good_at (x ∷ xs) (suc j) h l = good_at xs j (and_parts (is_good x) (list_all is_good xs) h).1 (omega (arith, l))

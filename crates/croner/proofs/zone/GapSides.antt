@@ -11,11 +11,11 @@ use Rattle.croner_base.specs.Civil.{wall_second}
 use Rattle.croner_base.specs.Zone.{Zone, Moment, IsResolved}
 use Rattle.croner_base.specs.Calm.{IsCalm}
 use Rattle.croner_base.specs.Limits.{gap_limit, fold_limit, apart_limit}
-use Rattle.croner.specs.search.Premises.{HoldsYears, HasOneInstantEach}
-use Rattle.croner.specs.search.Refusal.{IsBackendError}
+use Rattle.croner.specs.search.Premises.{HasOneInstantEach}
+use Rattle.croner.specs.Private.search.Held.{HoldsYears, IsBackendError}
 use Rattle.croner.specs.search.Runs.{Precedes}
 use Rattle.croner.specs.declared.search.gap.Around.{Around}
-use Rattle.croner.specs.Private.search.Gaps.{IsSkipped, UnreadTo, IsShown, IsBeyond, IsAround, HasGapSide}
+use Rattle.croner.specs.Private.search.Gaps.{IsSkipped, UnreadTo, IsFirstShown, IsBeyond, IsAround, HasGapSide}
 use Rattle.croner.specs.Private.search.Halves.{Break, offset_from}
 use Rattle.croner.specs.Private.search.Walk.{HasGapEnd, HasGapFront}
 use Rattle.croner.proofs.zone.CalmZone.{Exactly, calm_of, exact_of}
@@ -162,7 +162,7 @@ pub next_skipped : (z : Zone) (w : ℤ) (c : CivilDateTime) → wall_second c �
 next_skipped z w c at named = λ calm x e. exact_of z calm c Gap named x (e ∙ sym at)
 
 module _ {T : Type 0} (moment : T → Moment) (z : Zone) (c : CivilDateTime) where
-  pub shown_one : (t : T) → IsResolved moment z c (Single t) → IsShown moment z (c, t)
+  pub shown_one : (t : T) → IsResolved moment z c (Single t) → IsFirstShown moment z (c, t)
   shown_one t (names, named) = record {
     zone_is = names.zone_is;
     whole = names.whole;
@@ -170,7 +170,7 @@ module _ {T : Type 0} (moment : T → Moment) (z : Zone) (c : CivilDateTime) whe
     at = λ calm. (exact_of z calm c (Single (moment t).instant) named).0;
   }
 
-  pub shown_two : (t l : T) → IsResolved moment z c (Ambiguous t l) → IsShown moment z (c, t)
+  pub shown_two : (t l : T) → IsResolved moment z c (Ambiguous t l) → IsFirstShown moment z (c, t)
   shown_two t l (names, later, order, named) = record {
     zone_is = names.zone_is;
     whole = names.whole;

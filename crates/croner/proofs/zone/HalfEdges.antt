@@ -14,8 +14,8 @@ use Rattle.croner.proofs.zone.CalmZone.{Exactly, calm_of, exact_of}
 use Rattle.croner.proofs.zone.ZoneOrder.{Calm, window}
 use Rattle.croner_base.specs.declared.time.civil.CivilDateTime.{CivilDateTime}
 use Rattle.croner_base.specs.Civil.{wall_second}
-use Rattle.croner.specs.search.Premises.{IsCalmStart, HoldsSecond}
-use Rattle.croner.specs.search.Refusal.{IsBackendError}
+use Rattle.croner.specs.search.Premises.{IsCalmStart}
+use Rattle.croner.specs.Private.search.Held.{HoldsSecond, IsBackendError}
 use Rattle.croner_base.specs.declared.errors.CronError.{CronError}
 use Rattle.croner_base.specs.declared.time.value.Resolution.TheVariants.{Single, Ambiguous, Gap}
 use Rattle.croner.specs.search.Runs.{Job, Nearest, Precedes}

@@ -11,8 +11,9 @@ use Rattle.croner_base.specs.Limits.{gap_limit}
 use Rattle.croner.specs.search.Runs.{Timetable, Job, job_in, Nearest, Counts, Precedes, Reaches}
 use Rattle.croner.specs.search.Limit.{IsWithin, NoneInSpan, IsPast}
 use Rattle.croner.specs.Private.search.Schedule.{IsCovered, NoneScheduled}
-use Rattle.croner.specs.search.Premises.{IsSearchable, IsCalmStart, StartsCalm, HoldsYears, HoldsSecond}
-use Rattle.croner.specs.search.Refusal.{IsBackendError, IsRefusal}
+use Rattle.croner.specs.Private.search.Held.{HoldsYears, HoldsSecond, IsBackendError}
+use Rattle.croner.specs.search.Premises.{IsSearchable, IsCalmStart, StartsCalm}
+use Rattle.croner.specs.search.Refusal.{IsRefusal}
 use Rattle.croner.specs.Private.search.Walk.{RunOf, NoneOf, Walked, WalkedFrom, walk_start, one_on, OutFrom, IsWalked, IsWalkRefused}
 use Rattle.croner.specs.search.Searches.{IsFound, IsRefused}
 use Rattle.croner.specs.Private.search.Halves.{edge_limit, EdgeOf, HasTwin, CountsBoth, IsEdge, HasOtherHalf, opposite_way, offset_from, moment_from}
@@ -177,7 +178,7 @@ module _ (direction : Direction) (inclusive : Bool) (job : Job) (calm : Calm job
 -- ---- as the code has them
 
 pub calm_start : (m : Moment) → IsSearchable m → IsCalmStart m.zone m.fraction
-calm_start m h = record { calm = h.calm; whole = h.whole }
+calm_start m h = h.starts
 
 pub years_held : (m : Moment) → IsSearchable m → HoldsYears m.zone
 years_held m h = record { seconds = h.held.years; instants = h.held.year_instants }
@@ -206,7 +207,7 @@ module _ {T : Type 0} (moment : T → Moment) (direction : Direction) (start edg
 pub second_error : (lack : Bool) (start : Moment) (z : Zone) (e : CronError) → z ≡ start.zone → IsBackendError lack (IsCalm z → HoldsYears z → ⊥) e → IsBackendError lack (IsSearchable start → ⊥) e
 second_error lack start z e same error =
     let here : IsBackendError lack (IsCalm start.zone → HoldsYears start.zone → ⊥) e = subst (λ (x : Zone). IsBackendError lack (IsCalm x → HoldsYears x → ⊥) e) same error in
-    backend_error lack _ _ e (λ stuck h. stuck h.calm (years_held start h)) here
+    backend_error lack _ _ e (λ stuck h. stuck h.starts.calm (years_held start h)) here
 
 module _ {T : Type 0} (moment : T → Moment) (direction : Direction) (inclusive : Bool) (start : Moment) (timetable : Timetable) where
   -- the first walk's answer, where it is the nearest
@@ -364,7 +365,7 @@ start_outside direction start b shown e at test within = never_true (sym e ∙ t
 module _ (lack : Bool) (direction : Direction) (inclusive : Bool) (timetable : Timetable) (start : Moment) where
   -- the limit, with what it says
   pub refused_limit : (StartsCalm start → NoneInSpan direction inclusive (job_in start.zone timetable) start.instant) → IsRefused lack direction inclusive timetable start TimeSearchLimitExceeded
-  refused_limit none = record { limit = λ h e. none h; promised = λ h. inl refl; kind = inl refl; past = λ p. refl }
+  refused_limit none = record { limit = λ h e. none h; promised = λ h. inl refl; kind = inl (inl refl); past = λ p. refl }
 
   no_limit : (e : CronError) → IsBackendError lack (IsSearchable start → ⊥) e → e ≡ TimeSearchLimitExceeded → ⊥
   no_limit e error is =
@@ -373,9 +374,9 @@ module _ (lack : Bool) (direction : Direction) (inclusive : Bool) (timetable : T
   backend_kind : (e : CronError) → IsBackendError lack (IsSearchable start → ⊥) e → IsRefusal lack e
   backend_kind e error =
       elim error [
-        | inl (memory, can) ↦ inr (inr (inr (memory, can)))
+        | inl (memory, can) ↦ inl (inr (memory, can))
         | inr (inl date, stuck) ↦ inr (inl date)
-        | inr (inr time, stuck) ↦ inr (inr (inl time))
+        | inr (inr time, stuck) ↦ inr (inr time)
       ]
 
   -- the backend's error, from a start that is not past the years

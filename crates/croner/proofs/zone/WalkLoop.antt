@@ -12,8 +12,8 @@ use Rattle.croner_base.specs.Calm.{IsCalm, IsSearched, IsInReach}
 use Rattle.croner.specs.search.Limit.{NoneAhead}
 use Rattle.croner.specs.search.Runs.{Job, Precedes, Reaches, Ahead}
 use Rattle.croner.specs.Private.search.Schedule.{NextScheduled, NoneScheduled}
-use Rattle.croner.specs.search.Premises.{IsCalmStart, HoldsYears, HasOneInstantEach, Shows}
-use Rattle.croner.specs.search.Refusal.{IsBackendError}
+use Rattle.croner.specs.search.Premises.{IsCalmStart, HasOneInstantEach, Shows}
+use Rattle.croner.specs.Private.search.Held.{HoldsYears, IsBackendError}
 use Rattle.croner.specs.Private.search.Wall.{IsLastYear}
 use Rattle.croner.specs.Private.search.Walk.{NoneOf, WalkedFrom, Walking, walk_start, one_on, ChosenOf, IsOneOf, GapEnd, Unread, Onward, Paces, CannotMove, IsWalked, OutFrom, HasGapEnd, HasGapFront}
 use Rattle.croner.proofs.zone.CalmZone.{calm_of, exact_of}

@@ -4,3 +4,4 @@ pub mod Wall
 pub mod Walk
 pub mod Halves
 pub mod Gaps
+pub mod Held

@@ -13,8 +13,8 @@ use Rattle.croner.specs.crontable.TableListing.{TableStanding, table_standing_of
 use Rattle.croner.specs.declared.crontable.iterator.CronTableIterator.{CronTableIterator}
 
 -- the instants of items
-abbrev pub instants_of : List (ℤ × List ℕ) → List ℤ
-instants_of items = map (λ item. item.0) items
+abbrev pub item_instants : List (ℤ × List ℕ) → List ℤ
+item_instants items = map (λ item. item.0) items
 
 -- each item has exactly the places that an iterator standing there had yet to give at its instant
 abbrev pub HavePlaces : TableStanding → List (ℤ × List ℕ) → Type 0
@@ -23,23 +23,23 @@ HavePlaces s items = All (λ item. ArePlaces (λ k. IsLeftAt s k item.0) item.1)
 -- the items begin what it has yet to give: their instants begin the listing of the table runs that count, each with exactly
 -- the places that count there
 pub record BeginsTableRest (s : TableStanding) (items : List (ℤ × List ℕ)) : Type 0 where
-  pub runs : BeginsWhere s.direction (IsTableLeft s) (instants_of items)
+  pub runs : BeginsWhere s.direction (IsTableLeft s) (item_instants items)
   pub places : HavePlaces s items
 
 -- between two standings of an iterator it gave the items: they go strictly in its direction, each was left before with just
 -- its places, and what was left is among them or is left still, behind all of them
 pub record GaveTable (old new : TableStanding) (items : List (ℤ × List ℕ)) : Type 0 where
-  pub ordered : AllPairs (Precedes old.direction) (instants_of items)
-  pub counts : All (IsTableLeft old) (instants_of items)
-  pub either : (i : ℤ) → IsTableLeft old i → Contains (instants_of items) i ⊎ IsTableLeft new i
-  pub behind : (i : ℤ) → IsTableLeft new i → All (λ x. Precedes old.direction x i) (instants_of items)
+  pub ordered : AllPairs (Precedes old.direction) (item_instants items)
+  pub counts : All (IsTableLeft old) (item_instants items)
+  pub either : (i : ℤ) → IsTableLeft old i → Contains (item_instants items) i ⊎ IsTableLeft new i
+  pub behind : (i : ℤ) → IsTableLeft new i → All (λ x. Precedes old.direction x i) (item_instants items)
   pub within : (i : ℤ) → IsTableLeft new i → IsTableLeft old i
   pub places : HavePlaces old items
 
 -- the items are all that was left in the span
 abbrev pub GaveAllTable : TableStanding → List (ℤ × List ℕ) → Type 0
 GaveAllTable old items =
-    (i : ℤ) → IsTableLeft old i → InSpan old.direction old.position.zone.reads i → Contains (instants_of items) i
+    (i : ℤ) → IsTableLeft old i → InSpan old.direction old.position.zone.reads i → Contains (item_instants items) i
 
 -- the instants and places of values
 abbrev pub table_items : {T : Type 0} → (T → Moment) → List (T × Vec ℕ Global) → List (ℤ × List ℕ)

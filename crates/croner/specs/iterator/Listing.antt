@@ -1,5 +1,5 @@
 -- The listing of runs from a start: lists of instants that begin it, and what an iterator has yet to give.
-use Rattle.std.specs.Prelude.{◌≡◌, ◌&&◌, ℕ, zero, suc, ℤ, ◌⊎◌, ◌++◌, Bool, true, false, IsTrue, List, [], ◌∷◌, Option, Some, None, Result, Ok, Err, MatchOption, map}
+use Rattle.std.specs.Prelude.{◌≡◌, ◌&&◌, ℕ, zero, suc, ℤ, ◌⊎◌, ◌++◌, Bool, true, false, IsTrue, List, [], ◌∷◌, Option, Some, None, Result, Ok, Err, map}
 use Rattle.std.specs.List.{All, AllPairs, Contains}
 use Rattle.croner_base.specs.Zone.{Moment}
 use Rattle.croner_base.specs.declared.errors.CronError.{CronError}
@@ -83,9 +83,8 @@ Settles moment lack old (Err refusal) None new = new ≡ record old { fault = fa
 
 -- what a call of `next` does
 abbrev pub Steps : {T : Type 0} → (T → Moment) → Bool → CronIterator T → Option T → CronIterator T → Type 0
-Steps moment lack old result new =
-    MatchOption result (GivesNone lack (standing_of moment old) (standing_of moment new))
-    (λ item. GivesItem (standing_of moment old) (moment item) (standing_of moment new))
+Steps moment lack old None new = GivesNone lack (standing_of moment old) (standing_of moment new)
+Steps moment lack old (Some item) new = GivesItem (standing_of moment old) (moment item) (standing_of moment new)
 
 -- between two standings of an iterator it gave the items: they go strictly in its direction, each was left before, and what
 -- was left is among them or is left still, behind all of them

@@ -1,7 +1,7 @@
 -- The cut of a text into the names of months and weekdays and single characters, and the text with a number in the
 -- place of each name. Names have three capital letters; a capital that stands alone is `L` or `W`. A text is its
 -- bytes: a character past ASCII is cut into bytes that stand for themselves.
-use Rattle.std.specs.Prelude.{◌≡◌, ℕ, suc, zero, ◌+◌, Bool, true, false, not, ◌&&◌, ◌||◌, ◌==◌, nat_lt, nat_le, List, [], ◌∷◌, ◌++◌, Option, Some, None, option_map, codes, if◌then◌else◌}
+use Rattle.std.specs.Prelude.{◌≡◌, ℕ, ◌+◌, Bool, true, false, not, ◌&&◌, ◌||◌, ◌==◌, nat_lt, nat_le, List, [], ◌∷◌, ◌++◌, slice_index_or, Option, Some, None, option_map, codes, if◌then◌else◌}
 use Rattle.std.specs.List.{flat_map}
 use Rattle.std.specs.Option.{option_or}
 use Rattle.std.specs.Str.{bytes_eq}
@@ -22,16 +22,10 @@ pub data Piece : Type 0 where
   weekday : ℕ → Piece
   single : ℕ → Piece
 
--- the name at a place of a list
-abbrev pub name_at : ℕ → List (List ℕ) → List ℕ
-name_at n [] = []
-name_at zero (x ∷ xs) = x
-name_at (suc n) (x ∷ xs) = name_at n xs
-
 -- what a piece is in the text
 abbrev pub letters : Piece → List ℕ
-letters (month n) = name_at n months
-letters (weekday n) = name_at n weekdays
+letters (month n) = slice_index_or months n []
+letters (weekday n) = slice_index_or weekdays n []
 letters (single c) = c ∷ []
 
 -- a capital letter that stands for nothing by itself: any but L and W

@@ -3,7 +3,7 @@ ghost use Rattle.std.specs.Prelude.{◌≡◌, true, IfSome};
 ghost use Rattle.croner_base.specs.Civil.{wall_second};
 ghost use Rattle.croner_pattern.specs.Meaning.{meaning_of};
 ghost use Rattle.croner_pattern.specs.Shapes.{has_field_shapes};
-ghost use Rattle.croner.specs.Private.cursor.Cursor.{Finds, IsNearest, IsOpen, IsOnSchedule};
+ghost use Rattle.croner.specs.Private.cursor.Cursor.{FindsNearest, IsNearest, IsOpen, IsOnSchedule};
 
 mod calendar;
 mod dates;
@@ -31,7 +31,7 @@ pub(crate) fn next_scheduled(
     direction: Direction,
 ) -> Option<CivilDateTime>
     requires { has_field_shapes (meaning_of pattern.now) ≡ true }
-    ensures reached { Finds wall_second (IsOpen (meaning_of pattern.now) direction from) direction
+    ensures reached { FindsNearest wall_second (IsOpen (meaning_of pattern.now) direction from) direction
         (wall_second from) result }
     ensures nearest { IfSome result (IsNearest wall_second (IsOnSchedule (meaning_of pattern.now)) direction
         (wall_second from)) }

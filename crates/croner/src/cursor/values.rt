@@ -2,7 +2,7 @@
 ghost use Rattle.std.specs.Prelude.{◌≡◌, ◌<◌, ◌≤◌, ℕ, true, pos, negsuc, MatchOption};
 ghost use Rattle.croner_base.specs.declared.time.Direction.{Direction};
 ghost use Rattle.croner_pattern.specs.Schedule.{is_plain};
-ghost use Rattle.croner.specs.Private.cursor.Cursor.{one_on, Finds, IsPlainWithin, IsOnTheWay, IsFirstValue};
+ghost use Rattle.croner.specs.Private.cursor.Cursor.{one_on, FindsNearest, IsPlainWithin, IsOnTheWay, IsFirstValue};
 
 use croner_base::component::CronComponent;
 use croner_base::time::Direction;
@@ -39,7 +39,7 @@ pub(crate) fn nearest_value(
 ) -> Option<u32>
     requires small { max < u16.MAX }
     requires from_in { IsOnTheWay direction min max from }
-    ensures { Finds pos (IsPlainWithin field.now min max) direction (pos from) result }
+    ensures { FindsNearest pos (IsPlainWithin field.now min max) direction (pos from) result }
 {
     let found = u32::from(nearest_member(field, from as u16, direction)?);
     if found >= min && found <= max {
@@ -58,7 +58,7 @@ pub(crate) fn nearest_beyond(
 ) -> Option<u32>
     requires small { max < u16.MAX }
     requires within { value ≤ max }
-    ensures { Finds pos (IsPlainWithin field.now 0 max) direction (one_on direction (pos value)) result }
+    ensures { FindsNearest pos (IsPlainWithin field.now 0 max) direction (one_on direction (pos value)) result }
 {
     let next = neighbour(value, direction)?;
     nearest_value(field, 0, max, next, direction)

@@ -3,9 +3,9 @@ ghost use Rattle.std.specs.Prelude.{◌≡◌, ◌↔◌, ◌≤◌, IsTrue, IfO
 ghost use Rattle.croner_base.specs.Zone.{reading};
 ghost use Rattle.croner_base.specs.Calm.{HoldsAround};
 ghost use Rattle.croner.specs.search.Limit.{InSpan};
-ghost use Rattle.croner.specs.search.Premises.{IsCalmStart, HoldsSecond, IsSearchable};
+ghost use Rattle.croner.specs.search.Premises.{IsCalmStart, IsSearchable};
 ghost use Rattle.croner.specs.Private.search.Halves.{edge_limit, HasTwin, IsEdge, offset_from};
-ghost use Rattle.croner.specs.search.Refusal.{IsBackendError};
+ghost use Rattle.croner.specs.Private.search.Held.{HoldsSecond, IsBackendError};
 
 use crate::search::instant::{moved, opposite, precedes};
 use crate::search::wall::is_within;

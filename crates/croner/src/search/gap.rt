@@ -4,11 +4,10 @@ ghost use Rattle.croner_base.specs.declared.time.value.Resolution.TheVariants.{G
 ghost use Rattle.croner_base.specs.Calm.{IsCalm, IsSearched};
 ghost use Rattle.croner_base.specs.Civil.{wall_second};
 ghost use Rattle.croner_base.specs.Limits.{gap_limit};
-ghost use Rattle.croner.specs.search.Premises.{HoldsYears};
+ghost use Rattle.croner.specs.Private.search.Held.{HoldsYears, IsBackendError};
 ghost use Rattle.croner.specs.Private.search.Gaps.{HasGapSide, IsAround, IsBeyond, IsSkipped};
 ghost use Rattle.croner.specs.Private.search.Halves.{offset_from};
 ghost use Rattle.croner.specs.Private.search.Walk.{HasGapEnd, HasGapFront};
-ghost use Rattle.croner.specs.search.Refusal.{IsBackendError};
 
 use crate::search::distance::seconds_on;
 use croner_base::errors::CronError;

@@ -4,7 +4,7 @@ ghost use Rattle.croner_base.specs.Zone.{nanos_of};
 ghost use Rattle.croner.specs.search.Runs.{Precedes, Reaches, Ahead};
 ghost use Rattle.croner.specs.Private.search.Halves.{moment_from, offset_from, opposite_way};
 ghost use Rattle.croner.specs.Private.search.Walk.{CannotMove};
-ghost use Rattle.croner.specs.search.Refusal.{IsBackendError};
+ghost use Rattle.croner.specs.Private.search.Held.{IsBackendError};
 
 use croner_base::errors::CronError;
 use croner_base::time::{CronDateTime, Direction};

@@ -16,7 +16,7 @@ ghost use Rattle.croner.specs.search.Premises.{IsSearchable};
 ghost use Rattle.croner.specs.search.Searches.{IsFound, IsRefused};
 ghost use Rattle.croner.specs.Private.search.Walk.{IsWalked, HasWalked};
 ghost use Rattle.croner.specs.Private.search.Halves.{CountsBoth, HasOtherHalf};
-ghost use Rattle.croner.specs.search.Refusal.{IsBackendError};
+ghost use Rattle.croner.specs.Private.search.Held.{IsBackendError};
 
 use crate::search::fold::{is_on_first_half, other_edge};
 use crate::search::instant::{moved, opposite, precedes};

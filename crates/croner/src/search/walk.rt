@@ -6,9 +6,8 @@ ghost use Rattle.croner.specs.Private.search.Wall.{IsLastYear};
 ghost use Rattle.croner_base.specs.Calm.{IsCalm};
 ghost use Rattle.croner_base.specs.Civil.{wall_second};
 ghost use Rattle.croner.specs.search.Runs.{job_in};
-ghost use Rattle.croner.specs.search.Premises.{HoldsYears};
+ghost use Rattle.croner.specs.Private.search.Held.{HoldsYears, IsBackendError};
 ghost use Rattle.croner.specs.Private.search.Walk.{CannotMove, HasPassed, HasWalked, IsWalkRefused, Walking, walk_start, NearerOf, ChosenOf, IsOneOf};
-ghost use Rattle.croner.specs.search.Refusal.{IsBackendError};
 
 use super::Schedule;
 use super::gap::{gap_end, gap_front};

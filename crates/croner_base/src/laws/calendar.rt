@@ -6,6 +6,7 @@ ghost use Rattle.jiff_core.specs.Calendar.{days_in_month, IsBetween, IsWithin};
 ghost use Rattle.croner_base.specs.Calendar.{day_number, weekday_of_day, day_seconds};
 ghost use Rattle.croner_base.specs.Calm.{IsSearched, IsInReach, IsStart};
 ghost use Rattle.croner_base.specs.Civil.{wall_second, day_of_date, seconds_of_time, weekday_index};
+ghost use Rattle.croner_base.specs.Limits.{first_year, last_year};
 
 use crate::time::{CivilDate, CivilDateTime, CivilTime, Weekday};
 use std::cmp::Ordering;
@@ -80,7 +81,7 @@ pub fn year_begins_on_its_first_day(civil: CivilDateTime)
 /// The wall seconds that a pattern can name are those of the years 1 to 5000, a search needs those of the years 0 to
 /// 5001 held, and what it needs around its start is held from the year -9997 to the year 9997.
 pub fn years_of_the_limits(civil: CivilDateTime)
-    ensures searched { IsSearched (wall_second civil) ↔ IsBetween (pos 1) (pos 5000) civil.date.year }
+    ensures searched { IsSearched (wall_second civil) ↔ IsBetween (pos first_year) (pos last_year) civil.date.year }
     ensures needed { IsInReach (wall_second civil) ↔ IsBetween (pos 0) (pos 5001) civil.date.year }
     ensures start { IsStart (wall_second civil) ↔ IsWithin 9997 civil.date.year }
 {}

@@ -4,19 +4,19 @@ ghost use Rattle.std.specs.Prelude.{◌≡◌, ℕ, ◌<◌, ◌≤◌, ◌||◌
 ghost use Rattle.std.specs.List.{All};
 ghost use Rattle.std.specs.Str.{trim};
 ghost use Rattle.croner_base.specs.Field.{Shape, Field, can_ask, can_mark, default_field, has_all, has_modifiers, is_marked, marked_values};
-ghost use Rattle.croner_base.specs.Marks.{IsWhole, AddsOne, TakesOne, AddsNamed, NamesRange, NamesSteps, NamesUnion, ListsSet};
+ghost use Rattle.croner_base.specs.Marks.{IsWellFormed, AddsOne, TakesOne, AddsNamed, NamesRange, NamesSteps, NamesUnion, ListsSet};
 ghost use Rattle.croner_base.specs.Part.{field_of, pieces_at};
 ghost use Rattle.croner_base.specs.Reading.{Reading};
 
 /// A mark adds its value to the sets of its modifiers, and changes nothing else: no other value, no other modifier, and
 /// neither step, enabled features nor the wildcard mark.
 pub fn a_mark_adds_one_value()
-    ensures { (f : Field) (value bits : ℕ) → IsWhole f → can_ask f.shape value bits ≡ true → AddsOne f value bits }
+    ensures { (f : Field) (value bits : ℕ) → IsWellFormed f → can_ask f.shape value bits ≡ true → AddsOne f value bits }
 {}
 
 /// An unset takes its value from the sets of its modifiers, and changes nothing else.
 pub fn an_unset_takes_one_value()
-    ensures { (f : Field) (value bits : ℕ) → IsWhole f → can_ask f.shape value bits ≡ true → bits < 256 → TakesOne f value bits }
+    ensures { (f : Field) (value bits : ℕ) → IsWellFormed f → can_ask f.shape value bits ≡ true → bits < 256 → TakesOne f value bits }
 {}
 
 /// Reading a text, accepted or refused, leaves each set as it was but for what the reading names.

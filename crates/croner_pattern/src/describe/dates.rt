@@ -1,7 +1,7 @@
 //! The months and the years of a pattern in words.
 
 ghost use Rattle.std.specs.Prelude.{◌≡◌};
-ghost use Rattle.croner_pattern.specs.Description.{month_names, month_text, plain_values, year_text};
+ghost use Rattle.croner_pattern.specs.Description.{month_names, month_text, plain_values, years_text};
 ghost use Rattle.croner_words.specs.Writes.{Writes};
 
 use crate::describe::fields::{is_all, numbers};
@@ -53,12 +53,12 @@ pub(crate) fn month_text<L: Language>(
 }
 
 /// The years.
-pub(crate) fn year_text<L: Language>(
+pub(crate) fn years_text<L: Language>(
     alloc: Global,
     language: &L,
     years: &CronComponent,
 ) -> Result<String, CronError>
-    ensures { Writes (year_text (L.meaning language.now) years.now) result }
+    ensures { Writes (years_text (L.meaning language.now) years.now) result }
 {
     if is_all(years) {
         return Ok(String::new(alloc));

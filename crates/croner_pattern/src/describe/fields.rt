@@ -3,7 +3,7 @@
 ghost use Rattle.std.specs.Prelude.{◌≡◌, ◌==◌};
 ghost use Rattle.croner_base.specs.Field.{marked_values};
 ghost use Rattle.croner_pattern.specs.Schedule.{is_plain};
-ghost use Rattle.croner_pattern.specs.Description.{begins_with, is_all, is_one, is_one_value, is_stepped, is_zero, numbers, plain_values, value_of};
+ghost use Rattle.croner_pattern.specs.Description.{begins_with, is_all, is_one, is_one_value, is_stepped, is_zero, numbers, plain_values, first_value};
 ghost use Rattle.croner_words.specs.Writes.{Writes};
 
 use crate::describe::lists::number_list;
@@ -80,7 +80,7 @@ pub(crate) fn is_one_value(field: &CronComponent) -> bool
 
 /// The first plain value; 0 where there is none.
 pub(crate) fn first_value(field: &CronComponent) -> u16
-    ensures { result ≡ value_of field.now }
+    ensures { result ≡ first_value field.now }
 {
     if field.max() == 0 {
         return 0;

@@ -2,7 +2,7 @@
 
 ghost use Rattle.std.specs.Prelude.{true, ◌≡◌, ◌+◌, ◌-◌, ◌<◌, ◌≤◌, ◌∷◌, ◌++◌, [], List, ℕ, codes, decimal, drop, length, map, slice_index, string_bytes, MatchResult};
 ghost use Rattle.croner_base.specs.declared.errors.CronError.TheVariants.{OutOfMemory};
-ghost use Rattle.croner_pattern.specs.Description.{name_at};
+ghost use Rattle.croner_pattern.specs.Description.{cyclic_name};
 ghost use Rattle.croner_pattern.specs.Lists.{item_text, items_of, joined, number_list, runs_of, text_list};
 ghost use Rattle.croner_pattern.specs.Private.Lists.{AddsTexts, Appends, comma, from_place, is_empty, goes_on, separator, WritesRun, EndsRun};
 ghost use Rattle.croner_words.specs.Writes.{Writes};
@@ -109,9 +109,9 @@ pub(crate) fn push_phrase(
 }
 
 /// The name at a place. Behind the last name the first comes again.
-fn name_at<'n>(names: &[&'n str], place: usize) -> &'n str
+fn cyclic_name<'n>(names: &[&'n str], place: usize) -> &'n str
     requires { 0 < length names.now }
-    ensures { result.now ≡ name_at (map (λ name. name.now) names.now) place }
+    ensures { result.now ≡ cyclic_name (map (λ name. name.now) names.now) place }
 {
     names[place % names.len()]
 }
@@ -126,11 +126,11 @@ pub(crate) fn name_list(
 ) -> Result<String, CronError>
     requires { 0 < length names.now }
     ensures { Writes (text_list and.now
-        (map (λ value. name_at (map (λ name. name.now) names.now) (value - first)) values.now)) result }
+        (map (λ value. cyclic_name (map (λ name. name.now) names.now) (value - first)) values.now)) result }
 {
     let mut text = String::with_capacity(alloc, LIST_ROOM)?;
     for (place, value) in values.iter().enumerate() {
-        let name = name_at(names, usize::from(value.saturating_sub(first)));
+        let name = cyclic_name(names, usize::from(value.saturating_sub(first)));
         push_item(&mut text, and, place, place + 1 == values.len(), name)?;
     }
     Ok(text)

@@ -1,7 +1,7 @@
 //! The seconds, minutes and hours of a pattern in words.
 
 ghost use Rattle.std.specs.Prelude.{◌≡◌, ◌&&◌, not, map, string_bytes};
-ghost use Rattle.croner_pattern.specs.Description.{at_one_minute, hours_part, is_all, is_one_value, is_stepped, is_zero, minutes_part, minutes_text, parts_text, past_hours, seconds_part, stand_alone, time_parts, time_text, value_of};
+ghost use Rattle.croner_pattern.specs.Description.{at_one_minute, hours_part, is_all, is_one_value, is_stepped, is_zero, minutes_part, minutes_text, parts_text, past_hours, seconds_part, stand_alone, time_parts, times_text, first_value};
 ghost use Rattle.croner_pattern.specs.Private.Lists.{AddsTexts, ListsTexts};
 ghost use Rattle.croner_pattern.specs.Meaning.{meaning_of};
 ghost use Rattle.croner_words.specs.Writes.{Writes};
@@ -240,7 +240,7 @@ fn one_minute_text<L: Language>(
     pattern: &CronPattern,
 ) -> Result<String, CronError>
     ensures { let m = meaning_of pattern.now in
-        Writes (at_one_minute (L.meaning language.now) m.seconds (value_of m.hours) (value_of m.minutes)) result }
+        Writes (at_one_minute (L.meaning language.now) m.seconds (first_value m.hours) (first_value m.minutes)) result }
 {
     let hour = first_value(&pattern.hours);
     let minute = first_value(&pattern.minutes);
@@ -261,12 +261,12 @@ fn repeated_text<L: Language>(
 }
 
 /// The time.
-pub(crate) fn time_text<L: Language>(
+pub(crate) fn times_text<L: Language>(
     alloc: Global,
     language: &L,
     pattern: &CronPattern,
 ) -> Result<String, CronError>
-    ensures { Writes (time_text (L.meaning language.now) (meaning_of pattern.now)) result }
+    ensures { Writes (times_text (L.meaning language.now) (meaning_of pattern.now)) result }
 {
     if is_each_second(pattern) {
         return Ok(String::from_str(alloc, language.every_second_phrase())?);

@@ -12,21 +12,21 @@ use Rattle.croner_base.specs.Zone.{Moment, nanos_of}
 use Rattle.croner.specs.declared.crontable.nearest.Met.{Met}
 use Rattle.croner.specs.search.Limit.{InSpan}
 use Rattle.croner.specs.search.Premises.{StartsCalm, IsSearchable}
-use Rattle.croner.specs.search.Refusal.{IsBackendError}
+use Rattle.croner.specs.Private.search.Held.{IsBackendError}
 use Rattle.croner.specs.search.Runs.{Precedes}
 
 -- the nearest run so far, the places that answered it, and whether a pattern answered the limit
-pub record Answers (T : Type 0) : Type 0 where
+pub record MetAnswers (T : Type 0) : Type 0 where
   pub nearest : Option T
   pub places : List ℕ
   pub is_limited : Bool
 
 -- what contracts see of them
-abbrev pub met_of : {T : Type 0} → Met T → Answers T
+abbrev pub met_of : {T : Type 0} → Met T → MetAnswers T
 met_of met = record { nearest = met.nearest; places = met.places.items; is_limited = met.is_limited }
 
 -- nothing yet
-abbrev pub new_met : {T : Type 0} → Answers T
+abbrev pub new_met : {T : Type 0} → MetAnswers T
 new_met = record { nearest = None; places = []; is_limited = false }
 
 -- how an answer lies to the nearest so far: before it in the direction, where there is one; at the same instant; or behind it
@@ -39,13 +39,13 @@ IsOrdered moment direction found None Greater = ⊥
 IsOrdered moment direction found (Some nearest) Greater = Precedes direction (nanos_of (moment nearest)) (nanos_of (moment found))
 
 -- the answer of the place k: a nearer run replaces what was met, an equal one appends its place, a later one changes nothing
-abbrev pub Meets : {T : Type 0} → ℕ → T → Ordering → Answers T → Answers T
+abbrev pub Meets : {T : Type 0} → ℕ → T → Ordering → MetAnswers T → MetAnswers T
 Meets k found Less old = record old { nearest = Some found; places = k ∷ [] }
 Meets k found Equal old = record old { places = old.places ++ k ∷ [] }
 Meets k found Greater old = old
 
 -- a run is met; the limit is remembered; any other error is the answer at once
-abbrev pub TakesIn : {T : Type 0} → (T → Moment) → Direction → ℕ → Result T CronError → Answers T → Answers T → Result (Unit {0}) CronError → Type 0
+abbrev pub TakesIn : {T : Type 0} → (T → Moment) → Direction → ℕ → Result T CronError → MetAnswers T → MetAnswers T → Result (Unit {0}) CronError → Type 0
 TakesIn moment direction k (Ok found) old new result = (order : Ordering) × IsOrdered moment direction found old.nearest order × (new ≡ Meets k found order old) × (result ≡ Ok tt)
 TakesIn moment direction k (Err e) old new result =
     ((e ≡ TimeSearchLimitExceeded) × (new ≡ record old { is_limited = true }) × (result ≡ Ok tt))
@@ -61,7 +61,7 @@ DecidesRefusal moment lack direction (Some nearest) true e =
     ⊎ IsBackendError lack (¬ (IsSearchable (moment nearest))) e
 
 -- what they come to: else the nearest run with its places; where a pattern answered the limit, it lies in the span
-abbrev pub Decides : {T : Type 0} → (T → Moment) → Bool → Direction → Answers T → Vec ℕ Global → Result (T × Vec ℕ Global) CronError → Type 0
+abbrev pub Decides : {T : Type 0} → (T → Moment) → Bool → Direction → MetAnswers T → Vec ℕ Global → Result (T × Vec ℕ Global) CronError → Type 0
 Decides moment lack direction met places (Ok answer) =
     (met.nearest ≡ Some answer.0) × (answer.1 ≡ places)
     × (met.is_limited ≡ true → StartsCalm (moment answer.0) → InSpan direction (moment answer.0).zone.reads (moment answer.0).instant)

@@ -8,8 +8,7 @@ use Rattle.croner_base.specs.Civil.{wall_second}
 use Rattle.croner_base.specs.Zone.{Zone, Moment}
 use Rattle.croner_base.specs.Calm.{IsCalm}
 use Rattle.croner_base.specs.Limits.{gap_limit}
-use Rattle.croner.specs.search.Premises.{HoldsYears}
-use Rattle.croner.specs.search.Refusal.{IsBackendError}
+use Rattle.croner.specs.Private.search.Held.{HoldsYears, IsBackendError}
 use Rattle.croner.specs.search.Runs.{Precedes, Reaches}
 use Rattle.croner.specs.declared.search.gap.Around.{Around}
 use Rattle.croner.specs.Private.search.Halves.{offset_from}
@@ -25,7 +24,7 @@ UnreadTo direction reads from to =
     (u : ℤ) → Reaches direction from u → Precedes direction u to → (x : ℤ) → ¬ (reads x ≡ u)
 
 -- the value is the first instant that shows the second
-pub record IsShown {T : Type 0} (moment : T → Moment) (z : Zone) (found : CivilDateTime × T) : Type 0 where
+pub record IsFirstShown {T : Type 0} (moment : T → Moment) (z : Zone) (found : CivilDateTime × T) : Type 0 where
   pub zone_is : (moment found.1).zone ≡ z
   pub whole : (moment found.1).fraction ≡ 0
   pub first : IsCalm z → First z.reads (wall_second found.0) (moment found.1).instant
@@ -33,7 +32,7 @@ pub record IsShown {T : Type 0} (moment : T → Moment) (z : Zone) (found : Civi
 
 -- what is answered for the second w outside a gap: the first instant that shows it, or the backend's error
 abbrev pub IsBeyond : {T : Type 0} → (T → Moment) → Bool → Zone → ℤ → Result (CivilDateTime × T) CronError → Type 0
-IsBeyond moment lack z w (Ok found) = (wall_second found.0 ≡ w) × IsShown moment z found
+IsBeyond moment lack z w (Ok found) = (wall_second found.0 ≡ w) × IsFirstShown moment z found
 IsBeyond moment lack z w (Err e) = IsBackendError lack (¬ (HoldsYears z)) e
 
 -- a second that is skipped and one that is not, within the limit of the search
@@ -46,6 +45,6 @@ pub record IsAround {T : Type 0} (moment : T → Moment) (lack : Bool) (directio
 -- the nearest second outside the gap that holds one, or the second at the limit is skipped too
 abbrev pub HasGapSide : {T : Type 0} → (T → Moment) → Direction → ℕ → Zone → ℤ → Option (CivilDateTime × T) → Type 0
 HasGapSide moment direction limit z held (Some found) =
-    Precedes direction held (wall_second found.0) × IsShown moment z found
+    Precedes direction held (wall_second found.0) × IsFirstShown moment z found
     × (IsCalm z → UnreadTo direction z.reads held (wall_second found.0))
 HasGapSide moment direction limit z held None = IsSkipped z (offset_from direction held limit)

@@ -9,10 +9,10 @@ use Rattle.croner_base.specs.Civil.{wall_second}
 use Rattle.croner_base.specs.Zone.{Zone, Moment, reading}
 use Rattle.croner_base.specs.Calm.{IsCalm}
 use Rattle.croner.specs.search.Limit.{NoneAhead}
-use Rattle.croner.specs.search.Refusal.{IsBackendError}
+use Rattle.croner.specs.Private.search.Held.{HoldsYears, IsBackendError}
 use Rattle.croner.specs.search.Runs.{Timetable, Job, Precedes, Reaches, Ahead}
 use Rattle.croner.specs.Private.search.Schedule.{NoneScheduled}
-use Rattle.croner.specs.search.Premises.{IsCalmStart, HasOneInstantEach, HoldsYears, Shows}
+use Rattle.croner.specs.search.Premises.{IsCalmStart, HasOneInstantEach, Shows}
 use Rattle.croner.specs.declared.search.walk.Passed.{Passed}
 use Rattle.croner.specs.declared.search.walk.Passed.TheVariants.{Answer, GoOn, Limit}
 pub use Rattle.croner.specs.Private.Steps.{one_on}

@@ -1,5 +1,6 @@
 use Rattle.std.proofs.Common.{◌∙◌}
-use Rattle.croner_words.proofs.Padded.{two_places_written, time_with_seconds, time_without_seconds}
+use Rattle.croner_base.proofs.Padded.{two_places_written}
+use Rattle.croner_words.proofs.Padded.{time_with_seconds, time_without_seconds}
 use Rattle.croner_words.proofs.english_form.time_of_day.Goals as goal
 
 pub returns-in_ok-format-in-Some : goal.returns-in_ok-format-in-Some
