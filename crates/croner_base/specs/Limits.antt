@@ -29,6 +29,13 @@ near_limit = 172_800
 abbrev pub year_limit : ℕ
 year_limit = 9_998
 
+-- the years that a pattern can name
+abbrev pub first_year : ℕ
+first_year = 1
+
+abbrev pub last_year : ℕ
+last_year = 5_000
+
 -- the wall seconds that a pattern can name: 0001-01-01T00:00:00
 abbrev pub first_searched : ℤ
 first_searched = neg_ℤ (pos 62_135_596_800)
