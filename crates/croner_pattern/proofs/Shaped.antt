@@ -4,6 +4,7 @@ use Rattle.std.proofs.lemmas.Bool.{and_parts, eqb-true}
 use Rattle.std.proofs.lemmas.Bool.Decides.{nat_tests}
 use Rattle.croner_base.specs.declared.errors.CronError.{CronError}
 use Rattle.croner_base.specs.Answers.{Finds}
+use Rattle.croner_base.specs.Limits.{first_year, last_year}
 use Rattle.croner_base.specs.Field.{Shape, Field, can_ask, has_all, is_marked}
 use Rattle.croner_pattern.specs.Meaning.{Meaning}
 use Rattle.croner_pattern.specs.Schedule.{is_named}
@@ -78,8 +79,8 @@ asks_hour s v h b = can_ask-alike s hour_shape v 1 h ∙ rw (in_bounds 0 23 v (o
 pub asks_month : (s : Shape) (v : ℕ) → Alike s month_shape → 1 ≤ v → v ≤ 12 → can_ask s v 1 ≡ true
 asks_month s v h a b = can_ask-alike s month_shape v 1 h ∙ rw (in_bounds 1 12 v a b) refl
 
-pub asks_year : (s : Shape) (v : ℕ) → Alike s year_shape → 1 ≤ v → v ≤ 5000 → can_ask s v 1 ≡ true
-asks_year s v h a b = can_ask-alike s year_shape v 1 h ∙ rw (in_bounds 1 5000 v a b) refl
+pub asks_year : (s : Shape) (v : ℕ) → Alike s year_shape → first_year ≤ v → v ≤ last_year → can_ask s v 1 ≡ true
+asks_year s v h a b = can_ask-alike s year_shape v 1 h ∙ rw (in_bounds first_year last_year v a b) refl
 
 pub asks_day : (s : Shape) (v bits : ℕ) → Alike s day_shape → has_all 193 bits ≡ true → 1 ≤ v → v ≤ 31 → can_ask s v bits ≡ true
 asks_day s v bits h has a b = can_ask-alike s day_shape v bits h ∙ rw (in_bounds 1 31 v a b, has) refl

@@ -7,6 +7,7 @@ use Rattle.croner_base.specs.declared.time.civil.CivilDate.{CivilDate}
 use Rattle.croner_base.specs.declared.time.civil.CivilDateTime.{CivilDateTime}
 use Rattle.croner_base.specs.Calendar.{day_number, weekday_of_day}
 use Rattle.croner_base.specs.Civil.{wall_second}
+use Rattle.croner_base.specs.Limits.{first_year, last_year}
 use Rattle.croner_base.specs.Field.{Field, has_all, can_ask, is_marked, marked_values}
 use Rattle.croner_pattern.specs.Days.{days_of, weekday_of, occurrence, is_last_weekday, is_last_day, is_last_working, is_nearest}
 use Rattle.croner_pattern.specs.Meaning.{Meaning}
@@ -68,7 +69,7 @@ IsDayMask m len first mask =
 
 -- the years that a pattern can name
 abbrev pub is_year_matching : Meaning → ℤ → Bool
-is_year_matching m year = (int_le (pos 1) year && int_le year (pos 5000)) && is_plain m.years (unsigned_abs year)
+is_year_matching m year = (int_le (pos first_year) year && int_le year (pos last_year)) && is_plain m.years (unsigned_abs year)
 
 -- the weekday of the first of a month
 abbrev pub first_weekday : ℤ → ℕ → ℕ

@@ -1,5 +1,6 @@
 -- The shape of each field of a pattern: its bounds, the modifiers that it supports, and what is taken off a number read.
 use Rattle.std.specs.Prelude.{ℕ, Bool, false, ◌&&◌, ◌||◌, ◌==◌, List}
+use Rattle.croner_base.specs.Limits.{first_year, last_year}
 use Rattle.croner_base.specs.Field.{Shape, new_shape, empty_field}
 use Rattle.croner_pattern.specs.Meaning.{Meaning}
 
@@ -23,7 +24,7 @@ abbrev pub weekday_shape : ℕ → Shape
 weekday_shape offset = new_shape 0 7 126 offset
 
 abbrev pub year_shape : Shape
-year_shape = new_shape 1 5000 0 0
+year_shape = new_shape first_year last_year 0 0
 
 -- two shapes are the same, sloppiness aside
 abbrev pub is_like : Shape → Shape → Bool

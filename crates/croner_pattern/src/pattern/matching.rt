@@ -3,6 +3,7 @@
 ghost use Rattle.std.specs.Prelude.{◌≡◌, ◌≤◌, ◌<◌, ◌⊎◌, ◌^◌, pos, ◌≤ℤ◌, ◌<ℤ◌, true, false, Ok, Err, unsigned_abs};
 ghost use Rattle.std.specs.Int.{IsInRange};
 ghost use Rattle.croner_base.specs.Answers.{Finds};
+ghost use Rattle.croner_base.specs.Limits.{first_year, last_year};
 ghost use Rattle.croner_pattern.specs.Meaning.{meaning_of};
 ghost use Rattle.croner_pattern.specs.Questions.{asked};
 ghost use Rattle.croner_pattern.specs.Schedule.{is_plain, is_year_matching};
@@ -19,8 +20,8 @@ impl CronPattern {
     /// A field of another shape refuses a year that it doesn't hold: `ComponentError`, or `OutOfMemory` where the message
     /// finds no memory. With the shape of its place it refuses none.
     pub fn year_match(&self, year: i32) -> Result<bool, CronError>
-        ensures outside { (year <ℤ pos 1) ⊎ (pos 5000 <ℤ year) → result ≡ Ok false }
-        ensures asked { pos 1 ≤ℤ year → year ≤ℤ pos 5000 →
+        ensures outside { (year <ℤ pos first_year) ⊎ (pos last_year <ℤ year) → result ≡ Ok false }
+        ensures asked { pos first_year ≤ℤ year → year ≤ℤ pos last_year →
             Finds (λ held. held) (asked ALL_BIT (meaning_of self.now).years (unsigned_abs year)) result }
         ensures shaped { has_field_shapes (meaning_of self.now) ≡ true → result ≡ Ok (is_year_matching (meaning_of self.now) year) }
     {

@@ -15,6 +15,7 @@ use Rattle.croner_base.specs.Field.{Field}
 use Rattle.croner_pattern.specs.Meaning.{Meaning}
 use Rattle.croner_pattern.specs.Schedule.{is_plain, is_day_matching, is_year_matching, is_date_matching, is_scheduled, first_weekday}
 use Rattle.croner.specs.search.Runs.{Precedes, Reaches}
+pub use Rattle.croner_base.specs.Limits.{first_year, last_year}
 pub use Rattle.croner.specs.Private.Steps.{one_on}
 
 -- x is the nearest of those that match, from a place on, the place itself included
@@ -101,13 +102,6 @@ abbrev pub AreYearKinds : Meaning → ℕ → Type 0
 AreYearKinds m kinds = (year : ℤ) → (bit_at kinds (year_kind year) ≡ 1) ↔ HasOpenMonth m year
 
 -- ---- dates
-
--- the years that a pattern can name
-abbrev pub first_year : ℕ
-first_year = 1
-
-abbrev pub last_year : ℕ
-last_year = 5000
 
 -- a search steps on from a year: forward before 5000, backward after 1
 abbrev pub has_room : Direction → ℤ → Bool

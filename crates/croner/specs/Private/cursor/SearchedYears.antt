@@ -7,6 +7,7 @@ use Rattle.jiff_core.specs.Calendar.{days_in_month}
 use Rattle.jiff_core.proofs.SignedLemmas.{signed_arith}
 use Rattle.croner_base.specs.declared.time.civil.CivilDateTime.{CivilDateTime}
 use Rattle.croner_base.specs.Civil.{wall_second}
+use Rattle.croner_base.specs.Limits.{first_year, last_year}
 use Rattle.croner_base.specs.Calm.{IsSearched}
 use Rattle.croner_base.proofs.Chronology.{searched_years}
 use Rattle.croner_pattern.specs.Meaning.{Meaning}
@@ -16,12 +17,12 @@ date_searched : (m : Meaning) (c : CivilDateTime) → is_date_matching m c.date 
 date_searched m c h =
     let d = c.date in
     let year = and_parts (is_year_matching m d.year) (is_plain m.months d.month && is_day_matching m (days_in_month d.year d.month) (first_weekday d.year d.month) d.day) h in
-    let range = and_parts (int_le (pos 1) d.year && int_le d.year (pos 5000)) (is_plain m.years (unsigned_abs d.year)) year.0 in
-    let both = and_parts (int_le (pos 1) d.year) (int_le d.year (pos 5000)) range.0 in
-    let above : int_le (pos 1) d.year ≡ true = both.0 in
-    let below : int_le d.year (pos 5000) ≡ true = both.1 in
-    let low : pos 1 ≤ℤ d.year = omega (arith, signed_arith) in
-    let high : d.year ≤ℤ pos 5000 = omega (arith, signed_arith) in
+    let range = and_parts (int_le (pos first_year) d.year && int_le d.year (pos last_year)) (is_plain m.years (unsigned_abs d.year)) year.0 in
+    let both = and_parts (int_le (pos first_year) d.year) (int_le d.year (pos last_year)) range.0 in
+    let above : int_le (pos first_year) d.year ≡ true = both.0 in
+    let below : int_le d.year (pos last_year) ≡ true = both.1 in
+    let low : pos first_year ≤ℤ d.year = omega (arith, signed_arith) in
+    let high : d.year ≤ℤ pos last_year = omega (arith, signed_arith) in
     (searched_years c).1 (low, high)
 
 -- a second whose date matches
