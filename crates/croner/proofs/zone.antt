@@ -1,4 +1,5 @@
 -- The zone layer: the order of readings in a calm zone, gaps, the halves of a repeated range, and walks.
+pub mod Ahead
 pub mod CalmZone
 pub mod ErrorsKept
 pub mod FirstInstants

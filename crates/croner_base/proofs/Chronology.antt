@@ -1,5 +1,5 @@
 -- The order of civil date-times is that of their wall seconds, and a wall second has one date and time.
-use Rattle.std.proofs.Common.{◌≡◌, ◌↔◌, ◌==◌, if◌then◌else◌, ap, ℕ, ◌+◌, ◌%◌, ◌<◌, refl, sym, subst, ◌∙◌, arith, ℤ, pos, neg_ℤ, ◌+ℤ◌, ◌*ℤ◌, ◌<ℤ◌, ◌≤ℤ◌, nat_cmp, int_cmp}
+use Rattle.std.proofs.Common.{◌≡◌, ◌↔◌, ◌==◌, if◌then◌else◌, ap, ℕ, ◌+◌, ◌-◌, ◌%◌, ◌<◌, refl, sym, subst, ◌∙◌, arith, ℤ, pos, neg_ℤ, ◌+ℤ◌, ◌*ℤ◌, ◌<ℤ◌, ◌≤ℤ◌, nat_cmp, int_cmp}
 use Rattle.std.proofs.lemmas.Int.{by_lt_z}
 use Rattle.std.proofs.Props.{props}
 use mathlib.Core.HLevel.{is_prop→PathP}
@@ -16,6 +16,7 @@ use Rattle.croner_base.specs.declared.time.civil.Weekday.{Weekday}
 use Rattle.croner_base.specs.declared.time.civil.Weekday.TheVariants.{Sunday, Monday, Tuesday, Wednesday, Thursday, Friday, Saturday}
 use Rattle.croner_base.specs.Calendar.{IsRealDate, day_number, weekday_of_day, day_seconds}
 use Rattle.croner_base.specs.Civil.{wall_second, day_of_date, seconds_of_time, weekday_index}
+use Rattle.croner_base.specs.Limits.{first_year, last_year, year_limit}
 use Rattle.croner_base.specs.Calm.{IsSearched, IsInReach, IsStart}
 use Rattle.croner_base.specs.Limits.{first_year, last_year}
 use Rattle.croner_base.proofs.ExamplesCalendar.{year_0, year_1, year_5001, year_5002, year_before_9996, year_9998}
@@ -217,8 +218,8 @@ years_between c y z a b first next =
 pub searched_years : (c : CivilDateTime) → IsSearched (wall_second c) ↔ ((pos first_year ≤ℤ c.date.year) × (c.date.year ≤ℤ pos last_year))
 searched_years c = years_between c (pos first_year) (pos last_year) _ _ year_1 year_5001
 
-pub needed_years : (c : CivilDateTime) → IsInReach (wall_second c) ↔ ((pos 0 ≤ℤ c.date.year) × (c.date.year ≤ℤ pos 5001))
-needed_years c = years_between c (pos 0) (pos 5001) _ _ year_0 year_5002
+pub needed_years : (c : CivilDateTime) → IsInReach (wall_second c) ↔ ((pos (first_year - 1) ≤ℤ c.date.year) × (c.date.year ≤ℤ pos (last_year + 1)))
+needed_years c = years_between c (pos (first_year - 1)) (pos (last_year + 1)) _ _ year_0 year_5002
 
-pub start_years : (c : CivilDateTime) → IsStart (wall_second c) ↔ ((neg_ℤ (pos 9997) ≤ℤ c.date.year) × (c.date.year ≤ℤ pos 9997))
-start_years c = years_between c (neg_ℤ (pos 9997)) (pos 9997) _ _ year_before_9996 year_9998
+pub start_years : (c : CivilDateTime) → IsStart (wall_second c) ↔ ((neg_ℤ (pos (year_limit - 1)) ≤ℤ c.date.year) × (c.date.year ≤ℤ pos (year_limit - 1)))
+start_years c = years_between c (neg_ℤ (pos (year_limit - 1))) (pos (year_limit - 1)) _ _ year_before_9996 year_9998

@@ -70,21 +70,24 @@ pub day_number-lt_month : (y : ℤ) (m d m₂ d₂ : ℕ) → IsRealDate y m d �
 day_number-lt_month y m d m₂ d₂ h first lt =
     omega (arith, signed_arith, day_number-parts y m d, day_number-parts y m₂ d₂, day_of_year_before y m d (m₂ - 1) h.0.0 h.1.1 (omega arith))
 
--- in the years that jiff has, the day number is jiff's
-bridge_from : (n : ℕ) → pos (day_count (pos n -ℤ pos 10000) 1 1) ≡ year_start (pos n -ℤ pos 10000) -ℤ year_start (neg_ℤ (pos 10000)) +ℤ pos (day_count (neg_ℤ (pos 10000)) 1 1)
+-- from so many years before year 0 on the day number is jiff's
+abbrev followed_years : ℕ
+followed_years = 10_000
+
+bridge_from : (n : ℕ) → pos (day_count (pos n -ℤ pos followed_years) 1 1) ≡ year_start (pos n -ℤ pos followed_years) -ℤ year_start (neg_ℤ (pos followed_years)) +ℤ pos (day_count (neg_ℤ (pos followed_years)) 1 1)
 bridge_from zero = omega (arith, signed_arith)
 bridge_from (suc n) =
-    let e : pos (suc n) -ℤ pos 10000 ≡ (pos n -ℤ pos 10000) +ℤ pos 1 = omega (arith, signed_arith) in
-    let low : neg_ℤ (pos 10000) ≤ℤ (pos n -ℤ pos 10000) = omega (arith, signed_arith) in
-    rw e (omega (arith, signed_arith, bridge_from n, year_start-next (pos n -ℤ pos 10000), day_count-next_year (pos n -ℤ pos 10000) (pos n -ℤ pos 10000 +ℤ pos 1) low refl))
+    let e : pos (suc n) -ℤ pos followed_years ≡ (pos n -ℤ pos followed_years) +ℤ pos 1 = omega (arith, signed_arith) in
+    let low : neg_ℤ (pos followed_years) ≤ℤ (pos n -ℤ pos followed_years) = omega (arith, signed_arith) in
+    rw e (omega (arith, signed_arith, bridge_from n, year_start-next (pos n -ℤ pos followed_years), day_count-next_year (pos n -ℤ pos followed_years) (pos n -ℤ pos followed_years +ℤ pos 1) low refl))
 
-bridge_year : (y : ℤ) → neg_ℤ (pos 10000) ≤ℤ y → pos (day_count y 1 1) ≡ year_start y -ℤ year_start (neg_ℤ (pos 10000)) +ℤ pos (day_count (neg_ℤ (pos 10000)) 1 1)
+bridge_year : (y : ℤ) → neg_ℤ (pos followed_years) ≤ℤ y → pos (day_count y 1 1) ≡ year_start y -ℤ year_start (neg_ℤ (pos followed_years)) +ℤ pos (day_count (neg_ℤ (pos followed_years)) 1 1)
 bridge_year y h =
-    let n = up y + 10000 - down y in
-    let e : y ≡ pos n -ℤ pos 10000 = omega (arith, signed_arith) in
+    let n = up y + followed_years - down y in
+    let e : y ≡ pos n -ℤ pos followed_years = omega (arith, signed_arith) in
     rw e (bridge_from n)
 
-pub days_from_civil-day_number : (y : ℤ) (m d : ℕ) → neg_ℤ (pos 10000) ≤ℤ y → 1 ≤ d → days_from_civil y m d ≡ day_number y m d
+pub days_from_civil-day_number : (y : ℤ) (m d : ℕ) → neg_ℤ (pos followed_years) ≤ℤ y → 1 ≤ d → days_from_civil y m d ≡ day_number y m d
 unfolding days_from_civil
 days_from_civil-day_number y m d h first =
     let a = bridge_year y h in

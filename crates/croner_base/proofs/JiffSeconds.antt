@@ -1,6 +1,6 @@
 -- Wall seconds and jiff's civil seconds.
-use Rattle.std.proofs.Common.{ℕ, ◌%◌, Bool, true, false, ◌≡◌, ◌+◌, refl, sym, ap, ◌∙◌, arith, ℤ, pos, neg_ℤ, ◌+ℤ◌, ◌*ℤ◌, ◌≤ℤ◌}
-use Rattle.std.proofs.lemmas.Int.{by_lt_z, ints}
+use Rattle.std.proofs.Common.{ℕ, ◌%◌, true, false, ◌≡◌, ◌+◌, ◌-◌, refl, sym, ap, ◌∙◌, arith, ℤ, pos, neg_ℤ, ◌+ℤ◌, ◌-ℤ◌, ◌*ℤ◌, ◌≤ℤ◌}
+use Rattle.std.proofs.lemmas.Int.{by_lt_z}
 use Rattle.std.specs.Int.{int_div_euclid}
 use Rattle.jiff_core.specs.Calendar.{IsYear, IsEpochDay, weekday_number}
 use Rattle.jiff_core.specs.Date.{epoch_day}
@@ -17,6 +17,8 @@ use Rattle.croner_base.specs.Calendar.{IsRealDate, day_number, weekday_of_day, d
 use Rattle.croner_base.specs.declared.time.civil.CivilTime.{CivilTime}
 use Rattle.croner_base.specs.Civil.{HasYmd, wall_second, day_of_date, seconds_of_time, weekday_of_second}
 use Rattle.croner_base.specs.CivilZone.{is_jiff_second}
+use Rattle.croner_base.specs.Table.{first_instant, last_instant}
+use Rattle.croner_base.proofs.TableTests.{between_test, between_false}
 use Rattle.croner_base.proofs.Days.{day_number-next_year, year_start-next, day_number-parts, days_from_civil-day_number, day_number-lt_year}
 
 -- jiff's day number of a date is the date's day number
@@ -53,33 +55,35 @@ pub year-day_number : (d : CivilDate) → IsYear d.year → IsEpochDay (day_of_d
 year-day_number d h =
     omega (arith, signed_arith, days_from_civil-day_count d.year d.month d.day, day_count_bounds d.year d.month d.day (h, d.real.0, d.real.1), days_from_civil-day_number d.year d.month d.day (omega (arith, signed_arith)) d.real.1.0)
 
-first_day : day_number (neg_ℤ (pos 9999)) 1 1 ≡ neg_ℤ (pos 4_371_587)
-first_day = sym (days_from_civil-day_number (neg_ℤ (pos 9999)) 1 1 (omega (arith, signed_arith)) (omega arith)) ∙ days_from_civil-min
+-- the first and the last year that jiff has: each second of year_limit plus any offset lies within them
+abbrev first_jiff_year : ℤ
+first_jiff_year = neg_ℤ (pos (year_limit + 1))
 
-last_day : day_number (pos 9999) 12 31 ≡ pos 2_932_896
-last_day = sym (days_from_civil-day_number (pos 9999) 12 31 (omega (arith, signed_arith)) (omega arith)) ∙ days_from_civil-max
+abbrev last_jiff_year : ℤ
+last_jiff_year = pos (year_limit + 1)
+
+first_day : day_number first_jiff_year 1 1 ≡ neg_ℤ (pos 4_371_587)
+first_day = sym (days_from_civil-day_number first_jiff_year 1 1 (omega (arith, signed_arith)) (omega arith)) ∙ days_from_civil-min
+
+last_day : day_number last_jiff_year 12 31 ≡ pos 2_932_896
+last_day = sym (days_from_civil-day_number last_jiff_year 12 31 (omega (arith, signed_arith)) (omega arith)) ∙ days_from_civil-max
 
 pub day_number-year : (d : CivilDate) → IsEpochDay (day_of_date d) → IsYear d.year
 day_number-year d h =
-    let first : IsRealDate (neg_ℤ (pos 9999)) 1 1 = ((omega arith, omega arith), (omega arith, omega arith)) in
-    let last : IsRealDate (pos 9999) 12 31 = ((omega arith, omega arith), (omega arith, omega arith)) in
-    by_lt_z d.year (neg_ℤ (pos 9999))
-    (λ low. absurd (omega (arith, signed_arith, first_day, day_number-lt_year d.year d.month d.day (neg_ℤ (pos 9999)) 1 1 d.real first low)))
-    (λ ge. by_lt_z (pos 9999) d.year
-    (λ high. absurd (omega (arith, signed_arith, last_day, day_number-lt_year (pos 9999) 12 31 d.year d.month d.day last d.real high)))
+    let first : IsRealDate first_jiff_year 1 1 = ((omega arith, omega arith), (omega arith, omega arith)) in
+    let last : IsRealDate last_jiff_year 12 31 = ((omega arith, omega arith), (omega arith, omega arith)) in
+    by_lt_z d.year first_jiff_year
+    (λ low. absurd (omega (arith, signed_arith, first_day, day_number-lt_year d.year d.month d.day first_jiff_year 1 1 d.real first low)))
+    (λ ge. by_lt_z last_jiff_year d.year
+    (λ high. absurd (omega (arith, signed_arith, last_day, day_number-lt_year last_jiff_year 12 31 d.year d.month d.day last d.real high)))
     (λ le. (ge, le)))
 
 -- the test of a second
-pub is_jiff_second-true : (w : ℤ) → neg_ℤ (pos 377_705_116_800) ≤ℤ w → w ≤ℤ pos 253_402_300_799 → is_jiff_second w ≡ true
-is_jiff_second-true w low high = grind (arith, ints)
+pub is_jiff_second-true : (w : ℤ) → first_instant ≤ℤ w → w ≤ℤ last_instant → is_jiff_second w ≡ true
+is_jiff_second-true w low high = between_test first_instant last_instant w low high
 
-pub is_jiff_second_bounds : (w : ℤ) → is_jiff_second w ≡ true → (neg_ℤ (pos 377_705_116_800) ≤ℤ w) × (w ≤ℤ pos 253_402_300_799)
-is_jiff_second_bounds w h = grind (arith, ints)
-
-pub is_jiff_second-false : (w : ℤ) → ((neg_ℤ (pos 377_705_116_800) ≤ℤ w) → (w ≤ℤ pos 253_402_300_799) → ⊥) → is_jiff_second w ≡ false
-is_jiff_second-false w h =
-    let both : (b : Bool) → is_jiff_second w ≡ b → b ≡ false = elim [ true ↦ λ e. absurd (h (is_jiff_second_bounds w e).0 (is_jiff_second_bounds w e).1) | false ↦ λ e. refl ] in
-    both _ refl
+pub is_jiff_second-false : (w : ℤ) → (first_instant ≤ℤ w → w ≤ℤ last_instant → ⊥) → is_jiff_second w ≡ false
+is_jiff_second-false w h = between_false first_instant last_instant w h
 
 pub held_year : (c : CivilDateTime) → IsYear c.date.year → is_jiff_second (wall_second c) ≡ true
 held_year c h =
@@ -107,24 +111,36 @@ from_sunday n = omega (arith, signed_arith, weekday_number-parts n)
 pub weekday-civil_seconds : (dt : DateTime) → (weekday_number (epoch_day dt.date) + 1) % 7 ≡ weekday_of_second (civil_seconds dt)
 weekday-civil_seconds dt = from_sunday (epoch_day dt.date) ∙ ap weekday_of_day (sym (civil_seconds-day dt))
 
--- the days around the years -9998 to 9998
-near_first : (pos 364 +ℤ neg_ℤ (pos 4_371_587)) ≤ℤ day_number (neg_ℤ (pos 9999)) 12 31
+-- the days of the years -9998 to 9998, and their seconds
+abbrev first_near_day : ℤ
+first_near_day = neg_ℤ (pos 4_371_222)
+
+abbrev last_near_day : ℤ
+last_near_day = pos 2_932_531
+
+abbrev pub first_near : ℤ
+first_near = first_near_day *ℤ pos day_seconds
+
+abbrev pub last_near : ℤ
+last_near = last_near_day *ℤ pos day_seconds +ℤ pos (day_seconds - 1)
+
+near_first : (pos 364 +ℤ neg_ℤ (pos 4_371_587)) ≤ℤ day_number first_jiff_year 12 31
 near_first =
-    omega (arith, signed_arith, first_day, day_number-parts (neg_ℤ (pos 9999)) 1 1, day_number-parts (neg_ℤ (pos 9999)) 12 31, days_of_months-zero (neg_ℤ (pos 9999)), days_of_months_all (neg_ℤ (pos 9999)), days_of_months_more (neg_ℤ (pos 9999)) 12 (omega arith), days_in_year_bounds (neg_ℤ (pos 9999)))
+    omega (arith, signed_arith, first_day, day_number-parts first_jiff_year 1 1, day_number-parts first_jiff_year 12 31, days_of_months-zero first_jiff_year, days_of_months_all first_jiff_year, days_of_months_more first_jiff_year 12 (omega arith), days_in_year_bounds first_jiff_year)
 
-near_last : (day_number (pos 9999) 1 1 +ℤ pos 364) ≤ℤ pos 2_932_896
+near_last : (day_number last_jiff_year 1 1 +ℤ pos 364) ≤ℤ pos 2_932_896
 near_last =
-    omega (arith, signed_arith, last_day, day_number-parts (pos 9999) 1 1, day_number-parts (pos 9999) 12 31, days_of_months-zero (pos 9999), days_of_months_all (pos 9999), days_of_months_more (pos 9999) 12 (omega arith), days_in_year_bounds (pos 9999))
+    omega (arith, signed_arith, last_day, day_number-parts last_jiff_year 1 1, day_number-parts last_jiff_year 12 31, days_of_months-zero last_jiff_year, days_of_months_all last_jiff_year, days_of_months_more last_jiff_year 12 (omega arith), days_in_year_bounds last_jiff_year)
 
-pub near_day : (d : CivilDate) → neg_ℤ (pos year_limit) ≤ℤ d.year → d.year ≤ℤ pos year_limit → (neg_ℤ (pos 4_371_222) ≤ℤ day_of_date d) × (day_of_date d ≤ℤ pos 2_932_531)
+pub near_day : (d : CivilDate) → neg_ℤ (pos year_limit) ≤ℤ d.year → d.year ≤ℤ pos year_limit → (first_near_day ≤ℤ day_of_date d) × (day_of_date d ≤ℤ last_near_day)
 near_day d low high =
-    let first : IsRealDate (neg_ℤ (pos 9999)) 12 31 = ((omega arith, omega arith), (omega arith, omega arith)) in
-    let last : IsRealDate (pos 9999) 1 1 = ((omega arith, omega arith), (omega arith, omega arith)) in (
-      omega (arith, signed_arith, near_first, day_number-lt_year (neg_ℤ (pos 9999)) 12 31 d.year d.month d.day first d.real (omega (arith, signed_arith))),
-      omega (arith, signed_arith, near_last, day_number-lt_year d.year d.month d.day (pos 9999) 1 1 d.real last (omega (arith, signed_arith))),
+    let first : IsRealDate first_jiff_year 12 31 = ((omega arith, omega arith), (omega arith, omega arith)) in
+    let last : IsRealDate last_jiff_year 1 1 = ((omega arith, omega arith), (omega arith, omega arith)) in (
+      omega (arith, signed_arith, near_first, day_number-lt_year first_jiff_year 12 31 d.year d.month d.day first d.real (omega (arith, signed_arith))),
+      omega (arith, signed_arith, near_last, day_number-lt_year d.year d.month d.day last_jiff_year 1 1 d.real last (omega (arith, signed_arith))),
     )
 
-pub near_second : (c : CivilDateTime) → neg_ℤ (pos year_limit) ≤ℤ c.date.year → c.date.year ≤ℤ pos year_limit → (neg_ℤ (pos 377_673_580_800) ≤ℤ wall_second c) × (wall_second c ≤ℤ pos 253_370_764_799)
+pub near_second : (c : CivilDateTime) → neg_ℤ (pos year_limit) ≤ℤ c.date.year → c.date.year ≤ℤ pos year_limit → (first_near ≤ℤ wall_second c) × (wall_second c ≤ℤ last_near)
 near_second c low high =
     let b = near_day c.date low high in (
       omega (arith, signed_arith, b.0, wall_second-parts c, c.time.hour_in, c.time.minute_in, c.time.second_in),
@@ -132,14 +148,14 @@ near_second c low high =
     )
 
 -- a real date with such a day number has a year from -9998 to 9998
-pub year_of_near : (d : CivilDate) → neg_ℤ (pos 4_371_222) ≤ℤ day_of_date d → day_of_date d ≤ℤ pos 2_932_531 → (neg_ℤ (pos year_limit) ≤ℤ d.year) × (d.year ≤ℤ pos year_limit)
+pub year_of_near : (d : CivilDate) → first_near_day ≤ℤ day_of_date d → day_of_date d ≤ℤ last_near_day → (neg_ℤ (pos year_limit) ≤ℤ d.year) × (d.year ≤ℤ pos year_limit)
 year_of_near d low high =
     let first : IsRealDate (neg_ℤ (pos year_limit)) 1 1 = ((omega arith, omega arith), (omega arith, omega arith)) in
     let last : IsRealDate (pos year_limit) 12 31 = ((omega arith, omega arith), (omega arith, omega arith)) in
-    let start : day_number (neg_ℤ (pos year_limit)) 1 1 ≡ neg_ℤ (pos 4_371_222) =
-    omega (arith, signed_arith, first_day, day_number-parts (neg_ℤ (pos 9999)) 1 1, day_number-parts (neg_ℤ (pos year_limit)) 1 1, days_of_months-zero (neg_ℤ (pos 9999)), days_of_months-zero (neg_ℤ (pos year_limit)), year_start-next (neg_ℤ (pos 9999))) in
-    let end : day_number (pos year_limit) 12 31 ≡ pos 2_932_531 =
-    omega (arith, signed_arith, last_day, day_number-parts (pos 9999) 12 31, day_number-parts (pos year_limit) 12 31, days_of_months_more (pos 9999) 12 (omega arith), days_of_months_all (pos 9999), days_of_months_more (pos year_limit) 12 (omega arith), days_of_months_all (pos year_limit), year_start-next (pos year_limit)) in
+    let start : day_number (neg_ℤ (pos year_limit)) 1 1 ≡ first_near_day =
+    omega (arith, signed_arith, first_day, day_number-parts first_jiff_year 1 1, day_number-parts (neg_ℤ (pos year_limit)) 1 1, days_of_months-zero first_jiff_year, days_of_months-zero (neg_ℤ (pos year_limit)), year_start-next first_jiff_year) in
+    let end : day_number (pos year_limit) 12 31 ≡ last_near_day =
+    omega (arith, signed_arith, last_day, day_number-parts last_jiff_year 12 31, day_number-parts (pos year_limit) 12 31, days_of_months_more last_jiff_year 12 (omega arith), days_of_months_all last_jiff_year, days_of_months_more (pos year_limit) 12 (omega arith), days_of_months_all (pos year_limit), year_start-next (pos year_limit)) in
     by_lt_z d.year (neg_ℤ (pos year_limit))
     (λ lt. absurd (omega (arith, signed_arith, start, day_number-lt_year d.year d.month d.day (neg_ℤ (pos year_limit)) 1 1 d.real first lt)))
     (λ ge. by_lt_z (pos year_limit) d.year
@@ -147,11 +163,11 @@ year_of_near d low high =
     (λ le. (ge, le)))
 
 -- the days just past jiff's years
-pub day_before : day_number (neg_ℤ (pos 10_000)) 12 31 ≡ neg_ℤ (pos 4_371_588)
-day_before = omega (arith, signed_arith, first_day, day_number-next_year (neg_ℤ (pos 10_000)))
+pub day_before : day_number (first_jiff_year -ℤ pos 1) 12 31 ≡ neg_ℤ (pos 4_371_588)
+day_before = omega (arith, signed_arith, first_day, day_number-next_year (first_jiff_year -ℤ pos 1))
 
-pub day_after : day_number (pos 10_000) 1 1 ≡ pos 2_932_897
-day_after = omega (arith, signed_arith, last_day, day_number-next_year (pos 9999))
+pub day_after : day_number (last_jiff_year +ℤ pos 1) 1 1 ≡ pos 2_932_897
+day_after = omega (arith, signed_arith, last_day, day_number-next_year last_jiff_year)
 
 pub wall_second-of : (c : CivilDateTime) (d : CivilDate) (t : CivilTime) (y : ℤ) (m n s : ℕ) (day : ℤ) → c.date ≡ d → c.time ≡ t → HasYmd y m n d → seconds_of_time t ≡ s → day_number y m n ≡ day → wall_second c ≡ day *ℤ pos day_seconds +ℤ pos s
 wall_second-of c d t y m n s day p q h e f =

@@ -10,17 +10,16 @@ use Rattle.croner_base.specs.declared.time.value.Resolution.{Resolution}
 use Rattle.croner_base.specs.Civil.{wall_second}
 use Rattle.croner_base.specs.Zone.{Zone, reading}
 use Rattle.croner_base.specs.Calm.{IsChange, IsMet, IsSearched, IsCalm, NamesAll, Rises, HoldsAround, jump, gap_seconds}
-use Rattle.croner_base.specs.ZonedZone.{is_near_year}
+use Rattle.croner_base.specs.ZonedZone.{is_near_year, first_timestamp, last_timestamp}
 use Rattle.croner_base.specs.Table.{offset_at, is_met, are_steps, is_step, met_at, gap_at, met_count, met_gaps, is_calm_table, offset_limit}
 use Rattle.croner_base.specs.TableZone.{clock, clock_reads, instants_of, table_zone, table_moment}
-use Rattle.croner_base.proofs.JiffSeconds.{wall_second-parts, year_of_near}
 use Rattle.croner_base.proofs.TableTests.{Step, both_parts, step_parts, searched_test, lt_test, instant_test}
 use Rattle.croner_base.proofs.TableCheck.{rules_from_calm}
 use Rattle.croner_base.proofs.TableOffsets.{IsSpread, int_le-true, int_le-false, offset_within, stays}
 use Rattle.croner_base.proofs.TableReadings.{calm_spread, calm_offsets}
 use Rattle.croner_base.proofs.TableMoments.{names_instants}
-use Rattle.croner_base.proofs.ZonedResolved.{is_near_year-true}
-use Rattle.croner_base.specs.Limits.{apart_limit}
+use Rattle.croner_base.proofs.ZonedHolds.{farthest_offset, IsNearUtc, holds_around}
+use Rattle.croner_base.specs.Limits.{apart_limit, first_start, last_start}
 
 -- the offset in force changes at d
 abbrev pub Moves : ℤ → List (ℤ × ℤ) → ℤ → Type 0
@@ -189,33 +188,21 @@ clock_calm o cs h =
     }
 
 -- what a search needs held
-near_resolved : (t : ClockTable) (c : CivilDateTime) → neg_ℤ (pos 377_673_580_800) ≤ℤ wall_second c → wall_second c ≤ℤ pos 253_370_764_799 → IsSome ((table_zone t).resolves c)
+named : (t : ClockTable) (c : CivilDateTime) → is_near_year c.date.year ≡ true → IsSome ((table_zone t).resolves c)
 unfolding clock
-near_resolved t c low high =
-    let y = year_of_near c.date (omega (arith, signed_arith, wall_second-parts c, c.time.hour_in, c.time.minute_in, c.time.second_in)) (omega (arith, signed_arith, wall_second-parts c, c.time.hour_in, c.time.minute_in, c.time.second_in)) in
-    let n = is_near_year-true c.date.year y.0 y.1 in
-    rw n refl
+named t c near = rw near refl
 
-held : (t : ClockTable) (i : ℤ) → neg_ℤ (pos 377_705_116_800) ≤ℤ i → i ≤ℤ pos 253_402_300_799 → (table_zone t).holds i ≡ true
+held : (t : ClockTable) (i : ℤ) → first_timestamp ≤ℤ i → i ≤ℤ last_timestamp → (table_zone t).holds i ≡ true
 unfolding clock
-held t i low high = instant_test i low high
+held t i low high = instant_test i (omega (arith, signed_arith, low)) (omega (arith, signed_arith, high))
 
-within_plain : (i x : ℤ) → (neg_ℤ (pos offset_limit) ≤ℤ x) × (x ≤ℤ pos offset_limit) → ((i -ℤ pos offset_limit) ≤ℤ (i +ℤ x)) × ((i +ℤ x) ≤ℤ (i +ℤ pos offset_limit))
-within_plain i x h = (omega (arith, signed_arith, h), omega (arith, signed_arith, h))
+near_plain : (i x : ℤ) → (neg_ℤ (pos offset_limit) ≤ℤ x) × (x ≤ℤ pos offset_limit) → ((i -ℤ pos farthest_offset) ≤ℤ (i +ℤ x)) × ((i +ℤ x) ≤ℤ (i +ℤ pos farthest_offset))
+near_plain i x h = (omega (arith, signed_arith, h), omega (arith, signed_arith, h))
 
-reads_within : (t : ClockTable) (i : ℤ) → ((i -ℤ pos offset_limit) ≤ℤ (table_zone t).reads i) × ((table_zone t).reads i ≤ℤ (i +ℤ pos offset_limit))
+near_utc : (t : ClockTable) → IsNearUtc (table_zone t)
 unfolding clock
-reads_within t i =
-    within_plain i (offset_at t.first_offset t.changes.items i) (offset_within t.first_offset t.changes.items i (calm_offsets t.first_offset t.changes.items t.calm))
+near_utc t =
+    λ i. near_plain i (offset_at t.first_offset t.changes.items i) (offset_within t.first_offset t.changes.items i (calm_offsets t.first_offset t.changes.items t.calm))
 
--- where the start reads a year from -9997 to 9997
-pub table_holds : (t : TableTime) → neg_ℤ (pos 377_642_044_800) ≤ℤ reading (table_moment t) → reading (table_moment t) ≤ℤ pos 253_339_228_799 → HoldsAround (table_moment t)
-table_holds t low high =
-    let z = t.table.now in
-    let r = reads_within z t.second in
-    record {
-      years = λ c h. near_resolved z c (omega (arith, signed_arith, h)) (omega (arith, signed_arith, h));
-      year_instants = λ i h. held z i (omega (arith, signed_arith, h, reads_within z i)) (omega (arith, signed_arith, h, reads_within z i));
-      near = λ c h. near_resolved z c (omega (arith, signed_arith, h, low)) (omega (arith, signed_arith, h, high));
-      near_instants = λ i h. held z i (omega (arith, signed_arith, h, r, low)) (omega (arith, signed_arith, h, r, high));
-    }
+pub table_holds : (t : TableTime) → first_start ≤ℤ reading (table_moment t) → reading (table_moment t) ≤ℤ last_start → HoldsAround (table_moment t)
+table_holds t low high = holds_around (table_moment t) (named t.table.now) (held t.table.now) (near_utc t.table.now) low high

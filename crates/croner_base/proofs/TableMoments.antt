@@ -1,5 +1,5 @@
 -- What the seconds of a table do as moments.
-use Rattle.std.proofs.Common.{◌≡◌, inl, inr, ap, ◌∙◌, Bool, true, false, refl, arith, ℤ, pos, neg_ℤ, ◌+ℤ◌, ◌≤ℤ◌, List, Some, None}
+use Rattle.std.proofs.Common.{◌≡◌, inl, inr, ap, ◌∙◌, true, false, refl, arith, ℤ, pos, neg_ℤ, ◌+ℤ◌, ◌≤ℤ◌, List, Some, None}
 use Rattle.jiff_core.proofs.SignedLemmas.{signed_arith}
 use Rattle.croner_base.specs.declared.errors.CronError.TheVariants.{InvalidDate}
 use Rattle.croner_base.specs.declared.time.civil.CivilDateTime.{CivilDateTime}
@@ -12,10 +12,11 @@ use Rattle.croner_base.specs.Civil.{wall_second}
 use Rattle.croner_base.specs.Calm.{NamesAll}
 use Rattle.croner_base.specs.Zone.{Zone, Moment, Names, IsResolved, IsUnheld, IsMoved, at_instant}
 use Rattle.croner_base.specs.ZonedZone.{is_near_year}
-use Rattle.croner_base.specs.Table.{is_table_second, is_calm_table}
+use Rattle.croner_base.specs.Table.{first_instant, last_instant, is_table_second, is_calm_table}
 use Rattle.croner_base.specs.TableZone.{clock, instants_of, table_zone, table_moment}
+use Rattle.croner_base.proofs.JiffSeconds.{first_near, last_near}
 use Rattle.croner_base.proofs.PickExact.{pick_exact}
-use Rattle.croner_base.proofs.TableTests.{le_of, both_parts, instant_test, instant_bounds}
+use Rattle.croner_base.proofs.TableTests.{between_false, instant_test}
 use Rattle.croner_base.proofs.TableOffsets.{candidates, offset_within}
 use Rattle.croner_base.proofs.TableReadings.{calm_spread, calm_offsets}
 use Rattle.croner_base.proofs.ZonedResolved.{is_near_year-true}
@@ -50,15 +51,8 @@ unfolding clock
 names_instants o cs w h =
     pick_exact (clock o cs) w _ _ (λ i e. candidates o cs w i (calm_spread o cs h) (calm_offsets o cs h) e)
 
-near_year_bounds : (y : ℤ) → is_near_year y ≡ true → (neg_ℤ (pos year_limit) ≤ℤ y) × (y ≤ℤ pos year_limit)
-near_year_bounds y h =
-    let p = both_parts _ _ h in
-    (le_of _ _ p.0, le_of _ _ p.1)
-
 pub near_year-false : (y : ℤ) → (neg_ℤ (pos year_limit) ≤ℤ y → y ≤ℤ pos year_limit → ⊥) → is_near_year y ≡ false
-near_year-false y h =
-    let both : (b : Bool) → is_near_year y ≡ b → b ≡ false = elim [ true ↦ λ e. absurd (h (near_year_bounds y e).0 (near_year_bounds y e).1) | false ↦ λ e. refl ] in
-    both _ refl
+near_year-false y h = between_false (neg_ℤ (pos year_limit)) (pos year_limit) y h
 
 -- a second of another year is not held
 pub unheld : (t : ClockTable) (c : CivilDateTime) → (neg_ℤ (pos year_limit) ≤ℤ c.date.year → c.date.year ≤ℤ pos year_limit → ⊥) → IsUnheld false (table_zone t) c InvalidDate
@@ -98,7 +92,7 @@ pub resolved_gap : (t : ClockTable) (c : CivilDateTime) → neg_ℤ (pos year_li
 resolved_gap t c low high n = resolves_to t c Gap low high n
 
 -- an instant that reads a second of the years -9998 to 9998 is held
-pub named_held : (t : ClockTable) (w s : ℤ) → (neg_ℤ (pos 377_673_580_800) ≤ℤ w) × (w ≤ℤ pos 253_370_764_799) → (table_zone t).reads s ≡ w → is_table_second s ≡ true
+pub named_held : (t : ClockTable) (w s : ℤ) → (first_near ≤ℤ w) × (w ≤ℤ last_near) → (table_zone t).reads s ≡ w → is_table_second s ≡ true
 unfolding clock
 named_held t w s b e =
     let o = offset_within t.first_offset t.changes.items s (calm_offsets t.first_offset t.changes.items t.calm) in
@@ -114,7 +108,5 @@ unfolding clock
 not_moved t n h = h
 
 -- a sum past the range of an i64 is no instant
-pub too_far : (i : ℤ) → ((neg_ℤ (pos 377_705_116_800) ≤ℤ i) → (i ≤ℤ pos 253_402_300_799) → ⊥) → is_table_second i ≡ false
-too_far i h =
-    let both : (b : Bool) → is_table_second i ≡ b → b ≡ false = elim [ true ↦ λ e. absurd (h (instant_bounds i e).0 (instant_bounds i e).1) | false ↦ λ e. refl ] in
-    both _ refl
+pub too_far : (i : ℤ) → (first_instant ≤ℤ i → i ≤ℤ last_instant → ⊥) → is_table_second i ≡ false
+too_far i h = between_false first_instant last_instant i h

@@ -33,23 +33,33 @@ nat_le_of a b h = grind arith
 pub nat_le_test : (a b : ℕ) → a ≤ b → nat_le a b ≡ true
 nat_le_test a b h = grind arith
 
--- an instant of the UTC years -9999 to 9999
-pub instant_bounds : (i : ℤ) → is_table_second i ≡ true → (first_instant ≤ℤ i) × (i ≤ℤ last_instant)
-instant_bounds i h =
+-- a number between two bounds
+pub between_of : (low high i : ℤ) → (int_le low i && int_le i high) ≡ true → (low ≤ℤ i) × (i ≤ℤ high)
+between_of low high i h =
     let p = both_parts _ _ h in
     (le_of _ _ p.0, le_of _ _ p.1)
 
+pub between_test : (low high i : ℤ) → low ≤ℤ i → i ≤ℤ high → (int_le low i && int_le i high) ≡ true
+between_test low high i from to = let a = le_test _ _ from in let b = le_test _ _ to in rw (a, b)
+
+pub between_false : (low high i : ℤ) → (low ≤ℤ i → i ≤ℤ high → ⊥) → (int_le low i && int_le i high) ≡ false
+between_false low high i out =
+    let both : (b : Bool) → (int_le low i && int_le i high) ≡ b → b ≡ false = elim [ true ↦ λ e. let within = between_of low high i e in absurd (out within.0 within.1) | false ↦ λ e. refl ] in
+    both _ refl
+
+-- an instant of the UTC years -9999 to 9999
+pub instant_bounds : (i : ℤ) → is_table_second i ≡ true → (first_instant ≤ℤ i) × (i ≤ℤ last_instant)
+instant_bounds i h = between_of first_instant last_instant i h
+
 pub instant_test : (i : ℤ) → first_instant ≤ℤ i → i ≤ℤ last_instant → is_table_second i ≡ true
-instant_test i low high = let a = le_test _ _ low in let b = le_test _ _ high in rw (a, b)
+instant_test i low high = between_test first_instant last_instant i low high
 
 -- an offset of at most a day
 pub offset_bounds : (o : ℤ) → is_offset o ≡ true → (neg_ℤ (pos offset_limit) ≤ℤ o) × (o ≤ℤ pos offset_limit)
-offset_bounds o h =
-    let p = both_parts _ _ h in
-    (le_of _ _ p.0, le_of _ _ p.1)
+offset_bounds o h = between_of (neg_ℤ (pos offset_limit)) (pos offset_limit) o h
 
 pub offset_test : (o : ℤ) → neg_ℤ (pos offset_limit) ≤ℤ o → o ≤ℤ pos offset_limit → is_offset o ≡ true
-offset_test o low high = let a = le_test _ _ low in let b = le_test _ _ high in rw (a, b)
+offset_test o low high = between_test (neg_ℤ (pos offset_limit)) (pos offset_limit) o low high
 
 -- what a change does to the clock
 pub record Step (before after : ℤ) : Type 0 where
@@ -69,7 +79,7 @@ step_parts before after h =
 
 -- a wall second of the years 1 to 5000
 pub searched_test : (w : ℤ) → first_searched ≤ℤ w → w ≤ℤ last_searched → is_searched w ≡ true
-searched_test w low high = let a = le_test _ _ low in let b = le_test _ _ high in rw (a, b)
+searched_test w low high = between_test first_searched last_searched w low high
 
 pub gt_of : (a b : ℤ) → int_le a b ≡ false → b <ℤ a
 gt_of a b h = grind (arith, ints)

@@ -5,7 +5,7 @@ use Rattle.jiff_core.specs.Calendar.{days_in_month}
 use Rattle.croner_base.specs.declared.time.civil.CivilDateTime.{CivilDateTime}
 use Rattle.croner_base.specs.declared.time.civil.CivilDate.{CivilDate}
 use Rattle.croner_base.specs.declared.time.civil.CivilTime.{CivilTime}
-use Rattle.croner_base.specs.Calendar.{day_number}
+use Rattle.croner_base.specs.Calendar.{day_number, day_seconds}
 use Rattle.croner_base.specs.Civil.{HasYmd, wall_second, day_of_date, seconds_of_time}
 use Rattle.croner_base.proofs.Days.{day_number-day, day_number-next_month, day_number-next_year}
 use Rattle.croner_base.proofs.JiffSeconds.{wall_second-parts}
@@ -49,5 +49,5 @@ module _ (a r : CivilDate) (y : ℤ) (m d : ℕ) (is : HasYmd y m d r) where
       let here : day_of_date a ≡ day_number (y +ℤ pos 1) 1 1 = rw (f, month, day) refl in
       omega (arith, ints, day_number-next_year y)
 
-pub second_of : (r : CivilDateTime) (d : CivilDate) (t : CivilTime) → r.date ≡ d → r.time ≡ t → wall_second r ≡ day_of_date d *ℤ pos 86_400 +ℤ pos (seconds_of_time t)
+pub second_of : (r : CivilDateTime) (d : CivilDate) (t : CivilTime) → r.date ≡ d → r.time ≡ t → wall_second r ≡ day_of_date d *ℤ pos day_seconds +ℤ pos (seconds_of_time t)
 second_of r d t p q = wall_second-parts r ∙ rw (p, q) refl

@@ -1,5 +1,5 @@
 -- What jiff's zoned date-times do as moments.
-use Rattle.std.proofs.Common.{◌≡◌, Bool, true, false, refl, sym, ap, ◌∙◌, arith, ℤ, pos, neg_ℤ, ◌+ℤ◌, ◌-ℤ◌, ◌*ℤ◌, ◌≤ℤ◌, int_eq, int_lt, unsigned_abs}
+use Rattle.std.proofs.Common.{◌≡◌, Bool, true, false, refl, sym, ap, ◌∙◌, arith, ℤ, pos, ◌+ℤ◌, ◌-ℤ◌, ◌*ℤ◌, ◌≤ℤ◌, int_eq, int_lt, unsigned_abs}
 use Rattle.std.proofs.lemmas.Int.{ints}
 use Rattle.std.specs.Int.{int_div_euclid, int_rem_euclid}
 use Rattle.jiff_core.specs.DateTime.{civil_seconds, civil_nanos}
@@ -13,6 +13,7 @@ use Rattle.jiff_tz.specs.Zone.{offset_at}
 use Rattle.jiff_tz.specs.declared.timezone.TimeZone.{TimeZone}
 use Rattle.jiff_zoned.specs.declared.zoned.Zoned.{Zoned}
 use Rattle.croner_base.specs.Zone.{later, nanos_of, reading}
+use Rattle.croner_base.proofs.TableTests.{between_test, between_false}
 use Rattle.croner_base.specs.ZonedZone.{zoned_moment, zoned_zone, zone_reads, is_timestamp_second, nearest_timestamp, first_timestamp, last_timestamp}
 
 -- the reading of a moment
@@ -44,16 +45,11 @@ nanos_of-zoned z = omega (arith, signed_arith)
 pub floor_in_range : (n : ℤ) → IsTimestampNanos n → IsTimestampNanos (int_div_euclid n (pos 1_000_000_000) *ℤ pos 1_000_000_000)
 floor_in_range n h = (omega (arith, signed_arith), omega (arith, signed_arith))
 
-pub is_timestamp_second-true : (i : ℤ) → neg_ℤ (pos 377_705_023_201) ≤ℤ i → i ≤ℤ pos 253_402_207_200 → is_timestamp_second i ≡ true
-is_timestamp_second-true i low high = grind (arith, ints)
+pub is_timestamp_second-true : (i : ℤ) → first_timestamp ≤ℤ i → i ≤ℤ last_timestamp → is_timestamp_second i ≡ true
+is_timestamp_second-true i low high = between_test first_timestamp last_timestamp i low high
 
-pub is_timestamp_second_bounds : (i : ℤ) → is_timestamp_second i ≡ true → (neg_ℤ (pos 377_705_023_201) ≤ℤ i) × (i ≤ℤ pos 253_402_207_200)
-is_timestamp_second_bounds i h = grind (arith, ints)
-
-pub is_timestamp_second-false : (i : ℤ) → (neg_ℤ (pos 377_705_023_201) ≤ℤ i → i ≤ℤ pos 253_402_207_200 → ⊥) → is_timestamp_second i ≡ false
-is_timestamp_second-false i h =
-    let both : (b : Bool) → is_timestamp_second i ≡ b → b ≡ false = elim [ true ↦ λ e. absurd (h (is_timestamp_second_bounds i e).0 (is_timestamp_second_bounds i e).1) | false ↦ λ e. refl ] in
-    both _ refl
+pub is_timestamp_second-false : (i : ℤ) → (first_timestamp ≤ℤ i → i ≤ℤ last_timestamp → ⊥) → is_timestamp_second i ≡ false
+is_timestamp_second-false i h = between_false first_timestamp last_timestamp i h
 
 -- elapsed seconds later
 pub zoned_later : (a b : Zoned) (s n : ℤ) → n ≡ s *ℤ pos 1_000_000_000 → b.timestamp.nanosecond ≡ a.timestamp.nanosecond +ℤ n → b.time_zone ≡ a.time_zone

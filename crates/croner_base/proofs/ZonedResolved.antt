@@ -24,10 +24,11 @@ use Rattle.croner_base.specs.Zone.{Names, IsUnheld, IsResolved}
 use Rattle.croner_base.specs.ZonedZone.{zoned_zone, zone_reads, is_near_year, jiff_datetime, pick, pick_offsets, resolve_by}
 use Rattle.croner_base.specs.ZonedValue.{value_moment, chosen}
 use Rattle.croner_base.proofs.JiffSeconds.{wall_second-civil_seconds, near_second}
+use Rattle.croner_base.proofs.TableTests.{between_test}
 use Rattle.croner_base.proofs.ZonedMoments.{Side, side}
 
 pub is_near_year-true : (y : ℤ) → neg_ℤ (pos year_limit) ≤ℤ y → y ≤ℤ pos year_limit → is_near_year y ≡ true
-is_near_year-true y low high = grind (arith, ints)
+is_near_year-true y low high = between_test (neg_ℤ (pos year_limit)) (pos year_limit) y low high
 
 pub is_near_year-low : (y : ℤ) → y <ℤ neg_ℤ (pos year_limit) → is_near_year y ≡ false
 is_near_year-low y low = grind (arith, ints)

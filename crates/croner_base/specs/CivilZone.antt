@@ -1,14 +1,15 @@
 -- The zone of civil date-times: a clock that never changes.
-use Rattle.std.specs.Prelude.{◌≡◌, Bool, ◌&&◌, int_le, if◌then◌else◌, ℤ, pos, neg_ℤ, Some, None}
+use Rattle.std.specs.Prelude.{◌≡◌, Bool, ◌&&◌, int_le, if◌then◌else◌, ℤ, Some, None}
 use Rattle.jiff_core.specs.declared.civil.datetime.DateTime.{DateTime}
 use Rattle.jiff_core.specs.DateTime.{civil_seconds}
 use Rattle.croner_base.specs.declared.time.value.Resolution.TheVariants.{Single}
 use Rattle.croner_base.specs.Civil.{wall_second}
 use Rattle.croner_base.specs.Zone.{Zone, Moment}
+use Rattle.croner_base.specs.Table.{first_instant, last_instant}
 
 -- a second of the years -9999 to 9999
 abbrev pub is_jiff_second : ℤ → Bool
-is_jiff_second i = int_le (neg_ℤ (pos 377_705_116_800)) i && int_le i (pos 253_402_300_799)
+is_jiff_second i = int_le first_instant i && int_le i last_instant
 
 -- the zone that shows each instant as itself
 abbrev pub civil_zone : Zone

@@ -1,5 +1,8 @@
 //! Limits that more than one crate goes by.
 
+/// The seconds of a day on a wall clock.
+pub const SECONDS_PER_DAY: u32 = 86_400;
+
 /// The most seconds that the clock of a calm zone is moved forward at once.
 pub const GAP_LIMIT_SECONDS: u32 = 86_400;
 

@@ -1,5 +1,6 @@
 //! Steps along the wall clock: to the second, and to the day, that is next to one.
-ghost use Rattle.std.specs.Prelude.{◌≡◌, ◌+◌, pos, neg_ℤ, ◌+ℤ◌, ◌-ℤ◌, MatchOption};
+ghost use Rattle.std.specs.Prelude.{◌≡◌, ◌+◌, ◌-◌, pos, neg_ℤ, ◌+ℤ◌, ◌-ℤ◌, MatchOption};
+ghost use Rattle.croner_base.specs.Calendar.{day_seconds};
 ghost use Rattle.croner_base.specs.Civil.{HasYmd, wall_second, day_of_date, seconds_of_time};
 ghost use Rattle.croner_base.specs.Ends.{IsLastDate, IsFirstDate};
 
@@ -17,7 +18,7 @@ const LAST_DAY_OF_YEAR: u32 = 31;
 
 // The next second of the same day.
 fn time_after(time: CivilTime) -> Option<CivilTime>
-    ensures { MatchOption result (seconds_of_time time ≡ 86_399)
+    ensures { MatchOption result (seconds_of_time time ≡ day_seconds - 1)
         (λ moved. seconds_of_time moved ≡ seconds_of_time time + 1) }
 {
     let (hour, minute, second) = (time.hour(), time.minute(), time.second());
@@ -85,7 +86,7 @@ pub fn day_before(date: CivilDate) -> Option<CivilDate>
 /// The next second: `2024-02-29T00:00:00` after `2024-02-28T23:59:59`. `None` after the last second of the last year of
 /// `i32`.
 pub fn second_after(civil: CivilDateTime) -> Option<CivilDateTime>
-    ensures { MatchOption result (IsLastDate civil.date × (seconds_of_time civil.time ≡ 86_399))
+    ensures { MatchOption result (IsLastDate civil.date × (seconds_of_time civil.time ≡ day_seconds - 1))
         (λ moved. wall_second moved ≡ wall_second civil +ℤ pos 1) }
 {
     match time_after(civil.time()) {

@@ -1,5 +1,6 @@
 -- The shape of each field of a pattern: its bounds, the modifiers that it supports, and what is taken off a number read.
 use Rattle.std.specs.Prelude.{ℕ, Bool, false, ◌&&◌, ◌||◌, ◌==◌, List}
+use Rattle.croner_base.specs.Limits.{first_year, last_year}
 use Rattle.croner_base.specs.Field.{Shape, new_shape, empty_field}
 use Rattle.croner_base.specs.Limits.{first_year, last_year}
 use Rattle.croner_pattern.specs.Meaning.{Meaning}

@@ -1,10 +1,8 @@
 -- What an iterator over a table gave between two standings, call by call.
-use Rattle.std.proofs.Common.{◌≡◌, ◌↔◌, ℕ, zero, suc, ◌+◌, ℤ, ◌⊎◌, inl, inr, refl, sym, subst, arith, Bool, true, false, IsTrue, List, [], ◌∷◌, ◌++◌, Option, None, ap, ◌∙◌, length, map, get_or}
+use Rattle.std.proofs.Common.{◌≡◌, ◌↔◌, ℕ, suc, ◌+◌, ℤ, inl, inr, refl, sym, subst, arith, Bool, true, false, IsTrue, List, [], ◌∷◌, ◌++◌, Option, None, ap, ◌∙◌, get_or}
 use Rattle.std.proofs.lemmas.Bool.{false≢true}
-use Rattle.std.proofs.lemmas.Int.{ints}
 use Rattle.std.proofs.lemmas.List.{map_push}
 use Rattle.std.proofs.lemmas.List.Elements.{All-push}
-use Rattle.std.specs.List.{All}
 use Rattle.std.specs.declared.alloc.Global.{Global}
 use Rattle.std.specs.declared.vec.Vec.{Vec}
 use Rattle.croner_base.specs.Calm.{IsCalm}
@@ -12,32 +10,23 @@ use Rattle.croner_base.specs.Zone.{Zone, Moment}
 use Rattle.croner_base.specs.declared.errors.CronError.{CronError}
 use Rattle.croner_base.specs.declared.errors.CronError.TheVariants.{TimeSearchLimitExceeded}
 use Rattle.croner_base.specs.declared.time.Direction.{Direction}
-use Rattle.croner_base.specs.declared.time.Direction.TheVariants.{Forward, Backward}
 use Rattle.croner_pattern.specs.Meaning.{Meaning}
-use Rattle.croner.specs.search.Runs.{Job, Run, Counts, Precedes, Reaches}
-use Rattle.croner.specs.iterator.Faults.{fault_of}
+use Rattle.croner.specs.search.Runs.{Precedes, Reaches}
 use Rattle.croner.specs.search.Premises.{StartsCalm}
 use Rattle.croner.specs.search.PatternJob.{pattern_job}
 use Rattle.croner.specs.search.Limit.{InSpan}
-use Rattle.croner.specs.crontable.Tables.{CountsAt, TableCounts, ArePlaces}
+use Rattle.croner.specs.crontable.Tables.{CountsAt, ArePlaces}
 use Rattle.croner.specs.crontable.TableListing.{TableStanding, table_standing_of, new_table_standing, counts_table_position, table_moved, IsLeftAt, IsTableLeft, GivesTableItem, GivesNoTableItem}
 use Rattle.croner.specs.crontable.TableItems.{item_instants, HavePlaces, BeginsTableRest, GaveTable, GaveAllTable, table_items, TakesTable, TakesTableInTurn}
 use Rattle.croner.specs.declared.crontable.iterator.CronTableIterator.{CronTableIterator}
-use Rattle.croner.proofs.cursor.Ahead.{precedes-trans, same_or_ahead}
+use Rattle.croner.proofs.zone.Ahead.{same_or_ahead, reaches-precedes}
+use Rattle.croner.proofs.zone.RunsOfSeconds.{counts_reaches}
 use Rattle.croner.proofs.iterator.Faults.{no_fault_is_limit}
-use Rattle.croner.proofs.iterator.Listings.{Splits, splits_none, splits_next, IsNext, is_run, begins_where, past_start}
+use Rattle.croner.proofs.iterator.Listings.{all_given, Splits, splits_none, splits_next, IsNext, is_run, begins_where, past_start}
 
 -- ---- one place
 
 -- what counts from the start, of a position that lies no earlier: ahead of the position it counts from there too
-at_reaches : (direction : Direction) (inclusive : Bool) (job : Job) (s i : ℤ) → Counts direction inclusive job s i → Reaches direction s i
-at_reaches Forward inclusive job s i counts = elim counts [ inl (lt, run) ↦ omega (arith, ints) | inr (is, e, own) ↦ omega (arith, ints) ]
-at_reaches Backward inclusive job s i counts = elim counts [ inl (lt, run) ↦ omega (arith, ints) | inr (is, e, own) ↦ omega (arith, ints) ]
-
-then_ahead : (direction : Direction) (s t i : ℤ) → Reaches direction s t → Precedes direction t i → Precedes direction s i
-then_ahead Forward s t i h k = omega (arith, ints)
-then_ahead Backward s t i h k = omega (arith, ints)
-
 module _ (direction : Direction) (inclusive : Bool) (patterns : List Meaning) (z : Zone) (s t : ℤ) (on : Reaches direction s t) where
   -- what is left behind an item
   at_within : (k : ℕ) (i : ℤ) → CountsAt direction false patterns z t k i → CountsAt direction inclusive patterns z s k i
@@ -45,7 +34,7 @@ module _ (direction : Direction) (inclusive : Bool) (patterns : List Meaning) (z
     pattern = at.pattern;
     stands = at.stands;
     counts = inl (
-      then_ahead direction s t i on (past_start direction (pattern_job at.pattern z) t i at.counts),
+      reaches-precedes direction s t i on (past_start direction (pattern_job at.pattern z) t i at.counts),
       is_run direction false (pattern_job at.pattern z) t i at.counts,
     );
   }
@@ -101,7 +90,7 @@ module _ (cur : TableStanding) (item : Moment) (places : List ℕ) (new : TableS
   on_item : Reaches cur.direction cur.position.instant item.instant
   on_item =
       let at = first_at.1 in
-      at_reaches cur.direction (counts_table_position cur) (pattern_job at.pattern cur.position.zone) cur.position.instant item.instant at.counts
+      counts_reaches cur.direction (counts_table_position cur) (pattern_job at.pattern cur.position.zone) cur.position.instant item.instant at.counts
 
   -- in the item's zone, which is that of the position
   moved_at : (k : ℕ) (i : ℤ) → IsLeftAt (table_moved cur item) k i ↔ CountsAt cur.direction false cur.patterns cur.position.zone item.instant k i
@@ -194,11 +183,7 @@ is_over old cur new items g n without =
     n.refused.limit (g.calm p) (limit_without cur new n without) i in_zone left)
 
 pub gave_all_table : (old cur : TableStanding) (items : List (ℤ × List ℕ)) → TableGoes old cur items → IsTableOver old cur → StartsCalm old.position → GaveAllTable old items
-gave_all_table old cur items g over p = λ i left span.
-    elim ((g.splits p).either i left) [
-      | inl had ↦ had
-      | inr rest ↦ absurd (over p i rest span)
-    ]
+gave_all_table old cur items g over p = all_given old.direction (IsTableLeft old) (IsTableLeft cur) (InSpan old.direction old.position.zone.reads) (instants_of items) (g.splits p) (over p)
 
 -- one call more
 module _ {T : Type 0} (moment : T → Moment) (old : TableStanding) (cur new : CronTableIterator T) (before after : List (T × Vec ℕ Global)) where

@@ -17,7 +17,7 @@ use Rattle.croner.specs.declared.iterator.CronIterator.{CronIterator}
 use Rattle.std.proofs.lemmas.Bool.{false≢true}
 use Rattle.std.proofs.lemmas.List.{map_push, length_push}
 use Rattle.std.proofs.lemmas.List.Elements.{All-push}
-use Rattle.croner.proofs.iterator.Listings.{Splits, splits_none, splits_next, IsNext, is_next, is_run, begins}
+use Rattle.croner.proofs.iterator.Listings.{all_given, Splits, splits_none, splits_next, IsNext, is_next, is_run, begins}
 use Rattle.croner.proofs.iterator.Faults.{no_fault_is_limit}
 use Rattle.croner.proofs.zone.SearchLimit.{calm_start}
 use Rattle.croner.proofs.iterator.ThereAndBack.{searchable_run}
@@ -114,11 +114,7 @@ is_over lack old cur new items g n without =
     n.refused.limit (g.calm p) (limit_without lack cur new n without) i in_zone left)
 
 pub gave_all : (old cur : Standing) (items : List ℤ) → Goes old cur items → IsOver old cur → StartsCalm old.position → GaveAll old items
-gave_all old cur items g over p = λ i left span.
-    elim ((g.splits p).either i left) [
-      | inl had ↦ had
-      | inr rest ↦ absurd (over p i rest span)
-    ]
+gave_all old cur items g over p = all_given old.direction (IsLeft old) (IsLeft cur) (InSpan old.direction old.position.zone.reads) items (g.splits p) (over p)
 
 -- as many items as calls, or all of them
 pub counted_all : (old cur : Standing) (items : List ℤ) (n calls : ℕ) → Goes old cur items → (n ≡ calls) ⊎ IsOver old cur → IsSearchable old.position → (n ≡ calls) ⊎ GaveAll old items

@@ -1,85 +1,37 @@
 -- Listings of runs, item by item: a list that begins what is left, and what is left behind its last item.
-use Rattle.std.proofs.Common.{◌≡◌, ◌↔◌, ℤ, ◌<ℤ◌, ◌≤ℤ◌, ◌⊎◌, arith, sym, inl, inr, subst, Bool, false, List, [], ◌∷◌, ◌++◌, get_or, rules}
+use Rattle.std.proofs.Common.{◌≡◌, ◌↔◌, ℤ, ◌⊎◌, arith, sym, inl, inr, subst, Bool, false, List, [], ◌∷◌, ◌++◌, get_or, rules}
 use Rattle.std.proofs.lemmas.Bool.{false≢true}
-use Rattle.std.proofs.lemmas.Int.{ints, by_lt_z}
 use Rattle.std.proofs.lemmas.List.Elements.{All-push, All-contains, Contains-push, Contains-append_left}
 use Rattle.std.proofs.lemmas.List.Quantifiers.{all_pairs_push}
 use Rattle.std.specs.List.{All, AllPairs, Contains}
-use Rattle.croner.specs.search.Runs.{Job, Run, Counts, Nearest, Precedes, Reaches}
+use Rattle.croner.specs.search.Runs.{Job, Run, Counts, Nearest, Precedes}
 use Rattle.croner_base.specs.Zone.{Moment}
 use Rattle.croner_pattern.specs.Meaning.{Meaning}
 use Rattle.croner.specs.iterator.Listing.{Begins, BeginsWhere, Standing, IsLeft, moved, new_standing}
+pub use Rattle.croner.proofs.zone.RunsOfSeconds.{is_run}
+use Rattle.croner.proofs.zone.RunsOfSeconds.{counts_reaches}
+use Rattle.croner.proofs.zone.Ahead.{not_both, same_or_ahead, reaches-precedes}
 use Rattle.croner_base.specs.declared.time.Direction.{Direction}
 use Rattle.croner_base.specs.declared.time.Direction.TheVariants.{Forward, Backward}
-
-cases_lt_z : (a b : ℤ) → (a <ℤ b) ⊎ (b ≤ℤ a)
-cases_lt_z a b = by_lt_z a b (λ h. inl h) (λ h. inr h)
-
-same : (a b : ℤ) → a ≤ℤ b → b ≤ℤ a → a ≡ b
-same a b h k = omega (arith, ints)
-
--- ---- before and after in a direction
-
-no_later : (direction : Direction) (a b : ℤ) → Precedes direction a b → Reaches direction b a → ⊥
-no_later Forward a b h k = omega (arith, ints)
-no_later Backward a b h k = omega (arith, ints)
-
-reaches_both : (direction : Direction) (a b : ℤ) → Reaches direction a b → Reaches direction b a → a ≡ b
-reaches_both Forward a b h k = same a b h k
-reaches_both Backward a b h k = same a b k h
-
-further : (direction : Direction) (a b c : ℤ) → Precedes direction a b → Precedes direction b c → Precedes direction a c
-further Forward a b c h k = omega (arith, ints)
-further Backward a b c h k = omega (arith, ints)
 
 -- ---- what counts behind the nearest run
 
 -- what counts from the start is the nearest run, or counts from it
 pub after_nearest : (direction : Direction) (inclusive : Bool) (job : Job) (s t i : ℤ) → Nearest direction inclusive job s t → Counts direction inclusive job s i → (i ≡ t) ⊎ Counts direction false job t i
-after_nearest Forward inclusive job s t i near counts =
-    let le = near.nearest i counts in
-    elim (cases_lt_z t i) [
-      | inr ge ↦ inl (same i t ge le)
-      | inl lt ↦
-          elim counts [
-            | inl (past, run) ↦ inr (inl (lt, run))
-            | inr (is, e, own) ↦ elim near.counts [ inl (past, run) ↦ absurd (omega (arith, ints)) | inr (is2, e2, own2) ↦ absurd (omega (arith, ints)) ]
-          ]
-    ]
-after_nearest Backward inclusive job s t i near counts =
-    let le = near.nearest i counts in
-    elim (cases_lt_z i t) [
-      | inr ge ↦ inl (same i t le ge)
-      | inl lt ↦
-          elim counts [
-            | inl (past, run) ↦ inr (inl (lt, run))
-            | inr (is, e, own) ↦ elim near.counts [ inl (past, run) ↦ absurd (omega (arith, ints)) | inr (is2, e2, own2) ↦ absurd (omega (arith, ints)) ]
-          ]
-    ]
-
--- what counts from the nearest run counts from the start
-pub counts_after : (direction : Direction) (inclusive : Bool) (job : Job) (s t i : ℤ) → Nearest direction inclusive job s t → Counts direction false job t i → Counts direction inclusive job s i
-counts_after Forward inclusive job s t i near counts =
-    elim counts [
-      | inr (is, e, own) ↦ absurd (false≢true is)
-      | inl (past, run) ↦ elim near.counts [ inl (from, r) ↦ inl (omega (arith, ints), run) | inr (is, e, own) ↦ inl (omega (arith, ints), run) ]
-    ]
-counts_after Backward inclusive job s t i near counts =
-    elim counts [
-      | inr (is, e, own) ↦ absurd (false≢true is)
-      | inl (past, run) ↦ elim near.counts [ inl (from, r) ↦ inl (omega (arith, ints), run) | inr (is, e, own) ↦ inl (omega (arith, ints), run) ]
+after_nearest direction inclusive job s t i near counts =
+    elim (same_or_ahead direction t i (near.nearest i counts)) [
+      | inl e ↦ inl (sym e)
+      | inr lt ↦ inr (inl (lt, is_run direction inclusive job s i counts))
     ]
 
 -- an exclusive search counts nothing that comes no later than its start
 pub past_start : (direction : Direction) (job : Job) (t i : ℤ) → Counts direction false job t i → Precedes direction t i
 past_start direction job t i counts = elim counts [ inl (past, run) ↦ past | inr (is, e, own) ↦ absurd (false≢true is) ]
 
--- what counts is a run
-pub is_run : (direction : Direction) (inclusive : Bool) (job : Job) (s i : ℤ) → Counts direction inclusive job s i → Run job i
-is_run Forward inclusive job s i counts =
-    elim counts [ inl (past, run) ↦ run | inr (is, e, own) ↦ subst (Run job) (sym e) (inl own) ]
-is_run Backward inclusive job s i counts =
-    elim counts [ inl (past, run) ↦ run | inr (is, e, run) ↦ subst (Run job) (sym e) run ]
+-- what counts from the nearest run counts from the start
+pub counts_after : (direction : Direction) (inclusive : Bool) (job : Job) (s t i : ℤ) → Nearest direction inclusive job s t → Counts direction false job t i → Counts direction inclusive job s i
+counts_after direction inclusive job s t i near counts =
+    inl (reaches-precedes direction s t i (counts_reaches direction inclusive job s t near.counts) (past_start direction job t i counts), is_run direction false job t i counts)
 
 -- ---- lists
 
@@ -132,12 +84,16 @@ begins_where direction left rest items h = record {
   complete = λ i last counts has reaches.
       elim (h.either i counts) [
         | inl had ↦ had
-        | inr r ↦ absurd (no_later direction last i (All-contains (λ x. Precedes direction x i) items last (h.behind i r) has) reaches)
+        | inr r ↦ absurd (not_both direction last i (All-contains (λ x. Precedes direction x i) items last (h.behind i r) has) reaches)
       ];
 }
 
 pub begins : (direction : Direction) (inclusive : Bool) (job : Job) (s : ℤ) (rest : ℤ → Type 0) (items : List ℤ) → Splits direction (Counts direction inclusive job s) rest items → Begins direction inclusive job s items
 begins direction inclusive job s rest items h = begins_where direction (Counts direction inclusive job s) rest items h
+
+-- where nothing of the rest is meant, all that is meant was given
+pub all_given : (direction : Direction) (left rest Meant : ℤ → Type 0) (items : List ℤ) → Splits direction left rest items → ((i : ℤ) → rest i → Meant i → ⊥) → (i : ℤ) → left i → Meant i → Contains items i
+all_given direction left rest Meant items h over i counts meant = elim (h.either i counts) [ inl had ↦ had | inr r ↦ absurd (over i r meant) ]
 
 -- the nearest run is the next of what counts, and what counts from it is left
 pub is_next : (direction : Direction) (inclusive : Bool) (job : Job) (s t : ℤ) → Nearest direction inclusive job s t → IsNext direction (Counts direction inclusive job s) (Counts direction false job t) t
@@ -151,18 +107,12 @@ is_next direction inclusive job s t near = record {
 -- back from the next run: the run itself
 pub there_and_back : (job : Job) (r n b : ℤ) → Run job r → Nearest Forward false job r n → Nearest Backward false job n b → b ≡ r
 there_and_back job r n b run next back =
-    elim next.counts [
-      | inr (is, e, own) ↦ absurd (false≢true is)
-      | inl (lt, run_n) ↦
-          let le : r ≤ℤ b = back.nearest r (inl (lt, run)) in
-          elim back.counts [
-            | inr (is, e, own) ↦ absurd (false≢true is)
-            | inl (under, run_b) ↦
-                elim (cases_lt_z r b) [
-                  | inr ge ↦ same b r ge le
-                  | inl between ↦ let k : n ≤ℤ b = next.nearest b (inl (between, run_b)) in absurd (omega (arith, ints))
-                ]
-          ]
+    let le = back.nearest r (inl (past_start Forward job r n next.counts, run)) in
+    elim (same_or_ahead Backward b r le) [
+      | inl e ↦ e
+      | inr between ↦
+          let on = next.nearest b (inl (between, is_run Backward false job n b back.counts)) in
+          absurd (not_both Forward b n (past_start Backward job n b back.counts) on)
     ]
 
 -- ---- taken up at an item

@@ -93,27 +93,20 @@ equal_but_texts m n h =
 
 -- ---- what does not look at the text
 
-scheduled_there : (m n : Meaning) (w : ℤ) → AreSameButTexts m n → IsScheduled m w → IsScheduled n w
-scheduled_there m n w h s = subst (λ x. IsScheduled x w) (sym h) (record { shown = s.shown; shows = s.shows; matches = s.matches })
-
-scheduled_back : (m n : Meaning) (w : ℤ) → AreSameButTexts m n → IsScheduled n w → IsScheduled m w
-scheduled_back m n w h s =
-    let k : IsScheduled (record m { text = n.text }) w = subst (λ x. IsScheduled x w) h s in
-    record { shown = k.shown; shows = k.shows; matches = k.matches }
+same_without_text : (P : Meaning → Type 0) (m n : Meaning) → AreSameButTexts m n → (P m ↔ P (record m { text = n.text })) → P m ↔ P n
+same_without_text P m n h same = (λ s. subst P (sym h) (same.0 s), λ s. same.1 (subst P h s))
 
 pub same_schedule : (m n : Meaning) (w : ℤ) → AreSameButTexts m n → IsScheduled m w ↔ IsScheduled n w
-same_schedule m n w h = (scheduled_there m n w h, scheduled_back m n w h)
-
-dates_there : (m n : Meaning) (w : ℤ) → AreSameButTexts m n → DateMatches m w → DateMatches n w
-dates_there m n w h s = subst (λ x. DateMatches x w) (sym h) (record { shown = s.shown; shows = s.shows; matches = s.matches })
-
-dates_back : (m n : Meaning) (w : ℤ) → AreSameButTexts m n → DateMatches n w → DateMatches m w
-dates_back m n w h s =
-    let k : DateMatches (record m { text = n.text }) w = subst (λ x. DateMatches x w) h s in
-    record { shown = k.shown; shows = k.shows; matches = k.matches }
+same_schedule m n w h = same_without_text (λ x. IsScheduled x w) m n h (
+  λ s. record { shown = s.shown; shows = s.shows; matches = s.matches },
+  λ s. record { shown = s.shown; shows = s.shows; matches = s.matches },
+)
 
 pub same_dates : (m n : Meaning) (w : ℤ) → AreSameButTexts m n → DateMatches m w ↔ DateMatches n w
-same_dates m n w h = (dates_there m n w h, dates_back m n w h)
+same_dates m n w h = same_without_text (λ x. DateMatches x w) m n h (
+  λ s. record { shown = s.shown; shows = s.shows; matches = s.matches },
+  λ s. record { shown = s.shown; shows = s.shows; matches = s.matches },
+)
 
 -- ---- what `==` answers
 

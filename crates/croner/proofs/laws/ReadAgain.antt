@@ -91,40 +91,32 @@ plainly bs s e b l = record { cs = bs; scalars = s; spells = e; begins = b; ends
 abbrev whole : Bool → Bool → List ℕ → List ℕ
 whole needs_seconds needs_year name = cond needs_seconds (codes "0 ") [] ++ name ++ cond needs_year (codes " *") []
 
+-- what holds with and without a zero before it and a star behind it
+each_way : (P : Bool → Bool → Type 0) → P true true → P true false → P false true → P false false → (a b : Bool) → P a b
+each_way P x y z w true true = x
+each_way P x y z w true false = y
+each_way P x y z w false true = z
+each_way P x y z w false false = w
+
 yearly : (a b : Bool) → IsTrimmed (whole a b (codes "0 0 1 1 *"))
 unfolding lib.Utf8.encode
-yearly true true = plainly (whole true true (codes "0 0 1 1 *")) refl refl refl refl
-yearly true false = plainly (whole true false (codes "0 0 1 1 *")) refl refl refl refl
-yearly false true = plainly (whole false true (codes "0 0 1 1 *")) refl refl refl refl
-yearly false false = plainly (whole false false (codes "0 0 1 1 *")) refl refl refl refl
+yearly = each_way (λ a b. IsTrimmed (whole a b (codes "0 0 1 1 *"))) (plainly _ refl refl refl refl) (plainly _ refl refl refl refl) (plainly _ refl refl refl refl) (plainly _ refl refl refl refl)
 
 monthly : (a b : Bool) → IsTrimmed (whole a b (codes "0 0 1 * *"))
 unfolding lib.Utf8.encode
-monthly true true = plainly (whole true true (codes "0 0 1 * *")) refl refl refl refl
-monthly true false = plainly (whole true false (codes "0 0 1 * *")) refl refl refl refl
-monthly false true = plainly (whole false true (codes "0 0 1 * *")) refl refl refl refl
-monthly false false = plainly (whole false false (codes "0 0 1 * *")) refl refl refl refl
+monthly = each_way (λ a b. IsTrimmed (whole a b (codes "0 0 1 * *"))) (plainly _ refl refl refl refl) (plainly _ refl refl refl refl) (plainly _ refl refl refl refl) (plainly _ refl refl refl refl)
 
 weekly : (a b : Bool) → IsTrimmed (whole a b (codes "0 0 * * SUN"))
 unfolding lib.Utf8.encode
-weekly true true = plainly (whole true true (codes "0 0 * * SUN")) refl refl refl refl
-weekly true false = plainly (whole true false (codes "0 0 * * SUN")) refl refl refl refl
-weekly false true = plainly (whole false true (codes "0 0 * * SUN")) refl refl refl refl
-weekly false false = plainly (whole false false (codes "0 0 * * SUN")) refl refl refl refl
+weekly = each_way (λ a b. IsTrimmed (whole a b (codes "0 0 * * SUN"))) (plainly _ refl refl refl refl) (plainly _ refl refl refl refl) (plainly _ refl refl refl refl) (plainly _ refl refl refl refl)
 
 daily : (a b : Bool) → IsTrimmed (whole a b (codes "0 0 * * *"))
 unfolding lib.Utf8.encode
-daily true true = plainly (whole true true (codes "0 0 * * *")) refl refl refl refl
-daily true false = plainly (whole true false (codes "0 0 * * *")) refl refl refl refl
-daily false true = plainly (whole false true (codes "0 0 * * *")) refl refl refl refl
-daily false false = plainly (whole false false (codes "0 0 * * *")) refl refl refl refl
+daily = each_way (λ a b. IsTrimmed (whole a b (codes "0 0 * * *"))) (plainly _ refl refl refl refl) (plainly _ refl refl refl refl) (plainly _ refl refl refl refl) (plainly _ refl refl refl refl)
 
 hourly : (a b : Bool) → IsTrimmed (whole a b (codes "0 * * * *"))
 unfolding lib.Utf8.encode
-hourly true true = plainly (whole true true (codes "0 * * * *")) refl refl refl refl
-hourly true false = plainly (whole true false (codes "0 * * * *")) refl refl refl refl
-hourly false true = plainly (whole false true (codes "0 * * * *")) refl refl refl refl
-hourly false false = plainly (whole false false (codes "0 * * * *")) refl refl refl refl
+hourly = each_way (λ a b. IsTrimmed (whole a b (codes "0 * * * *"))) (plainly _ refl refl refl refl) (plainly _ refl refl refl refl) (plainly _ refl refl refl refl) (plainly _ refl refl refl refl)
 
 -- the pattern of a nickname, or the text itself
 named_by : (text : List ℕ) (P : List ℕ → Type 0) → P (codes "0 0 1 1 *") → P (codes "0 0 1 * *") → P (codes "0 0 * * SUN") → P (codes "0 0 * * *") → P (codes "0 * * * *") → P text → P (nickname_of text)

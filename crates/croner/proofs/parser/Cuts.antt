@@ -11,63 +11,38 @@ use Rattle.croner.specs.parser.Cut.{Piece, month, weekday, single, months, weekd
 lone_ne : (c n : ℕ) → is_lost c ≡ false → is_lost n ≡ true → eqb c n ≡ false
 lone_ne c n h m = ne_eqb c n (λ e. false≢true (sym h ∙ ap is_lost e ∙ m))
 
--- a month's name is cut off
-cut_month : (n : ℕ) (rest : List ℕ) → ltb n 12 ≡ true → cut_of (get_or months n [] ++ rest) ≡ onto (month n) (cut_of rest)
-cut_month zero rest h = refl
-cut_month (suc zero) rest h = refl
-cut_month (suc (suc zero)) rest h = refl
-cut_month (suc (suc (suc zero))) rest h = refl
-cut_month (suc (suc (suc (suc zero)))) rest h = refl
-cut_month (suc (suc (suc (suc (suc zero))))) rest h = refl
-cut_month (suc (suc (suc (suc (suc (suc zero)))))) rest h = refl
-cut_month (suc (suc (suc (suc (suc (suc (suc zero))))))) rest h = refl
-cut_month (suc (suc (suc (suc (suc (suc (suc (suc zero)))))))) rest h = refl
-cut_month (suc (suc (suc (suc (suc (suc (suc (suc (suc zero))))))))) rest h = refl
-cut_month (suc (suc (suc (suc (suc (suc (suc (suc (suc (suc zero)))))))))) rest h = refl
-cut_month (suc (suc (suc (suc (suc (suc (suc (suc (suc (suc (suc zero))))))))))) rest h = refl
-cut_month (suc (suc (suc (suc (suc (suc (suc (suc (suc (suc (suc (suc n)))))))))))) rest h = absurd (omega (arith, ltb-true _ _ h))
+-- a month's name is cut off, and doesn't begin with E
+month_name : (n : ℕ) (rest : List ℕ) → ltb n 12 ≡ true → (cut_of (get_or months n [] ++ rest) ≡ onto (month n) (cut_of rest)) × (eqb (get_or (get_or months n [] ++ rest) 0 0) 69 ≡ false)
+month_name zero rest h = (refl, refl)
+month_name (suc zero) rest h = (refl, refl)
+month_name (suc (suc zero)) rest h = (refl, refl)
+month_name (suc (suc (suc zero))) rest h = (refl, refl)
+month_name (suc (suc (suc (suc zero)))) rest h = (refl, refl)
+month_name (suc (suc (suc (suc (suc zero))))) rest h = (refl, refl)
+month_name (suc (suc (suc (suc (suc (suc zero)))))) rest h = (refl, refl)
+month_name (suc (suc (suc (suc (suc (suc (suc zero))))))) rest h = (refl, refl)
+month_name (suc (suc (suc (suc (suc (suc (suc (suc zero)))))))) rest h = (refl, refl)
+month_name (suc (suc (suc (suc (suc (suc (suc (suc (suc zero))))))))) rest h = (refl, refl)
+month_name (suc (suc (suc (suc (suc (suc (suc (suc (suc (suc zero)))))))))) rest h = (refl, refl)
+month_name (suc (suc (suc (suc (suc (suc (suc (suc (suc (suc (suc zero))))))))))) rest h = (refl, refl)
+month_name (suc (suc (suc (suc (suc (suc (suc (suc (suc (suc (suc (suc n)))))))))))) rest h = absurd (omega (arith, ltb-true _ _ h))
 
 -- and a weekday's
-cut_weekday : (n : ℕ) (rest : List ℕ) → ltb n 7 ≡ true → cut_of (get_or weekdays n [] ++ rest) ≡ onto (weekday n) (cut_of rest)
-cut_weekday zero rest h = refl
-cut_weekday (suc zero) rest h = refl
-cut_weekday (suc (suc zero)) rest h = refl
-cut_weekday (suc (suc (suc zero))) rest h = refl
-cut_weekday (suc (suc (suc (suc zero)))) rest h = refl
-cut_weekday (suc (suc (suc (suc (suc zero))))) rest h = refl
-cut_weekday (suc (suc (suc (suc (suc (suc zero)))))) rest h = refl
-cut_weekday (suc (suc (suc (suc (suc (suc (suc n))))))) rest h = absurd (omega (arith, ltb-true _ _ h))
+weekday_name : (n : ℕ) (rest : List ℕ) → ltb n 7 ≡ true → (cut_of (get_or weekdays n [] ++ rest) ≡ onto (weekday n) (cut_of rest)) × (eqb (get_or (get_or weekdays n [] ++ rest) 0 0) 69 ≡ false)
+weekday_name zero rest h = (refl, refl)
+weekday_name (suc zero) rest h = (refl, refl)
+weekday_name (suc (suc zero)) rest h = (refl, refl)
+weekday_name (suc (suc (suc zero))) rest h = (refl, refl)
+weekday_name (suc (suc (suc (suc zero)))) rest h = (refl, refl)
+weekday_name (suc (suc (suc (suc (suc zero))))) rest h = (refl, refl)
+weekday_name (suc (suc (suc (suc (suc (suc zero)))))) rest h = (refl, refl)
+weekday_name (suc (suc (suc (suc (suc (suc (suc n))))))) rest h = absurd (omega (arith, ltb-true _ _ h))
 
 -- no piece begins with E
-month_head : (n : ℕ) (rest : List ℕ) → ltb n 12 ≡ true → eqb (get_or (get_or months n [] ++ rest) 0 0) 69 ≡ false
-month_head zero rest h = refl
-month_head (suc zero) rest h = refl
-month_head (suc (suc zero)) rest h = refl
-month_head (suc (suc (suc zero))) rest h = refl
-month_head (suc (suc (suc (suc zero)))) rest h = refl
-month_head (suc (suc (suc (suc (suc zero))))) rest h = refl
-month_head (suc (suc (suc (suc (suc (suc zero)))))) rest h = refl
-month_head (suc (suc (suc (suc (suc (suc (suc zero))))))) rest h = refl
-month_head (suc (suc (suc (suc (suc (suc (suc (suc zero)))))))) rest h = refl
-month_head (suc (suc (suc (suc (suc (suc (suc (suc (suc zero))))))))) rest h = refl
-month_head (suc (suc (suc (suc (suc (suc (suc (suc (suc (suc zero)))))))))) rest h = refl
-month_head (suc (suc (suc (suc (suc (suc (suc (suc (suc (suc (suc zero))))))))))) rest h = refl
-month_head (suc (suc (suc (suc (suc (suc (suc (suc (suc (suc (suc (suc n)))))))))))) rest h = absurd (omega (arith, ltb-true _ _ h))
-
-weekday_head : (n : ℕ) (rest : List ℕ) → ltb n 7 ≡ true → eqb (get_or (get_or weekdays n [] ++ rest) 0 0) 69 ≡ false
-weekday_head zero rest h = refl
-weekday_head (suc zero) rest h = refl
-weekday_head (suc (suc zero)) rest h = refl
-weekday_head (suc (suc (suc zero))) rest h = refl
-weekday_head (suc (suc (suc (suc zero)))) rest h = refl
-weekday_head (suc (suc (suc (suc (suc zero))))) rest h = refl
-weekday_head (suc (suc (suc (suc (suc (suc zero)))))) rest h = refl
-weekday_head (suc (suc (suc (suc (suc (suc (suc n))))))) rest h = absurd (omega (arith, ltb-true _ _ h))
-
 no_e : (ps : List Piece) → ArePieces ps → eqb (get_or (flat_map letters ps) 0 0) 69 ≡ false
 no_e [] h = refl
-no_e (month n ∷ ps) h = month_head n (flat_map letters ps) h.0
-no_e (weekday n ∷ ps) h = weekday_head n (flat_map letters ps) h.0
+no_e (month n ∷ ps) h = (month_name n (flat_map letters ps) h.0).1
+no_e (weekday n ∷ ps) h = (weekday_name n (flat_map letters ps) h.0).1
 no_e (single c ∷ ps) h = lone_ne c 69 h.0 refl
 
 -- a byte that no name begins with, or that E doesn't follow
@@ -96,8 +71,8 @@ cut_single c (b ∷ d ∷ rest) h e =
 
 cut_of-letters : (ps : List Piece) → ArePieces ps → cut_of (flat_map letters ps) ≡ Some ps
 cut_of-letters [] h = refl
-cut_of-letters (month n ∷ ps) h = cut_month n (flat_map letters ps) h.0 ∙ ap (onto (month n)) (cut_of-letters ps h.1)
-cut_of-letters (weekday n ∷ ps) h = cut_weekday n (flat_map letters ps) h.0 ∙ ap (onto (weekday n)) (cut_of-letters ps h.1)
+cut_of-letters (month n ∷ ps) h = (month_name n (flat_map letters ps) h.0).0 ∙ ap (onto (month n)) (cut_of-letters ps h.1)
+cut_of-letters (weekday n ∷ ps) h = (weekday_name n (flat_map letters ps) h.0).0 ∙ ap (onto (weekday n)) (cut_of-letters ps h.1)
 cut_of-letters (single c ∷ ps) h = cut_single c (flat_map letters ps) h.0 (no_e ps h.1) ∙ ap (onto (single c)) (cut_of-letters ps h.1)
 
 -- what is cut from the left is the one cut

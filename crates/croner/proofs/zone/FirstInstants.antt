@@ -1,9 +1,13 @@
 -- The first instant that shows a wall second or more, and instants that show the same.
-use Rattle.std.proofs.Common.{◌≡◌, ℤ, pos, ◌+ℤ◌, ◌-ℤ◌, ◌<ℤ◌, ◌≤ℤ◌, arith, refl, inl, inr}
+use Rattle.std.proofs.Common.{◌≡◌, ℤ, pos, ◌+ℤ◌, ◌-ℤ◌, ◌<ℤ◌, ◌≤ℤ◌, arith, refl, sym, ◌∙◌, subst, inl, inr}
 use Rattle.std.proofs.lemmas.Int.{ints}
 use Rattle.croner_base.specs.Limits.{fold_limit}
-use Rattle.croner.proofs.zone.ZoneOrder.{cases_lt_z, put_back, put_back_once, before_break, after_break}
-use Rattle.croner.proofs.zone.ZoneOrder.{Calm}
+use Rattle.croner_base.specs.declared.time.Direction.{Direction}
+use Rattle.croner_base.specs.declared.time.Direction.TheVariants.{Forward, Backward}
+use Rattle.croner.specs.search.Runs.{Precedes, Reaches}
+use Rattle.croner.specs.Private.search.Halves.{HasTwin, offset_from}
+use Rattle.croner.proofs.zone.Ahead.{either, not_both, reaches-trans, precedes-reaches, precedes-trans}
+use Rattle.croner.proofs.zone.ZoneOrder.{Calm, cases_lt_z, put_back, put_back_once, before_break, after_break}
 use Rattle.croner.specs.Private.search.Walk.{First}
 
 module _ (reads : ℤ → ℤ) (calm : Calm reads) where
@@ -33,7 +37,7 @@ module _ (reads : ℤ → ℤ) (calm : Calm reads) where
       let e = after_break reads calm p j x t.breaks g (omega (arith, ints)) (omega (arith, ints)) in
       (x, omega (arith, ints), omega (arith, ints), omega (arith, ints))
 
-  -- ---- the first instant that reads w or more
+  -- the first instant that reads w or more
 
   pub first_if_least : (w t : ℤ) → reads t ≡ w → ((j : ℤ) → j <ℤ t → reads j ≡ w → ⊥) → First reads w t
   first_if_least w t e least =
@@ -58,6 +62,10 @@ first_ordered reads w v i j h a b =
       | inr le ↦ le
     ]
 
+pub firsts_in_order : (direction : Direction) (reads : ℤ → ℤ) (w v i j : ℤ) → Reaches direction w v → First reads w i → First reads v j → Reaches direction i j
+firsts_in_order Forward reads w v i j h a b = first_ordered reads w v i j h a b
+firsts_in_order Backward reads w v i j h a b = first_ordered reads v w j i h b a
+
 -- wall seconds that nothing reads have the first instant of the next that is read
 pub first_over_gap : (reads : ℤ → ℤ) (w v t : ℤ) → w ≤ℤ v → First reads v t → ((u : ℤ) → w ≤ℤ u → u <ℤ v → (j : ℤ) → reads j ≡ u → ⊥) → First reads w t
 first_over_gap reads w v t h a unread =
@@ -71,55 +79,54 @@ first_over_gap reads w v t h a unread =
           ];
     }
 
-module _ (reads : ℤ → ℤ) (calm : Calm reads) where
-  -- ---- what a walk meets is never behind, where it is the last (the first) that reads the second
+-- of two instants whose readings are not in order: one behind them that reads what the second reads, and one ahead of them
+-- that reads what the first reads
+pub twin_behind : (direction : Direction) (reads : ℤ → ℤ) → Calm reads → (i j : ℤ) → Precedes direction i j → Reaches direction (reads j) (reads i) → (x : ℤ) × Reaches direction x i × Reaches direction i (offset_from direction x fold_limit) × (reads x ≡ reads j)
+twin_behind Forward reads calm i j h le = earlier_twin reads calm i j h le
+twin_behind Backward reads calm i j h le =
+    let (x, on, near, same) = later_twin reads calm j i h le in
+    (x, on, omega (arith, ints), same)
 
-  pub last_is_ahead : (s t w : ℤ) → reads s ≤ℤ w → reads t ≡ w → ((x : ℤ) → reads x ≡ w → x ≤ℤ t) → s ≤ℤ t
+pub twin_ahead : (direction : Direction) (reads : ℤ → ℤ) → Calm reads → (i j : ℤ) → Precedes direction i j → Reaches direction (reads j) (reads i) → (x : ℤ) × Reaches direction j x × (reads x ≡ reads i)
+twin_ahead Forward reads calm i j h le = let (x, on, near, same) = later_twin reads calm i j h le in (x, on, same)
+twin_ahead Backward reads calm i j h le = let (x, on, near, same) = earlier_twin reads calm j i h le in (x, on, same)
+
+-- where nothing ahead reads what s reads, what lies ahead reads more than s
+pub reads_on : (direction : Direction) (reads : ℤ → ℤ) → Calm reads → (s i : ℤ) → (HasTwin direction reads s → ⊥) → Precedes direction s i → Precedes direction (reads s) (reads i)
+reads_on direction reads calm s i none past =
+    elim (either direction (reads s) (reads i)) [
+      | inl lt ↦ lt
+      | inr back ↦
+          let (x, on, same) = twin_ahead direction reads calm s i past back in
+          absurd (none (x, same, precedes-trans direction s i x past on))
+    ]
+
+-- the clock is not put back from x to s, and again from j to t, so near to each other
+not_twice : (direction : Direction) (reads : ℤ → ℤ) → Calm reads → (x s j t : ℤ) → Precedes direction x s → Reaches direction (reads s) (reads x) → Reaches direction s j → Precedes direction j t → Reaches direction (reads t) (reads j) → Reaches direction j (offset_from direction x fold_limit) → ⊥
+not_twice Forward reads calm x s j t a b c d e near = put_back_once reads calm x s j t a b c d e (omega (arith, ints))
+not_twice Backward reads calm x s j t a b c d e near = put_back_once reads calm t j s x d e c a b (omega (arith, ints))
+
+module _ (direction : Direction) (reads : ℤ → ℤ) (calm : Calm reads) where
+  -- what a walk meets is never behind, where it is the last in the direction that reads the second
+  pub last_is_ahead : (s t w : ℤ) → Reaches direction (reads s) w → reads t ≡ w → ((x : ℤ) → reads x ≡ w → Reaches direction x t) → Reaches direction s t
   last_is_ahead s t w h e last =
-      elim (cases_lt_z t s) [
-        | inl lt ↦
-            let (x, past, near, same) = later_twin reads calm t s lt (omega (arith, ints)) in
-            let k : x ≤ℤ t = last x (omega (arith, ints)) in
-            absurd (omega (arith, ints))
-        | inr le ↦ le
+      elim (either direction t s) [
+        | inl before ↦
+            let (x, past, same) = twin_ahead direction reads calm t s before (subst (Reaches direction (reads s)) (sym e) h) in
+            absurd (not_both direction t s before (reaches-trans direction s x t past (last x (same ∙ e))))
+        | inr on ↦ on
       ]
 
-  pub first_is_behind : (s t w : ℤ) → w ≤ℤ reads s → reads t ≡ w → ((x : ℤ) → reads x ≡ w → t ≤ℤ x) → t ≤ℤ s
-  first_is_behind s t w h e first =
-      elim (cases_lt_z s t) [
-        | inl lt ↦
-            let (x, past, near, same) = earlier_twin reads calm s t lt (omega (arith, ints)) in
-            let k : t ≤ℤ x = first x (omega (arith, ints)) in
-            absurd (omega (arith, ints))
+  -- the seconds of an interval job in order have their nearest instants in order
+  pub nearest_in_order : (s w v t j : ℤ) → Reaches direction (reads s) w → Precedes direction w v → reads t ≡ w → ((x : ℤ) → Reaches direction s x → reads x ≡ w → Reaches direction t x) → reads j ≡ v → Reaches direction s j → Reaches direction t j
+  nearest_in_order s w v t j from before e nearest f on =
+      elim (either direction j t) [
         | inr le ↦ le
-      ]
-
-  -- ---- the seconds of an interval job in order have their nearest instants in order
-
-  pub forward_order : (s w v t j : ℤ) → reads s ≤ℤ w → w <ℤ v → reads t ≡ w → ((x : ℤ) → s ≤ℤ x → reads x ≡ w → t ≤ℤ x) → reads j ≡ v → s ≤ℤ j → t ≤ℤ j
-  forward_order s w v t j from lt e least f h =
-      elim (cases_lt_z j t) [
         | inl under ↦
-            let (x, past, close, same) = earlier_twin reads calm j t under (omega (arith, ints)) in
-            elim (cases_lt_z x s) [
-              | inl behind ↦ absurd (put_back_once reads calm x s j t behind (omega (arith, ints)) h under (omega (arith, ints)) (omega (arith, ints)))
-              | inr ahead ↦
-                  let k : t ≤ℤ x = least x ahead (omega (arith, ints)) in
-                  absurd (omega (arith, ints))
+            let back : Reaches direction (reads t) (reads j) = rw (e, f) (precedes-reaches direction w v before) in
+            let (x, behind, near, same) = twin_behind direction reads calm j t under back in
+            elim (either direction x s) [
+              | inl past ↦ absurd (not_twice direction reads calm x s j t past (rw (same, e) from) on under back near)
+              | inr ahead ↦ absurd (not_both direction j t under (reaches-trans direction t x j (nearest x ahead (same ∙ e)) behind))
             ]
-        | inr le ↦ le
-      ]
-
-  pub backward_order : (s w v t j : ℤ) → w ≤ℤ reads s → v <ℤ w → reads t ≡ w → ((x : ℤ) → x ≤ℤ s → reads x ≡ w → x ≤ℤ t) → reads j ≡ v → j ≤ℤ s → j ≤ℤ t
-  backward_order s w v t j from lt e most f h =
-      elim (cases_lt_z t j) [
-        | inl under ↦
-            let (x, past, close, same) = later_twin reads calm t j under (omega (arith, ints)) in
-            elim (cases_lt_z s x) [
-              | inl behind ↦ absurd (put_back_once reads calm t j s x under (omega (arith, ints)) h behind (omega (arith, ints)) (omega (arith, ints)))
-              | inr ahead ↦
-                  let k : x ≤ℤ t = most x ahead (omega (arith, ints)) in
-                  absurd (omega (arith, ints))
-            ]
-        | inr le ↦ le
       ]

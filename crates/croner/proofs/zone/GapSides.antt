@@ -35,12 +35,10 @@ module _ (reads : ℤ → ℤ) (calm : Calm reads) where
       omega (arith, ints)
 
   shrinks : (n : ℕ) (i : ℤ) → (reads (i -ℤ pos (apart_limit * n)) +ℤ pos ((apart_limit - fold_limit) * n)) ≤ℤ reads i
-  shrinks zero i = let same : reads (i -ℤ pos (apart_limit * 0)) ≡ reads i = ap reads (omega (arith, ints)) in omega (arith, ints)
-  shrinks (suc n) i =
+  shrinks n i =
       let j : ℤ = i -ℤ pos (apart_limit * n) in
-      let next : ℤ = i -ℤ pos (apart_limit * suc n) in
-      let before = shrinks n i in
-      let more = gains reads calm next j (omega (arith, ints)) (omega (arith, ints)) in
+      let same : reads (j +ℤ pos (apart_limit * n)) ≡ reads i = ap reads (omega (arith, ints)) in
+      let more = grows n j in
       omega (arith, ints)
 
   pub reaches_up : (s w : ℤ) → (j : ℤ) × (s ≤ℤ j) × (w ≤ℤ reads j)
@@ -74,19 +72,6 @@ module _ (reads : ℤ → ℤ) (calm : Calm reads) where
         | inl (k, a, b, e) ↦ absurd (none k e)
         | inr (p, a, b, below, above) ↦ (p, below, above)
       ]
-
-  -- a search as long as the longest gap ends
-  pub gap_ends_soon : (w : ℤ) → Exactly reads w Gap → (v t : ℤ) × (w <ℤ v) × (v ≤ℤ (w +ℤ pos gap_limit)) × (reads t ≡ v)
-  gap_ends_soon w none =
-      let (p, below, above) = unread_is_in_gap w none in
-      let small = calm.forth p in
-      (reads (p +ℤ pos 1), p +ℤ pos 1, above, omega (arith, ints), refl)
-
-  pub gap_begins_soon : (w : ℤ) → Exactly reads w Gap → (v t : ℤ) × (v <ℤ w) × (w ≤ℤ (v +ℤ pos gap_limit)) × (reads t ≡ v)
-  gap_begins_soon w none =
-      let (p, below, above) = unread_is_in_gap w none in
-      let small = calm.forth p in
-      (reads p, p, below, omega (arith, ints), refl)
 
 -- ---- in every zone
 
@@ -143,11 +128,13 @@ module _ (reads : ℤ → ℤ) (calm : Calm reads) where
   -- and the second at the limit of the search lies in the gap no more
   side_ends : (direction : Direction) (held : ℤ) → Exactly reads held Gap → Exactly reads (offset_from direction held gap_limit) Gap → ⊥
   side_ends Forward held none none2 =
-      let (v, t, past, close, e) = gap_ends_soon reads calm held none in
-      one_gap held (held +ℤ pos gap_limit) none none2 (omega (arith, ints)) (omega (arith, ints)) v (omega (arith, ints)) (omega (arith, ints)) t e
+      let (p, below, above) = unread_is_in_gap reads calm held none in
+      let small = calm.forth p in
+      one_gap held (held +ℤ pos gap_limit) none none2 (omega (arith, ints)) (omega (arith, ints)) (reads (p +ℤ pos 1)) (omega (arith, ints)) (omega (arith, ints)) (p +ℤ pos 1) refl
   side_ends Backward held none none2 =
-      let (v, t, past, close, e) = gap_begins_soon reads calm held none in
-      one_gap (held -ℤ pos gap_limit) held none2 none (omega (arith, ints)) (omega (arith, ints)) v (omega (arith, ints)) (omega (arith, ints)) t e
+      let (p, below, above) = unread_is_in_gap reads calm held none in
+      let small = calm.forth p in
+      one_gap (held -ℤ pos gap_limit) held none2 none (omega (arith, ints)) (omega (arith, ints)) (reads p) (omega (arith, ints)) (omega (arith, ints)) p refl
 
 -- ---- what the backend answers
 

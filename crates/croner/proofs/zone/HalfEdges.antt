@@ -1,25 +1,21 @@
 -- The edge between the two halves of a repeated range.
-use Rattle.std.proofs.Common.{◌≡◌, ℕ, ◌+◌, ◌≤◌, ◌<◌, ℤ, pos, ◌+ℤ◌, ◌-ℤ◌, ◌<ℤ◌, ◌≤ℤ◌, arith, refl, sym, ◌∙◌, inl, inr, ap, subst, Bool, true, false, IsTrue, ◌↔◌, Some, not}
+use Rattle.std.proofs.Common.{◌≡◌, ℕ, ◌+◌, ◌≤◌, ◌<◌, ℤ, pos, ◌+ℤ◌, ◌-ℤ◌, ◌<ℤ◌, arith, refl, sym, ◌∙◌, inl, inr, ap, subst, Bool, true, false, IsTrue, ◌↔◌, Some, not}
 use Rattle.std.proofs.lemmas.Int.{ints}
 use Rattle.croner_base.specs.declared.time.Direction.{Direction}
 use Rattle.croner_base.specs.declared.time.Direction.TheVariants.{Forward, Backward}
 use Rattle.croner.proofs.zone.ZoneOrder.{cases_lt_z, put_back, put_back_once, before_break, after_break}
-use Rattle.croner.proofs.zone.TwoHalves.{forward_found, backward_found, forward_before_edge, backward_before_edge, forward_first, forward_second, backward_first, backward_second}
-use Rattle.croner.proofs.zone.RunsOfSeconds.{true_or_false}
 use Rattle.croner.proofs.zone.WalkLoop.{never_true}
 use Rattle.croner_base.specs.Zone.{Zone, Moment, reading, nanos_of, IsUnheld}
 use Rattle.croner_base.specs.Calm.{IsCalm, HoldsAround, IsNear}
 use Rattle.croner.specs.Private.search.Halves.{edge_limit, Break, HasTwin, EdgeOf, offset_from, CountsBoth, moment_from, IsEdge}
 use Rattle.croner.proofs.zone.CalmZone.{Exactly, calm_of, exact_of}
-use Rattle.croner.proofs.zone.ZoneOrder.{Calm, window}
+use Rattle.croner.proofs.zone.ZoneOrder.{Calm, gains, loses}
 use Rattle.croner_base.specs.declared.time.civil.CivilDateTime.{CivilDateTime}
 use Rattle.croner_base.specs.Civil.{wall_second}
 use Rattle.croner.specs.search.Premises.{IsCalmStart}
 use Rattle.croner.specs.Private.search.Held.{HoldsSecond, IsBackendError}
 use Rattle.croner_base.specs.declared.errors.CronError.{CronError}
 use Rattle.croner_base.specs.declared.time.value.Resolution.TheVariants.{Single, Ambiguous, Gap}
-use Rattle.croner.specs.search.Runs.{Job, Nearest, Precedes}
-use Rattle.croner.specs.Private.search.Walk.{Walked, WalkedFrom}
 
 module _ (reads : ℤ → ℤ) (calm : Calm reads) where
   edge_after : (i : ℤ) → HasTwin Forward reads i → (HasTwin Forward reads (i +ℤ pos 1) → ⊥) → Break reads i
@@ -62,39 +58,6 @@ edge_between Backward reads calm s k n e h twin none =
       near = omega (arith, ints);
       breaks = edge_before reads calm (s -ℤ pos k) (s -ℤ pos n) at twin none;
     }
-
-no_twin_last : (reads : ℤ → ℤ) (s : ℤ) → (HasTwin Forward reads s → ⊥) → (x : ℤ) → reads x ≡ reads s → x ≤ℤ s
-no_twin_last reads s none x e = elim (cases_lt_z s x) [ inl lt ↦ absurd (none (x, e, lt)) | inr le ↦ le ]
-
-no_twin_first : (reads : ℤ → ℤ) (s : ℤ) → (HasTwin Backward reads s → ⊥) → (x : ℤ) → reads x ≡ reads s → s ≤ℤ x
-no_twin_first reads s none x e = elim (cases_lt_z x s) [ inl lt ↦ absurd (none (x, e, lt)) | inr le ↦ le ]
-
--- ---- what a search answers, in either direction
-
-pub found_alone : (direction : Direction) (inclusive : Bool) (job : Job) → Calm job.zone.reads → (s t : ℤ) → (HasTwin direction job.zone.reads s → ⊥) → WalkedFrom direction inclusive job s t → Nearest direction inclusive job s t
-found_alone Forward inclusive job calm s t none walked = forward_found job calm inclusive s t (inr (no_twin_last job.zone.reads s none)) walked
-found_alone Backward inclusive job calm s t none walked = backward_found job calm inclusive s t (no_twin_first job.zone.reads s none) walked
-
-pub found_one_half : (direction : Direction) (inclusive : Bool) (job : Job) → Calm job.zone.reads → (s t : ℤ) → (CountsBoth direction job.timetable.fixed_time → ⊥) → WalkedFrom direction inclusive job s t → Nearest direction inclusive job s t
-found_one_half Forward inclusive job calm s t one_half walked =
-    let fixed : job.timetable.fixed_time ≡ true = elim (true_or_false job.timetable.fixed_time) [ inl fixed ↦ fixed | inr each ↦ absurd (one_half each) ] in
-    forward_found job calm inclusive s t (inl fixed) walked
-found_one_half Backward inclusive job calm s t one_half walked = absurd (one_half tt)
-
-pub found_before_edge : (direction : Direction) (inclusive : Bool) (job : Job) → Calm job.zone.reads → (s t e : ℤ) → CountsBoth direction job.timetable.fixed_time → EdgeOf direction job.zone.reads s e → WalkedFrom direction inclusive job s t → Precedes direction t e → Nearest direction inclusive job s t
-found_before_edge Forward inclusive job calm s t e both (p, at, edge) walked h = forward_before_edge job calm inclusive s p t edge both walked (omega (arith, ints))
-found_before_edge Backward inclusive job calm s t e both edge walked h = backward_before_edge job calm inclusive e s t edge walked h
-
-edge_walked : (job : Job) (e p u : ℤ) → e ≡ p +ℤ pos 1 → WalkedFrom Forward true job e u → Walked Forward true job (p +ℤ pos 1) (job.zone.reads (p +ℤ pos 1)) u
-edge_walked job e p u at second = subst (λ (x : ℤ). WalkedFrom Forward true job x u) at second
-
-pub found_second : (direction : Direction) (inclusive : Bool) (job : Job) → Calm job.zone.reads → (s t e u : ℤ) → CountsBoth direction job.timetable.fixed_time → EdgeOf direction job.zone.reads s e → WalkedFrom direction inclusive job s t → WalkedFrom direction true job e u → Precedes direction u t → Nearest direction inclusive job s u
-found_second Forward inclusive job calm s t e u both (p, at, edge) walked second h = forward_second job calm inclusive s p t u edge both walked (edge_walked job e p u at second) (omega (arith, ints))
-found_second Backward inclusive job calm s t e u both edge walked second h = backward_second job calm inclusive e s t u edge walked second (omega (arith, ints))
-
-pub found_first : (direction : Direction) (inclusive : Bool) (job : Job) → Calm job.zone.reads → (s t e u : ℤ) → CountsBoth direction job.timetable.fixed_time → EdgeOf direction job.zone.reads s e → WalkedFrom direction inclusive job s t → WalkedFrom direction true job e u → (Precedes direction u t → ⊥) → Nearest direction inclusive job s t
-found_first Forward inclusive job calm s t e u both (p, at, edge) walked second h = forward_first job calm inclusive s p t u edge both walked (edge_walked job e p u at second) (elim (cases_lt_z u t) [ inl lt ↦ absurd (h lt) | inr le ↦ le ])
-found_first Backward inclusive job calm s t e u both edge walked second h = backward_first job calm inclusive e s t u edge walked second (elim (cases_lt_z t u) [ inl lt ↦ absurd (h lt) | inr le ↦ le ])
 
 -- ---- the half that an instant is on
 
@@ -175,21 +138,13 @@ test_moved direction m there n b same test =
 
 reads_near : (direction : Direction) (reads : ℤ → ℤ) → Calm reads → (s : ℤ) (n : ℕ) → n ≤ edge_limit → IsNear (reads s) (reads (offset_from direction s n))
 reads_near Forward reads calm s n h =
-    elim (window reads calm s (s +ℤ pos n) (omega (arith, ints)) (omega (arith, ints))) [
-      | inl e ↦ (omega (arith, ints), omega (arith, ints))
-      | inr (p, low, high, b, first, second) ↦
-          let up = calm.forth p in
-          let down = calm.back p in
-          (omega (arith, ints), omega (arith, ints))
-    ]
+    let down = gains reads calm s (s +ℤ pos n) (omega (arith, ints)) (omega (arith, ints)) in
+    let up = loses reads calm s (s +ℤ pos n) (omega (arith, ints)) (omega (arith, ints)) in
+    (omega (arith, ints), omega (arith, ints))
 reads_near Backward reads calm s n h =
-    elim (window reads calm (s -ℤ pos n) s (omega (arith, ints)) (omega (arith, ints))) [
-      | inl e ↦ (omega (arith, ints), omega (arith, ints))
-      | inr (p, low, high, b, first, second) ↦
-          let up = calm.forth p in
-          let down = calm.back p in
-          (omega (arith, ints), omega (arith, ints))
-    ]
+    let down = gains reads calm (s -ℤ pos n) s (omega (arith, ints)) (omega (arith, ints)) in
+    let up = loses reads calm (s -ℤ pos n) s (omega (arith, ints)) (omega (arith, ints)) in
+    (omega (arith, ints), omega (arith, ints))
 
 offset_near : (direction : Direction) (s : ℤ) (n : ℕ) → n ≤ edge_limit → IsNear s (offset_from direction s n)
 offset_near Forward s n h = (omega (arith, ints), omega (arith, ints))

@@ -1,28 +1,22 @@
 -- What a search needs held stays held from each run on: a run shows a second of the years 1 to 5000.
-use Rattle.std.proofs.Common.{◌+◌, ℤ, pos, ◌+ℤ◌, ◌-ℤ◌, ◌≤ℤ◌, arith, inl, inr}
+use Rattle.std.proofs.Common.{ℤ, arith, inl, inr}
 use Rattle.std.proofs.lemmas.Int.{ints}
 use Rattle.croner_base.specs.Zone.{Zone, Moment, at_instant}
 use Rattle.croner_base.specs.Calm.{IsCalm, IsSearched, IsInReach, IsNear, HoldsAround}
-use Rattle.croner_base.specs.Limits.{gap_limit, fold_limit, apart_limit}
-use Rattle.croner.proofs.zone.ZoneOrder.{Calm, window, cases_lt_z}
+use Rattle.croner.proofs.zone.ZoneOrder.{Calm, gains, loses, cases_lt_z}
 use Rattle.croner.proofs.zone.CalmZone.{calm_of}
-
--- in a window a calm clock goes on by what passes, give or take one change
-reads_near : (z : Zone) → Calm z.reads → (i j : ℤ) → i ≤ℤ j → j ≤ℤ (i +ℤ pos apart_limit) → ((z.reads i -ℤ pos fold_limit) ≤ℤ z.reads j) × (z.reads j ≤ℤ (z.reads i +ℤ pos (apart_limit + gap_limit)))
-reads_near z calm i j h near =
-    elim (window z.reads calm i j h near) [
-      | inl e ↦ (omega (arith, ints), omega (arith, ints))
-      | inr (p, low, high, breaks, before, after) ↦
-          let forth = calm.forth p in
-          let back = calm.back p in
-          (omega (arith, ints), omega (arith, ints))
-    ]
 
 in_reach : (z : Zone) → Calm z.reads → (i j : ℤ) → IsSearched (z.reads i) → IsNear i j → IsInReach (z.reads j)
 in_reach z calm i j searched near =
     elim (cases_lt_z i j) [
-      | inl lt ↦ let b = reads_near z calm i j (omega (arith, ints)) (omega (arith, ints)) in (omega (arith, ints), omega (arith, ints))
-      | inr ge ↦ let b = reads_near z calm j i ge (omega (arith, ints)) in (omega (arith, ints), omega (arith, ints))
+      | inl lt ↦
+          let down = gains z.reads calm i j (omega (arith, ints)) (omega (arith, ints)) in
+          let up = loses z.reads calm i j (omega (arith, ints)) (omega (arith, ints)) in
+          (omega (arith, ints), omega (arith, ints))
+      | inr ge ↦
+          let down = gains z.reads calm j i ge (omega (arith, ints)) in
+          let up = loses z.reads calm j i ge (omega (arith, ints)) in
+          (omega (arith, ints), omega (arith, ints))
     ]
 
 -- from an instant that shows a second of the years 1 to 5000

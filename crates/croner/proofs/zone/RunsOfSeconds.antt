@@ -6,7 +6,10 @@ use Rattle.croner.proofs.zone.FirstInstants.{first_if_least}
 use Rattle.croner.specs.Private.search.Halves.{Break}
 use Rattle.croner.proofs.zone.ZoneOrder.{Calm}
 use Rattle.croner.specs.Private.search.Walk.{First, RunOf}
-use Rattle.croner.specs.search.Runs.{Job, Run, OwnRun}
+use Rattle.croner.specs.search.Runs.{Job, Run, OwnRun, Counts, Reaches}
+use Rattle.croner_base.specs.declared.time.Direction.{Direction}
+use Rattle.croner_base.specs.declared.time.Direction.TheVariants.{Forward, Backward}
+use Rattle.croner.proofs.zone.Ahead.{reaches-equal, precedes-reaches}
 
 pub true_or_false : (b : Bool) → (b ≡ true) ⊎ (b ≡ false)
 true_or_false true = inl refl
@@ -55,3 +58,14 @@ second_gives_run job w i own run =
             | inr le ↦ let r = first.reached in inl (own_of_first job w i own first (omega (arith, ints)))
           ]
     ]
+
+-- what counts is a run
+pub is_run : (direction : Direction) (inclusive : Bool) (job : Job) (s i : ℤ) → Counts direction inclusive job s i → Run job i
+is_run Forward inclusive job s i counts =
+    elim counts [ inl (past, run) ↦ run | inr (is, e, own) ↦ subst (Run job) (sym e) (inl own) ]
+is_run Backward inclusive job s i counts =
+    elim counts [ inl (past, run) ↦ run | inr (is, e, run) ↦ subst (Run job) (sym e) run ]
+
+-- ahead of the start, or the start itself
+pub counts_reaches : (direction : Direction) (inclusive : Bool) (job : Job) (s i : ℤ) → Counts direction inclusive job s i → Reaches direction s i
+counts_reaches direction inclusive job s i counts = elim counts [ inl (past, run) ↦ precedes-reaches direction s i past | inr (is, e, own) ↦ reaches-equal direction s i (sym e) ]

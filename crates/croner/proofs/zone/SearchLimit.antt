@@ -8,22 +8,22 @@ use Rattle.croner_base.specs.declared.errors.CronError.TheVariants.{TimeSearchLi
 use Rattle.croner_base.specs.Zone.{Zone, Moment, reading, nanos_of}
 use Rattle.croner_base.specs.Calm.{IsCalm, IsNear}
 use Rattle.croner_base.specs.Limits.{gap_limit}
-use Rattle.croner.specs.search.Runs.{Timetable, Job, job_in, Nearest, Counts, Precedes, Reaches}
+use Rattle.croner.specs.search.Runs.{Timetable, Job, job_in, Nearest, Precedes, Reaches}
 use Rattle.croner.specs.search.Limit.{IsWithin, NoneInSpan, IsPast}
 use Rattle.croner.specs.Private.search.Schedule.{IsCovered, NoneScheduled}
 use Rattle.croner.specs.Private.search.Held.{HoldsYears, HoldsSecond, IsBackendError}
 use Rattle.croner.specs.search.Premises.{IsSearchable, IsCalmStart, StartsCalm}
 use Rattle.croner.specs.search.Refusal.{IsRefusal}
-use Rattle.croner.specs.Private.search.Walk.{RunOf, NoneOf, Walked, WalkedFrom, walk_start, one_on, OutFrom, IsWalked, IsWalkRefused}
+use Rattle.croner.specs.Private.search.Walk.{RunOf, NoneOf, WalkedFrom, walk_start, one_on, OutFrom, IsWalked, IsWalkRefused}
 use Rattle.croner.specs.search.Searches.{IsFound, IsRefused}
 use Rattle.croner.specs.Private.search.Halves.{edge_limit, EdgeOf, HasTwin, CountsBoth, IsEdge, HasOtherHalf, opposite_way, offset_from, moment_from}
-use Rattle.croner.proofs.zone.ZoneOrder.{Calm, cases_lt_z, before_break, after_break}
+use Rattle.croner.proofs.zone.ZoneOrder.{Calm, before_break, after_break}
 use Rattle.croner.proofs.zone.CalmZone.{calm_of}
-use Rattle.croner.proofs.zone.RunsOfSeconds.{true_or_false}
+use Rattle.croner.proofs.zone.RunsOfSeconds.{counts_reaches}
 use Rattle.croner.proofs.zone.WalkSteps.{Seen}
 use Rattle.croner.proofs.zone.WalkLoop.{never_true, backend_error}
-use Rattle.croner.proofs.zone.TwoHalves.{forward_seen, backward_seen, forward_seen_twice, backward_seen_twice, walked_counts, edge_counts_forward, edge_counts_backward}
-use Rattle.croner.proofs.zone.HalfEdges.{found_alone, found_one_half, found_before_edge, found_second, found_first}
+use Rattle.croner.proofs.zone.Ahead.{either, reaches-same, reaches-precedes}
+use Rattle.croner.proofs.zone.TwoHalves.{seen_alone, seen_twice, walked_counts, edge_counts, found_alone, found_before_edge, found_second, found_first}
 
 -- ---- a run in the span is of a second that is covered
 
@@ -47,61 +47,17 @@ run_is_covered Backward job calm w i of within =
       | inr (fixed, low, high) ↦ subst (λ (b : Bool). IsCovered Backward b w) (sym fixed) (omega (arith, ints))
     ]
 
-passed_or_not : (direction : Direction) (w cursor : ℤ) → Precedes direction w cursor ⊎ Reaches direction cursor w
-passed_or_not Forward w cursor = cases_lt_z w cursor
-passed_or_not Backward w cursor = cases_lt_z cursor w
-
-counts_reaches : (direction : Direction) (inclusive : Bool) (job : Job) (s i : ℤ) → Counts direction inclusive job s i → Reaches direction s i
-counts_reaches Forward inclusive job s i counts = elim counts [ inl (lt, run) ↦ omega (arith, ints) | inr (is, e, own) ↦ omega (arith, ints) ]
-counts_reaches Backward inclusive job s i counts = elim counts [ inl (lt, run) ↦ omega (arith, ints) | inr (is, e, own) ↦ omega (arith, ints) ]
-
-itself : (direction : Direction) (i : ℤ) → Reaches direction i i
-itself Forward i = omega (arith, ints)
-itself Backward i = omega (arith, ints)
-
-not_both : (direction : Direction) (a b : ℤ) → Precedes direction a b → Reaches direction b a → ⊥
-not_both Forward a b h k = omega (arith, ints)
-not_both Backward a b h k = omega (arith, ints)
-
-then_before : (direction : Direction) (t i e : ℤ) → Reaches direction t i → Precedes direction i e → Precedes direction t e
-then_before Forward t i e a b = omega (arith, ints)
-then_before Backward t i e a b = omega (arith, ints)
-
 module _ (direction : Direction) (inclusive : Bool) (job : Job) (calm : Calm job.zone.reads) where
   -- the instant that a walk does not see is no run of a second that it has passed, nor of one that is left
   unseen : (s from cursor i : ℤ) → NoneOf direction inclusive job s from cursor → NoneScheduled direction job.timetable.fixed_time job.timetable.scheduled cursor → IsWithin direction (job.zone.reads i) → Seen direction inclusive job s from i → ⊥
   unseen s from cursor i none out within (w, on, own, of, ahead) =
-      elim (passed_or_not direction w cursor) [
+      elim (either direction w cursor) [
         | inl lt ↦ none w i on lt own of ahead
         | inr le ↦ out w le (run_is_covered direction job calm w i of within) own
       ]
 
   unseen_out : (s i : ℤ) → OutFrom direction inclusive job s → IsWithin direction (job.zone.reads i) → Seen direction inclusive job s (walk_start direction inclusive (job.zone.reads s)) i → ⊥
   unseen_out s i (cursor, none, out) within seen = unseen s (walk_start direction inclusive (job.zone.reads s)) cursor i none out within seen
-
--- what counts is seen by the walk, where the other half does not count or lies behind
-seen_alone : (direction : Direction) (inclusive : Bool) (job : Job) → Calm job.zone.reads → (s i : ℤ) → (CountsBoth direction job.timetable.fixed_time → ⊥) ⊎ (HasTwin direction job.zone.reads s → ⊥) → Counts direction inclusive job s i → Seen direction inclusive job s (walk_start direction inclusive (job.zone.reads s)) i
-seen_alone Forward inclusive job calm s i alone counts =
-    forward_seen job calm inclusive s i
-    (elim alone [
-      | inl one_half ↦ inl (elim (true_or_false job.timetable.fixed_time) [ inl fixed ↦ fixed | inr each ↦ absurd (one_half each) ])
-      | inr single ↦ inr (λ x e. elim (cases_lt_z s x) [ inl lt ↦ absurd (single (x, e, lt)) | inr le ↦ le ])
-    ])
-    counts
-seen_alone Backward inclusive job calm s i alone counts =
-    backward_seen job calm inclusive s i
-    (λ x e. elim alone [ inl one_half ↦ absurd (one_half tt) | inr single ↦ elim (cases_lt_z x s) [ inl lt ↦ absurd (single (x, e, lt)) | inr le ↦ le ] ])
-    counts
-
--- what counts is seen by the walk from the start before the edge, or by the walk from the edge
-seen_twice : (direction : Direction) (inclusive : Bool) (job : Job) → Calm job.zone.reads → (s e i : ℤ) → CountsBoth direction job.timetable.fixed_time → EdgeOf direction job.zone.reads s e → Counts direction inclusive job s i → (Precedes direction i e × Seen direction inclusive job s (walk_start direction inclusive (job.zone.reads s)) i) ⊎ (Reaches direction e i × Seen direction true job e (walk_start direction true (job.zone.reads e)) i)
-seen_twice Forward inclusive job calm s e i both (p, at, edge) counts =
-    elim (forward_seen_twice job calm inclusive s p i edge both counts) [
-      | inl (le, seen) ↦ inl (omega (arith, ints), seen)
-      | inr (lt, seen) ↦ inr (omega (arith, ints), subst (λ (x : ℤ). Seen Forward true job x (job.zone.reads x) i) (sym at) seen)
-    ]
-seen_twice Backward inclusive job calm s e i both edge counts =
-    elim (backward_seen_twice job calm inclusive e s i edge counts) [ inl (lt, seen) ↦ inl (lt, seen) | inr (le, seen) ↦ inr (le, seen) ]
 
 -- from the start to the edge the clock goes straight on
 line_to_edge : (direction : Direction) (reads : ℤ → ℤ) → Calm reads → (s e own i : ℤ) → EdgeOf direction reads s e → own ≡ one_on (opposite_way direction) e → Reaches direction s i → Precedes direction i e → Reaches direction (reads i) (reads own)
@@ -120,27 +76,21 @@ own_reaches : (direction : Direction) (reads : ℤ → ℤ) (s e own i : ℤ) �
 own_reaches Forward reads s e own i is on = omega (arith, ints)
 own_reaches Backward reads s e own i is on = omega (arith, ints)
 
-within_less : (direction : Direction) (a b : ℤ) → Reaches direction a b → IsWithin direction b → IsWithin direction a
+pub within_less : (direction : Direction) (a b : ℤ) → Reaches direction a b → IsWithin direction b → IsWithin direction a
 within_less Forward a b h k = omega (arith, ints)
 within_less Backward a b h k = omega (arith, ints)
 
-edge_counts : (direction : Direction) (inclusive : Bool) (job : Job) → Calm job.zone.reads → (s e u : ℤ) → EdgeOf direction job.zone.reads s e → Walked direction true job e (walk_start direction true (job.zone.reads e)) u → Counts direction inclusive job s u
-edge_counts Forward inclusive job calm s e u (p, at, edge) second =
-    edge_counts_forward job calm inclusive s p u edge (subst (λ (x : ℤ). Counts Forward true job x u) at (walked_counts Forward true job e u second))
-edge_counts Backward inclusive job calm s e u edge second =
-    edge_counts_backward job calm inclusive e s u edge (walked_counts Backward true job e u second)
-
 module _ (direction : Direction) (inclusive : Bool) (job : Job) (calm : Calm job.zone.reads) (s : ℤ) where
   pub out_alone : (CountsBoth direction job.timetable.fixed_time → ⊥) ⊎ (HasTwin direction job.zone.reads s → ⊥) → OutFrom direction inclusive job s → NoneInSpan direction inclusive job s
-  out_alone alone out = λ i span counts. unseen_out direction inclusive job calm s i out (span i (itself direction i)) (seen_alone direction inclusive job calm s i alone counts)
+  out_alone alone out = λ i span counts. unseen_out direction inclusive job calm s i out (span i (reaches-same direction i)) (seen_alone direction inclusive job calm s i alone counts)
 
   -- both walks are out
   pub out_twice : (e : ℤ) → CountsBoth direction job.timetable.fixed_time → EdgeOf direction job.zone.reads s e → OutFrom direction inclusive job s → OutFrom direction true job e → NoneInSpan direction inclusive job s
   out_twice e both edge out second =
       λ i span counts.
       elim (seen_twice direction inclusive job calm s e i both edge counts) [
-        | inl (before, seen) ↦ unseen_out direction inclusive job calm s i out (span i (itself direction i)) seen
-        | inr (on, seen) ↦ unseen_out direction true job calm e i second (span i (itself direction i)) seen
+        | inl (before, seen) ↦ unseen_out direction inclusive job calm s i out (span i (reaches-same direction i)) seen
+        | inr (on, seen) ↦ unseen_out direction true job calm e i second (span i (reaches-same direction i)) seen
       ]
 
   -- the first walk is out, and the own half reaches past the span
@@ -148,7 +98,7 @@ module _ (direction : Direction) (inclusive : Bool) (job : Job) (calm : Calm job
   out_late e own both edge is late out =
       λ i span counts.
       elim (seen_twice direction inclusive job calm s e i both edge counts) [
-        | inl (before, seen) ↦ unseen_out direction inclusive job calm s i out (span i (itself direction i)) seen
+        | inl (before, seen) ↦ unseen_out direction inclusive job calm s i out (span i (reaches-same direction i)) seen
         | inr (on, seen) ↦ late (span own (own_reaches direction job.zone.reads s e own i is on))
       ]
 
@@ -156,7 +106,7 @@ module _ (direction : Direction) (inclusive : Bool) (job : Job) (calm : Calm job
   pub second_alone : (e own u : ℤ) → CountsBoth direction job.timetable.fixed_time → EdgeOf direction job.zone.reads s e → own ≡ one_on (opposite_way direction) e → IsWithin direction (job.zone.reads own) → OutFrom direction inclusive job s → WalkedFrom direction true job e u → Nearest direction inclusive job s u
   second_alone e own u both edge is within out second =
       record {
-        counts = edge_counts direction inclusive job calm s e u edge second;
+        counts = edge_counts direction inclusive job s e u edge (walked_counts direction true job e u second);
         nearest = λ j counts.
             elim (seen_twice direction inclusive job calm s e j both edge counts) [
               | inl (before, seen) ↦
@@ -171,8 +121,8 @@ module _ (direction : Direction) (inclusive : Bool) (job : Job) (calm : Calm job
   second_out e t both edge walked past second =
       λ i span counts.
       elim (seen_twice direction inclusive job calm s e i both edge counts) [
-        | inl (before, (w, from, own, of, ahead)) ↦ past (then_before direction t i e (walked.nearest w i from own of ahead) before)
-        | inr (on, seen) ↦ unseen_out direction true job calm e i second (span i (itself direction i)) seen
+        | inl (before, (w, from, own, of, ahead)) ↦ past (reaches-precedes direction t i e (walked.nearest w i from own of ahead) before)
+        | inr (on, seen) ↦ unseen_out direction true job calm e i second (span i (reaches-same direction i)) seen
       ]
 
 -- ---- as the code has them
@@ -219,15 +169,15 @@ module _ {T : Type 0} (moment : T → Moment) (direction : Direction) (inclusive
   first_one_half left t b halves same e test walked =
       found_by left t walked
       (λ h w.
-      found_one_half direction inclusive (job_in start.zone timetable) (calm_of start.zone h.calm) start.instant (moment t).instant
-      (λ both. never_true (sym e ∙ test.1 (subst (CountsBoth direction) (sym same) both))) w)
+      found_alone direction inclusive (job_in start.zone timetable) (calm_of start.zone h.calm) start.instant (moment t).instant
+      (inl (λ both. never_true (sym e ∙ test.1 (subst (CountsBoth direction) (sym same) both)))) w)
 
   pub first_alone : (IsPast direction inclusive timetable.scheduled (reading start) → ⊥) → (t : T) (b : Bool) → b ≡ false → (StartsCalm start → IsTrue b ↔ HasTwin direction start.zone.reads start.instant) → IsWalked moment direction inclusive (job_in start.zone timetable) start t → IsFound direction inclusive timetable start (moment t)
   first_alone left t b e test walked =
       found_by left t walked
       (λ h w.
       found_alone direction inclusive (job_in start.zone timetable) (calm_of start.zone h.calm) start.instant (moment t).instant
-      (λ twin. never_true (sym e ∙ (test h).1 twin)) w)
+      (inr (λ twin. never_true (sym e ∙ (test h).1 twin))) w)
 
   -- what the code knows once it stands at the edge
   pub record AtEdge (edge : T) : Type 0 where

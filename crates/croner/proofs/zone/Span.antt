@@ -1,77 +1,35 @@
 -- Which runs lie in the span of a search: those that read a year of it, as does the half of a repeated range behind them.
-use Rattle.std.proofs.Common.{◌≡◌, ℤ, pos, ◌+ℤ◌, ◌-ℤ◌, ◌<ℤ◌, ◌≤ℤ◌, ◌⊎◌, arith, refl, sym, ◌∙◌, inl, inr, ap, subst, Bool, true, false, IsTrue, ◌↔◌, Some}
+use Rattle.std.proofs.Common.{◌≡◌, ℤ, pos, ◌+ℤ◌, ◌-ℤ◌, arith, refl, sym, ◌∙◌, inl, inr, ap, subst, Bool, true, false, IsTrue, ◌↔◌, Some}
 use Rattle.std.proofs.lemmas.Bool.{false≢true}
 use Rattle.std.proofs.lemmas.Int.{ints}
 use Rattle.croner_base.specs.declared.time.Direction.{Direction}
 use Rattle.croner_base.specs.declared.time.Direction.TheVariants.{Forward, Backward}
-use Rattle.croner_base.specs.Limits.{fold_limit}
 use Rattle.croner_base.specs.Zone.{Zone, Moment, reading}
-use Rattle.croner.specs.search.Runs.{Precedes, Reaches}
+use Rattle.croner.specs.search.Runs.{Reaches}
 use Rattle.croner.specs.search.Limit.{IsWithin, InSpan}
-use Rattle.croner.specs.search.Premises.{StartsCalm, IsCalmStart}
-use Rattle.croner.specs.Private.search.Halves.{Break, HasTwin, EdgeOf, IsEdge, opposite_way}
-use Rattle.croner.proofs.zone.ZoneOrder.{Calm, Turned, cases_lt_z, put_back, before_break, after_break, below_before, above_after}
+use Rattle.croner.specs.search.Premises.{StartsCalm}
+use Rattle.croner.specs.Private.search.Halves.{HasTwin, EdgeOf, IsEdge, opposite_way}
+use Rattle.croner.proofs.zone.ZoneOrder.{Calm, cases_lt_z, before_break, after_break, below_before, above_after}
 use Rattle.croner.proofs.zone.CalmZone.{calm_of}
-
-itself : (direction : Direction) (i : ℤ) → Reaches direction i i
-itself Forward i = omega (arith, ints)
-itself Backward i = omega (arith, ints)
+use Rattle.croner.proofs.zone.Ahead.{reaches-same, same_or_ahead, either, opposite, precedes-reaches, reaches-precedes}
+use Rattle.croner.proofs.zone.FirstInstants.{twin_behind}
+use Rattle.croner.proofs.zone.SearchLimit.{within_less}
 
 -- the run itself is within
 pub span_within : (direction : Direction) (reads : ℤ → ℤ) (i : ℤ) → InSpan direction reads i → IsWithin direction (reads i)
-span_within direction reads i span = span i (itself direction i)
-
-module _ (reads : ℤ → ℤ) (calm : Calm reads) where
-  twin_at_before : (j i p x : ℤ) → Turned reads j i p → reads i ≤ℤ reads j → x ≡ p -ℤ (reads p -ℤ reads i) → HasTwin Backward reads i
-  twin_at_before j i p x turn le at =
-      let low = turn.low in
-      let high = turn.high in
-      let earlier = turn.earlier in
-      let later = turn.later in
-      let small : (reads p +ℤ pos 1) ≤ℤ (reads (p +ℤ pos 1) +ℤ pos fold_limit) = calm.back p in
-      let line : reads p ≡ reads x +ℤ (p -ℤ x) = before_break reads calm p x p turn.breaks (omega (arith, ints)) (omega (arith, ints)) (omega (arith, ints)) in
-      (x, omega (arith, ints), omega (arith, ints))
-
-  -- of an earlier instant that reads as much or more, the clock was put back since, and an instant before that reads the same
-  twin_before : (j i : ℤ) → j <ℤ i → reads i ≤ℤ reads j → HasTwin Backward reads i
-  twin_before j i before le =
-      let (p, turn) = put_back reads calm j i before le in
-      twin_at_before j i p (p -ℤ (reads p -ℤ reads i)) turn le refl
-
-  twin_at_after : (i j p x : ℤ) → Turned reads i j p → reads j ≤ℤ reads i → x ≡ p +ℤ pos 1 +ℤ (reads i -ℤ reads (p +ℤ pos 1)) → HasTwin Forward reads i
-  twin_at_after i j p x turn le at =
-      let low = turn.low in
-      let high = turn.high in
-      let earlier = turn.earlier in
-      let later = turn.later in
-      let small : (reads p +ℤ pos 1) ≤ℤ (reads (p +ℤ pos 1) +ℤ pos fold_limit) = calm.back p in
-      let line : reads x ≡ reads (p +ℤ pos 1) +ℤ (x -ℤ (p +ℤ pos 1)) = after_break reads calm p (p +ℤ pos 1) x turn.breaks (omega (arith, ints)) (omega (arith, ints)) (omega (arith, ints)) in
-      (x, omega (arith, ints), omega (arith, ints))
-
-  -- of a later instant that reads as little or less, the clock is put back before, and an instant behind that reads the same
-  twin_after : (i j : ℤ) → i <ℤ j → reads j ≤ℤ reads i → HasTwin Forward reads i
-  twin_after i j before le =
-      let (p, turn) = put_back reads calm i j before le in
-      twin_at_after i j p (p +ℤ pos 1 +ℤ (reads i -ℤ reads (p +ℤ pos 1))) turn le refl
+span_within direction reads i span = span i (reaches-same direction i)
 
 -- on no half that the search meets last
 span_alone : (direction : Direction) (reads : ℤ → ℤ) → Calm reads → (i : ℤ) → IsWithin direction (reads i) → (HasTwin (opposite_way direction) reads i → ⊥) → InSpan direction reads i
-span_alone Forward reads calm i within alone = λ j le.
-    elim (cases_lt_z j i) [
-      | inr at ↦ let same : reads j ≡ reads i = ap reads (omega (arith, ints)) in omega (arith, ints)
-      | inl before ↦
-          elim (cases_lt_z (reads j) (reads i)) [
-            | inl lt ↦ omega (arith, ints)
-            | inr back ↦ absurd (alone (twin_before reads calm j i before back))
-          ]
-    ]
-span_alone Backward reads calm i within alone = λ j le.
-    elim (cases_lt_z i j) [
-      | inr at ↦ let same : reads j ≡ reads i = ap reads (omega (arith, ints)) in omega (arith, ints)
-      | inl before ↦
-          elim (cases_lt_z (reads i) (reads j)) [
-            | inl lt ↦ omega (arith, ints)
-            | inr back ↦ absurd (alone (twin_after reads calm i j before back))
+span_alone direction reads calm i within alone = λ j le.
+    elim (same_or_ahead direction j i le) [
+      | inl at ↦ subst (λ (x : ℤ). IsWithin direction (reads x)) (sym at) within
+      | inr before ↦
+          elim (either direction (reads j) (reads i)) [
+            | inl lt ↦ within_less direction (reads j) (reads i) (precedes-reaches direction (reads j) (reads i) lt) within
+            | inr back ↦
+                let (x, on, near, same) = twin_behind direction reads calm j i before back in
+                absurd (alone (x, same, opposite direction x i (reaches-precedes direction x j i on before)))
           ]
     ]
 

@@ -19,7 +19,8 @@ use Rattle.croner.specs.Private.search.Walk.{NoneOf, WalkedFrom, Walking, walk_s
 use Rattle.croner.proofs.zone.CalmZone.{calm_of, exact_of}
 use Rattle.croner.proofs.zone.ZoneOrder.{cases_lt_z}
 use Rattle.croner.proofs.zone.RunsOfSeconds.{true_or_false}
-use Rattle.croner.proofs.zone.WalkSteps.{none_at_start, reaches_itself, none_to_next, on_reaches, one_on_reaches}
+use Rattle.croner.proofs.zone.Ahead.{reaches-same, reaches-trans}
+use Rattle.croner.proofs.zone.WalkSteps.{none_at_start, none_to_next, one_on_reaches, start_reaches, start_ahead}
 use Rattle.croner.proofs.zone.WalkArms.{single_answer, two_each_answer, two_each_past, gap_each_past, two_fixed_answer, two_fixed_past, gap_answer, gap_fixed_past_forward, gap_fixed_past_backward}
 use Rattle.croner.proofs.zone.WallSeconds.{IsFar, last_year_far}
 
@@ -46,13 +47,13 @@ module _ (direction : Direction) (inclusive : Bool) (job : Job) (s : ℤ) (f : �
   pub walking_start : (wall : ℤ) → wall ≡ walk_start direction inclusive (job.zone.reads s) → Walking direction inclusive job s f wall
   walking_start wall e =
       let from = walk_start direction inclusive (job.zone.reads s) in
-      subst (λ (v : ℤ). Walking direction inclusive job s f v) (sym e) (record { reaches = reaches_itself direction from; none = λ calm. none_at_start direction inclusive job s from })
+      subst (λ (v : ℤ). Walking direction inclusive job s f v) (sym e) (record { reaches = reaches-same direction from; none = λ calm. none_at_start direction inclusive job s from })
 
   pub walking_next : (wall next : ℤ) → Walking direction inclusive job s f wall → NextScheduled direction job.timetable.scheduled wall next → Walking direction inclusive job s f next
   walking_next wall next walking found =
       let from = walk_start direction inclusive (job.zone.reads s) in
       record {
-        reaches = on_reaches direction from wall next walking.reaches found.on;
+        reaches = reaches-trans direction from wall next walking.reaches found.on;
         none = λ calm. none_to_next direction inclusive job s from wall next (walking.none calm) found;
       }
 
@@ -160,16 +161,9 @@ onward_front Backward reads held front f past unread =
       );
     }
 
--- where a walk comes to lies ahead of where its origin reads
-ahead_on : (direction : Direction) (inclusive : Bool) (r w : ℤ) → Reaches direction (walk_start direction inclusive r) w → Ahead direction inclusive r w
-ahead_on Forward true r w h = elim (cases_lt_z r w) [ inl lt ↦ inl lt | inr le ↦ inr (refl, omega (arith, ints)) ]
-ahead_on Forward false r w h = inl (omega (arith, ints))
-ahead_on Backward true r w h = elim (cases_lt_z w r) [ inl lt ↦ inl lt | inr le ↦ inr (refl, omega (arith, ints)) ]
-ahead_on Backward false r w h = inl (omega (arith, ints))
-
 -- a walk that comes to a scheduled second has something scheduled ahead
 pub something_ahead : (direction : Direction) (inclusive : Bool) (job : Job) (s : ℤ) (f : ℕ) (wall : ℤ) → Walking direction inclusive job s f wall → job.timetable.scheduled wall → NoneAhead direction inclusive job.timetable.scheduled (job.zone.reads s) → ⊥
-something_ahead direction inclusive job s f wall walking own none = none wall (ahead_on direction inclusive (job.zone.reads s) wall walking.reaches) own
+something_ahead direction inclusive job s f wall walking own none = none wall (start_ahead direction inclusive (job.zone.reads s) wall walking.reaches) own
 
 -- ---- answers of a walk
 
@@ -269,12 +263,6 @@ pub searched_not_last : (direction : Direction) (c : CivilDateTime) → IsSearch
 searched_not_last Forward c searched last = let far = last_year_far Forward c last in omega (arith, ints, searched.1)
 searched_not_last Backward c searched last = let far = last_year_far Backward c last in omega (arith, ints, searched.0)
 
-start_reaches : (direction : Direction) (inclusive : Bool) (r w : ℤ) → Reaches direction (walk_start direction inclusive r) w → Reaches direction r w
-start_reaches Forward true r w h = h
-start_reaches Forward false r w h = omega (arith, ints)
-start_reaches Backward true r w h = h
-start_reaches Backward false r w h = omega (arith, ints)
-
 pub walk_reaches : (direction : Direction) (inclusive : Bool) (job : Job) (s : ℤ) (f : ℕ) (wall : ℤ) → Walking direction inclusive job s f wall → Reaches direction (job.zone.reads s) wall
 walk_reaches direction inclusive job s f wall walking = start_reaches direction inclusive (job.zone.reads s) wall walking.reaches
 
@@ -288,4 +276,4 @@ pub out_far : (direction : Direction) (inclusive : Bool) (job : Job) (s : ℤ) (
 out_far direction inclusive job s c last shown =
     let from = walk_start direction inclusive (job.zone.reads s) in
     let far = subst (IsFar direction) shown (last_year_far direction c last) in
-    (from, none_at_start direction inclusive job s from, far_none direction job.timetable.fixed_time job.timetable.scheduled (job.zone.reads s) from far (start_reaches direction inclusive (job.zone.reads s) from (reaches_itself direction from)))
+    (from, none_at_start direction inclusive job s from, far_none direction job.timetable.fixed_time job.timetable.scheduled (job.zone.reads s) from far (start_reaches direction inclusive (job.zone.reads s) from (reaches-same direction from)))

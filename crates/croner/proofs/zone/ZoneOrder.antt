@@ -121,6 +121,14 @@ module _ (reads : ℤ → ℤ) (calm : Calm reads) where
         | inr (p, low, high, b, first, second) ↦ let small : (reads p +ℤ pos 1) ≤ℤ (reads (p +ℤ pos 1) +ℤ pos fold_limit) = calm.back p in omega (arith, ints)
       ]
 
+  -- and gives the longest gap at most
+  pub loses : (i j : ℤ) → i ≤ℤ j → j ≤ℤ (i +ℤ pos apart_limit) → reads j ≤ℤ (reads i +ℤ (j -ℤ i) +ℤ pos gap_limit)
+  loses i j h near =
+      elim (window i j h near) [
+        | inl e ↦ omega (arith, ints)
+        | inr (p, low, high, b, first, second) ↦ let small = calm.forth p in omega (arith, ints)
+      ]
+
   -- beyond the longest step back the readings are in order
   far_within : (n : ℕ) (i j : ℤ) → (i +ℤ pos fold_limit) <ℤ j → j ≤ℤ (i +ℤ pos (fold_limit + 1 + n * stride)) → reads i <ℤ reads j
   far_within zero i j h k = let g = gains i j (omega (arith, ints)) (omega (arith, ints)) in omega (arith, ints)

@@ -5,11 +5,9 @@ ghost use Rattle.croner_base.specs.Civil.{wall_second, seconds_of_time};
 ghost use Rattle.croner.specs.Private.search.Halves.{offset_from};
 ghost use Rattle.croner.specs.Private.search.Wall.{IsLastYear};
 
+use croner_base::limits::SECONDS_PER_DAY;
 use croner_base::time::{CivilDateTime, CivilTime, Direction};
 use croner_base::wall::{day_after, day_before};
-
-/// The seconds of a day on a wall clock.
-const SECONDS_PER_DAY: u32 = 86_400;
 
 // How many seconds have gone by since midnight.
 fn seconds_of_day(time: CivilTime) -> u32

@@ -114,8 +114,8 @@ impl ClockTable {
 
     // The instants at which the clock reads a wall second.
     fn instants_of(&self, wall: i64) -> Resolution<i64>
-        requires low { neg_ℤ (pos 377_705_116_800) ≤ℤ wall }
-        requires high { wall ≤ℤ pos 253_402_300_799 }
+        requires low { Spec.first_instant ≤ℤ wall }
+        requires high { wall ≤ℤ Spec.last_instant }
         ensures { NamesAll (table_zone self.now) wall result }
     {
         let passed = self.changes_until(wall + OFFSET_LIMIT_SECONDS as i64);

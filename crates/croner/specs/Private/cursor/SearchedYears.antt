@@ -7,6 +7,7 @@ use Rattle.jiff_core.specs.Calendar.{days_in_month}
 use Rattle.jiff_core.proofs.SignedLemmas.{signed_arith}
 use Rattle.croner_base.specs.declared.time.civil.CivilDateTime.{CivilDateTime}
 use Rattle.croner_base.specs.Civil.{wall_second}
+use Rattle.croner_base.specs.Limits.{first_year, last_year}
 use Rattle.croner_base.specs.Calm.{IsSearched}
 use Rattle.croner_base.specs.Limits.{first_year, last_year}
 use Rattle.croner_base.proofs.Chronology.{searched_years}

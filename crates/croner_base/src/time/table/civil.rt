@@ -3,6 +3,7 @@ ghost use Rattle.std.specs.Prelude.{◌≡◌, pos, neg_ℤ, ◌≤ℤ◌};
 ghost use Rattle.croner_base.specs.Civil.{wall_second, day_of_date};
 ghost use Rattle.jiff_core.specs.Calendar.{IsYear};
 
+use crate::limits;
 use crate::time::{CivilDate, CivilDateTime, CivilTime};
 use jiff_core::civil::Date;
 
@@ -13,7 +14,7 @@ const FIRST_DAY: i64 = -4_371_587;
 const LAST_DAY: i64 = 2_932_896;
 
 /// The seconds of a day on a wall clock.
-pub(crate) const SECONDS_PER_DAY: i64 = 86_400;
+pub(crate) const SECONDS_PER_DAY: i64 = limits::SECONDS_PER_DAY as i64;
 
 // The date and time of a wall second, up to a day past the years -9999 to 9999.
 pub(crate) fn civil_of_second(wall: i64) -> CivilDateTime

@@ -1,4 +1,4 @@
-use Rattle.std.proofs.Common.{◌∙◌, arith, pos, neg_ℤ}
+use Rattle.std.proofs.Common.{◌∙◌, arith}
 use Rattle.std.proofs.lemmas.Int.{ints}
 use Rattle.croner_base.proofs.JiffSeconds.{day_before, day_after}
 use Rattle.croner_base.proofs.TableCivil.{day_of_parts, same_day}
@@ -6,13 +6,13 @@ use Rattle.croner_base.proofs.time.table.civil.date_of_day.Goals as goal
 
 pub returns-then-day-lt-FIRST_DAY : goal.returns-then-day-lt-FIRST_DAY
 returns-then-day-lt-FIRST_DAY c =
-    day_of_parts c.from_parts_unchecked.result (neg_ℤ (pos 10_000)) 12 31 (neg_ℤ (pos 4_371_588)) c.from_parts_unchecked.ensures day_before
+    day_of_parts c.from_parts_unchecked.result _ _ _ _ c.from_parts_unchecked.ensures day_before
     ∙ omega (arith, ints)
 
 pub returns-then-day-gt-LAST_DAY : goal.returns-then-day-gt-LAST_DAY
 returns-then-day-gt-LAST_DAY c =
     let r = c.from_parts_unchecked-then-day-gt-LAST_DAY in
-    day_of_parts r.result (pos 10_000) 1 1 (pos 2_932_897) r.ensures day_after ∙ omega (arith, ints)
+    day_of_parts r.result _ _ _ _ r.ensures day_after ∙ omega (arith, ints)
 
 pub returns-else-day-gt-LAST_DAY : goal.returns-else-day-gt-LAST_DAY
 returns-else-day-gt-LAST_DAY c =
