@@ -306,7 +306,7 @@ impl CronComponent {
     }
 
     /// The least plain value from the given one on; `None` where there is none. Refuses nothing and takes no memory.
-    #[inline]
+    #[inline(always)]
     pub fn least_from(&self, value: u16) -> Option<u16>
         ensures { MatchOption result (HasNoPlainFrom self.now value) (λ least. IsLeastPlainValue self.now value least) }
     {
@@ -317,7 +317,7 @@ impl CronComponent {
     }
 
     /// The greatest plain value up to the given one; `None` where there is none. Refuses nothing and takes no memory.
-    #[inline]
+    #[inline(always)]
     pub fn greatest_to(&self, value: u16) -> Option<u16>
         ensures { MatchOption result (HasNoPlainTo self.now value) (λ greatest. IsGreatestPlainValue self.now value greatest) }
     {
@@ -334,7 +334,7 @@ impl CronComponent {
     ///
     /// Each modifier is asked by itself: one that isn't supported adds no value, and keeps out none that another adds.
     /// [`get_set_values`](Self::get_set_values) lists nothing at all where one isn't supported.
-    #[inline]
+    #[inline(always)]
     pub fn low_word(&self, bit: u8) -> u64
         ensures { (value : ℕ) → value < 64 → (bit_at result value == 1) ≡ is_marked bit self.now value }
     {

@@ -234,6 +234,7 @@ fn is_like(field: &CronComponent, min: u16, max: u16, features: u8, offset: u16)
 }
 
 /// The least plain value of a field from a value on (forward), or the greatest up to it (backward).
+#[inline(always)]
 pub fn nearest_member(field: &CronComponent, value: u16, direction: Direction) -> Option<u16>
     ensures { IsNearestMember direction field.now value result }
 {
@@ -252,6 +253,7 @@ fn ask(field: &CronComponent, value: u16, bit: u8) -> Result<bool, CronError>
 }
 
 /// Whether a field names exactly one value, with step 1 and without a `*`.
+#[inline(always)]
 fn is_single(field: &CronComponent) -> bool
     ensures { result ≡ is_single field.now }
 {

@@ -14,7 +14,7 @@ use crate::cursor::calendar::{
 use crate::cursor::days::{days_after, first_day};
 use crate::cursor::kinds::{has_kind, year_kinds};
 use crate::cursor::values::{is_plain, nearest_value, neighbour};
-use croner_base::time::{CivilDate, Direction, YEAR_LOWER_LIMIT, YEAR_UPPER_LIMIT, days_in_month};
+use croner_base::time::{CivilDate, Direction, days_in_month};
 use croner_pattern::pattern::CronPattern;
 
 // The number of a year that the pattern names.
@@ -23,14 +23,9 @@ fn named_year(pattern: &CronPattern, year: i32) -> Option<u32>
     ensures { MatchOption result (is_year_matching (meaning_of pattern.now) year ≡ false)
         (IsNamedYear (meaning_of pattern.now) year) }
 {
-    if year < YEAR_LOWER_LIMIT || year > YEAR_UPPER_LIMIT {
-        return None;
-    }
-    let year = year as u32;
-    if is_plain(&pattern.years, year) {
-        Some(year)
-    } else {
-        None
+    match pattern.year_match(year) {
+        Ok(true) => Some(year as u32),
+        _ => None,
     }
 }
 

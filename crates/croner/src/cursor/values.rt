@@ -9,6 +9,7 @@ use croner_base::time::Direction;
 use croner_pattern::pattern::nearest_member;
 
 // Whether the field names the value by itself.
+#[inline(always)]
 pub(crate) fn is_plain(field: &CronComponent, value: u32) -> bool
     requires { value < 65536 }
     ensures { result ≡ is_plain field.now value }
@@ -30,6 +31,7 @@ pub(crate) fn neighbour(value: u32, direction: Direction) -> Option<u32>
 }
 
 // The nearest plain value between `min` and `max`, from a value on, itself included.
+#[inline(always)]
 pub(crate) fn nearest_value(
     field: &CronComponent,
     min: u32,
@@ -50,6 +52,7 @@ pub(crate) fn nearest_value(
 }
 
 // The nearest plain value after a value, of a field of values from 0.
+#[inline(always)]
 pub(crate) fn nearest_beyond(
     field: &CronComponent,
     max: u32,
@@ -65,6 +68,7 @@ pub(crate) fn nearest_beyond(
 }
 
 // The first plain value in the direction, of a field of values from 0.
+#[inline(always)]
 pub(crate) fn first_value(field: &CronComponent, max: u32, direction: Direction) -> Option<u32>
     requires { max < u16.MAX }
     ensures { MatchOption result

@@ -1,5 +1,6 @@
 //! The two halves of a repeated range of the wall clock.
 ghost use Rattle.std.specs.Prelude.{◌≡◌, ◌↔◌, ◌≤◌, IsTrue, IfOk, IfErr};
+ghost use Rattle.croner_base.specs.Civil.{wall_second};
 ghost use Rattle.croner_base.specs.Zone.{reading};
 ghost use Rattle.croner_base.specs.Calm.{HoldsAround};
 ghost use Rattle.croner.specs.search.Limit.{InSpan};
@@ -10,25 +11,27 @@ ghost use Rattle.croner.specs.Private.search.Held.{HoldsSecond, IsBackendError};
 use crate::search::instant::{moved, opposite, precedes};
 use crate::search::wall::is_within;
 use croner_base::errors::CronError;
-use croner_base::time::{CronDateTime, Direction, Resolution};
+use croner_base::time::{CivilDateTime, CronDateTime, Direction, Resolution};
 use std::alloc::Global;
 
 /// How many seconds on the edge of the other half is sought.
 const HALF_SEARCH_SECONDS: u32 = 86_400;
 
-/// Whether the instant is on the half of a repeated range that a search in the direction meets first.
+/// Whether the instant, which reads `shown`, is on the half of a repeated range that a search in the direction meets first.
 pub(crate) fn is_on_first_half<T: CronDateTime>(
     alloc: Global,
     instant: &T,
+    shown: CivilDateTime,
     direction: Direction,
 ) -> Result<bool, CronError>
+    requires { wall_second shown ≡ reading (T.moment instant.now) }
     ensures value { IsCalmStart (T.moment instant.now).zone (T.moment instant.now).fraction
         → IfOk result (λ b. IsTrue b
         ↔ HasTwin direction (T.moment instant.now).zone.reads (T.moment instant.now).instant) }
     ensures err { IfErr result (IsBackendError T.can_lack_memory
         (¬ (HoldsSecond (T.moment instant.now).zone (reading (T.moment instant.now))))) }
 {
-    match instant.resolve_civil(alloc, instant.to_civil())? {
+    match instant.resolve_civil(alloc, shown)? {
         // An instant with a fraction still comes before the later of the two.
         Resolution::Ambiguous(_, later) => {
             let is_earlier = precedes(instant, &later, Direction::Forward);
@@ -88,7 +91,7 @@ fn is_offset_on_first_half<T: CronDateTime>(
         (IsCalmStart (T.moment start.now).zone (T.moment start.now).fraction → ¬ (HoldsAround (T.moment start.now)))) }
 {
     match moved(alloc, start, seconds, direction) {
-        Ok(there) => match is_on_first_half(alloc, &there, direction) {
+        Ok(there) => match is_on_first_half(alloc, &there, there.to_civil(), direction) {
             Ok(is_on) => Ok(is_on),
             Err(error) => Err(error),
         },
@@ -108,11 +111,12 @@ pub(crate) fn is_in_span<T: CronDateTime>(
         ↔ InSpan direction (T.moment run.now).zone.reads (T.moment run.now).instant) }
     ensures err { IfErr result (IsBackendError T.can_lack_memory (¬ (IsSearchable (T.moment run.now)))) }
 {
-    if !is_within(run.to_civil(), direction) {
+    let shown = run.to_civil();
+    if !is_within(shown, direction) {
         return Ok(false);
     }
     let back = opposite(direction);
-    match is_on_first_half(alloc, run, back) {
+    match is_on_first_half(alloc, run, shown, back) {
         Ok(true) => {}
         Ok(false) => return Ok(true),
         Err(error) => return Err(error),

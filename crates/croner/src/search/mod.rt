@@ -9,6 +9,7 @@ mod wall;
 
 ghost use Rattle.std.specs.Prelude.{◌≡◌, ◌↔◌, IsTrue, IfOk, IfErr, Err, None};
 ghost use Rattle.croner_base.specs.declared.errors.CronError.TheVariants.{TimeSearchLimitExceeded};
+ghost use Rattle.croner_base.specs.Civil.{wall_second};
 ghost use Rattle.croner_base.specs.Zone.{reading};
 ghost use Rattle.croner.specs.search.Runs.{job_in};
 ghost use Rattle.croner.specs.search.Limit.{IsWithin};
@@ -22,40 +23,44 @@ use crate::search::fold::{is_on_first_half, other_edge};
 use crate::search::instant::{moved, opposite, precedes};
 use crate::search::wall::is_within;
 use croner_base::errors::CronError;
-use croner_base::time::{CronDateTime, Direction};
+use croner_base::time::{CivilDateTime, CronDateTime, Direction};
 pub(crate) use schedule::Schedule;
 use std::alloc::Global;
 use walk::{Origin, walk};
 
 // Whether the other half of a repeated range counts too: not so for a fixed-time job forward.
-fn counts_both(fixed_time: bool, direction: Direction) -> bool
-    ensures { IsTrue result ↔ CountsBoth direction fixed_time }
+fn counts_both<S: Schedule>(schedule: &S, direction: Direction) -> bool
+    requires { S.shaped schedule.now }
+    ensures { IsTrue result ↔ CountsBoth direction (S.timetable schedule.now).fixed_time }
 {
     match direction {
-        Direction::Forward => !fixed_time,
+        Direction::Forward => !schedule.is_fixed_time(),
         Direction::Backward => true,
     }
 }
 
-// The nearer of the first walk's answer and that of the other half, where the start is on the half that comes first.
+// The nearer of the first walk's answer and that of the other half, where the start is on the half that comes first. `shown`
+// is what the start reads.
 fn nearer_half<T: CronDateTime, S: Schedule>(
     alloc: Global,
     schedule: &S,
     start: &T,
+    shown: CivilDateTime,
     first: T,
     inclusive: bool,
     direction: Direction,
 ) -> Result<T, CronError>
     requires shaped { S.shaped schedule.now }
+    requires shown { wall_second shown ≡ reading (T.moment start.now) }
     requires walked { IsWalked T.moment direction inclusive
         (job_in (T.moment start.now).zone (S.timetable schedule.now)) (T.moment start.now) first }
     ensures found { IfOk result (λ t. IsFound direction inclusive (S.timetable schedule.now) (T.moment start.now) (T.moment t)) }
     ensures refused { IfErr result (IsRefused T.can_lack_memory direction inclusive (S.timetable schedule.now) (T.moment start.now)) }
 {
-    if !counts_both(schedule.is_fixed_time(), direction) {
+    if !counts_both(schedule, direction) {
         return Ok(first);
     }
-    match is_on_first_half(alloc, start, direction) {
+    match is_on_first_half(alloc, start, shown, direction) {
         Ok(true) => {}
         Ok(false) => return Ok(first),
         Err(error) => return Err(error),
@@ -73,7 +78,7 @@ fn nearer_half<T: CronDateTime, S: Schedule>(
         inclusive: true,
         direction,
     };
-    let second = match walk(alloc, schedule, &across) {
+    let second = match walk(alloc, schedule, &across, edge.to_civil()) {
         Ok(Some(second)) => second,
         Ok(None) => return Err(CronError::TimeSearchLimitExceeded),
         Err(error) => return Err(error),
@@ -91,23 +96,25 @@ fn after_limit<T: CronDateTime, S: Schedule>(
     alloc: Global,
     schedule: &S,
     start: &T,
+    shown: CivilDateTime,
     inclusive: bool,
     direction: Direction,
 ) -> Result<T, CronError>
     requires shaped { S.shaped schedule.now }
+    requires shown { wall_second shown ≡ reading (T.moment start.now) }
     requires out { HasWalked T.moment direction inclusive
         (job_in (T.moment start.now).zone (S.timetable schedule.now)) (T.moment start.now) None }
     ensures found { IfOk result (λ t. IsFound direction inclusive (S.timetable schedule.now) (T.moment start.now) (T.moment t)) }
     ensures refused { IfErr result (IsRefused T.can_lack_memory direction inclusive (S.timetable schedule.now) (T.moment start.now)) }
     ensures past { ¬ (IsWithin direction (reading (T.moment start.now))) → result ≡ Err TimeSearchLimitExceeded }
 {
-    if !counts_both(schedule.is_fixed_time(), direction) {
+    if !counts_both(schedule, direction) {
         return Err(CronError::TimeSearchLimitExceeded);
     }
-    if !is_within(start.to_civil(), direction) {
+    if !is_within(shown, direction) {
         return Err(CronError::TimeSearchLimitExceeded);
     }
-    let (edge, own_last) = match edge_and_last(alloc, start, direction) {
+    let (edge, own_last) = match edge_and_last(alloc, start, shown, direction) {
         Ok(Some(found)) => found,
         Ok(None) => return Err(CronError::TimeSearchLimitExceeded),
         Err(error) => return Err(error),
@@ -120,7 +127,7 @@ fn after_limit<T: CronDateTime, S: Schedule>(
         inclusive: true,
         direction,
     };
-    match walk(alloc, schedule, &across) {
+    match walk(alloc, schedule, &across, edge.to_civil()) {
         Ok(Some(second)) => Ok(second),
         Ok(None) => Err(CronError::TimeSearchLimitExceeded),
         Err(error) => Err(error),
@@ -131,12 +138,14 @@ fn after_limit<T: CronDateTime, S: Schedule>(
 fn edge_and_last<T: CronDateTime>(
     alloc: Global,
     start: &T,
+    shown: CivilDateTime,
     direction: Direction,
 ) -> Result<Option<(T, T)>, CronError>
+    requires { wall_second shown ≡ reading (T.moment start.now) }
     ensures value { IfOk result (HasOtherHalf T.moment direction (T.moment start.now)) }
     ensures err { IfErr result (IsBackendError T.can_lack_memory (¬ (IsSearchable (T.moment start.now)))) }
 {
-    match is_on_first_half(alloc, start, direction) {
+    match is_on_first_half(alloc, start, shown, direction) {
         Ok(true) => {}
         Ok(false) => return Ok(None),
         Err(error) => return Err(error),
@@ -171,9 +180,12 @@ pub(crate) fn find<T: CronDateTime, S: Schedule>(
         inclusive,
         direction,
     };
-    match walk(alloc, schedule, &origin) {
-        Ok(Some(first)) => nearer_half(alloc, schedule, start, first, inclusive, direction),
-        Ok(None) => after_limit(alloc, schedule, start, inclusive, direction),
+    let shown = start.to_civil();
+    match walk(alloc, schedule, &origin, shown) {
+        Ok(Some(first)) => {
+            nearer_half(alloc, schedule, start, shown, first, inclusive, direction)
+        }
+        Ok(None) => after_limit(alloc, schedule, start, shown, inclusive, direction),
         Err(refused) => Err(refused),
     }
 }

@@ -1,7 +1,7 @@
 //! One walk along the wall clock.
 ghost use Rattle.std.specs.Prelude.{◌≡◌, ◌⊎◌, ℤ, IfOk, IfErr, MatchOption, Some};
 ghost use Rattle.croner_base.specs.declared.time.value.Resolution.TheVariants.{Ambiguous, Gap};
-ghost use Rattle.croner_base.specs.Zone.{IsResolved};
+ghost use Rattle.croner_base.specs.Zone.{IsResolved, reading};
 ghost use Rattle.croner.specs.Private.search.Wall.{IsLastYear};
 ghost use Rattle.croner_base.specs.Calm.{IsCalm};
 ghost use Rattle.croner_base.specs.Civil.{wall_second};
@@ -211,21 +211,23 @@ fn first_second(
     }
 }
 
-/// The nearest run that a walk along the wall clock from the origin meets, over one half of each repeated range; `None`
+/// The nearest run that a walk along the wall clock from the origin meets, over one half of each repeated range. `shown` is
+/// what the origin reads. `None`
 /// where it meets none in the years that are searched, and without a question where nothing is scheduled ahead.
 pub(crate) fn walk<T: CronDateTime, S: Schedule>(
     alloc: Global,
     schedule: &S,
     origin: &Origin<'_, T>,
+    shown: CivilDateTime,
 ) -> Result<Option<T>, CronError>
-    requires { S.shaped schedule.now }
+    requires shaped { S.shaped schedule.now }
+    requires shown { wall_second shown ≡ reading (T.moment origin.now.time.now) }
     ensures value { IfOk result (HasWalked T.moment origin.now.direction origin.now.inclusive
         (job_in (T.moment origin.now.time.now).zone (S.timetable schedule.now))
         (T.moment origin.now.time.now)) }
     ensures err { IfErr result (IsWalkRefused T.can_lack_memory origin.now.direction origin.now.inclusive (S.timetable schedule.now) (T.moment origin.now.time.now)) }
 {
-    let Some(mut wall) = first_second(origin.time.to_civil(), origin.inclusive, origin.direction)
-    else {
+    let Some(mut wall) = first_second(shown, origin.inclusive, origin.direction) else {
         return Ok(None);
     };
     for _ in 0..PASS_LIMIT {

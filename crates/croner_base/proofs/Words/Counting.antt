@@ -134,6 +134,14 @@ count_step f bits first i word within shows fits =
     (omega arith)
     ∙ ap (λ n. count_up (is_set bits f) first (i * 64 - first) + n) ones
 
+-- all values in one word
+pub count_only : (f : Marked) (bits first word : ℕ) → width f.max ≡ 1 → ShowsFrom f bits first 0 word → word < 2 ^ 64 → count_ones word ≡ count_up (is_set bits f) first (room f.max - first)
+count_only f bits first word one shows fits =
+    let here : 0 < width f.max = omega (arith, one) in
+    let to : min ((0 + 1) * 64) (room f.max) - first ≡ room f.max - first = omega (arith, one) in
+    let from : 0 * 64 - first ≡ 0 = omega arith in
+    omega (arith, count_step f bits first 0 word here shows fits, ap (count_up (is_set bits f) first) to, ap (count_up (is_set bits f) first) from)
+
 -- ---- masked
 
 pub shows_from : (f : Marked) (bits first i word from to : ℕ) → ShowsMarked f bits i word → MasksFrom from first i → MasksTo to f.max i → i < width f.max

@@ -1,5 +1,5 @@
 -- Looking for a value word by word.
-use Rattle.std.proofs.Common.{◌≡◌, ℕ, suc, ◌+◌, ◌-◌, ◌*◌, ◌/◌, ◌%◌, ◌^◌, ◌<◌, ◌≤◌, List, length, get_or, bit_and, ap, ◌∙◌, arith, subst, inl, inr, w64}
+use Rattle.std.proofs.Common.{◌≡◌, ◌∷◌, [], ℕ, suc, ◌+◌, ◌-◌, ◌*◌, ◌/◌, ◌%◌, ◌^◌, ◌<◌, ◌≤◌, List, length, get_or, bit_and, ap, ◌∙◌, arith, subst, inl, inr, w64}
 use Rattle.std.specs.Int.{bit_at, trailing_zeros, leading_zeros}
 use Rattle.std.proofs.lemmas.Bool.{cases_lt}
 use Rattle.std.proofs.lemmas.List.{get_or_past}
@@ -8,7 +8,7 @@ use Rattle.std.proofs.lemmas.Nat.Bits.{bit_at_and, bit_at-lt, bit_at-zero, bit_a
 use native.Mathlib.Nat.{pow-suc}
 use Rattle.croner_base.specs.Private.Words.Rows.{in_row}
 use Rattle.croner_base.specs.Private.Words.Masks.{MasksFrom, MasksTo}
-use Rattle.croner_base.specs.Private.Words.Search.{HasNoneFrom, IsLeastFrom, IsGreatestTo}
+use Rattle.croner_base.specs.Private.Words.Search.{HasNoneFrom, IsLeastFrom, HasNoneTo, IsGreatestTo}
 
 pub first_mask : (from : ℕ) → MasksFrom ((2 ^ 64 - 1) * 2 ^ (from % 64) % 2 ^ 64) from (from / 64)
 first_mask from =
@@ -17,6 +17,12 @@ first_mask from =
       on = λ b h le. ap (λ m. bit_at m b) e ∙ bit_at_mask_inside (from % 64) 64 b (omega arith) h;
       off = λ b h lt. ap (λ m. bit_at m b) e ∙ bit_at_mask_below (from % 64) 64 b (omega arith);
     }
+
+only_mask : (from : ℕ) → from < 64 → MasksFrom ((2 ^ 64 - 1) * 2 ^ from % 2 ^ 64) from 0
+only_mask from small =
+    let e : from % 64 ≡ from = omega arith in
+    let i : from / 64 ≡ 0 = omega arith in
+    subst (MasksFrom ((2 ^ 64 - 1) * 2 ^ from % 2 ^ 64) from) i (subst (λ n. MasksFrom ((2 ^ 64 - 1) * 2 ^ n % 2 ^ 64) from (from / 64)) e (first_mask from))
 
 pub later_mask : (from i : ℕ) → from ≤ i * 64 → MasksFrom (2 ^ 64 - 1) from i
 later_mask from i h = record { on = λ b lt le. bit_at_ones 64 b lt; off = λ b lt below. absurd (omega arith) }
@@ -69,6 +75,18 @@ past_row row from i before h v above = elim (cases_lt v (i * 64)) [
   | inl lt ↦ before v above lt
   | inr le ↦ ap (λ w. bit_at w (v % 64)) (get_or_past row (v / 64) 0 (omega arith)) ∙ bit_at-zero (v % 64)
 ]
+
+-- a row of one word
+pub none_in_word : (word from : ℕ) → from < 64 → bit_and word ((2 ^ 64 - 1) * 2 ^ from % 2 ^ 64) ≡ 0 → HasNoneFrom (word ∷ []) from
+none_in_word word from small none =
+    past_row (word ∷ []) from 1 (word_of_none (word ∷ []) from 0 ((2 ^ 64 - 1) * 2 ^ from % 2 ^ 64) (λ v above below. absurd (omega arith)) (only_mask from small) none) (omega arith)
+
+pub least_of_word : (word from : ℕ) → from < 64 → 0 < bit_and word ((2 ^ 64 - 1) * 2 ^ from % 2 ^ 64) → bit_and word ((2 ^ 64 - 1) * 2 ^ from % 2 ^ 64) < 2 ^ 64
+    → IsLeastFrom (word ∷ []) from (trailing_zeros w64 (bit_and word ((2 ^ 64 - 1) * 2 ^ from % 2 ^ 64)))
+least_of_word word from small some fits =
+    let e : 0 * 64 + trailing_zeros w64 (bit_and word ((2 ^ 64 - 1) * 2 ^ from % 2 ^ 64)) ≡ trailing_zeros w64 (bit_and word ((2 ^ 64 - 1) * 2 ^ from % 2 ^ 64)) = omega arith in
+    subst (IsLeastFrom (word ∷ []) from) e
+    (word_of_least (word ∷ []) from 0 ((2 ^ 64 - 1) * 2 ^ from % 2 ^ 64) (λ v above below. absurd (omega arith)) (only_mask from small) some fits)
 
 -- ---- downwards
 
@@ -131,3 +149,21 @@ word_of_greatest row to i mask behind masks some fits =
                 in_word row i v there ∙ omega (arith, bit_at_and (get_or row i 0) mask (v % 64), rest (v % 64) (omega arith), bit_at-lt (get_or row i 0) (v % 64))
           ];
         }
+
+-- a row of one word
+whole_mask : (to : ℕ) → to < 64 → MasksTo ((2 ^ 64 - 1) / 2 ^ (63 - to)) to 0
+whole_mask to small =
+    let e : to % 64 ≡ to = omega arith in
+    let i : to / 64 ≡ 0 = omega arith in
+    subst (MasksTo ((2 ^ 64 - 1) / 2 ^ (63 - to)) to) i (subst (λ n. MasksTo ((2 ^ 64 - 1) / 2 ^ (63 - n)) to (to / 64)) e (last_mask to))
+
+pub none_up_in_word : (word to : ℕ) → to < 64 → bit_and word ((2 ^ 64 - 1) / 2 ^ (63 - to)) ≡ 0 → HasNoneTo (word ∷ []) to
+none_up_in_word word to small none v below =
+    word_of_none_down (word ∷ []) to 0 ((2 ^ 64 - 1) / 2 ^ (63 - to)) (λ v below above. absurd (omega arith)) (whole_mask to small) none v below (omega arith)
+
+pub greatest_of_word : (word to : ℕ) → to < 64 → 0 < bit_and word ((2 ^ 64 - 1) / 2 ^ (63 - to)) → bit_and word ((2 ^ 64 - 1) / 2 ^ (63 - to)) < 2 ^ 64
+    → IsGreatestTo (word ∷ []) to (63 - leading_zeros w64 (bit_and word ((2 ^ 64 - 1) / 2 ^ (63 - to))))
+greatest_of_word word to small some fits =
+    let e : 0 * 64 + 63 - leading_zeros w64 (bit_and word ((2 ^ 64 - 1) / 2 ^ (63 - to))) ≡ 63 - leading_zeros w64 (bit_and word ((2 ^ 64 - 1) / 2 ^ (63 - to))) = omega arith in
+    subst (IsGreatestTo (word ∷ []) to) e
+    (word_of_greatest (word ∷ []) to 0 ((2 ^ 64 - 1) / 2 ^ (63 - to)) (λ v below above. absurd (omega arith)) (whole_mask to small) some fits)

@@ -190,6 +190,7 @@ impl Marks {
     }
 
     /// The least plain value from the given one on.
+    #[inline(always)]
     pub fn least_from(&self, value: u16) -> Option<u16>
         ensures { MatchOption result (NonePlainFrom self.now value) (λ least. IsLeastPlain self.now value least) }
     {
@@ -200,6 +201,7 @@ impl Marks {
     }
 
     /// The greatest plain value up to the given one.
+    #[inline(always)]
     pub fn greatest_to(&self, value: u16) -> Option<u16>
         ensures { MatchOption result (NonePlainTo self.now value) (λ greatest. IsGreatestPlain self.now value greatest) }
     {
@@ -210,12 +212,14 @@ impl Marks {
         row::greatest_to(row, value.min(self.max))
     }
 
+    #[inline(always)]
     fn has(&self, value: u16) -> bool
         ensures { result ≡ nat_lt value (room self.now.max) }
     {
         value <= self.max && self.max != 0
     }
 
+    #[inline(always)]
     fn plain(&self) -> &[u64]
         ensures size { length result.now ≤ 1024 }
         ensures full { 0 < length result.now → self.now.max < length result.now * word_bits }

@@ -1,10 +1,11 @@
+use Rattle.std.proofs.Common.{refl}
 use Rattle.croner.proofs.zone.WalkLoop.{backend_error}
 use Rattle.croner.proofs.zone.SearchLimit.{calm_start, holds_here, first_one_half, first_alone, at_edge, first_before, second_nearer, first_nearer, second_none, second_error, refused_limit, refused_backend}
 use Rattle.croner.proofs.search.nearer_half.Goals as goal
 
 pub returns-then-not-counts_both-clause-found : goal.returns-then-not-counts_both-clause-found
 returns-then-not-counts_both-clause-found g c =
-    first_one_half g.T.CronDateTime.moment c.args.direction c.args.inclusive (g.T.CronDateTime.moment c.args.start.now) (g.S.Schedule.timetable c.args.schedule.now) (λ p. c.requires.walked.ahead p.1) _ _ _ c.is_fixed_time.ensures c.if-not-counts_both.true c.counts_both.ensures c.requires.walked
+    first_one_half g.T.CronDateTime.moment c.args.direction c.args.inclusive (g.T.CronDateTime.moment c.args.start.now) (g.S.Schedule.timetable c.args.schedule.now) (λ p. c.requires.walked.ahead p.1) _ _ _ refl c.if-not-counts_both.true c.counts_both.ensures c.requires.walked
 
 pub returns-in-Ok-false-clause-found : goal.returns-in-Ok-false-clause-found
 returns-in-Ok-false-clause-found g c =
@@ -31,14 +32,14 @@ pub returns-then-precedes-clause-found : goal.returns-then-precedes-clause-found
 returns-then-precedes-clause-found g c =
     let test = rw c.in-Ok-true.is at c.is_on_first_half.ensures in
     let edge = rw (c.in-Ok-Some.is, c.in-Ok-Some.field-0-is) at c.other_edge.ensures in
-    let at = at_edge g.T.CronDateTime.moment c.args.direction c.args.inclusive (g.T.CronDateTime.moment c.args.start.now) (g.S.Schedule.timetable c.args.schedule.now) c.in-Ok-Some.edge c.is_fixed_time.result c.counts_both.result c.in-Ok-true.field-0 c.is_fixed_time.ensures c.if-not-counts_both.false c.counts_both.ensures c.in-Ok-true.field-0-test test.value edge.value in
+    let at = at_edge g.T.CronDateTime.moment c.args.direction c.args.inclusive (g.T.CronDateTime.moment c.args.start.now) (g.S.Schedule.timetable c.args.schedule.now) c.in-Ok-Some.edge (g.S.Schedule.timetable c.args.schedule.now).fixed_time c.counts_both.result c.in-Ok-true.field-0 refl c.if-not-counts_both.false c.counts_both.ensures c.in-Ok-true.field-0-test test.value edge.value in
     first_before g.T.CronDateTime.moment c.args.direction c.args.inclusive (g.T.CronDateTime.moment c.args.start.now) (g.S.Schedule.timetable c.args.schedule.now) (λ p. c.requires.walked.ahead p.1) _ _ _ at c.if-precedes.true c.precedes.ensures c.requires.walked
 
 pub returns-then-precedes-2-clause-found : goal.returns-then-precedes-2-clause-found
 returns-then-precedes-2-clause-found g c =
     let test = rw c.in-Ok-true.is at c.is_on_first_half.ensures in
     let edge = rw (c.in-Ok-Some.is, c.in-Ok-Some.field-0-is) at c.other_edge.ensures in
-    let at = at_edge g.T.CronDateTime.moment c.args.direction c.args.inclusive (g.T.CronDateTime.moment c.args.start.now) (g.S.Schedule.timetable c.args.schedule.now) c.in-Ok-Some.edge c.is_fixed_time.result c.counts_both.result c.in-Ok-true.field-0 c.is_fixed_time.ensures c.if-not-counts_both.false c.counts_both.ensures c.in-Ok-true.field-0-test test.value edge.value in
+    let at = at_edge g.T.CronDateTime.moment c.args.direction c.args.inclusive (g.T.CronDateTime.moment c.args.start.now) (g.S.Schedule.timetable c.args.schedule.now) c.in-Ok-Some.edge (g.S.Schedule.timetable c.args.schedule.now).fixed_time c.counts_both.result c.in-Ok-true.field-0 refl c.if-not-counts_both.false c.counts_both.ensures c.in-Ok-true.field-0-test test.value edge.value in
     let there = rw (c.in-Ok-Some-walk.is, c.in-Ok-Some-walk.field-0-is) at c.walk.ensures in
     second_nearer g.T.CronDateTime.moment c.args.direction c.args.inclusive (g.T.CronDateTime.moment c.args.start.now) (g.S.Schedule.timetable c.args.schedule.now) (λ p. c.requires.walked.ahead p.1) _ _ _ _ at c.if-precedes-2.true c.precedes-2.ensures c.requires.walked there.value
 
@@ -46,7 +47,7 @@ pub returns-else-precedes-2-clause-found : goal.returns-else-precedes-2-clause-f
 returns-else-precedes-2-clause-found g c =
     let test = rw c.in-Ok-true.is at c.is_on_first_half.ensures in
     let edge = rw (c.in-Ok-Some.is, c.in-Ok-Some.field-0-is) at c.other_edge.ensures in
-    let at = at_edge g.T.CronDateTime.moment c.args.direction c.args.inclusive (g.T.CronDateTime.moment c.args.start.now) (g.S.Schedule.timetable c.args.schedule.now) c.in-Ok-Some.edge c.is_fixed_time.result c.counts_both.result c.in-Ok-true.field-0 c.is_fixed_time.ensures c.if-not-counts_both.false c.counts_both.ensures c.in-Ok-true.field-0-test test.value edge.value in
+    let at = at_edge g.T.CronDateTime.moment c.args.direction c.args.inclusive (g.T.CronDateTime.moment c.args.start.now) (g.S.Schedule.timetable c.args.schedule.now) c.in-Ok-Some.edge (g.S.Schedule.timetable c.args.schedule.now).fixed_time c.counts_both.result c.in-Ok-true.field-0 refl c.if-not-counts_both.false c.counts_both.ensures c.in-Ok-true.field-0-test test.value edge.value in
     let there = rw (c.in-Ok-Some-walk.is, c.in-Ok-Some-walk.field-0-is) at c.walk.ensures in
     first_nearer g.T.CronDateTime.moment c.args.direction c.args.inclusive (g.T.CronDateTime.moment c.args.start.now) (g.S.Schedule.timetable c.args.schedule.now) (λ p. c.requires.walked.ahead p.1) _ _ _ _ at c.if-precedes-2.false c.precedes-2.ensures c.requires.walked there.value
 
@@ -54,7 +55,7 @@ pub returns-in-Ok-None-walk-clause-refused : goal.returns-in-Ok-None-walk-clause
 returns-in-Ok-None-walk-clause-refused g c =
     let test = rw c.in-Ok-true.is at c.is_on_first_half.ensures in
     let edge = rw (c.in-Ok-Some.is, c.in-Ok-Some.field-0-is) at c.other_edge.ensures in
-    let at = at_edge g.T.CronDateTime.moment c.args.direction c.args.inclusive (g.T.CronDateTime.moment c.args.start.now) (g.S.Schedule.timetable c.args.schedule.now) c.in-Ok-Some.edge c.is_fixed_time.result c.counts_both.result c.in-Ok-true.field-0 c.is_fixed_time.ensures c.if-not-counts_both.false c.counts_both.ensures c.in-Ok-true.field-0-test test.value edge.value in
+    let at = at_edge g.T.CronDateTime.moment c.args.direction c.args.inclusive (g.T.CronDateTime.moment c.args.start.now) (g.S.Schedule.timetable c.args.schedule.now) c.in-Ok-Some.edge (g.S.Schedule.timetable c.args.schedule.now).fixed_time c.counts_both.result c.in-Ok-true.field-0 refl c.if-not-counts_both.false c.counts_both.ensures c.in-Ok-true.field-0-test test.value edge.value in
     let there = rw (c.in-Ok-None-walk.is, c.in-Ok-None-walk.field-0-is) at c.walk.ensures in
     refused_limit _ _ _ _ _ (second_none g.T.CronDateTime.moment c.args.direction c.args.inclusive (g.T.CronDateTime.moment c.args.start.now) (g.S.Schedule.timetable c.args.schedule.now) _ _ _ at c.if-precedes.false c.precedes.ensures c.requires.walked there.value)
 
@@ -62,6 +63,6 @@ pub returns-in-Err-walk-clause-refused : goal.returns-in-Err-walk-clause-refused
 returns-in-Err-walk-clause-refused g c =
     let test = rw c.in-Ok-true.is at c.is_on_first_half.ensures in
     let edge = rw (c.in-Ok-Some.is, c.in-Ok-Some.field-0-is) at c.other_edge.ensures in
-    let at = at_edge g.T.CronDateTime.moment c.args.direction c.args.inclusive (g.T.CronDateTime.moment c.args.start.now) (g.S.Schedule.timetable c.args.schedule.now) c.in-Ok-Some.edge c.is_fixed_time.result c.counts_both.result c.in-Ok-true.field-0 c.is_fixed_time.ensures c.if-not-counts_both.false c.counts_both.ensures c.in-Ok-true.field-0-test test.value edge.value in
+    let at = at_edge g.T.CronDateTime.moment c.args.direction c.args.inclusive (g.T.CronDateTime.moment c.args.start.now) (g.S.Schedule.timetable c.args.schedule.now) c.in-Ok-Some.edge (g.S.Schedule.timetable c.args.schedule.now).fixed_time c.counts_both.result c.in-Ok-true.field-0 refl c.if-not-counts_both.false c.counts_both.ensures c.in-Ok-true.field-0-test test.value edge.value in
     let error = rw c.in-Err-walk.is at c.walk.ensures in
     refused_backend _ _ _ _ _ _ (λ p. c.requires.walked.ahead p.1) (second_error _ (g.T.CronDateTime.moment c.args.start.now) _ _ at.zone_is error.err.error)

@@ -20,6 +20,9 @@ impl Marks {
     pub fn count_from(&self, first: u16, bits: u8) -> usize
         ensures { result ≡ length (marked_from first bits self.now) }
     {
+        if width(self.max) == 1 && first < WORD_BITS {
+            return self.marked(first, bits, 0).count_ones() as usize;
+        }
         let mut count = 0;
         for i in usize::from(first / WORD_BITS)..width(self.max) {
             count += self.marked(first, bits, i).count_ones() as usize;
@@ -39,7 +42,7 @@ impl Marks {
     }
 
     /// The first 64 values that have one of the modifiers of `bits`, as a word.
-    #[inline]
+    #[inline(always)]
     pub fn low_word(&self, bits: u8) -> u64
         ensures { (v : ℕ) → v < word_bits → (bit_at result v == 1) ≡ is_set bits self.now v }
     {

@@ -1,6 +1,6 @@
 //! One row of words: a set of values, one bit each.
 
-ghost use Rattle.std.specs.Prelude.{◌≡◌, ◌+◌, ◌*◌, ◌/◌, ◌<◌, ◌≤◌, length, MatchOption};
+ghost use Rattle.std.specs.Prelude.{◌≡◌, ◌∷◌, [], ◌+◌, ◌*◌, ◌/◌, ◌<◌, ◌≤◌, length, MatchOption};
 ghost use Rattle.croner_base.specs.Private.Words.Search.{HasNoneFrom, IsLeastFrom, HasNoneTo, IsGreatestTo};
 ghost use Rattle.croner_base.specs.Private.Words.Masks.{MasksFrom, MasksTo, HasMarked};
 ghost use Rattle.croner_base.specs.Private.Words.Word.{word_bits};
@@ -8,7 +8,36 @@ ghost use Rattle.croner_base.specs.Private.Words.Word.{word_bits};
 use super::words::WORD_BITS;
 
 /// The least value of the row from the given one on.
+#[inline(always)]
 pub fn least_from(row: &[u64], value: u16) -> Option<u16>
+    requires { length row.now ≤ 1024 }
+    ensures { MatchOption result (HasNoneFrom row.now value) (λ least. IsLeastFrom row.now value least) }
+{
+    if row.len() == 1 {
+        least_in_word(row[0], value)
+    } else {
+        least_in_words(row, value)
+    }
+}
+
+/// The least value of a row of one word from the given one on.
+#[inline(always)]
+fn least_in_word(word: u64, value: u16) -> Option<u16>
+    ensures { MatchOption result (HasNoneFrom (word ∷ []) value) (λ least. IsLeastFrom (word ∷ []) value least) }
+{
+    if value >= WORD_BITS {
+        return None;
+    }
+    let rest = word & (u64::MAX << value);
+    if rest == 0 {
+        return None;
+    }
+    Some(rest.trailing_zeros() as u16)
+}
+
+/// The least value of a row of any length from the given one on.
+#[inline(never)]
+fn least_in_words(row: &[u64], value: u16) -> Option<u16>
     requires { length row.now ≤ 1024 }
     ensures { MatchOption result (HasNoneFrom row.now value) (λ least. IsLeastFrom row.now value least) }
 {
@@ -24,7 +53,34 @@ pub fn least_from(row: &[u64], value: u16) -> Option<u16>
 }
 
 /// The greatest value of the row up to the given one.
+#[inline(always)]
 pub fn greatest_to(row: &[u64], value: u16) -> Option<u16>
+    requires { value < length row.now * word_bits }
+    ensures { MatchOption result (HasNoneTo row.now value) (λ greatest. IsGreatestTo row.now value greatest) }
+{
+    if row.len() == 1 {
+        greatest_in_word(row[0], value)
+    } else {
+        greatest_in_words(row, value)
+    }
+}
+
+/// The greatest value of a row of one word up to the given one.
+#[inline(always)]
+fn greatest_in_word(word: u64, value: u16) -> Option<u16>
+    requires { value < word_bits }
+    ensures { MatchOption result (HasNoneTo (word ∷ []) value) (λ greatest. IsGreatestTo (word ∷ []) value greatest) }
+{
+    let rest = word & (u64::MAX >> (WORD_BITS - 1 - value));
+    if rest == 0 {
+        return None;
+    }
+    Some(WORD_BITS - 1 - rest.leading_zeros() as u16)
+}
+
+/// The greatest value of a row of any length up to the given one.
+#[inline(never)]
+fn greatest_in_words(row: &[u64], value: u16) -> Option<u16>
     requires { value < length row.now * word_bits }
     ensures { MatchOption result (HasNoneTo row.now value) (λ greatest. IsGreatestTo row.now value greatest) }
 {

@@ -120,6 +120,7 @@ pub fn any(words: &[u64], max: u16, supported: u8, bits: u8, i: usize) -> u64
 }
 
 /// The row of the plain values, and no word where they aren't supported.
+#[inline(always)]
 pub fn plain(words: &[u64], max: u16, supported: u8) -> &[u64]
     requires { length words.now ≡ rows_below supported 8 * width max }
     ensures size { length result.now ≤ 1024 }

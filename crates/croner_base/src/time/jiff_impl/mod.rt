@@ -13,6 +13,13 @@ mod zoned;
 use crate::errors::CronError;
 use crate::time::{CivilDate, CivilDateTime, CivilTime, Weekday};
 use jiff::civil::DateTime;
+use jiff_core::civil::{Date, DateTime as Plain, Time};
+
+/// The first year of `jiff`.
+const FIRST_YEAR: i32 = -9999;
+
+/// The last one.
+const LAST_YEAR: i32 = 9999;
 
 /// The date and time of a date-time of `jiff`, without its fraction of a second.
 pub(crate) fn to_civil(datetime: DateTime) -> CivilDateTime
@@ -31,23 +38,21 @@ pub(crate) fn to_jiff(civil: CivilDateTime) -> Result<DateTime, CronError>
     ensures value { IfOk result (IsWhole (wall_second civil)) }
     ensures err { IfErr result (λ e. e ≡ CronError.InvalidDate) }
 {
-    let year = match i16::try_from(civil.year()) {
-        Ok(year) => year,
-        Err(_) => return Err(CronError::InvalidDate),
-    };
-    let datetime = DateTime::new(
-        year,
-        civil.month() as i8,
-        civil.day() as i8,
-        civil.hour() as i8,
-        civil.minute() as i8,
-        civil.second() as i8,
-        0,
-    );
-    match datetime {
-        Ok(datetime) => Ok(datetime),
-        Err(_) => Err(CronError::InvalidDate),
+    if civil.year() < FIRST_YEAR || civil.year() > LAST_YEAR {
+        return Err(CronError::InvalidDate);
     }
+    let date = Date {
+        year: civil.year() as i16,
+        month: civil.month() as u8,
+        day: civil.day() as u8,
+    };
+    let time = Time {
+        hour: civil.hour() as u8,
+        minute: civil.minute() as u8,
+        second: civil.second() as u8,
+        subsec_nanosecond: 0,
+    };
+    Ok(DateTime::from_plain(Plain { date, time }))
 }
 
 /// The weekday of a weekday of `jiff`.

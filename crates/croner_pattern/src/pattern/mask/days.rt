@@ -36,6 +36,7 @@ pub fn days_named(days: &CronComponent, length: u32, first: u32) -> u32
 }
 
 /// The days that are marked with a modifier.
+#[inline(always)]
 fn marked(days: &CronComponent, bit: u8) -> u32
     ensures { ShowsDays 31 (is_marked bit days.now) result }
 {

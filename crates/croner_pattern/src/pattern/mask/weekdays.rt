@@ -27,6 +27,7 @@ pub fn weekdays_named(weekdays: &CronComponent, length: u32, first: u32) -> u32
 }
 
 /// The days whose weekday is marked with a modifier.
+#[inline(always)]
 fn marked(weekdays: &CronComponent, bit: u8, first: u32) -> u32
     requires { first < 7 }
     ensures { ShowsDays 31 (λ day. is_marked bit weekdays.now (weekday_of first day)) result }

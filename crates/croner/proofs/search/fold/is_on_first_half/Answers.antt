@@ -4,19 +4,19 @@ use Rattle.croner.proofs.search.fold.is_on_first_half.Goals as goal
 pub returns-in-Forward-clause-value : goal.returns-in-Forward-clause-value
 returns-in-Forward-clause-value g c =
     let named = rw c.in-Ambiguous.is at c.in_ok-later.ensures in
-    test_forward c.args.direction (g.T.CronDateTime.moment c.args.instant.now) (g.T.CronDateTime.moment c.in-Ambiguous.later) c.to_civil.result _ _ c.in-Forward.is c.to_civil.ensures named.value.3 named.value.1.whole c.precedes-is_earlier.ensures
+    test_forward c.args.direction (g.T.CronDateTime.moment c.args.instant.now) (g.T.CronDateTime.moment c.in-Ambiguous.later) c.args.shown _ _ c.in-Forward.is c.requires named.value.3 named.value.1.whole c.precedes-is_earlier.ensures
 
 pub returns-in-Ambiguous-clause-value : goal.returns-in-Ambiguous-clause-value
 returns-in-Ambiguous-clause-value g c =
     let named = rw c.in-Ambiguous.is at c.in_ok-later.ensures in
-    test_backward c.args.direction (g.T.CronDateTime.moment c.args.instant.now) (g.T.CronDateTime.moment c.in-Ambiguous.later) c.to_civil.result _ _ c.in-Backward.is c.to_civil.ensures named.value.3 named.value.1.whole c.precedes-is_earlier.ensures
+    test_backward c.args.direction (g.T.CronDateTime.moment c.args.instant.now) (g.T.CronDateTime.moment c.in-Ambiguous.later) c.args.shown _ _ c.in-Backward.is c.requires named.value.3 named.value.1.whole c.precedes-is_earlier.ensures
 
 pub returns-in-Single-clause-value : goal.returns-in-Single-clause-value
 returns-in-Single-clause-value g c =
     let named = rw c.in-Single.is at c.in_ok-later.ensures in
-    test_one c.args.direction (g.T.CronDateTime.moment c.args.instant.now) c.to_civil.result _ c.to_civil.ensures named.value.1
+    test_one c.args.direction (g.T.CronDateTime.moment c.args.instant.now) c.args.shown _ c.requires named.value.1
 
 pub returns-clause-value : goal.returns-clause-value
 returns-clause-value g c =
     let named = rw c.in-Gap.is at c.in_ok-later.ensures in
-    test_gap c.args.direction (g.T.CronDateTime.moment c.args.instant.now) c.to_civil.result c.to_civil.ensures named.value
+    test_gap c.args.direction (g.T.CronDateTime.moment c.args.instant.now) c.args.shown c.requires named.value

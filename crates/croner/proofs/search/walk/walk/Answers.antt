@@ -12,13 +12,13 @@ pub returns-in_default-clause-value : goal.returns-in_default-clause-value
 returns-in_default-clause-value g c =
     let last = rw c.in_default.is at c.first_second.ensures in
     let origin = g.T.CronDateTime.moment c.args.origin.now.time.now in
-    λ start. out_far _ _ (job_in origin.zone (g.S.Schedule.timetable c.args.schedule.now)) origin.instant c.to_civil.result last c.to_civil.ensures
+    λ start. out_far _ _ (job_in origin.zone (g.S.Schedule.timetable c.args.schedule.now)) origin.instant c.args.shown last c.requires.shown
 
 pub loop-init : goal.loop-init
 loop-init g c =
     let begun = rw c.in-Some.is at c.first_second.ensures in
     record {
-      walking = walking_start _ _ _ _ _ _ (begun ∙ ap (walk_start c.args.origin.now.direction c.args.origin.now.inclusive) c.to_civil.ensures);
+      walking = walking_start _ _ _ _ _ _ (begun ∙ ap (walk_start c.args.origin.now.direction c.args.origin.now.inclusive) c.requires.shown);
       paced = λ start. paced_start _ _ _ _;
     }
 
@@ -41,7 +41,7 @@ loop-preserved g c =
     let origin = g.T.CronDateTime.moment c.args.origin.now.time.now in
     let job = job_in origin.zone (g.S.Schedule.timetable c.args.schedule.now) in
     let found = rw c.in-Some-next_scheduled.is at c.next_scheduled.ensures in
-    let searched = g.met.S.Schedule.in_years c.args.schedule.now c.requires (wall_second c.in-Some-next_scheduled.found) found.is in
+    let searched = g.met.S.Schedule.in_years c.args.schedule.now c.requires.shaped (wall_second c.in-Some-next_scheduled.found) found.is in
     let there = walking_next _ _ job _ _ _ _ c.loop.invariant.walking found in
     let passed = rw c.in-GoOn.is at c.in_ok-answer.ensures in
     record {

@@ -1,7 +1,7 @@
 use Rattle.std.proofs.Common.{◌*◌}
 use Rattle.croner_base.specs.Private.Words.Masks.{MasksFrom}
 use Rattle.croner_base.proofs.Words.Search.{HasNone}
-use Rattle.croner_base.proofs.component.marks.row.least_from.Given as goal
+use Rattle.croner_base.proofs.component.marks.row.least_in_words.Given as goal
 
 abbrev pub invariant-loop-i : goal.invariant-loop-i
 invariant-loop-i l = record {

@@ -1,7 +1,7 @@
 use Rattle.std.proofs.Common.{◌≤◌, ◌<◌, ◌+◌, ◌-◌, ◌*◌, ◌/◌}
 use Rattle.croner_base.specs.Private.Words.Masks.{MasksTo}
 use Rattle.croner_base.proofs.Words.Search.{HasNoneDown}
-use Rattle.croner_base.proofs.component.marks.row.greatest_to.Given as goal
+use Rattle.croner_base.proofs.component.marks.row.greatest_in_words.Given as goal
 
 abbrev pub invariant-loop-i : goal.invariant-loop-i
 invariant-loop-i l = record {
