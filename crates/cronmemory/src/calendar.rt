@@ -6,7 +6,7 @@ use crate::clocks::changes;
 use crate::comparisons::are_alike;
 use crate::fault::Fault;
 use crate::marks::{begin, end};
-use crate::shown::{numbers, refused};
+use crate::shown::{numbers, refused, word};
 use croner::errors::CronError;
 use croner::time::table::{ClockTable, TableTime};
 use croner::time::{
@@ -26,21 +26,35 @@ pub fn calendar(rt: &HostRuntime, given: &[&str]) -> Result<Outcome, Fault> {
     let [cell] = given else {
         return Err(Fault::Malformed);
     };
-    let words = words(rt.alloc(), cell)?;
-    let [year, month, day] = words.as_slice() else {
-        return Err(Fault::Malformed);
-    };
-    let (year, month, day) = (number(year)?, number(month)?, number(day)?);
+    let (year, month, day) = three_numbers(rt.alloc(), cell)?;
     begin(rt);
     let date = CivilDate::from_ymd(year, month, day);
     let found = CivilDate::from_ymd_opt(year, month, day);
     let (leap, days) = (is_leap_year(year), days_in_year(year));
     end(rt);
     let answer = match date {
-        Ok(date) => shown_date(rt, date, found, (leap, days))?,
-        Err(_) => no_date(rt.alloc(), found)?,
+        Ok(date) => shown_date(rt, date, found, (leap, days)),
+        Err(_) => no_date(rt.alloc(), found),
     };
-    Ok(Outcome::of(rt.alloc(), answer))
+    Outcome::of_answer(rt.alloc(), answer)
+}
+
+// The three numbers of a cell, of which the first may be negative.
+fn three_numbers(alloc: Global, cell: &str) -> Result<(i32, u32, u32), Fault> {
+    let words = words(alloc, cell)?;
+    let [first, second, third] = words.as_slice() else {
+        return Err(Fault::Malformed);
+    };
+    Ok((number(first)?, number(second)?, number(third)?))
+}
+
+// The hour, the minute and the second of a cell.
+fn time_of_day(alloc: Global, cell: &str) -> Result<(u32, u32, u32), Fault> {
+    let (hour, minute, second) = three_numbers(alloc, cell)?;
+    match u32::try_from(hour) {
+        Ok(hour) => Ok((hour, minute, second)),
+        Err(_) => Err(Fault::Malformed),
+    }
 }
 
 fn no_date(alloc: Global, found: Option<CivilDate>) -> Result<String, Fault> {
@@ -48,7 +62,7 @@ fn no_date(alloc: Global, found: Option<CivilDate>) -> Result<String, Fault> {
         None => "InvalidDate",
         Some(_) => "a date",
     };
-    Ok(String::from_str(alloc, name)?)
+    word(alloc, name)
 }
 
 fn shown_date(
@@ -96,19 +110,15 @@ pub fn clock_face(rt: &HostRuntime, given: &[&str]) -> Result<Outcome, Fault> {
     let [cell] = given else {
         return Err(Fault::Malformed);
     };
-    let words = words(rt.alloc(), cell)?;
-    let [hour, minute, second] = words.as_slice() else {
-        return Err(Fault::Malformed);
-    };
-    let (hour, minute, second) = (number(hour)?, number(minute)?, number(second)?);
+    let (hour, minute, second) = time_of_day(rt.alloc(), cell)?;
     begin(rt);
     let time = CivilTime::from_hms_opt(hour, minute, second);
     end(rt);
     let answer = match time {
-        Some(time) => shown_time(rt, time)?,
-        None => String::from_str(rt.alloc(), "null")?,
+        Some(time) => shown_time(rt, time),
+        None => word(rt.alloc(), "null"),
     };
-    Ok(Outcome::of(rt.alloc(), answer))
+    Outcome::of_answer(rt.alloc(), answer)
 }
 
 fn shown_time(rt: &HostRuntime, time: CivilTime) -> Result<String, Fault> {
@@ -132,30 +142,16 @@ pub fn date_and_time(rt: &HostRuntime, given: &[&str]) -> Result<Outcome, Fault>
         return Err(Fault::Malformed);
     };
     let (year, month, day) = three_numbers(rt.alloc(), date)?;
-    let (hour, minute, second) = three_numbers(rt.alloc(), time)?;
-    let (month, day) = (month.unsigned_abs(), day.unsigned_abs());
-    let (hour, minute, second) = (
-        hour.unsigned_abs(),
-        minute.unsigned_abs(),
-        second.unsigned_abs(),
-    );
+    let (hour, minute, second) = time_of_day(rt.alloc(), time)?;
     begin(rt);
     let civil = CivilDateTime::from_ymd_hms(year, month, day, hour, minute, second);
     let found = CivilDateTime::from_ymd_hms_opt(year, month, day, hour, minute, second);
     end(rt);
     let answer = match civil {
-        Ok(civil) => shown_civil(rt, civil, found)?,
-        Err(error) => refused(rt.alloc(), &error)?,
+        Ok(civil) => shown_civil(rt, civil, found),
+        Err(error) => refused(rt.alloc(), &error),
     };
-    Ok(Outcome::of(rt.alloc(), answer))
-}
-
-fn three_numbers(alloc: Global, cell: &str) -> Result<(i32, i32, i32), Fault> {
-    let words = words(alloc, cell)?;
-    let [first, second, third] = words.as_slice() else {
-        return Err(Fault::Malformed);
-    };
-    Ok((number(first)?, number(second)?, number(third)?))
+    Outcome::of_answer(rt.alloc(), answer)
 }
 
 fn shown_civil(
@@ -171,7 +167,11 @@ fn shown_civil(
     end(rt);
     written?;
     let all = numbers(rt.alloc(), &all)?;
-    Ok(format!(in rt.alloc(); "{text} {all} {same}")?)
+    told_of_civil(rt.alloc(), text.as_str(), all.as_str(), same)
+}
+
+fn told_of_civil(alloc: Global, text: &str, all: &str, same: bool) -> Result<String, Fault> {
+    Ok(format!(in alloc; "{text} {all} {same}")?)
 }
 
 fn numbers_of(civil: CivilDateTime) -> [i64; 6] {
@@ -202,11 +202,12 @@ pub fn clock_table(rt: &HostRuntime, given: &[&str]) -> Result<Outcome, Fault> {
     begin(rt);
     let table = ClockTable::new(first, changes);
     end(rt);
-    let answer = match table {
-        Ok(table) => second_on(rt, &table, second)?,
-        Err(_) => String::from_str(rt.alloc(), "InvalidTime")?,
+    let answer = match &table {
+        Ok(table) => second_on(rt, table, second),
+        Err(_) => word(rt.alloc(), "InvalidTime"),
     };
-    Ok(Outcome::of(rt.alloc(), answer))
+    drop(table);
+    Outcome::of_answer(rt.alloc(), answer)
 }
 
 fn second_on(rt: &HostRuntime, table: &ClockTable, second: i64) -> Result<String, Fault> {
@@ -215,7 +216,7 @@ fn second_on(rt: &HostRuntime, table: &ClockTable, second: i64) -> Result<String
     end(rt);
     match time {
         Ok(time) => calls_of_time(rt, &time),
-        Err(_) => Ok(String::from_str(rt.alloc(), "no such second")?),
+        Err(_) => word(rt.alloc(), "no such second"),
     }
 }
 
@@ -227,9 +228,17 @@ fn calls_of_time(rt: &HostRuntime, time: &TableTime<'_>) -> Result<String, Fault
     let later = time.checked_add_seconds(rt.alloc(), SECONDS_PER_DAY);
     let same = time.cmp_instant(&copy).is_eq() && time.civil_weekday() == copy.civil_weekday();
     end(rt);
-    let (count, second) = (count_of(&found), second_of(&later));
-    let shown = shown.to_string(rt.alloc())?;
-    Ok(format!(in rt.alloc(); "[\"{shown}\",{count},{second},{same}]")?)
+    told_of_time(rt.alloc(), shown, count_of(&found), second_of(&later), same)
+}
+
+fn told_of_time(
+    alloc: Global,
+    shown: CivilDateTime,
+    count: u32,
+    second: i64,
+    same: bool,
+) -> Result<String, Fault> {
+    Ok(format!(in alloc; "[\"{shown}\",{count},{second},{same}]")?)
 }
 
 // How many instants were found.

@@ -33,6 +33,22 @@ impl Outcome {
         let after = String::new(alloc);
         Outcome { answer, after }
     }
+
+    /// An answer as its text, where nothing was lent.
+    pub fn of_answer(alloc: Global, answer: Result<String, Fault>) -> Result<Outcome, Fault> {
+        let answer = answer?;
+        Ok(Outcome::of(alloc, answer))
+    }
+
+    /// An answer, and what was lent, each as its text.
+    pub fn of_both(
+        answer: Result<String, Fault>,
+        after: Result<String, Fault>,
+    ) -> Result<Outcome, Fault> {
+        let answer = answer?;
+        let after = after?;
+        Ok(Outcome { answer, after })
+    }
 }
 
 /// Makes the calls of a case: a kind and what its calls are given.

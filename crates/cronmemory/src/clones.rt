@@ -10,7 +10,7 @@ use crate::shown;
 use crate::time_calls::instants;
 use crate::times::{OverTime, Place, Shown, over_time};
 use croner::errors::CronError;
-use croner::time::Resolution;
+use croner::time::{Direction, Resolution};
 use croner::{Cron, CronComponent, CronIterator, CronPattern};
 use std::alloc::{AllocError, Global};
 
@@ -33,12 +33,19 @@ pub fn field_clone(rt: &HostRuntime, given: &[&str]) -> Result<Outcome, Fault> {
         return Err(Fault::Malformed);
     };
     let field = read_field(rt.alloc(), shape, text)?;
+    let outcome = copy_of_field(rt, &field);
+    drop(field);
+    outcome
+}
+
+fn copy_of_field(rt: &HostRuntime, field: &CronComponent) -> Result<Outcome, Fault> {
     begin(rt);
     let copy: Result<CronComponent, AllocError> = field.clone();
     end(rt);
-    let answer = shown::field_or_refusal(rt.alloc(), &lacking(copy))?;
-    let after = shown::field(rt.alloc(), &field)?;
-    Ok(Outcome { answer, after })
+    let copy = lacking(copy);
+    let answer = shown::field_or_refusal(rt.alloc(), &copy);
+    drop(copy);
+    Outcome::of_both(answer, shown::field(rt.alloc(), field))
 }
 
 /// A copy of the pattern of a text, and the pattern afterwards.
@@ -46,13 +53,20 @@ pub fn pattern_clone(rt: &HostRuntime, given: &[&str]) -> Result<Outcome, Fault>
     let [text] = given else {
         return Err(Fault::Malformed);
     };
-    let pattern = job(rt.alloc(), text)?.pattern;
+    let cron = job(rt.alloc(), text)?;
+    let outcome = copy_of_pattern(rt, &cron.pattern);
+    drop(cron);
+    outcome
+}
+
+fn copy_of_pattern(rt: &HostRuntime, pattern: &CronPattern) -> Result<Outcome, Fault> {
     begin(rt);
     let copy: Result<CronPattern, AllocError> = pattern.clone();
     end(rt);
-    let answer = shown::pattern_or_refusal(rt.alloc(), &lacking(copy))?;
-    let after = shown::pattern(rt.alloc(), &pattern)?;
-    Ok(Outcome { answer, after })
+    let copy = lacking(copy);
+    let answer = shown::pattern_or_refusal(rt.alloc(), &copy);
+    drop(copy);
+    Outcome::of_both(answer, shown::pattern(rt.alloc(), pattern))
 }
 
 /// A copy of the job of a text, and the job afterwards.
@@ -61,12 +75,19 @@ pub fn job_clone(rt: &HostRuntime, given: &[&str]) -> Result<Outcome, Fault> {
         return Err(Fault::Malformed);
     };
     let cron = job(rt.alloc(), text)?;
+    let outcome = copy_of_job(rt, &cron);
+    drop(cron);
+    outcome
+}
+
+fn copy_of_job(rt: &HostRuntime, cron: &Cron) -> Result<Outcome, Fault> {
     begin(rt);
     let copy: Result<Cron, AllocError> = cron.clone();
     end(rt);
-    let answer = shown::job_or_refusal(rt.alloc(), &lacking(copy))?;
-    let after = shown::job(rt.alloc(), &cron)?;
-    Ok(Outcome { answer, after })
+    let copy = lacking(copy);
+    let answer = shown::job_or_refusal(rt.alloc(), &copy);
+    drop(copy);
+    Outcome::of_both(answer, shown::job(rt.alloc(), cron))
 }
 
 /// A copy of the refusal of a text: its message, and that of the refusal afterwards.
@@ -74,18 +95,28 @@ pub fn error_clone(rt: &HostRuntime, given: &[&str]) -> Result<Outcome, Fault> {
     let [text] = given else {
         return Err(Fault::Malformed);
     };
-    let Err(error) = Cron::from_str(rt.alloc(), text) else {
-        return Err(Fault::Malformed);
-    };
+    match Cron::from_str(rt.alloc(), text) {
+        Err(error) => copy_of_error(rt, &error),
+        Ok(job) => {
+            drop(job);
+            Err(Fault::Malformed)
+        }
+    }
+}
+
+fn copy_of_error(rt: &HostRuntime, error: &CronError) -> Result<Outcome, Fault> {
     begin(rt);
     let copy: Result<CronError, AllocError> = error.clone();
     end(rt);
-    let answer = match copy {
-        Ok(copy) => copy.to_string(rt.alloc())?,
-        Err(_) => no_memory(rt.alloc())?,
+    let answer = match &copy {
+        Ok(copy) => message(rt.alloc(), copy),
+        Err(_) => no_memory(rt.alloc()),
     };
-    let after = error.to_string(rt.alloc())?;
-    Ok(Outcome { answer, after })
+    Outcome::of_both(answer, message(rt.alloc(), error))
+}
+
+fn message(alloc: Global, error: &CronError) -> Result<String, Fault> {
+    Ok(error.to_string(alloc)?)
 }
 
 // A time that is copied.
@@ -97,12 +128,11 @@ impl OverTime for CopyOfTime {
         begin(rt);
         let copy: Result<T, AllocError> = time.clone();
         end(rt);
-        let answer = match copy {
-            Ok(copy) => copy.shown(rt.alloc())?,
-            Err(_) => no_memory(rt.alloc())?,
+        let answer = match &copy {
+            Ok(copy) => copy.shown(rt.alloc()),
+            Err(_) => no_memory(rt.alloc()),
         };
-        let after = time.shown(rt.alloc())?;
-        Ok(Outcome { answer, after })
+        Outcome::of_both(answer, time.shown(rt.alloc()))
     }
 }
 
@@ -130,11 +160,10 @@ impl OverTime for CopyOfResolution {
         let copy: Result<Resolution<T>, AllocError> = found.clone();
         end(rt);
         let answer = match &copy {
-            Ok(copy) => instants(rt.alloc(), copy)?,
-            Err(_) => no_memory(rt.alloc())?,
+            Ok(copy) => instants(rt.alloc(), copy),
+            Err(_) => no_memory(rt.alloc()),
         };
-        let after = instants(rt.alloc(), &found)?;
-        Ok(Outcome { answer, after })
+        Outcome::of_both(answer, instants(rt.alloc(), &found))
     }
 }
 
@@ -159,32 +188,31 @@ struct CopyOfIterator<'t> {
 
 impl<'t> OverTime for CopyOfIterator<'t> {
     fn outcome<T: Shown>(&self, rt: &HostRuntime, start: T) -> Result<Outcome, Fault> {
-        let mut iterator = begun(rt.alloc(), self.text, start)?;
-        begin(rt);
-        let copy: Result<CronIterator<T>, AllocError> = iterator.clone();
-        end(rt);
-        let answer = copied(rt.alloc(), copy)?;
-        let after = fault_and_item(rt.alloc(), &mut iterator)?;
-        Ok(Outcome { answer, after })
+        let cron = job(rt.alloc(), self.text)?;
+        let mut iterator = CronIterator::new(cron, start, false, Direction::Forward);
+        let _ = iterator.next();
+        let outcome = copy_of_iterator(rt, &mut iterator);
+        drop(iterator);
+        outcome
     }
 }
 
-// An iterator that was called once.
-fn begun<T: Shown>(alloc: Global, text: &str, start: T) -> Result<CronIterator<T>, Fault> {
-    let cron = job(alloc, text)?;
-    let mut iterator = cron.iter_after(start)?;
-    let _ = iterator.next();
-    Ok(iterator)
-}
-
-fn copied<T: Shown>(
-    alloc: Global,
-    copy: Result<CronIterator<T>, AllocError>,
-) -> Result<String, Fault> {
-    match copy {
-        Ok(mut copy) => fault_and_item(alloc, &mut copy),
-        Err(_) => no_memory(alloc),
-    }
+fn copy_of_iterator<T: Shown>(
+    rt: &HostRuntime,
+    iterator: &mut CronIterator<T>,
+) -> Result<Outcome, Fault> {
+    begin(rt);
+    let copy: Result<CronIterator<T>, AllocError> = iterator.clone();
+    end(rt);
+    let answer = match copy {
+        Ok(mut copy) => {
+            let answer = fault_and_item(rt.alloc(), &mut copy);
+            drop(copy);
+            answer
+        }
+        Err(_) => no_memory(rt.alloc()),
+    };
+    Outcome::of_both(answer, fault_and_item(rt.alloc(), iterator))
 }
 
 // The fault that an iterator keeps, and the item that it gives then.

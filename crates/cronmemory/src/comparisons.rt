@@ -9,6 +9,7 @@ use crate::iterators::{How, how_made, made};
 use crate::jobs::{job, parser_of};
 use crate::marks::{begin, end};
 use crate::times::civil;
+use croner::parser::CronParser;
 use croner::{Cron, CronIterator};
 use jiff::civil::DateTime;
 use std::alloc::Global;
@@ -51,10 +52,23 @@ pub fn of_jobs(rt: &HostRuntime, given: &[&str]) -> Result<Outcome, Fault> {
     let [settings, text, other_settings, other_text] = given else {
         return Err(Fault::Malformed);
     };
-    let one = parser_of(settings)?.parse(rt.alloc(), text)?;
-    let other = parser_of(other_settings)?.parse(rt.alloc(), other_text)?;
-    let verdict = jobs_compared(rt, &one, &other);
-    outcome_of(rt.alloc(), verdict)
+    let (parser, other_parser) = (parser_of(settings)?, parser_of(other_settings)?);
+    let one = parser.parse(rt.alloc(), text)?;
+    let verdict = compared_with(rt, &one, other_parser, other_text);
+    drop(one);
+    outcome_of(rt.alloc(), verdict?)
+}
+
+fn compared_with(
+    rt: &HostRuntime,
+    one: &Cron,
+    parser: CronParser,
+    text: &str,
+) -> Result<Verdict, Fault> {
+    let other = parser.parse(rt.alloc(), text)?;
+    let verdict = jobs_compared(rt, one, &other);
+    drop(other);
+    Ok(verdict)
 }
 
 fn jobs_compared(rt: &HostRuntime, one: &Cron, other: &Cron) -> Verdict {
@@ -104,22 +118,39 @@ pub fn of_iterators(rt: &HostRuntime, given: &[&str]) -> Result<Outcome, Fault> 
     };
     let (start, one, other) = (civil(start)?, read_made(one)?, read_made(other)?);
     let cron = job(rt.alloc(), text)?;
-    let (one, other) = both(&cron, start, one, other)?;
-    let verdict = iterators_compared(rt, &one, &other);
-    outcome_of(rt.alloc(), verdict)
+    let verdict = both_compared(rt, &cron, start, one, other);
+    drop(cron);
+    outcome_of(rt.alloc(), verdict?)
 }
 
-fn both(
+fn both_compared(
+    rt: &HostRuntime,
     cron: &Cron,
     start: DateTime,
     one: Made,
     other: Made,
-) -> Result<(CronIterator<DateTime>, CronIterator<DateTime>), Fault>
+) -> Result<Verdict, Fault>
     requires { has_field_shapes (job_of cron.now) ≡ true }
 {
     let one = runs(cron, start, one)?;
+    let verdict = compared_with_runs(rt, &one, cron, start, other);
+    drop(one);
+    verdict
+}
+
+fn compared_with_runs(
+    rt: &HostRuntime,
+    one: &CronIterator<DateTime>,
+    cron: &Cron,
+    start: DateTime,
+    other: Made,
+) -> Result<Verdict, Fault>
+    requires { has_field_shapes (job_of cron.now) ≡ true }
+{
     let other = runs(cron, start, other)?;
-    Ok((one, other))
+    let verdict = iterators_compared(rt, one, &other);
+    drop(other);
+    Ok(verdict)
 }
 
 fn iterators_compared(

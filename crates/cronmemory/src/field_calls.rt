@@ -159,11 +159,10 @@ fn outcome_of(
     field: &CronComponent,
 ) -> Result<Outcome, Fault> {
     let answer = match answer {
-        Ok(answer) => shown(alloc, answer)?,
-        Err(error) => shown::refused(alloc, &error)?,
+        Ok(answer) => shown(alloc, answer),
+        Err(error) => shown::refused(alloc, &error),
     };
-    let after = shown::field(alloc, field)?;
-    Ok(Outcome { answer, after })
+    Outcome::of_both(answer, shown::field(alloc, field))
 }
 
 /// A call of a field of a shape that has read a text, and what it holds afterwards.
@@ -176,5 +175,7 @@ pub fn call_of_field(rt: &HostRuntime, given: &[&str]) -> Result<Outcome, Fault>
     begin(rt);
     let answer = made(rt.alloc(), &mut field, call);
     end(rt);
-    outcome_of(rt.alloc(), answer, &field)
+    let outcome = outcome_of(rt.alloc(), answer, &field);
+    drop(field);
+    outcome
 }

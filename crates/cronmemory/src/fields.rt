@@ -55,15 +55,14 @@ pub fn new_field(rt: &HostRuntime, given: &[&str]) -> Result<Outcome, Fault> {
     };
     let shape = read_shape(rt.alloc(), cell)?;
     begin(rt);
-    let answer = made(rt.alloc(), shape);
+    let field = made(rt.alloc(), shape);
     end(rt);
-    match answer {
-        Some(answer) => {
-            let answer = shown::field_or_refusal(rt.alloc(), &answer)?;
-            Ok(Outcome::of(rt.alloc(), answer))
-        }
+    let answer = match &field {
+        Some(field) => shown::field_or_refusal(rt.alloc(), field),
         None => Err(Fault::Malformed),
-    }
+    };
+    drop(field);
+    Outcome::of_answer(rt.alloc(), answer)
 }
 
 /// A field of a shape, or the empty one, that has read a text; what a refused text leaves is kept.

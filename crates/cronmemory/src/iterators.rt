@@ -163,14 +163,18 @@ fn listed_from<T: Shown>(
     end(rt);
     let is_refused = first.is_err();
     let mut iterator = made_at_last(first, cron, again, asked.how)?;
-    outcome_of(rt, &mut iterator, asked.count, is_refused)
+    let outcome = outcome_of(rt, &mut iterator, asked.count, is_refused);
+    drop(iterator);
+    outcome
 }
 
 impl<'t> OverTime for Asked<'t> {
     fn outcome<T: Shown>(&self, rt: &HostRuntime, start: T) -> Result<Outcome, Fault> {
-        let cron = job(rt.alloc(), self.text)?;
         let again = start.clone()?;
-        listed_from(rt, &cron, start, again, *self)
+        let cron = job(rt.alloc(), self.text)?;
+        let outcome = listed_from(rt, &cron, start, again, *self);
+        drop(cron);
+        outcome
     }
 }
 
@@ -199,5 +203,7 @@ pub fn handed(rt: &HostRuntime, given: &[&str]) -> Result<Outcome, Fault> {
     begin(rt);
     let mut iterator = CronIterator::new(cron, start, false, Direction::Forward);
     end(rt);
-    outcome_of(rt, &mut iterator, count, false)
+    let outcome = outcome_of(rt, &mut iterator, count, false);
+    drop(iterator);
+    outcome
 }

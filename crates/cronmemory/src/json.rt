@@ -16,18 +16,24 @@ pub fn to_json(rt: &HostRuntime, given: &[&str]) -> Result<Outcome, Fault> {
         return Err(Fault::Malformed);
     };
     let cron = parser_of(settings)?.parse(rt.alloc(), text)?;
+    let outcome = json_of(rt, &cron);
+    drop(cron);
+    outcome
+}
+
+fn json_of(rt: &HostRuntime, cron: &Cron) -> Result<Outcome, Fault> {
     begin(rt);
     let json = cron.to_json();
     end(rt);
-    let answer = printed_or_refusal(rt.alloc(), &json)?;
-    let after = shown::job(rt.alloc(), &cron)?;
-    Ok(Outcome { answer, after })
+    let answer = printed_or_refusal(rt.alloc(), &json);
+    drop(json);
+    Outcome::of_both(answer, shown::job(rt.alloc(), cron))
 }
 
 // A value as its text, or the name of its refusal.
 fn printed_or_refusal(alloc: Global, json: &Result<Value, CronError>) -> Result<String, Fault> {
     match json {
-        Ok(value) => Ok(value.to_string(alloc)?),
+        Ok(value) => printed(alloc, value),
         Err(error) => shown::refused(alloc, error),
     }
 }
@@ -38,12 +44,22 @@ pub fn from_json(rt: &HostRuntime, given: &[&str]) -> Result<Outcome, Fault> {
         return Err(Fault::Malformed);
     };
     let value = value_of(rt.alloc(), text)?;
+    let outcome = job_read_from(rt, &value);
+    drop(value);
+    outcome
+}
+
+fn job_read_from(rt: &HostRuntime, value: &Value) -> Result<Outcome, Fault> {
     begin(rt);
-    let answer = Cron::from_json(rt.alloc(), &value);
+    let read = Cron::from_json(rt.alloc(), value);
     end(rt);
-    let answer = shown::job_or_refusal(rt.alloc(), &answer)?;
-    let after = value.to_string(rt.alloc())?;
-    Ok(Outcome { answer, after })
+    let answer = shown::job_or_refusal(rt.alloc(), &read);
+    drop(read);
+    Outcome::of_both(answer, printed(rt.alloc(), value))
+}
+
+fn printed(alloc: Global, value: &Value) -> Result<String, Fault> {
+    Ok(value.to_string(alloc)?)
 }
 
 fn value_of(alloc: Global, text: &str) -> Result<Value, Fault> {

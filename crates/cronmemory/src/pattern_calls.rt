@@ -161,13 +161,11 @@ fn shown(alloc: Global, answer: Answer) -> Result<String, Fault> {
     }
 }
 
-// The pattern of a text, with an empty field in the named place.
-fn lacking(alloc: Global, text: &str, place: &str) -> Result<CronPattern, Fault> {
-    let mut pattern = job(alloc, text)?.pattern;
-    if let Some(field) = field_at(&mut pattern, place) {
+// Empties the field in the named place of a pattern.
+fn empty_field(alloc: Global, pattern: &mut CronPattern, place: &str) {
+    if let Some(field) = field_at(pattern, place) {
         *field = CronComponent::default(alloc);
     }
-    Ok(pattern)
 }
 
 fn field_at<'p>(pattern: &'p mut CronPattern, place: &str) -> Option<&'p mut CronComponent> {
@@ -190,11 +188,10 @@ fn outcome_of(
     pattern: &CronPattern,
 ) -> Result<Outcome, Fault> {
     let answer = match answer {
-        Ok(answer) => shown(alloc, answer)?,
-        Err(error) => shown::refused(alloc, &error)?,
+        Ok(answer) => shown(alloc, answer),
+        Err(error) => shown::refused(alloc, &error),
     };
-    let after = shown::pattern(alloc, pattern)?;
-    Ok(Outcome { answer, after })
+    Outcome::of_both(answer, shown::pattern(alloc, pattern))
 }
 
 /// A call of the pattern of a text, whose field in the named place is empty, and what it holds afterwards.
@@ -203,12 +200,19 @@ pub fn call_of_pattern(rt: &HostRuntime, given: &[&str]) -> Result<Outcome, Faul
         return Err(Fault::Malformed);
     };
     let call = read_call(rt.alloc(), cell)?;
-    let pattern = lacking(rt.alloc(), text, place)?;
+    let mut cron = job(rt.alloc(), text)?;
+    empty_field(rt.alloc(), &mut cron.pattern, place);
+    let outcome = made(rt, &cron.pattern, call);
+    drop(cron);
+    outcome
+}
+
+fn made(rt: &HostRuntime, pattern: &CronPattern, call: Call) -> Result<Outcome, Fault> {
     begin(rt);
-    let answer = answered(&pattern, call);
+    let answer = answered(pattern, call);
     end(rt);
     match answer {
-        Some(answer) => outcome_of(rt.alloc(), answer, &pattern),
+        Some(answer) => outcome_of(rt.alloc(), answer, pattern),
         None => Err(Fault::Malformed),
     }
 }

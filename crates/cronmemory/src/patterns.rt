@@ -24,10 +24,11 @@ pub fn parse(rt: &HostRuntime, given: &[&str]) -> Result<Outcome, Fault> {
     };
     let parser = parser_of(settings)?;
     begin(rt);
-    let answer = parser.parse(rt.alloc(), text);
+    let read = parser.parse(rt.alloc(), text);
     end(rt);
-    let answer = shown::job_or_refusal(rt.alloc(), &answer)?;
-    Ok(Outcome::of(rt.alloc(), answer))
+    let answer = shown::job_or_refusal(rt.alloc(), &read);
+    drop(read);
+    Outcome::of_answer(rt.alloc(), answer)
 }
 
 /// A parser that is built from settings: its order beside a new one.
@@ -54,14 +55,19 @@ pub fn new_pattern(rt: &HostRuntime, given: &[&str]) -> Result<Outcome, Fault> {
         return Err(Fault::Malformed);
     };
     begin(rt);
-    let answer = CronPattern::new(rt.alloc(), text);
+    let made = CronPattern::new(rt.alloc(), text);
     end(rt);
-    let answer = match &answer {
-        Ok(pattern) => pattern.as_str(),
-        Err(error) => shown::refusal(error),
-    };
-    let answer = String::from_str(rt.alloc(), answer)?;
-    Ok(Outcome::of(rt.alloc(), answer))
+    let answer = text_or_refusal(rt.alloc(), &made);
+    drop(made);
+    Outcome::of_answer(rt.alloc(), answer)
+}
+
+// The text of a pattern, or the name of its refusal.
+fn text_or_refusal(alloc: Global, made: &Result<CronPattern, CronError>) -> Result<String, Fault> {
+    match made {
+        Ok(pattern) => Ok(String::from_str(alloc, pattern.as_str())?),
+        Err(error) => shown::refused(alloc, error),
+    }
 }
 
 // What a job answers.
@@ -129,7 +135,8 @@ pub fn questions(rt: &HostRuntime, given: &[&str]) -> Result<Outcome, Fault> {
     let at = civil(at)?;
     let mut cron = job(rt.alloc(), text)?;
     let answers = asked(rt, &mut cron, &at);
-    let answer = shown_answers(rt.alloc(), answers)?;
-    let after = shown::job(rt.alloc(), &cron)?;
-    Ok(Outcome { answer, after })
+    let answer = shown_answers(rt.alloc(), answers);
+    let after = shown::job(rt.alloc(), &cron);
+    drop(cron);
+    Outcome::of_both(answer, after)
 }

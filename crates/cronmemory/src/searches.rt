@@ -52,11 +52,10 @@ fn outcome_of<T: Shown>(
     cron: &Cron,
 ) -> Result<Outcome, Fault> {
     let answer = match answer {
-        Ok(run) => run.shown(alloc)?,
-        Err(error) => shown::refused(alloc, error)?,
+        Ok(run) => run.shown(alloc),
+        Err(error) => shown::refused(alloc, error),
     };
-    let after = start_and_job(alloc, start, cron)?;
-    Ok(Outcome { answer, after })
+    Outcome::of_both(answer, start_and_job(alloc, start, cron))
 }
 
 fn start_and_job<T: Shown>(alloc: Global, start: &T, cron: &Cron) -> Result<String, Fault> {
@@ -77,7 +76,9 @@ impl<'t> OverTime for Searching<'t> {
         begin(rt);
         let answer = run_found(&cron, self.way, &start);
         end(rt);
-        outcome_of(rt.alloc(), &answer, &start, &cron)
+        let outcome = outcome_of(rt.alloc(), &answer, &start, &cron);
+        drop(cron);
+        outcome
     }
 }
 
@@ -107,12 +108,10 @@ impl<'t> OverTime for Asking<'t> {
         begin(rt);
         let answer = cron.is_time_matching(&time);
         end(rt);
-        let answer = match answer {
-            Ok(truth) => truth.to_string(rt.alloc())?,
-            Err(error) => shown::refused(rt.alloc(), &error)?,
-        };
-        let after = start_and_job(rt.alloc(), &time, &cron)?;
-        Ok(Outcome { answer, after })
+        let answer = shown::truth_or_refusal(rt.alloc(), answer);
+        let after = start_and_job(rt.alloc(), &time, &cron);
+        drop(cron);
+        Outcome::of_both(answer, after)
     }
 }
 

@@ -34,9 +34,14 @@ pub fn refusal(error: &CronError) -> &'static str {
     }
 }
 
+/// A word, as a text of its own.
+pub fn word(alloc: Global, word: &str) -> Result<String, Fault> {
+    Ok(String::from_str(alloc, word)?)
+}
+
 /// The name of a refusal, as a text of its own.
 pub fn refused(alloc: Global, error: &CronError) -> Result<String, Fault> {
-    Ok(String::from_str(alloc, refusal(error))?)
+    word(alloc, refusal(error))
 }
 
 /// The name of a kind of job.
@@ -193,14 +198,26 @@ fn head(alloc: Global, pattern: &CronPattern) -> Result<String, AllocError> {
 /// What a pattern holds.
 pub fn pattern(alloc: Global, pattern: &CronPattern) -> Result<String, Fault> {
     let (head, fields) = (head(alloc, pattern)?, fields(alloc, pattern)?);
+    head_and_fields(alloc, head.as_str(), fields.as_str())
+}
+
+fn head_and_fields(alloc: Global, head: &str, fields: &str) -> Result<String, Fault> {
     Ok(format!(in alloc; "{{{head},\"fields\":{{{fields}}}}}")?)
 }
 
 /// What a job holds: its pattern, and its kind.
 pub fn job(alloc: Global, cron: &Cron) -> Result<String, Fault> {
-    let (head, fields) = (head(alloc, &cron.pattern)?, fields(alloc, &cron.pattern)?);
-    let kind = job_type(cron.determine_job_type());
-    Ok(format!(in alloc; "{{{head},\"job_type\":\"{kind}\",\"fields\":{{{fields}}}}}")?)
+    let mut head = head(alloc, &cron.pattern)?;
+    add_kind(&mut head, cron.determine_job_type())?;
+    let fields = fields(alloc, &cron.pattern)?;
+    head_and_fields(alloc, head.as_str(), fields.as_str())
+}
+
+// Puts the kind of a job behind what is said of its pattern.
+fn add_kind(head: &mut String, kind: JobType) -> Result<(), AllocError> {
+    head.push_str(",\"job_type\":\"")?;
+    head.push_str(job_type(kind))?;
+    head.push_str("\"")
 }
 
 /// What a job holds, or the name of its refusal.
@@ -230,6 +247,14 @@ pub fn field_or_refusal(
     match answer {
         Ok(component) => field(alloc, component),
         Err(error) => refused(alloc, error),
+    }
+}
+
+/// A truth, or the name of its refusal.
+pub fn truth_or_refusal(alloc: Global, answer: Result<bool, CronError>) -> Result<String, Fault> {
+    match answer {
+        Ok(truth) => Ok(truth.to_string(alloc)?),
+        Err(error) => refused(alloc, &error),
     }
 }
 

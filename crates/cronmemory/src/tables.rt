@@ -7,11 +7,12 @@ use crate::iterators::{How, how_made};
 use crate::jobs::job;
 use crate::marks::{begin, end};
 use crate::searches::{Way, read_way};
-use crate::shown::{add_item, refused};
+use crate::shown::{add_item, refused, word};
 use crate::times::{OverTime, Place, Shown, civil, over_time};
 use croner::Direction;
 use croner::crontable::{CronTable, CronTableIterator};
 use croner::errors::CronError;
+use jiff::civil::DateTime;
 use std::alloc::{AllocError, Global};
 
 // The table of texts that semicolons part.
@@ -39,7 +40,8 @@ fn texts_of(alloc: Global, table: &CronTable, count: usize) -> Result<String, Fa
 }
 
 // A run and its places.
-fn shown_run<T: Shown>(alloc: Global, run: &T, places: &Vec<usize>) -> Result<String, Fault> {
+fn shown_run<T: Shown>(alloc: Global, found: &(T, Vec<usize>)) -> Result<String, Fault> {
+    let (run, places) = found;
     let run = run.shown(alloc)?;
     Ok(format!(in alloc; "{run} {places:?}")?)
 }
@@ -50,20 +52,39 @@ pub fn pushed(rt: &HostRuntime, given: &[&str]) -> Result<Outcome, Fault> {
     let [texts, text] = given else {
         return Err(Fault::Malformed);
     };
-    let (mut table, job) = (table_of(rt.alloc(), texts)?, job(rt.alloc(), text)?);
+    let mut table = table_of(rt.alloc(), texts)?;
+    let outcome = push_to(rt, &mut table, text);
+    drop(table);
+    outcome
+}
+
+fn push_to(rt: &HostRuntime, table: &mut CronTable, text: &str) -> Result<Outcome, Fault> {
+    let job = job(rt.alloc(), text)?;
     let before = table.len();
     begin(rt);
     let place = table.push(job);
     end(rt);
-    let texts = texts_of(rt.alloc(), &table, before)?;
     let more = table.len() - before.min(table.len());
     let is_so = more == usize::from(place.is_ok());
-    let answer = match place {
-        Ok(place) => place.to_string(rt.alloc())?,
-        Err(error) => refused(rt.alloc(), &error)?,
-    };
-    let after = format!(in rt.alloc(); "[{texts}] {is_so}")?;
-    Ok(Outcome { answer, after })
+    let answer = place_or_refusal(rt.alloc(), place);
+    Outcome::of_both(answer, texts_and_truth(rt.alloc(), table, before, is_so))
+}
+
+fn place_or_refusal(alloc: Global, place: Result<usize, CronError>) -> Result<String, Fault> {
+    match place {
+        Ok(place) => Ok(place.to_string(alloc)?),
+        Err(error) => refused(alloc, &error),
+    }
+}
+
+fn texts_and_truth(
+    alloc: Global,
+    table: &CronTable,
+    count: usize,
+    truth: bool,
+) -> Result<String, Fault> {
+    let texts = texts_of(alloc, table, count)?;
+    Ok(format!(in alloc; "[{texts}] {truth}")?)
 }
 
 /// A new table, what is asked of a table, and the making of its iterators: texts, a place and a civil start.
@@ -71,17 +92,33 @@ pub fn asked(rt: &HostRuntime, given: &[&str]) -> Result<Outcome, Fault> {
     let [texts, place, start] = given else {
         return Err(Fault::Malformed);
     };
-    let (table, place, start) = (table_of(rt.alloc(), texts)?, number(place)?, civil(start)?);
+    let (place, start) = (number(place)?, civil(start)?);
+    let table = table_of(rt.alloc(), texts)?;
+    let outcome = questions_of(rt, &table, place, start);
+    drop(table);
+    outcome
+}
+
+fn questions_of(
+    rt: &HostRuntime,
+    table: &CronTable,
+    place: usize,
+    start: DateTime,
+) -> Result<Outcome, Fault> {
     begin(rt);
     let is_new_empty = CronTable::new(rt.alloc()).is_empty();
     let (count, is_empty, is_there) = (table.len(), table.is_empty(), table.get(place).is_some());
-    let after = table.iter_after(start);
-    let before = table.iter_before(start);
-    let from = table.iter_from(start, Direction::Backward);
-    let faults = after.fault().is_some() || before.fault().is_some() || from.fault().is_some();
+    let after = has_fault(&table.iter_after(start));
+    let before = has_fault(&table.iter_before(start));
+    let from = has_fault(&table.iter_from(start, Direction::Backward));
     end(rt);
+    let faults = after || before || from;
     let answer = format!(in rt.alloc(); "{is_new_empty} {count} {is_empty} {is_there} {faults}")?;
     Ok(Outcome::of(rt.alloc(), answer))
+}
+
+fn has_fault<T: Shown>(runs: &CronTableIterator<'_, T>) -> bool {
+    runs.fault().is_some()
 }
 
 // The run after a time or from it on, or the one before it or back from it.
@@ -107,17 +144,30 @@ impl<'t> OverTime for Searching<'t> {
         begin(rt);
         let answer = found(&table, self.way, &start);
         end(rt);
-        let answer = match &answer {
-            Ok((run, places)) => shown_run(rt.alloc(), run, places)?,
-            Err(error) => refused(rt.alloc(), error)?,
-        };
-        let (start, texts) = (
-            start.shown(rt.alloc())?,
-            texts_of(rt.alloc(), &table, table.len())?,
-        );
-        let after = format!(in rt.alloc(); "{start} [{texts}]")?;
-        Ok(Outcome { answer, after })
+        let answer = run_or_refusal(rt.alloc(), &answer);
+        let after = start_and_texts(rt.alloc(), &start, &table);
+        drop(table);
+        Outcome::of_both(answer, after)
     }
+}
+
+fn run_or_refusal<T: Shown>(
+    alloc: Global,
+    answer: &Result<(T, Vec<usize>), CronError>,
+) -> Result<String, Fault> {
+    match answer {
+        Ok(found) => shown_run(alloc, found),
+        Err(error) => refused(alloc, error),
+    }
+}
+
+fn start_and_texts<T: Shown>(alloc: Global, start: &T, table: &CronTable) -> Result<String, Fault> {
+    let (start, texts) = (start.shown(alloc)?, texts_of(alloc, table, table.len())?);
+    start_in_front(alloc, start.as_str(), texts.as_str())
+}
+
+fn start_in_front(alloc: Global, start: &str, texts: &str) -> Result<String, Fault> {
+    Ok(format!(in alloc; "{start} [{texts}]")?)
 }
 
 /// A search over times of a backend: a backend, a clock, texts, a way and a start.
@@ -148,8 +198,8 @@ fn lacks_memory<T: Shown>(runs: &CronTableIterator<'_, T>) -> bool {
 
 fn shown_item<T: Shown>(alloc: Global, item: &Option<(T, Vec<usize>)>) -> Result<String, Fault> {
     match item {
-        Some((run, places)) => shown_run(alloc, run, places),
-        None => Ok(String::from_str(alloc, "null")?),
+        Some(found) => shown_run(alloc, found),
+        None => word(alloc, "null"),
     }
 }
 
@@ -164,23 +214,41 @@ impl<'t> OverTime for Listed<'t> {
     fn outcome<T: Shown>(&self, rt: &HostRuntime, start: T) -> Result<Outcome, Fault> {
         let table = table_of(rt.alloc(), self.texts)?;
         let mut runs = made(&table, start, self.how);
-        begin(rt);
-        let mut item = runs.next();
-        end(rt);
-        let lacks = lacks_memory(&runs);
-        if lacks {
-            item = runs.next();
-        }
-        let first = shown_item(rt.alloc(), &item)?;
-        let second = shown_item(rt.alloc(), &runs.next())?;
-        let after = format!(in rt.alloc(); "{first} {second}")?;
-        let answer = if lacks {
-            refused(rt.alloc(), &CronError::OutOfMemory)?
-        } else {
-            first
-        };
-        Ok(Outcome { answer, after })
+        let outcome = two_items(rt, &mut runs);
+        drop(runs);
+        drop(table);
+        outcome
     }
+}
+
+fn two_items<T: Shown>(
+    rt: &HostRuntime,
+    runs: &mut CronTableIterator<'_, T>,
+) -> Result<Outcome, Fault> {
+    begin(rt);
+    let item = runs.next();
+    end(rt);
+    if lacks_memory(runs) {
+        let (first, second) = (next_item(rt.alloc(), runs)?, next_item(rt.alloc(), runs)?);
+        let answer = refused(rt.alloc(), &CronError::OutOfMemory);
+        return Outcome::of_both(answer, both_items(rt.alloc(), &first, &second));
+    }
+    let first = shown_item(rt.alloc(), &item)?;
+    let second = next_item(rt.alloc(), runs)?;
+    let after = both_items(rt.alloc(), &first, &second);
+    Outcome::of_both(Ok(first), after)
+}
+
+fn next_item<T: Shown>(
+    alloc: Global,
+    runs: &mut CronTableIterator<'_, T>,
+) -> Result<String, Fault> {
+    let item = runs.next();
+    shown_item(alloc, &item)
+}
+
+fn both_items(alloc: Global, first: &String, second: &String) -> Result<String, Fault> {
+    Ok(format!(in alloc; "{first} {second}")?)
 }
 
 /// The first item of an iterator over times of a backend: a backend, a clock, texts, a maker and a start. Afterwards that item,
@@ -207,10 +275,12 @@ pub fn copied(rt: &HostRuntime, given: &[&str]) -> Result<Outcome, Fault> {
     begin(rt);
     let copy: Result<CronTable, AllocError> = table.clone();
     end(rt);
-    let answer = match copy {
-        Ok(copy) => texts_of(rt.alloc(), &copy, copy.len())?,
-        Err(_error) => refused(rt.alloc(), &CronError::OutOfMemory)?,
+    let answer = match &copy {
+        Ok(copy) => texts_of(rt.alloc(), copy, copy.len()),
+        Err(_error) => refused(rt.alloc(), &CronError::OutOfMemory),
     };
-    let after = texts_of(rt.alloc(), &table, table.len())?;
-    Ok(Outcome { answer, after })
+    let after = texts_of(rt.alloc(), &table, table.len());
+    drop(copy);
+    drop(table);
+    Outcome::of_both(answer, after)
 }

@@ -51,7 +51,9 @@ pub fn description(rt: &HostRuntime, given: &[&str]) -> Result<Outcome, Fault> {
     begin(rt);
     let answer = described(&cron, language);
     end(rt);
-    outcome_of(rt.alloc(), answer, &cron)
+    let outcome = outcome_of(rt.alloc(), answer, &cron);
+    drop(cron);
+    outcome
 }
 
 // The text or the refusal, and the job afterwards.
@@ -60,9 +62,8 @@ fn outcome_of(
     answer: Result<String, CronError>,
     cron: &Cron,
 ) -> Result<Outcome, Fault> {
-    let answer = shown::text_or_refusal(alloc, answer)?;
-    let after = shown::job(alloc, cron)?;
-    Ok(Outcome { answer, after })
+    let answer = shown::text_or_refusal(alloc, answer);
+    Outcome::of_both(answer, shown::job(alloc, cron))
 }
 
 /// The texts of a language that are no sentences about a number.

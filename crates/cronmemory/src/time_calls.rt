@@ -67,11 +67,10 @@ impl OverTime for Resolving {
         let found = time.resolve_civil(rt.alloc(), self.civil);
         end(rt);
         let answer = match &found {
-            Ok(found) => instants(rt.alloc(), found)?,
-            Err(error) => refused(rt.alloc(), error)?,
+            Ok(found) => instants(rt.alloc(), found),
+            Err(error) => refused(rt.alloc(), error),
         };
-        let after = time.shown(rt.alloc())?;
-        Ok(Outcome { answer, after })
+        Outcome::of_both(answer, time.shown(rt.alloc()))
     }
 }
 
@@ -100,9 +99,8 @@ impl OverTime for Adding {
         begin(rt);
         let sum = time.checked_add_seconds(rt.alloc(), self.seconds);
         end(rt);
-        let answer = sum_or_refusal(rt.alloc(), &sum)?;
-        let after = time.shown(rt.alloc())?;
-        Ok(Outcome { answer, after })
+        let answer = sum_or_refusal(rt.alloc(), &sum);
+        Outcome::of_both(answer, time.shown(rt.alloc()))
     }
 }
 
