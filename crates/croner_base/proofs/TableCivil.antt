@@ -10,6 +10,7 @@ use Rattle.croner_base.specs.declared.time.civil.CivilTime.{CivilTime}
 use Rattle.croner_base.specs.declared.time.civil.CivilDateTime.{CivilDateTime}
 use Rattle.croner_base.specs.Calendar.{day_number, weekday_of_day, day_seconds}
 use Rattle.croner_base.specs.Civil.{HasYmd, wall_second, day_of_date, seconds_of_time, weekday_of_second}
+use Rattle.croner_base.specs.Private.TableSteps.{first_reading, last_reading}
 use Rattle.croner_base.proofs.Days.{days_from_civil-day_number}
 use Rattle.croner_base.proofs.JiffSeconds.{epoch_day-day_number, wall_second-parts}
 
@@ -41,5 +42,5 @@ weekday_by w q r n e f g =
     rw h (omega (arith, signed_arith, f, g))
 
 -- the day of a second near the years -9999 to 9999
-pub day_bounds : (w q : ℤ) → q ≡ int_div_euclid w (pos day_seconds) → neg_ℤ (pos 377_705_203_200) ≤ℤ w → w ≤ℤ pos 253_402_387_199 → (neg_ℤ (pos 5_000_000) ≤ℤ q) × (q ≤ℤ pos 5_000_000)
+pub day_bounds : (w q : ℤ) → q ≡ int_div_euclid w (pos day_seconds) → first_reading ≤ℤ w → w ≤ℤ last_reading → (neg_ℤ (pos 5_000_000) ≤ℤ q) × (q ≤ℤ pos 5_000_000)
 day_bounds w q e low high = (omega (arith, signed_arith), omega (arith, signed_arith))

@@ -11,29 +11,20 @@ use Rattle.croner_pattern.proofs.DayTable.{all_from, all_from-at, same, same-tru
 use Rattle.croner_pattern.proofs.Tests.{and_true, and_false}
 
 -- a bit of words that are joined or moved
-or_digit : (x y : ℕ) → x < 2 → y < 2 → eqb (max x y) 1 ≡ (eqb x 1 || eqb y 1)
-or_digit zero zero a b = refl
-or_digit zero (suc zero) a b = refl
-or_digit (suc zero) zero a b = refl
-or_digit (suc zero) (suc zero) a b = refl
-or_digit zero (suc (suc y)) a b = absurd (omega arith)
-or_digit (suc zero) (suc (suc y)) a b = absurd (omega arith)
-or_digit (suc (suc x)) y a b = absurd (omega arith)
-
-and_digit : (x y : ℕ) → x < 2 → y < 2 → eqb (min x y) 1 ≡ (eqb x 1 && eqb y 1)
-and_digit zero zero a b = refl
-and_digit zero (suc zero) a b = refl
-and_digit (suc zero) zero a b = refl
-and_digit (suc zero) (suc zero) a b = refl
-and_digit zero (suc (suc y)) a b = absurd (omega arith)
-and_digit (suc zero) (suc (suc y)) a b = absurd (omega arith)
-and_digit (suc (suc x)) y a b = absurd (omega arith)
+digits : (x y : ℕ) → x < 2 → y < 2 → (eqb (max x y) 1 ≡ (eqb x 1 || eqb y 1)) × (eqb (min x y) 1 ≡ (eqb x 1 && eqb y 1))
+digits zero zero a b = (refl, refl)
+digits zero (suc zero) a b = (refl, refl)
+digits (suc zero) zero a b = (refl, refl)
+digits (suc zero) (suc zero) a b = (refl, refl)
+digits zero (suc (suc y)) a b = absurd (omega arith)
+digits (suc zero) (suc (suc y)) a b = absurd (omega arith)
+digits (suc (suc x)) y a b = absurd (omega arith)
 
 pub has-or : (a b p : ℕ) → has_bit (bit_or a b) p ≡ (has_bit a p || has_bit b p)
-has-or a b p = ap (λ x. eqb x 1) (bit_at_or a b p) ∙ or_digit (bit_at a p) (bit_at b p) (bit_at-lt a p) (bit_at-lt b p)
+has-or a b p = ap (λ x. eqb x 1) (bit_at_or a b p) ∙ (digits (bit_at a p) (bit_at b p) (bit_at-lt a p) (bit_at-lt b p)).0
 
 pub has-and : (a b p : ℕ) → has_bit (bit_and a b) p ≡ (has_bit a p && has_bit b p)
-has-and a b p = ap (λ x. eqb x 1) (bit_at_and a b p) ∙ and_digit (bit_at a p) (bit_at b p) (bit_at-lt a p) (bit_at-lt b p)
+has-and a b p = ap (λ x. eqb x 1) (bit_at_and a b p) ∙ (digits (bit_at a p) (bit_at b p) (bit_at-lt a p) (bit_at-lt b p)).1
 
 pub has-none : (p : ℕ) → has_bit 0 p ≡ false
 has-none p = ap (λ x. eqb x 1) (bit_at-zero p)

@@ -12,15 +12,15 @@ use Rattle.cronrun_command.specs.Start.{start_instant}
 abbrev pub IsAccepted : Result Meaning Refusal → Type 0
 IsAccepted outcome = (pattern : Meaning) × (outcome ≡ Ok pattern)
 
--- the pattern is accepted, and the date and time names an instant
-abbrev pub Opens : Result Meaning Refusal → Zone → CivilDateTime → Type 0
-Opens outcome zone at =
-    (pattern : Meaning) × (start : ℤ) × (outcome ≡ Ok pattern) × (start_instant (zone.resolves at) ≡ Some start)
+-- the pattern is accepted, and the date and time names the instant
+abbrev pub OpensAt : Result Meaning Refusal → Zone → CivilDateTime → Meaning → ℤ → Type 0
+OpensAt outcome zone at pattern start = (outcome ≡ Ok pattern) × (start_instant (zone.resolves at) ≡ Some start)
 
--- the pattern is accepted, the date and time names an instant, and the listing goes from there in the direction, without it
+abbrev pub Opens : Result Meaning Refusal → Zone → CivilDateTime → Type 0
+Opens outcome zone at = (pattern : Meaning) × (start : ℤ) × OpensAt outcome zone at pattern start
+
+-- so it is, and the listing goes from that instant in the direction, without it
 abbrev pub StandsAtStart : Result Meaning Refusal → Zone → CivilDateTime → Direction → Standing → Type 0
 StandsAtStart outcome zone at direction standing =
-    (pattern : Meaning) × (start : ℤ)
-    × (outcome ≡ Ok pattern)
-    × (start_instant (zone.resolves at) ≡ Some start)
+    (pattern : Meaning) × (start : ℤ) × OpensAt outcome zone at pattern start
     × (standing ≡ new_standing pattern (at_instant zone start) false direction)

@@ -22,7 +22,7 @@ use Rattle.croner.specs.declared.crontable.iterator.CronTableIterator.{CronTable
 use Rattle.croner.proofs.zone.Ahead.{same_or_ahead, reaches-precedes}
 use Rattle.croner.proofs.zone.RunsOfSeconds.{counts_reaches}
 use Rattle.croner.proofs.iterator.Faults.{no_fault_is_limit}
-use Rattle.croner.proofs.iterator.Listings.{all_given, Splits, splits_none, splits_next, IsNext, is_run, begins_where, past_start}
+use Rattle.croner.proofs.iterator.Listings.{all_given, same_span, Splits, splits_none, splits_next, IsNext, is_run, begins_where, past_start}
 
 -- ---- one place
 
@@ -178,9 +178,8 @@ is_over : (old cur new : TableStanding) (items : List (ℤ × List ℕ)) → Tab
 is_over old cur new items g n without =
     let P : TableStanding → Type 0 = λ s. IsTableOver old s in
     subst P (sym n.stands) (λ p i left span.
-    let in_direction : InSpan cur.direction old.position.zone.reads i = let Q : Direction → Type 0 = λ d. InSpan d old.position.zone.reads i in subst Q (sym g.direction) span in
-    let in_zone : InSpan cur.direction cur.position.zone.reads i = let R : Zone → Type 0 = λ z. InSpan cur.direction z.reads i in subst R (sym g.zone) in_direction in
-    n.refused.limit (g.calm p) (limit_without cur new n without) i in_zone left)
+    let here = same_span cur.direction old.direction cur.position.zone old.position.zone i g.direction g.zone span in
+    n.refused.limit (g.calm p) (limit_without cur new n without) i here left)
 
 pub gave_all_table : (old cur : TableStanding) (items : List (ℤ × List ℕ)) → TableGoes old cur items → IsTableOver old cur → StartsCalm old.position → GaveAllTable old items
 gave_all_table old cur items g over p = all_given old.direction (IsTableLeft old) (IsTableLeft cur) (InSpan old.direction old.position.zone.reads) (instants_of items) (g.splits p) (over p)

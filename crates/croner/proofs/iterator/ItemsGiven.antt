@@ -17,7 +17,7 @@ use Rattle.croner.specs.declared.iterator.CronIterator.{CronIterator}
 use Rattle.std.proofs.lemmas.Bool.{false≢true}
 use Rattle.std.proofs.lemmas.List.{map_push, length_push}
 use Rattle.std.proofs.lemmas.List.Elements.{All-push}
-use Rattle.croner.proofs.iterator.Listings.{all_given, Splits, splits_none, splits_next, IsNext, is_next, is_run, begins}
+use Rattle.croner.proofs.iterator.Listings.{all_given, same_span, Splits, splits_none, splits_next, IsNext, is_next, is_run, begins}
 use Rattle.croner.proofs.iterator.Faults.{no_fault_is_limit}
 use Rattle.croner.proofs.zone.SearchLimit.{calm_start}
 use Rattle.croner.proofs.iterator.ThereAndBack.{searchable_run}
@@ -109,9 +109,8 @@ pub is_over : (lack : Bool) (old cur new : Standing) (items : List ℤ) → Goes
 is_over lack old cur new items g n without =
     let P : Standing → Type 0 = λ s. IsOver old s in
     subst P (sym n.stands) (λ p i left span.
-    let in_direction : InSpan cur.direction old.position.zone.reads i = let Q : Direction → Type 0 = λ d. InSpan d old.position.zone.reads i in subst Q (sym g.direction) span in
-    let in_zone : InSpan cur.direction cur.position.zone.reads i = let R : Zone → Type 0 = λ z. InSpan cur.direction z.reads i in subst R (sym g.zone) in_direction in
-    n.refused.limit (g.calm p) (limit_without lack cur new n without) i in_zone left)
+    let here = same_span cur.direction old.direction cur.position.zone old.position.zone i g.direction g.zone span in
+    n.refused.limit (g.calm p) (limit_without lack cur new n without) i here left)
 
 pub gave_all : (old cur : Standing) (items : List ℤ) → Goes old cur items → IsOver old cur → StartsCalm old.position → GaveAll old items
 gave_all old cur items g over p = all_given old.direction (IsLeft old) (IsLeft cur) (InSpan old.direction old.position.zone.reads) items (g.splits p) (over p)

@@ -5,7 +5,8 @@ use Rattle.std.proofs.lemmas.List.Elements.{All-push, All-contains, Contains-pus
 use Rattle.std.proofs.lemmas.List.Quantifiers.{all_pairs_push}
 use Rattle.std.specs.List.{All, AllPairs, Contains}
 use Rattle.croner.specs.search.Runs.{Job, Run, Counts, Nearest, Precedes}
-use Rattle.croner_base.specs.Zone.{Moment}
+use Rattle.croner_base.specs.Zone.{Zone, Moment}
+use Rattle.croner.specs.search.Limit.{InSpan}
 use Rattle.croner_pattern.specs.Meaning.{Meaning}
 use Rattle.croner.specs.iterator.Listing.{Begins, BeginsWhere, Standing, IsLeft, moved, new_standing}
 pub use Rattle.croner.proofs.zone.RunsOfSeconds.{is_run}
@@ -94,6 +95,10 @@ begins direction inclusive job s rest items h = begins_where direction (Counts d
 -- where nothing of the rest is meant, all that is meant was given
 pub all_given : (direction : Direction) (left rest Meant : ℤ → Type 0) (items : List ℤ) → Splits direction left rest items → ((i : ℤ) → rest i → Meant i → ⊥) → (i : ℤ) → left i → Meant i → Contains items i
 all_given direction left rest Meant items h over i counts meant = elim (h.either i counts) [ inl had ↦ had | inr r ↦ absurd (over i r meant) ]
+
+-- the span is that of the same direction and zone
+pub same_span : (d e : Direction) (y z : Zone) (i : ℤ) → d ≡ e → y ≡ z → InSpan e z.reads i → InSpan d y.reads i
+same_span d e y z i same_way same_zone span = subst (λ (x : Direction). InSpan x y.reads i) (sym same_way) (subst (λ (x : Zone). InSpan e x.reads i) (sym same_zone) span)
 
 -- the nearest run is the next of what counts, and what counts from it is left
 pub is_next : (direction : Direction) (inclusive : Bool) (job : Job) (s t : ℤ) → Nearest direction inclusive job s t → IsNext direction (Counts direction inclusive job s) (Counts direction false job t) t

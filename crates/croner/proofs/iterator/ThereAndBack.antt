@@ -11,6 +11,7 @@ use Rattle.croner_base.specs.Calendar.{IsRealDate, day_number, year_start, days_
 use Rattle.croner_base.specs.Calm.{IsCalm}
 use Rattle.croner_base.specs.Civil.{wall_second}
 use Rattle.croner_base.specs.Zone.{Zone, Moment, at_instant}
+use Rattle.croner_base.proofs.Chronology.{year_reached}
 use Rattle.croner_base.specs.Limits.{fold_limit}
 use Rattle.croner_base.proofs.Days.{day_number-lt_year}
 use Rattle.croner_base.proofs.JiffSeconds.{wall_second-parts}
@@ -26,17 +27,13 @@ use Rattle.croner.proofs.iterator.Listings.{is_run, there_and_back}
 use Rattle.croner.proofs.cursor.SearchedYears.{searched_run}
 use Rattle.croner.proofs.zone.ZoneOrder.{cases_lt_z, gains, far}
 
-last_of_2 : day_number (pos 2) 12 31 ≡ neg_ℤ (pos 718_433)
+first_of_3 : day_number (pos 3) 1 1 ≡ neg_ℤ (pos 718_432)
 unfolding day_number year_start days_since_zero days_until_zero days_of_months
-last_of_2 = refl
-
-last_is_real : (y : ℤ) → IsRealDate y 12 31
-last_is_real y = ((omega arith, omega arith), (omega arith, omega arith))
+first_of_3 = refl
 
 -- a second of year 3 or later lies further behind the first of year 2 than the longest step back
 late : (c : CivilDateTime) → pos 3 ≤ℤ c.date.year → (year_2 +ℤ pos fold_limit) ≤ℤ wall_second c
-late c from =
-    omega (arith, ints, last_of_2, day_number-lt_year (pos 2) 12 31 c.date.year c.date.month c.date.day (last_is_real (pos 2)) c.date.real (omega (arith, ints)), wall_second-parts c)
+late c from = let begun = (year_reached c (pos 3)).0 from in omega (arith, ints, first_of_3)
 
 -- so does each later instant of a calm zone
 stays_late : (z : Zone) → IsCalm z → (i j : ℤ) → (year_2 +ℤ pos fold_limit) ≤ℤ z.reads i → i ≤ℤ j → year_2 ≤ℤ z.reads j

@@ -24,21 +24,11 @@ use Rattle.croner.proofs.parser.WordLists.{are_words, words_are}
 
 -- ---- what an accepted text has
 
-is_ok_meaning : Result Meaning Refusal → Bool
-is_ok_meaning (Ok m) = true
-is_ok_meaning (Err e) = false
-
 err_ok : (e : Refusal) (m : Meaning) → ◌≡◌ {A = Result Meaning Refusal} (Err e) (Ok m) → ⊥
-unfolding is_ok_meaning
-err_ok e m h = false≢true (ap is_ok_meaning h)
-
-meaning_or : Meaning → Result Meaning Refusal → Meaning
-meaning_or d (Ok m) = m
-meaning_or d (Err e) = d
+err_ok e m h = cc
 
 ok_same : (m n : Meaning) → ◌≡◌ {A = Result Meaning Refusal} (Ok m) (Ok n) → m ≡ n
-unfolding meaning_or
-ok_same m n e = ap (meaning_or m) e
+ok_same m n e = cc
 
 -- the fields of the text that was replaced, and that it is kept
 record Accepts (s : Settings) (text : List ℕ) (m : Meaning) : Type 0 where

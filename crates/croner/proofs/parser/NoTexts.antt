@@ -22,13 +22,8 @@ no_replaced s full (Some text) e f =
 abbrev HasNoMeaning : Result Meaning Refusal → Type 0
 HasNoMeaning r = (m : Meaning) → r ≡ Ok m → ⊥
 
-is_ok_meaning : Result Meaning Refusal → Bool
-is_ok_meaning (Ok m) = true
-is_ok_meaning (Err e) = false
-
 err_has_none : (e : Refusal) → HasNoMeaning (Err e)
-unfolding is_ok_meaning
-err_has_none e = λ m h. false≢true (ap is_ok_meaning h)
+err_has_none e = λ m h. cc
 
 pub no_texts : (s : Settings) (text : List ℕ) → s.seconds_field ≡ seconds.Disallowed → s.year_field ≡ year.Required → (m : Meaning) → outcome s text ≡ Ok m → ⊥
 no_texts s given e f =

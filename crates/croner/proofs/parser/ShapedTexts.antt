@@ -18,21 +18,11 @@ use Rattle.croner.specs.parser.Words.{words}
 abbrev IsShaped : Result Meaning Refusal → Type 0
 IsShaped r = (m : Meaning) → r ≡ Ok m → has_field_shapes m ≡ true
 
-meaning_or : Meaning → Result Meaning Refusal → Meaning
-meaning_or d (Ok m) = m
-meaning_or d (Err e) = d
-
-is_ok_meaning : Result Meaning Refusal → Bool
-is_ok_meaning (Ok m) = true
-is_ok_meaning (Err e) = false
-
 err_shaped : (e : Refusal) → IsShaped (Err e)
-unfolding is_ok_meaning
-err_shaped e = λ m h. absurd (false≢true (ap is_ok_meaning h))
+err_shaped e = λ m h. absurd (cc)
 
 ok_shaped : (m : Meaning) → has_field_shapes m ≡ true → IsShaped (Ok m)
-unfolding meaning_or
-ok_shaped m h = λ n e. subst (λ x. has_field_shapes x ≡ true) (ap (meaning_or m) e) h
+ok_shaped m h = λ n e. let same : m ≡ n = cc in subst (λ x. has_field_shapes x ≡ true) same h
 
 -- ---- the fields
 

@@ -138,7 +138,7 @@ module _ (reads : ℤ → ℤ) (calm : Calm reads) where
 
 -- ---- what the backend answers
 
-zero_on : (direction : Direction) (w : ℤ) → offset_from direction w 0 ≡ w
+pub zero_on : (direction : Direction) (w : ℤ) → offset_from direction w 0 ≡ w
 zero_on Forward w = omega (arith, ints)
 zero_on Backward w = omega (arith, ints)
 

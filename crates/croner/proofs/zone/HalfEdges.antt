@@ -8,6 +8,7 @@ use Rattle.croner.proofs.zone.WalkLoop.{never_true}
 use Rattle.croner_base.specs.Zone.{Zone, Moment, reading, nanos_of, IsUnheld}
 use Rattle.croner_base.specs.Calm.{IsCalm, HoldsAround, IsNear}
 use Rattle.croner.specs.Private.search.Halves.{edge_limit, Break, HasTwin, EdgeOf, offset_from, CountsBoth, moment_from, IsEdge}
+use Rattle.croner.proofs.zone.GapSides.{zero_on}
 use Rattle.croner.proofs.zone.CalmZone.{Exactly, calm_of, exact_of}
 use Rattle.croner.proofs.zone.ZoneOrder.{Calm, gains, loses}
 use Rattle.croner_base.specs.declared.time.civil.CivilDateTime.{CivilDateTime}
@@ -176,10 +177,6 @@ refuted P b e test p = let yes : IsTrue b = test.1 p in never_true (sym e ∙ ye
 shown : (P : Type 0) (b : Bool) → b ≡ true → IsTrue b ↔ P → P
 shown P b e test = test.0 e
 
-no_offset : (direction : Direction) (s : ℤ) → offset_from direction s 0 ≡ s
-no_offset Forward s = omega (arith, ints)
-no_offset Backward s = omega (arith, ints)
-
 -- between these two offsets from s the half that s is on ends
 pub record Bisected (direction : Direction) (z : Zone) (s : ℤ) (fraction : ℕ) (inside outside : ℕ) : Type 0 where
   pub ordered : inside < outside
@@ -193,7 +190,7 @@ module _ (direction : Direction) (m : Moment) (b : Bool) where
       record {
         ordered = omega arith;
         margin = omega arith;
-        within = λ start twin. subst (HasTwin direction m.zone.reads) (sym (no_offset direction m.instant)) twin;
+        within = λ start twin. subst (HasTwin direction m.zone.reads) (sym (zero_on direction m.instant)) twin;
         beyond = λ start. refuted (HasTwin direction m.zone.reads (offset_from direction m.instant edge_limit)) b e (test start);
       }
 

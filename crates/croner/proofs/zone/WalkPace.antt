@@ -16,6 +16,8 @@ use Rattle.croner.specs.Private.search.Walk.{one_on, pass_limit, Onward, Paces}
 use Rattle.croner.proofs.zone.CalmZone.{Exactly, change_of_break}
 use Rattle.croner.proofs.zone.ZoneOrder.{Calm, cases_lt_z, nonnegative, put_back, below_before, above_after}
 use Rattle.croner.proofs.zone.GapSides.{unread_is_in_gap}
+use Rattle.croner.proofs.zone.Ahead.{reaches-trans, precedes-reaches}
+use Rattle.croner.proofs.zone.WalkSteps.{one_on_reaches}
 
 -- how many seconds the clock skips after p: none where it is put back
 abbrev pub skipped : (ℤ → ℤ) → ℤ → ℕ
@@ -104,14 +106,6 @@ way_ahead Backward from to on = omega (arith, ints)
 way_one : (direction : Direction) (from to next : ℤ) → next ≡ one_on direction to → way direction from next ≡ way direction from to +ℤ pos 1
 way_one Forward from to next e = omega (arith, ints)
 way_one Backward from to next e = omega (arith, ints)
-
-one_past : (direction : Direction) (wall next : ℤ) → next ≡ one_on direction wall → Precedes direction wall next
-one_past Forward wall next e = omega (arith, ints)
-one_past Backward wall next e = omega (arith, ints)
-
-reaches_past : (direction : Direction) (wall w next : ℤ) → Reaches direction wall w → Precedes direction w next → Reaches direction wall next
-reaches_past Forward wall w next a b = omega (arith, ints)
-reaches_past Backward wall w next a b = omega (arith, ints)
 
 entered_on : (direction : Direction) (reads : ℤ → ℤ) (p wall next : ℤ) → Entered direction reads p wall → Reaches direction wall next → Entered direction reads p next
 entered_on Forward reads p wall next entered on = omega (arith, ints)
@@ -204,7 +198,7 @@ paced_gap : (direction : Direction) (reads : ℤ → ℤ) → Calm reads → (s 
 paced_gap direction reads calm s wall w next k paced on unread years onward =
     let (q, below, above) = unread_is_in_gap reads calm w unread in
     let (qs, sorted, touching, met) = gap_pass direction reads calm paced.gaps wall w next q k paced.slack paced.sorted paced.touching paced.met on below above onward (touches reads calm q w below above years) in
-    let more = up_less (way direction (reads s) wall) (way direction (reads s) next) (way_on direction (reads s) wall next (reaches_past direction wall w next on onward.on)) in
+    let more = up_less (way direction (reads s) wall) (way direction (reads s) next) (way_on direction (reads s) wall next (reaches-trans direction wall w next on (precedes-reaches direction w next onward.on))) in
     let under = paced.below in
     record { gaps = qs; sorted = sorted; touching = touching; slack = paced.slack; margin = paced.margin; below = omega arith; met = met }
 
@@ -241,7 +235,7 @@ paced_behind direction reads calm s wall w next e k paced on from behind at move
       slack = paced.slack + 1;
       margin = omega (arith, ints);
       below = omega (arith, ints);
-      met = other_pass direction reads paced.gaps wall next k paced.slack paced.met (reaches_past direction wall w next on (one_past direction w next moved));
+      met = other_pass direction reads paced.gaps wall next k paced.slack paced.met (subst (Reaches direction wall) (sym moved) (one_on_reaches direction wall w on));
     }
 
 pub paced_on : (direction : Direction) (reads : ℤ → ℤ) → Calm reads → (s wall w next : ℤ) (k : ℕ) → Paced direction reads s wall k → Reaches direction wall w → Reaches direction (reads s) w → IsSearched w → Paces direction reads s w next → Paced direction reads s next (k + 1)

@@ -1,9 +1,9 @@
 -- The steps by which a table is checked, change by change, and searched.
 -- Private contracts alone cite these definitions.
-use Rattle.std.specs.Prelude.{◌≡◌, ℕ, zero, suc, ◌+◌, ◌<◌, ◌≤◌, IsTrue, ℤ, pos, ◌+ℤ◌, ◌<ℤ◌, ◌≤ℤ◌, List, length, slice_index_or}
+use Rattle.std.specs.Prelude.{◌≡◌, ℕ, zero, suc, ◌+◌, ◌<◌, ◌≤◌, IsTrue, ℤ, pos, ◌+ℤ◌, ◌-ℤ◌, ◌<ℤ◌, ◌≤ℤ◌, List, length, slice_index_or}
 use Rattle.croner_base.specs.declared.time.table.check.Tally.{Tally}
 use Rattle.croner_base.specs.Limits.{apart_limit, most_changes, most_gap_seconds}
-use Rattle.croner_base.specs.Table.{last_instant, is_offset, is_step, met_at, gap_at}
+use Rattle.croner_base.specs.Table.{first_instant, last_instant, offset_limit, is_offset, is_step, met_at, gap_at}
 
 -- a change can follow the changes so far: they leave an offset, the least instant of the next one, and the two sums
 pub record IsNext (offset earliest : ℤ) (met gaps : ℕ) (c : ℤ × ℤ) : Type 0 where
@@ -30,3 +30,10 @@ offset_past offset cs (suc n) = (slice_index_or cs n (pos 0, pos 0)).1
 pub record IsCountUntil (cs : List (ℤ × ℤ)) (i : ℤ) (n : ℕ) : Type 0 where
   pub passed : (k : ℕ) → k < n → (slice_index_or cs k (pos 0, pos 0)).0 ≤ℤ i
   pub ahead : (k : ℕ) → n ≤ k → k < length cs → i <ℤ (slice_index_or cs k (pos 0, pos 0)).0
+
+-- what the clock of a table can read: the seconds of its instants, and those at most an offset past them
+abbrev pub first_reading : ℤ
+first_reading = first_instant -ℤ pos offset_limit
+
+abbrev pub last_reading : ℤ
+last_reading = last_instant +ℤ pos offset_limit

@@ -158,6 +158,7 @@ pub struct TableTime<'t> {
 
 impl<'t> TableTime<'t> {
     ghost use Rattle.croner_base.specs.TableZone.{table_zone, table_moment};
+    ghost use Rattle.croner_base.specs.Private.TableSteps.{first_reading, last_reading};
     ghost use Rattle.croner_base.specs.Zone.{reading, at_instant};
 
     /// The second on the clock of the table. Refused as `InvalidTime` outside -377,705,116,800 to 253,402,300,799, the
@@ -186,8 +187,8 @@ impl<'t> TableTime<'t> {
     // What the clock reads.
     fn wall(&self) -> i64
         ensures value { result ≡ reading (table_moment self.now) }
-        ensures low { neg_ℤ (pos 377_705_203_200) ≤ℤ result }
-        ensures high { result ≤ℤ pos 253_402_387_199 }
+        ensures low { first_reading ≤ℤ result }
+        ensures high { result ≤ℤ last_reading }
     {
         self.second + self.table.offset_at(self.second)
     }

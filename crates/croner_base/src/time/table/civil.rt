@@ -1,6 +1,7 @@
 //! Dates and times of wall seconds, and back.
 ghost use Rattle.std.specs.Prelude.{◌≡◌, pos, neg_ℤ, ◌≤ℤ◌};
 ghost use Rattle.croner_base.specs.Civil.{wall_second, day_of_date};
+ghost use Rattle.croner_base.specs.Private.TableSteps.{first_reading, last_reading};
 ghost use Rattle.jiff_core.specs.Calendar.{IsYear};
 
 use crate::limits;
@@ -18,8 +19,8 @@ pub(crate) const SECONDS_PER_DAY: i64 = limits::SECONDS_PER_DAY as i64;
 
 // The date and time of a wall second, up to a day past the years -9999 to 9999.
 pub(crate) fn civil_of_second(wall: i64) -> CivilDateTime
-    requires low { neg_ℤ (pos 377_705_203_200) ≤ℤ wall }
-    requires high { wall ≤ℤ pos 253_402_387_199 }
+    requires low { first_reading ≤ℤ wall }
+    requires high { wall ≤ℤ last_reading }
     ensures { wall_second result ≡ wall }
 {
     let time = CivilTime::from_seconds_of_day(wall.rem_euclid(SECONDS_PER_DAY) as u32);

@@ -16,4 +16,4 @@ returns-clause-value c =
 pub returns-clause-opened : goal.returns-clause-opened
 returns-clause-opened c =
     let start : ℤ = (civil_moment c.in_ok-start.start).instant in
-    IfOk-weaker c.is_time_matching.result _ _ (λ held h. (job_of c.in_ok-cron.cron, start, c.in_ok-cron.ensures.meaning, c.in_ok-start.ensures.first)) c.is_time_matching.ensures.value
+    IfOk-weaker c.is_time_matching.result _ _ (λ held h. (job_of c.in_ok-cron.cron, start, (c.in_ok-cron.ensures.meaning, c.in_ok-start.ensures.first))) c.is_time_matching.ensures.value

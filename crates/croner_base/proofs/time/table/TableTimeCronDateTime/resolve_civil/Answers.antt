@@ -1,7 +1,11 @@
-use Rattle.std.proofs.Common.{◌∙◌, refl, arith, inl, inr, FitsSigned, w64}
+use mir.Val.{to_z, of_z}
+use Rattle.std.proofs.Common.{◌≡◌, ◌∙◌, ℤ, ◌≤ℤ◌, IsTrue, refl, arith, inl, inr, FitsSigned, w64}
 use Rattle.std.proofs.lemmas.Int.{ints, to_z-of_z}
+use Rattle.croner_base.specs.declared.time.table.ClockTable.{ClockTable}
 use Rattle.croner_base.specs.Civil.{wall_second}
-use Rattle.croner_base.proofs.JiffSeconds.{near_second}
+use Rattle.croner_base.specs.Table.{is_table_second}
+use Rattle.croner_base.specs.TableZone.{table_zone}
+use Rattle.croner_base.proofs.JiffSeconds.{first_near, last_near, near_second}
 use Rattle.croner_base.proofs.TableTests.{instant_bounds}
 use Rattle.croner_base.proofs.TableMoments.{near_year-false, unheld, named_held, resolved_single, resolved_ambiguous, resolved_gap}
 use Rattle.croner_base.proofs.ZonedResolved.{is_near_year-true}
@@ -41,35 +45,34 @@ instants_of-requires-clause-high c =
     let b = near_second c.args.civil (omega (arith, ints)) (omega (arith, ints)) in
     omega (arith, ints, b)
 
+-- an instant that reads such a second is held, and fits an i64
+held_there : (t : ClockTable) (w s : ℤ) → (first_near ≤ℤ w) × (w ≤ℤ last_near) → (table_zone t).reads s ≡ w → IsTrue (is_table_second (to_z w64 (of_z w64 s)))
+held_there t w s b e =
+    let h = named_held t w s b e in
+    let i = instant_bounds s h in
+    let f : FitsSigned w64 s = omega (arith, ints, i) in
+    simp to_z-of_z h
+
 pub at-requires : goal.at-requires
 at-requires c =
     let b = near_second c.args.civil (omega (arith, ints)) (omega (arith, ints)) in
     let fw : FitsSigned w64 c.second_of_civil.result = omega (arith, ints, b) in
     let n = simp to_z-of_z at c.in-Single.ensures in
-    let h = named_held c.args.self.now.table.now (wall_second c.args.civil) c.in-Single.second b ((n c.in-Single.second).1 refl ∙ c.second_of_civil.ensures) in
-    let i = instant_bounds c.in-Single.second h in
-    let f : FitsSigned w64 c.in-Single.second = omega (arith, ints, i) in
-    simp to_z-of_z h
+    held_there c.args.self.now.table.now (wall_second c.args.civil) c.in-Single.second b ((n c.in-Single.second).1 refl ∙ c.second_of_civil.ensures)
 
 pub at-requires-in-Ambiguous : goal.at-requires-in-Ambiguous
 at-requires-in-Ambiguous c =
     let b = near_second c.args.civil (omega (arith, ints)) (omega (arith, ints)) in
     let fw : FitsSigned w64 c.second_of_civil.result = omega (arith, ints, b) in
     let n = simp to_z-of_z at c.in-Ambiguous.ensures in
-    let h = named_held c.args.self.now.table.now (wall_second c.args.civil) c.in-Ambiguous.earlier b ((n.1 c.in-Ambiguous.earlier).1 (inl refl) ∙ c.second_of_civil.ensures) in
-    let i = instant_bounds c.in-Ambiguous.earlier h in
-    let f : FitsSigned w64 c.in-Ambiguous.earlier = omega (arith, ints, i) in
-    simp to_z-of_z h
+    held_there c.args.self.now.table.now (wall_second c.args.civil) c.in-Ambiguous.earlier b ((n.1 c.in-Ambiguous.earlier).1 (inl refl) ∙ c.second_of_civil.ensures)
 
 pub at-requires-in-Ambiguous-2 : goal.at-requires-in-Ambiguous-2
 at-requires-in-Ambiguous-2 c =
     let b = near_second c.args.civil (omega (arith, ints)) (omega (arith, ints)) in
     let fw : FitsSigned w64 c.second_of_civil.result = omega (arith, ints, b) in
     let n = simp to_z-of_z at c.in-Ambiguous.ensures in
-    let h = named_held c.args.self.now.table.now (wall_second c.args.civil) c.in-Ambiguous.later b ((n.1 c.in-Ambiguous.later).1 (inr refl) ∙ c.second_of_civil.ensures) in
-    let i = instant_bounds c.in-Ambiguous.later h in
-    let f : FitsSigned w64 c.in-Ambiguous.later = omega (arith, ints, i) in
-    simp to_z-of_z h
+    held_there c.args.self.now.table.now (wall_second c.args.civil) c.in-Ambiguous.later b ((n.1 c.in-Ambiguous.later).1 (inr refl) ∙ c.second_of_civil.ensures)
 
 pub returns-clause-value : goal.returns-clause-value
 returns-clause-value c =
