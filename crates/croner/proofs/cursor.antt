@@ -5,6 +5,7 @@ pub mod Covered
 pub mod DateSearch
 pub mod DayBits
 pub mod ExamplesCursor
+pub mod FieldBits
 pub mod Foremost
 pub mod MonthKinds
 pub mod Scheduled

@@ -30,7 +30,7 @@ first_forward Forward days is some fits =
     lowest_day days (trailing_zeros w32 days) t.1 t.2
 first_forward Backward days is some fits = absurd cc
 
-top_bit : (n j : ℕ) → 2 ^ j ≤ n → n < 2 ^ suc j → bit_at n j ≡ 1
+pub top_bit : (n j : ℕ) → 2 ^ j ≤ n → n < 2 ^ suc j → bit_at n j ≡ 1
 top_bit n j le lt =
     let twice : n < 2 ^ j * 2 = omega (arith, pow-suc 2 j) in
     let one : n / 2 ^ j ≡ 1 = quotient_one n (2 ^ j) (pow_pos j) le twice in

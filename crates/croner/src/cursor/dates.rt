@@ -13,11 +13,12 @@ use crate::cursor::calendar::{
 };
 use crate::cursor::days::{days_after, first_day};
 use crate::cursor::kinds::{has_kind, year_kinds};
-use crate::cursor::values::{is_plain, nearest_value, neighbour};
+use crate::cursor::values::{is_plain, nearest_value, nearest_year, neighbour};
 use croner_base::time::{CivilDate, Direction, days_in_month};
 use croner_pattern::pattern::CronPattern;
 
 // The number of a year that the pattern names.
+#[inline(always)]
 fn named_year(pattern: &CronPattern, year: i32) -> Option<u32>
     requires { has_field_shapes (meaning_of pattern.now) ≡ true }
     ensures { MatchOption result (is_year_matching (meaning_of pattern.now) year ≡ false)
@@ -43,6 +44,8 @@ fn named_days(pattern: &CronPattern, year: u32, month: u32) -> u32
 }
 
 // The days that match in the month of a date.
+#[tactic(auto, using(crate::proofs::cursor::FieldBits::holds_months))]
+#[inline(always)]
 pub(crate) fn month_days(pattern: &CronPattern, date: CivilDate) -> u32
     requires { has_field_shapes (meaning_of pattern.now) ≡ true }
     ensures { IsMonthDays (meaning_of pattern.now) date.year date.month result }
@@ -68,6 +71,7 @@ fn in_month(pattern: &CronPattern, year: u32, month: u32, direction: Direction) 
 }
 
 // The first date that matches in the months of a named year from a month on.
+#[tactic(auto, using(crate::proofs::cursor::FieldBits::holds_months))]
 fn in_months(
     pattern: &CronPattern,
     year: u32,
@@ -120,7 +124,7 @@ fn in_later_years(pattern: &CronPattern, year: u32, direction: Direction) -> Opt
         return None;
     }
     let mut from = year;
-    while let Some(year) = nearest_value(&pattern.years, FIRST_YEAR, LAST_YEAR, from, direction) {
+    while let Some(year) = nearest_year(&pattern.years, from, direction) {
         if has_kind(kinds, year) {
             if let Some(found) = in_year(pattern, year, direction) {
                 return Some(found);
@@ -138,7 +142,7 @@ fn in_years(pattern: &CronPattern, year: u32, direction: Direction) -> Option<Ci
     requires year_in { IsOnTheWay direction FIRST_YEAR LAST_YEAR year }
     ensures { FindsForemost day_of_date (IsInYears (meaning_of pattern.now) direction (pos year)) direction result }
 {
-    let year = nearest_value(&pattern.years, FIRST_YEAR, LAST_YEAR, year, direction)?;
+    let year = nearest_year(&pattern.years, year, direction)?;
     if let Some(found) = in_year(pattern, year, direction) {
         return Some(found);
     }

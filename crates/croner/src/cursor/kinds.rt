@@ -110,6 +110,7 @@ fn open_years(months: u32, month: u32) -> u32
 }
 
 // Which kinds of year have a day that matches in a named month, one bit a kind.
+#[tactic(auto, using(crate::proofs::cursor::FieldBits::holds_months))]
 pub(crate) fn year_kinds(pattern: &CronPattern) -> u32
     requires { has_field_shapes (meaning_of pattern.now) ≡ true }
     ensures { AreYearKinds (meaning_of pattern.now) result }

@@ -16,6 +16,7 @@ const LAST_MINUTE: u32 = 59;
 const LAST_SECOND: u32 = 59;
 
 // The first time of day that matches, in the direction. None where a field names nothing.
+#[tactic(auto, using(crate::proofs::cursor::FieldBits::holds_hours, crate::proofs::cursor::FieldBits::holds_minutes, crate::proofs::cursor::FieldBits::holds_seconds))]
 pub(crate) fn first_time(pattern: &CronPattern, direction: Direction) -> Option<CivilTime>
     requires { has_field_shapes (meaning_of pattern.now) ≡ true }
     ensures { MatchOption result
@@ -30,6 +31,7 @@ pub(crate) fn first_time(pattern: &CronPattern, direction: Direction) -> Option<
 
 // The nearest time in the hour of a time, from it on, whose minute and second match. Where there is no room it goes over
 // no minute: a plain one stays.
+#[tactic(auto, using(crate::proofs::cursor::FieldBits::holds_hours, crate::proofs::cursor::FieldBits::holds_minutes, crate::proofs::cursor::FieldBits::holds_seconds))]
 fn in_hour(
     pattern: &CronPattern,
     from: CivilTime,
@@ -61,6 +63,7 @@ fn in_hour(
 
 // The nearest time of the day that matches, from a time on, itself included. Where there is no room it goes over no hour
 // and no minute: a plain value that stands stays.
+#[tactic(auto, using(crate::proofs::cursor::FieldBits::holds_hours, crate::proofs::cursor::FieldBits::holds_minutes, crate::proofs::cursor::FieldBits::holds_seconds))]
 pub(crate) fn in_day(
     pattern: &CronPattern,
     from: CivilTime,

@@ -9,6 +9,7 @@ use croner_base::time::{CivilDateTime, Direction, YEAR_LOWER_LIMIT, YEAR_UPPER_L
 use croner_base::wall::{second_after, second_before};
 
 /// The next second in the direction; `None` where the year would leave `i32`.
+#[inline(always)]
 pub(crate) fn one_second_on(civil: CivilDateTime, direction: Direction) -> Option<CivilDateTime>
     ensures { MatchOption result (IsLastYear direction civil.date.year)
         (λ moved. wall_second moved ≡ one_on direction (wall_second civil)) }

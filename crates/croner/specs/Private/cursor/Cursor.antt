@@ -11,7 +11,7 @@ use Rattle.croner_base.specs.declared.time.civil.CivilDateTime.{CivilDateTime}
 use Rattle.jiff_core.specs.Calendar.{is_leap_year, days_in_month}
 use Rattle.croner_base.specs.Calendar.{day_number}
 use Rattle.croner_base.specs.Civil.{day_of_date, seconds_of_time}
-use Rattle.croner_base.specs.Field.{Field}
+use Rattle.croner_base.specs.Field.{Field, can_ask}
 use Rattle.croner_pattern.specs.Meaning.{Meaning}
 use Rattle.croner_pattern.specs.Schedule.{is_plain, is_day_matching, is_year_matching, is_date_matching, is_scheduled, first_weekday}
 use Rattle.croner.specs.search.Runs.{Precedes, Reaches}
@@ -48,6 +48,15 @@ pub record IsPlainWithin (field : Field) (min max value : ℕ) : Type 0 where
   pub low : min ≤ value
   pub high : value ≤ max
   pub plain : is_plain field value ≡ true
+
+-- the field holds all values between bounds
+abbrev pub HoldsAll : Field → ℕ → ℕ → Type 0
+HoldsAll field min max = (value : ℕ) → min ≤ value → value ≤ max → can_ask field.shape value 1 ≡ true
+
+-- of the bits of a word those from a place on
+abbrev pub AreFrom : Direction → ℕ → ℕ → ℕ → Type 0
+AreFrom direction word from kept =
+    (place : ℕ) → (bit_at kept place ≡ 1) ↔ ((bit_at word place ≡ 1) × Reaches direction (pos from) (pos place))
 
 -- from the value on, the numbers of the direction go through the bounds and then leave them
 abbrev pub IsOnTheWay : Direction → ℕ → ℕ → ℕ → Type 0
