@@ -89,7 +89,7 @@ pub(crate) fn nearest_value(
 // The nearest plain year, from a year on, itself included.
 pub(crate) fn nearest_year(years: &CronComponent, from: u32, direction: Direction) -> Option<u32>
     requires { IsOnTheWay direction FIRST_YEAR LAST_YEAR from }
-    ensures { Finds pos (IsPlainWithin years.now FIRST_YEAR LAST_YEAR) direction (pos from) result }
+    ensures { FindsNearest pos (IsPlainWithin years.now FIRST_YEAR LAST_YEAR) direction (pos from) result }
 {
     let found = u32::from(nearest_member(years, from as u16, direction)?);
     if found >= FIRST_YEAR && found <= LAST_YEAR {
