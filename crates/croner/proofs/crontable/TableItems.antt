@@ -182,7 +182,7 @@ is_over old cur new items g n without =
     n.refused.limit (g.calm p) (limit_without cur new n without) i here left)
 
 pub gave_all_table : (old cur : TableStanding) (items : List (ℤ × List ℕ)) → TableGoes old cur items → IsTableOver old cur → StartsCalm old.position → GaveAllTable old items
-gave_all_table old cur items g over p = all_given old.direction (IsTableLeft old) (IsTableLeft cur) (InSpan old.direction old.position.zone.reads) (instants_of items) (g.splits p) (over p)
+gave_all_table old cur items g over p = all_given old.direction (IsTableLeft old) (IsTableLeft cur) (InSpan old.direction old.position.zone.reads) (item_instants items) (g.splits p) (over p)
 
 -- one call more
 module _ {T : Type 0} (moment : T → Moment) (old : TableStanding) (cur new : CronTableIterator T) (before after : List (T × Vec ℕ Global)) where
