@@ -3,10 +3,10 @@
 //! A value can be marked plain, as one of the first five such weekdays of a month, as the last one, or as the day
 //! whose nearest weekday is meant. Each modifier is one bit, so that the bits of several are asked for at once.
 
-ghost use Rattle.std.specs.Prelude.{◌≡◌, ◌+◌, ◌-◌, ◌≤◌, ◌<◌, ◌==◌, ℕ, length, OnOk, OnErr, IfOk, IfErr, MatchOption};
+ghost use Rattle.std.specs.Prelude.{◌≡◌, ◌+◌, ◌-◌, ◌≤◌, ◌<◌, ◌==◌, ℕ, true, length, OnOk, OnErr, IfOk, IfErr, MatchOption};
 ghost use Rattle.std.specs.Int.{bit_at};
 ghost use Rattle.croner_base.specs.Answers.{SucceedsIff};
-ghost use Rattle.croner_base.specs.Field.{with_mark, without_mark, with_sloppy, is_marked, can_mark, can_ask, default_field, empty_field, new_shape, has_all, has_any, has_modifiers, marked_values};
+ghost use Rattle.croner_base.specs.Field.{with_mark, without_mark, with_sloppy, is_marked, can_mark, can_ask, is_of_one_word, default_field, empty_field, new_shape, has_all, has_any, has_modifiers, marked_values};
 ghost use Rattle.croner_base.specs.Marks.{IsWellFormed, HasNoPlainFrom, IsLeastPlainValue, HasNoPlainTo, IsGreatestPlainValue};
 ghost use Rattle.croner_base.specs.Part.{enabled};
 ghost use Rattle.croner_base.specs.Reading.{Reads};
@@ -144,6 +144,32 @@ impl CronComponent {
         self.input_offset = other.input_offset;
         self.sloppy_ranges = other.sloppy_ranges;
         Ok(())
+    }
+
+    /// Whether its values fit one word of 64 bits: a clone of such a component takes no memory.
+    #[inline(always)]
+    pub fn is_of_one_word(&self) -> bool
+        ensures { result ≡ is_of_one_word self.now.shape }
+    {
+        1 <= self.marks.max() && self.marks.max() <= 63
+    }
+
+    /// What a clone of a component of one word gives. Takes no memory.
+    #[inline(always)]
+    pub fn clone_in_place(&self) -> Self
+        requires { is_of_one_word self.now.shape ≡ true }
+        ensures { result ≡ self.now }
+    {
+        CronComponent {
+            marks: self.marks.copied_in_place(self.alloc),
+            min: self.min,
+            step: self.step,
+            from_wildcard: self.from_wildcard,
+            enabled_features: self.enabled_features,
+            input_offset: self.input_offset,
+            sloppy_ranges: self.sloppy_ranges,
+            alloc: self.alloc,
+        }
     }
 
     /// The least value that the component may hold.
@@ -370,6 +396,7 @@ impl CronComponent {
 impl Clone for CronComponent {
     ghost is_clone = { λ original copy. copy ≡ original };
 
+    #[inline(always)]
     fn clone(&self) -> Result<CronComponent, AllocError> {
         Ok(CronComponent {
             marks: self.marks.copied(self.alloc)?,

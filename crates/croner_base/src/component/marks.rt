@@ -1,6 +1,6 @@
 //! Marks of values, kept as rows of words: one row for each supported modifier, with one bit a value.
 
-ghost use Rattle.std.specs.Prelude.{◌≡◌, ℕ, ◌+◌, ◌*◌, ◌/◌, ◌^◌, ◌<◌, ◌≤◌, true, false, length, bit_and, bit_or, nat_lt, slice_index, IfOk, OnOk, OnErr, MatchOption};
+ghost use Rattle.std.specs.Prelude.{◌≡◌, ℕ, ◌+◌, ◌*◌, ◌/◌, ◌^◌, ◌<◌, ◌≤◌, true, false, ◌==◌, length, bit_and, bit_or, nat_lt, slice_index, IfOk, OnOk, OnErr, MatchOption};
 ghost use Rattle.std.specs.Int.{bit_at};
 ghost use Rattle.croner_base.specs.Field.{room};
 ghost use Rattle.croner_base.specs.Private.Words.Marked.{is_set, set_at, unset_at, nothing_set, GainsRange};
@@ -9,8 +9,9 @@ ghost use Rattle.croner_base.specs.Private.Words.Rows.{in_row, width};
 ghost use Rattle.croner_base.specs.Private.Words.Word.{word_bits};
 
 use std::alloc::{AllocError, Global};
+use std::fmt;
 use std::marker::Model;
-use words::{ALL_ROWS, MODIFIERS, WORD_BITS, Words};
+use words::{ALL_ROWS, MODIFIERS, Shown, WORD_BITS, copied_words, same_words};
 
 mod compare;
 mod count;
@@ -20,24 +21,30 @@ mod rows;
 mod words;
 
 /// For each value from 0 to the maximum the modifiers that it is marked with. A maximum of 0 leaves no value.
-#[derive(Debug, Drop)]
+///
+/// The words stand in place where a row has one word, with a row for each of the eight modifiers, and else in one
+/// piece of memory, with a row for each supported modifier, one after another. What isn't used is zero or empty: a
+/// clone takes both over without asking which it is.
+#[derive(Drop)]
 pub struct Marks {
-    words: Words,
+    in_place: [u64; MODIFIERS],
+    on_heap: Vec<u64>,
+    is_in_place: bool,
     max: u16,
     supported: u8,
 }
 
 impl Model for Marks {
-    ghost use Rattle.std.specs.Prelude.{◌≡◌, ◌*◌, length};
+    ghost use Rattle.std.specs.Prelude.{◌≡◌, ◌*◌, ◌==◌, length};
     ghost use Rattle.croner_base.specs.Private.Words.Kept.{words_of, rows_of};
     ghost use Rattle.croner_base.specs.Private.Words.Marked.{Marked};
     ghost use Rattle.croner_base.specs.Private.Words.Rows.{rows_below, width, sums_of};
 
     ghost Value = { Marked };
 
-    ghost view = { λ c. record { max = c.max; supported = c.supported; marks = sums_of (words_of c.words) c.max (rows_of c.words c.supported) } };
+    ghost view = { λ c. record { max = c.max; supported = c.supported; marks = sums_of (words_of c.is_in_place c.in_place c.on_heap.items) c.max (rows_of c.is_in_place c.supported) } };
 
-    ghost invariant = { λ c. length (words_of c.words) ≡ rows_below (rows_of c.words c.supported) 8 * width c.max };
+    ghost invariant = { λ c. (length (words_of c.is_in_place c.in_place c.on_heap.items) ≡ rows_below (rows_of c.is_in_place c.supported) 8 * width c.max) × (c.is_in_place ≡ (width c.max == 1)) };
 }
 
 impl Marks {
@@ -46,13 +53,20 @@ impl Marks {
         ensures { IfOk result (λ m. m ≡ nothing_set max supported) }
     {
         let width = rows::width(max);
-        let words = if width == 1 {
-            Words::InPlace([0; MODIFIERS])
-        } else {
-            Words::OnHeap(vec![in alloc; 0; usize::from(rows::rows(supported)) * width]?)
-        };
+        if width == 1 {
+            return Ok(Marks {
+                in_place: [0; MODIFIERS],
+                on_heap: Vec::new(alloc),
+                is_in_place: true,
+                max,
+                supported,
+            });
+        }
+        let on_heap = vec![in alloc; 0; usize::from(rows::rows(supported)) * width]?;
         Ok(Marks {
-            words,
+            in_place: [0; MODIFIERS],
+            on_heap,
+            is_in_place: false,
             max,
             supported,
         })
@@ -63,7 +77,9 @@ impl Marks {
         ensures { result ≡ nothing_set 0 0 }
     {
         Marks {
-            words: Words::OnHeap(Vec::new(alloc)),
+            in_place: [0; MODIFIERS],
+            on_heap: Vec::new(alloc),
+            is_in_place: false,
             max: 0,
             supported: 0,
         }
@@ -84,19 +100,42 @@ impl Marks {
         self.supported
     }
 
-    /// The same marks, in memory of the same allocator.
+    /// The same marks, in memory of the allocator.
+    #[inline(always)]
     pub fn copied(&self, alloc: Global) -> Result<Self, AllocError>
         ensures { IfOk result (λ copy. copy ≡ self.now) }
     {
-        let words = match &self.words {
-            Words::InPlace(words) => Words::InPlace(*words),
-            Words::OnHeap(words) => Words::OnHeap(Vec::from_slice(alloc, words)?),
-        };
+        let on_heap = copied_words(alloc, &self.on_heap)?;
         Ok(Marks {
-            words,
+            in_place: same_words(&self.in_place),
+            on_heap,
+            is_in_place: self.is_in_place,
             max: self.max,
             supported: self.supported,
         })
+    }
+
+    /// Whether the words stand in place, so that a clone takes no memory.
+    #[inline(always)]
+    pub fn is_in_place(&self) -> bool
+        ensures { result ≡ (width self.now.max == 1) }
+    {
+        self.is_in_place
+    }
+
+    /// The same marks, where the words stand in place. Takes no memory.
+    #[inline(always)]
+    pub fn copied_in_place(&self, alloc: Global) -> Self
+        requires { width self.now.max ≡ 1 }
+        ensures { result ≡ self.now }
+    {
+        Marks {
+            in_place: same_words(&self.in_place),
+            on_heap: Vec::new(alloc),
+            is_in_place: true,
+            max: self.max,
+            supported: self.supported,
+        }
     }
 
     /// Takes over all of another, in memory of the allocator. An error leaves it as it was.
@@ -104,25 +143,8 @@ impl Marks {
         ensures ok { OnOk result (self.new ≡ other.now) }
         ensures err { OnErr result (self.new ≡ self.old) }
     {
-        match &other.words {
-            Words::InPlace(words) => {
-                *self = Marks {
-                    words: Words::InPlace(*words),
-                    max: other.max,
-                    supported: other.supported,
-                };
-                Ok(())
-            }
-            Words::OnHeap(words) => {
-                let words = Vec::from_slice(alloc, words)?;
-                *self = Marks {
-                    words: Words::OnHeap(words),
-                    max: other.max,
-                    supported: other.supported,
-                };
-                Ok(())
-            }
-        }
+        *self = other.copied(alloc)?;
+        Ok(())
     }
 
     /// Whether the value has one of the modifiers of `bits`.
@@ -141,9 +163,10 @@ impl Marks {
         ensures { self.new ≡ set_at self.old value bits }
     {
         let (max, supported) = (self.max, self.supported);
-        match &mut self.words {
-            Words::InPlace(words) => rows::mark_each(words, max, ALL_ROWS, bits, value),
-            Words::OnHeap(words) => rows::mark_each(words, max, supported, bits, value),
+        if self.is_in_place {
+            rows::mark_each(&mut self.in_place, max, ALL_ROWS, bits, value);
+        } else {
+            rows::mark_each(&mut self.on_heap, max, supported, bits, value);
         }
     }
 
@@ -154,9 +177,10 @@ impl Marks {
         ensures { self.new ≡ unset_at self.old value bits }
     {
         let (max, supported) = (self.max, self.supported);
-        match &mut self.words {
-            Words::InPlace(words) => rows::unmark_each(words, max, ALL_ROWS, bits, value),
-            Words::OnHeap(words) => rows::unmark_each(words, max, supported, bits, value),
+        if self.is_in_place {
+            rows::unmark_each(&mut self.in_place, max, ALL_ROWS, bits, value);
+        } else {
+            rows::unmark_each(&mut self.on_heap, max, supported, bits, value);
         }
     }
 
@@ -183,9 +207,10 @@ impl Marks {
         ensures { GainsRange self.old self.new (2 ^ k) first last }
     {
         let (max, supported) = (self.max, self.supported);
-        match &mut self.words {
-            Words::InPlace(words) => rows::mark_between(words, max, ALL_ROWS, k, first, last),
-            Words::OnHeap(words) => rows::mark_between(words, max, supported, k, first, last),
+        if self.is_in_place {
+            rows::mark_between(&mut self.in_place, max, ALL_ROWS, k, first, last);
+        } else {
+            rows::mark_between(&mut self.on_heap, max, supported, k, first, last);
         }
     }
 
@@ -226,9 +251,10 @@ impl Marks {
         ensures past { (v : ℕ) → room self.now.max ≤ v → slice_index self.now.marks v ≡ 0 }
         ensures plain { (v : ℕ) → v < room self.now.max → in_row result.now v ≡ bit_at (slice_index self.now.marks v) 0 }
     {
-        match &self.words {
-            Words::InPlace(words) => rows::plain(words, self.max, ALL_ROWS),
-            Words::OnHeap(words) => rows::plain(words, self.max, self.supported),
+        if self.is_in_place {
+            rows::plain(&self.in_place, self.max, ALL_ROWS)
+        } else {
+            rows::plain(&self.on_heap, self.max, self.supported)
         }
     }
 
@@ -239,9 +265,26 @@ impl Marks {
         ensures small { (v : ℕ) → slice_index self.now.marks v < 256 }
         ensures bits { (b : ℕ) → b < word_bits → i * word_bits + b < room self.now.max → bit_at result b ≡ bit_at (slice_index self.now.marks (i * word_bits + b)) k }
     {
-        match &self.words {
-            Words::InPlace(words) => rows::word(words, self.max, ALL_ROWS, k, i),
-            Words::OnHeap(words) => rows::word(words, self.max, self.supported, k, i),
+        if self.is_in_place {
+            rows::word(&self.in_place, self.max, ALL_ROWS, k, i)
+        } else {
+            rows::word(&self.on_heap, self.max, self.supported, k, i)
         }
+    }
+}
+
+// The words that are used, and not where the others stand.
+impl fmt::Debug for Marks {
+    fn fmt<W: fmt::Write>(&self, f: &mut fmt::Formatter<W>) -> fmt::Result {
+        let words = if self.is_in_place {
+            Shown::InPlace(&self.in_place)
+        } else {
+            Shown::OnHeap(&self.on_heap)
+        };
+        f.debug_struct("Marks")
+            .field("words", &words)
+            .field("max", &self.max)
+            .field("supported", &self.supported)
+            .finish()
     }
 }

@@ -8,7 +8,7 @@ ghost use Rattle.croner_base.specs.Private.Words.Differences.{SameSums, IsFirstD
 ghost use Rattle.croner_base.specs.Field.{room};
 ghost use Rattle.croner_base.specs.Private.Words.Rows.{width};
 
-use super::words::{ALL_ROWS, WORD_BITS, Words};
+use super::words::{ALL_ROWS, WORD_BITS, are_same};
 use super::{Marks, rows};
 use std::cmp::Ordering;
 
@@ -35,9 +35,10 @@ impl Marks {
         ensures within { value < length self.now.marks }
         ensures value { result ≡ slice_index self.now.marks value }
     {
-        match &self.words {
-            Words::InPlace(words) => rows::sum(words, self.max, ALL_ROWS, value),
-            Words::OnHeap(words) => rows::sum(words, self.max, self.supported, value),
+        if self.is_in_place {
+            rows::sum(&self.in_place, self.max, ALL_ROWS, value)
+        } else {
+            rows::sum(&self.on_heap, self.max, self.supported, value)
         }
     }
 
@@ -63,12 +64,15 @@ impl Marks {
     }
 
     /// Whether both keep the same words for the same values and modifiers.
+    #[inline(always)]
     pub fn is_same(&self, other: &Marks) -> bool
         ensures { IsTrue result → self.now ≡ other.now }
     {
         self.max == other.max
             && self.supported == other.supported
-            && self.words.is_same(&other.words)
+            && self.is_in_place == other.is_in_place
+            && are_same(&self.in_place, &other.in_place)
+            && are_same(&self.on_heap, &other.on_heap)
     }
 
     fn differences(&self, other: &Marks, i: usize) -> u64

@@ -9,7 +9,7 @@ ghost use Rattle.croner_base.specs.Private.Words.Word.{word_bits};
 
 use super::row::{mask_from, mask_to};
 use super::rows::width;
-use super::words::{ALL_ROWS, WORD_BITS, Words};
+use super::words::{ALL_ROWS, WORD_BITS};
 use super::{Marks, rows};
 use crate::component::ALL_BIT;
 use std::alloc::{AllocError, Global};
@@ -71,9 +71,10 @@ impl Marks {
         if bits == ALL_BIT {
             return self.word(0, i);
         }
-        match &self.words {
-            Words::InPlace(words) => rows::any(words, self.max, ALL_ROWS, bits, i),
-            Words::OnHeap(words) => rows::any(words, self.max, self.supported, bits, i),
+        if self.is_in_place {
+            rows::any(&self.in_place, self.max, ALL_ROWS, bits, i)
+        } else {
+            rows::any(&self.on_heap, self.max, self.supported, bits, i)
         }
     }
 }

@@ -1,7 +1,8 @@
-//! Where the words of the rows are kept.
+//! The words of the rows.
 
-ghost use Rattle.std.specs.Prelude.{◌≡◌, IsTrue};
-ghost use Rattle.croner_base.specs.Private.Words.Kept.{IsSame};
+ghost use Rattle.std.specs.Prelude.{◌≡◌, IsTrue, IfOk};
+
+use std::alloc::{AllocError, Global};
 
 /// How many values a word has, one bit each.
 pub const WORD_BITS: u16 = 64;
@@ -12,30 +13,44 @@ pub const MODIFIERS: usize = 8;
 /// The bits of all modifiers.
 pub const ALL_ROWS: u8 = 255;
 
-/// The words of the rows: in place where a row has one word, with a row for each of the eight modifiers, and else in
-/// one piece of memory, with a row for each supported modifier, one after another.
+/// The words that are used, as `Debug` shows them.
 #[derive(Debug, Drop)]
-pub enum Words {
-    InPlace([u64; MODIFIERS]),
-    OnHeap(Vec<u64>),
+pub enum Shown<'a> {
+    InPlace(&'a [u64]),
+    OnHeap(&'a [u64]),
 }
 
-impl Words {
-    /// Whether the words are the same and kept alike.
-    pub fn is_same(&self, other: &Words) -> bool
-        ensures { IsTrue result → IsSame self.now other.now }
-    {
-        match (self, other) {
-            (Words::InPlace(words), Words::InPlace(others)) => are_same(words, others),
-            (Words::OnHeap(words), Words::OnHeap(others)) => are_same(words, others),
-            _ => false,
-        }
-    }
-}
-
-// Whether the words are the same. All are looked at, so that several can be at once.
+/// The same words, each by itself: so they go from place to place by registers, and not by way of a third place.
 #[inline(always)]
-fn are_same(words: &[u64], others: &[u64]) -> bool
+pub fn same_words(words: &[u64; MODIFIERS]) -> [u64; MODIFIERS]
+    ensures { result ≡ words.now }
+{
+    let [a, b, c, d, e, f, g, h] = *words;
+    [a, b, c, d, e, f, g, h]
+}
+
+/// The same words, in memory of the allocator; no word takes none.
+#[inline(always)]
+pub fn copied_words(alloc: Global, words: &[u64]) -> Result<Vec<u64>, AllocError>
+    ensures { IfOk result (λ copy. copy.items ≡ words.now) }
+{
+    if words.is_empty() {
+        return Ok(Vec::new(alloc));
+    }
+    copied_to_heap(alloc, words)
+}
+
+// A function of its own, so that a clone of a field in place doesn't have its steps.
+#[inline(never)]
+fn copied_to_heap(alloc: Global, words: &[u64]) -> Result<Vec<u64>, AllocError>
+    ensures { IfOk result (λ copy. copy.items ≡ words.now) }
+{
+    Vec::from_slice(alloc, words)
+}
+
+/// Whether the words are the same. All are looked at, so that several can be at once.
+#[inline(always)]
+pub fn are_same(words: &[u64], others: &[u64]) -> bool
     ensures { IsTrue result → words.now ≡ others.now }
 {
     if words.len() != others.len() {
