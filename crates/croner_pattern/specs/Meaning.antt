@@ -1,5 +1,5 @@
 -- What a pattern means: its seven fields, its three flags and its text.
-use Rattle.std.specs.Prelude.{ℕ, Bool, List, string_bytes}
+use Rattle.std.specs.Prelude.{ℕ, Bool, List}
 use Rattle.croner_base.specs.Field.{Field}
 use Rattle.croner_pattern.specs.declared.pattern.CronPattern.{CronPattern}
 
@@ -31,5 +31,5 @@ meaning_of p = record {
   star_day = p.star_day;
   star_weekday = p.star_weekday;
   and = p.day_and_weekday;
-  text = string_bytes p.text;
+  text = p.text;
 }

@@ -6,6 +6,7 @@ ghost use Rattle.croner_base.specs.Field.{new_shape};
 ghost use Rattle.croner_pattern.specs.Meaning.{Meaning, meaning_of};
 ghost use Rattle.croner_pattern.specs.Questions.{asked, clock_field, can_find, FindsMember, IsNearestMember};
 ghost use Rattle.croner_pattern.specs.Schedule.{is_single, is_fixed_time};
+ghost use Rattle.croner_pattern.specs.Private.Clones.{has_fields_of_one_word};
 ghost use Rattle.croner_pattern.specs.Shapes.{has_field_shapes, is_like, new_meaning};
 
 mod compare;
@@ -13,6 +14,7 @@ mod days;
 mod flags;
 mod mask;
 mod matching;
+mod text;
 
 use croner_base::component::{
     ALL_BIT, CLOSEST_WEEKDAY_BIT, CronComponent, LAST_BIT, NONE_BIT, NTH_ALL,
@@ -21,6 +23,7 @@ use croner_base::errors::CronError;
 use croner_base::time::{Direction, TimeComponent, YEAR_LOWER_LIMIT, YEAR_UPPER_LIMIT};
 use std::alloc::{AllocError, Global};
 use std::fmt;
+use text::Text;
 
 /// The greatest second and the greatest minute.
 const LAST_SECOND: u16 = 59;
@@ -57,7 +60,7 @@ pub struct CronPattern {
     pub days_of_week: CronComponent,
     /// Years, 1 to 5000.
     pub years: CronComponent,
-    text: String,
+    text: Text,
     star_day: bool,
     star_weekday: bool,
     day_and_weekday: bool,
@@ -85,7 +88,7 @@ impl CronPattern {
             months: CronComponent::new(alloc, 1, LAST_MONTH, NONE_BIT, 0)?,
             days_of_week: CronComponent::new(alloc, 0, LAST_WEEKDAY, weekday_features, 0)?,
             years: CronComponent::new(alloc, first_year, last_year, NONE_BIT, 0)?,
-            text: String::from_str(alloc, text)?,
+            text: Text::new(alloc, text)?,
             star_day: false,
             star_weekday: false,
             day_and_weekday: false,
@@ -177,40 +180,39 @@ impl CronPattern {
         Ok(nearest_member(field, value, direction).map(u32::from))
     }
 
-    // No field holds a value. Takes no memory.
-    fn blank(alloc: Global) -> Self {
-        CronPattern {
-            seconds: CronComponent::default(alloc),
-            minutes: CronComponent::default(alloc),
-            hours: CronComponent::default(alloc),
-            days: CronComponent::default(alloc),
-            months: CronComponent::default(alloc),
-            days_of_week: CronComponent::default(alloc),
-            years: CronComponent::default(alloc),
-            text: String::new(alloc),
-            star_day: false,
-            star_weekday: false,
-            day_and_weekday: false,
-            alloc,
-        }
+    // Whether each field but the years is of one word, as in every pattern whose fields have the shapes of their places.
+    #[inline(always)]
+    fn has_fields_of_one_word(&self) -> bool
+        ensures { result ≡ has_fields_of_one_word (meaning_of self.now) }
+    {
+        self.seconds.is_of_one_word()
+            && self.minutes.is_of_one_word()
+            && self.hours.is_of_one_word()
+            && self.days.is_of_one_word()
+            && self.months.is_of_one_word()
+            && self.days_of_week.is_of_one_word()
     }
 
-    // Takes over all of another pattern.
-    fn copy_from(&mut self, other: &CronPattern) -> Result<(), AllocError>
-        ensures { OnOk result (meaning_of self.new ≡ meaning_of other.now) }
+    // A clone around what takes memory. All else is copied in one go, from field to field.
+    #[inline(always)]
+    fn clone_around(&self, years: CronComponent, text: Text) -> Self
+        requires { has_fields_of_one_word (meaning_of self.now) ≡ true }
+        ensures { meaning_of result ≡ record (meaning_of self.now) { years = years; text = text } }
     {
-        self.seconds.copy_from(&other.seconds)?;
-        self.minutes.copy_from(&other.minutes)?;
-        self.hours.copy_from(&other.hours)?;
-        self.days.copy_from(&other.days)?;
-        self.months.copy_from(&other.months)?;
-        self.days_of_week.copy_from(&other.days_of_week)?;
-        self.years.copy_from(&other.years)?;
-        self.text = other.text.clone()?;
-        self.star_day = other.star_day;
-        self.star_weekday = other.star_weekday;
-        self.day_and_weekday = other.day_and_weekday;
-        Ok(())
+        CronPattern {
+            seconds: self.seconds.clone_in_place(),
+            minutes: self.minutes.clone_in_place(),
+            hours: self.hours.clone_in_place(),
+            days: self.days.clone_in_place(),
+            months: self.months.clone_in_place(),
+            days_of_week: self.days_of_week.clone_in_place(),
+            years,
+            text,
+            star_day: self.star_day,
+            star_weekday: self.star_weekday,
+            day_and_weekday: self.day_and_weekday,
+            alloc: self.alloc,
+        }
     }
 
     fn refusal(&self, message: &str) -> CronError
@@ -266,11 +268,28 @@ impl Clone for CronPattern {
 
     ghost is_clone = { λ original copy. meaning_of copy ≡ meaning_of original };
 
-    // Field by field into its place: a field has some hundred bytes, and moves of them take longer than the copies.
+    // What takes memory comes first, so that nothing that is copied has to wait in a third place.
+    #[inline(always)]
     fn clone(&self) -> Result<CronPattern, AllocError> {
-        let mut copy = CronPattern::blank(self.alloc);
-        copy.copy_from(self)?;
-        Ok(copy)
+        if self.has_fields_of_one_word() {
+            let text = self.text.copied(self.alloc)?;
+            let years = self.years.clone()?;
+            return Ok(self.clone_around(years, text));
+        }
+        Ok(CronPattern {
+            seconds: self.seconds.clone()?,
+            minutes: self.minutes.clone()?,
+            hours: self.hours.clone()?,
+            days: self.days.clone()?,
+            months: self.months.clone()?,
+            days_of_week: self.days_of_week.clone()?,
+            years: self.years.clone()?,
+            text: self.text.copied(self.alloc)?,
+            star_day: self.star_day,
+            star_weekday: self.star_weekday,
+            day_and_weekday: self.day_and_weekday,
+            alloc: self.alloc,
+        })
     }
 }
 
@@ -281,7 +300,7 @@ impl fmt::Display for CronPattern {
     ghost output = { λ p. Some ((meaning_of p).text) };
 
     fn fmt<W: fmt::Write>(&self, f: &mut fmt::Formatter<W>) -> fmt::Result {
-        let text = &self.text;
+        let text = self.text.as_str();
         write!(f, "{text}")
     }
 }
