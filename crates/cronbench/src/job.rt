@@ -9,10 +9,16 @@ use croner::errors::CronError;
 use std::alloc::Global;
 
 /// A job as the default parser reads it.
-#[derive(Drop)]
 pub struct Job {
     pub cron: Cron,
     ghost shaped: { has_field_shapes (job_of cron) ≡ true },
+}
+
+// By hand, so that a function that lets a job go calls this one: its proof doesn't go through the fields at each exit.
+impl Drop for Job {
+    fn drop(self) {
+        let Job { cron: _ } = self;
+    }
 }
 
 impl Job {

@@ -21,6 +21,7 @@ mod subjects;
 
 use group::Group;
 use measure::{Measured, measure};
+use paris::Clocks;
 use std::io;
 use std::io::ErrorKind;
 use std::process::ExitCode;
@@ -46,11 +47,12 @@ fn show(rt: &HostRuntime, group: Group, measured: Measured) -> io::Result<()> {
 
 // Measures each group, and shows what it answered and took.
 fn bench(rt: &HostRuntime, rounds: u32) -> Result<(), Stop> {
-    let table = paris::table(rt.alloc())?;
-    let long_table = paris::long_table(rt.alloc())?;
-    let zone = paris::zone()?;
-    let patterns = given::patterns(rt)?;
-    let subjects = Subjects::new(rt.alloc(), patterns, &table, &long_table, &zone)?;
+    let clocks = Clocks::new(rt.alloc())?;
+    bench_by(rt, &clocks, rounds)
+}
+
+fn bench_by(rt: &HostRuntime, clocks: &Clocks, rounds: u32) -> Result<(), Stop> {
+    let subjects = Subjects::new(rt.alloc(), given::patterns(rt)?, clocks)?;
     bench_on(rt, &subjects, rounds)
 }
 

@@ -18,21 +18,43 @@ const FIRST_YEAR: i16 = 2020;
 
 const LAST_YEAR: i16 = 2059;
 
-const YEAR_BEHIND: i16 = 2060;
-
 const MARCH: i8 = 3;
 
 const OCTOBER: i8 = 10;
 
-/// The changes of 2020 to 2059. Before the first it is winter time, and after the last too.
-pub fn table(alloc: Global) -> Result<ClockTable, Stop> {
+/// The clock of Paris, in three forms.
+#[derive(Drop)]
+pub struct Clocks {
+    /// The changes of 2020 to 2059. Before the first it is winter time, and after the last too.
+    pub table: ClockTable,
+    /// The same changes among 20,000.
+    pub long_table: ClockTable,
+    /// The rule, in every year.
+    pub zone: TimeZone<'static>,
+}
+
+impl Clocks {
+    /// Makes the tables, and reads the rule.
+    pub fn new(alloc: Global) -> Result<Clocks, Stop> {
+        let zone = TimeZone::posix(RULE)?;
+        let table = table(alloc)?;
+        let long_table = long_table(alloc)?;
+        Ok(Clocks {
+            table,
+            long_table,
+            zone,
+        })
+    }
+}
+
+fn table(alloc: Global) -> Result<ClockTable, Stop> {
     let mut changes = Vec::new(alloc);
     add_changes(&mut changes)?;
     Ok(ClockTable::new(WINTER_OFFSET, changes)?)
 }
 
 fn add_changes(changes: &mut Vec<(i64, i32)>) -> Result<(), Stop> {
-    for year in FIRST_YEAR..YEAR_BEHIND {
+    for year in FIRST_YEAR..=LAST_YEAR {
         changes.push((change_in(year, MARCH)?, SUMMER_OFFSET))?;
         changes.push((change_in(year, OCTOBER)?, WINTER_OFFSET))?;
     }
@@ -55,9 +77,9 @@ const APART_SECONDS: i64 = 3_000_000;
 /// How many seconds lie from the first of them to the first of 2020.
 const SECONDS_BEFORE: i64 = 29_880_000_000;
 
-/// The same changes among 20,000, the most that a table may have in the years 1 to 5000. At the others, 3,000,000 seconds apart,
-/// the clock is put forward by a second and back by turns.
-pub fn long_table(alloc: Global) -> Result<ClockTable, Stop> {
+// The changes of the table among 20,000, the most that one may have in the years 1 to 5000. At the others, 3,000,000 seconds
+// apart, the clock is put forward by a second and back by turns.
+fn long_table(alloc: Global) -> Result<ClockTable, Stop> {
     let mut changes = Vec::new(alloc);
     let first = change_in(FIRST_YEAR, MARCH)?;
     add_small_changes(&mut changes, first.saturating_sub(SECONDS_BEFORE))?;
@@ -82,9 +104,4 @@ fn offset_beside(place: u32) -> i32 {
     } else {
         WINTER_OFFSET
     }
-}
-
-/// The rule, in every year.
-pub fn zone() -> Result<TimeZone<'static>, Error> {
-    TimeZone::posix(RULE)
 }

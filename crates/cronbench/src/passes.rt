@@ -6,7 +6,7 @@ use crate::moment::Moment;
 use croner::describe::Language;
 use croner::errors::CronError;
 use croner::time::Direction;
-use croner::{Cron, CronIterator};
+use croner::CronIterator;
 use std::alloc::Global;
 
 /// How many runs an iterator is asked for.
@@ -16,8 +16,8 @@ const RUNS: u32 = 1000;
 pub fn parse(alloc: Global, patterns: &[String]) -> Result<Answers, CronError> {
     let mut answers = Answers::default();
     for pattern in patterns {
-        let cron = Cron::from_str(alloc, pattern.as_str())?;
-        answers.add_text(cron.as_str());
+        let job = Job::read(alloc, pattern.as_str())?;
+        answers.add_text(job.cron.as_str());
     }
     Ok(answers)
 }
@@ -150,6 +150,6 @@ fn outcome(alloc: Global, text: &str) -> Result<i64, CronError> {
 }
 
 fn kept_bytes(alloc: Global, text: &str) -> Result<usize, CronError> {
-    let cron = Cron::from_str(alloc, text)?;
-    Ok(cron.as_str().len())
+    let job = Job::read(alloc, text)?;
+    Ok(job.cron.as_str().len())
 }

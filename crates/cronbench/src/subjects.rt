@@ -3,6 +3,7 @@
 use crate::hostile::texts;
 use crate::job::Job;
 use crate::many;
+use crate::paris::Clocks;
 use crate::starts::{FIRST_SECOND, civil_at, far_seconds, seconds, table_at, zoned_at};
 use crate::stop::Stop;
 use croner::crontable::CronTable;
@@ -52,25 +53,22 @@ pub struct Subjects<'t> {
 }
 
 impl<'t> Subjects<'t> {
-    /// Reads the patterns, and places the times on the tables and in the zone.
+    /// Reads the patterns, and places the times on the clocks.
     pub fn new(
         alloc: Global,
         patterns: Vec<String>,
-        table: &'t ClockTable,
-        long_table: &'t ClockTable,
-        zone: &TimeZone<'static>,
+        clocks: &'t Clocks,
     ) -> Result<Subjects<'t>, Stop> {
         let jobs = jobs(alloc, patterns.as_slice())?;
-        let times = Times::new(alloc, table, long_table, zone)?;
-        let many = many::table(alloc, patterns.as_slice())?;
-        let mut rare = Vec::new(alloc);
-        rare.push(Job::read(alloc, LEAP_MONDAY)?)?;
+        let table = many::table(alloc, patterns.as_slice())?;
+        let rare = rare(alloc)?;
         let never = Never::new(alloc)?;
         let hostile = Hostile::new(alloc)?;
+        let times = Times::new(alloc, clocks)?;
         Ok(Subjects {
             patterns,
             jobs,
-            table: many,
+            table,
             rare,
             never,
             times,
@@ -145,25 +143,19 @@ pub struct Times<'t> {
 }
 
 impl<'t> Times<'t> {
-    /// Places the times on the tables and in the zone.
-    fn new(
-        alloc: Global,
-        table: &'t ClockTable,
-        long_table: &'t ClockTable,
-        zone: &TimeZone<'static>,
-    ) -> Result<Times<'t>, Stop> {
+    /// Places the times on the clocks.
+    fn new(alloc: Global, clocks: &'t Clocks) -> Result<Times<'t>, Stop> {
         let seconds = seconds(alloc)?;
         let civil = civil_times(alloc, seconds.as_slice())?;
-        let on_table = table_times(alloc, table, seconds.as_slice())?;
-        let zoned = zoned_times(alloc, zone, seconds.as_slice())?;
-        let far = far_seconds(alloc)?;
-        let on_long_table = table_times(alloc, long_table, seconds.as_slice())?;
-        let far_on_long_table = table_times(alloc, long_table, far.as_slice())?;
+        let table = table_times(alloc, &clocks.table, seconds.as_slice())?;
+        let zoned = zoned_times(alloc, &clocks.zone, seconds.as_slice())?;
+        let long_table = table_times(alloc, &clocks.long_table, seconds.as_slice())?;
+        let far_on_long_table = far_times(alloc, &clocks.long_table)?;
         Ok(Times {
             civil,
-            table: on_table,
+            table,
             zoned,
-            long_table: on_long_table,
+            long_table,
             far_on_long_table,
         })
     }
@@ -189,6 +181,11 @@ fn table_times<'t>(
     Ok(times)
 }
 
+fn far_times<'t>(alloc: Global, table: &'t ClockTable) -> Result<Vec<TableTime<'t>>, Stop> {
+    let seconds = far_seconds(alloc)?;
+    table_times(alloc, table, seconds.as_slice())
+}
+
 fn zoned_times(
     alloc: Global,
     zone: &TimeZone<'static>,
@@ -204,8 +201,13 @@ fn zoned_times(
 fn jobs(alloc: Global, patterns: &[String]) -> Result<Vec<Job>, CronError> {
     let mut jobs = Vec::new(alloc);
     for pattern in patterns {
-        let job = Job::read(alloc, pattern.as_str())?;
-        jobs.push(job)?;
+        jobs.push(Job::read(alloc, pattern.as_str())?)?;
     }
     Ok(jobs)
+}
+
+fn rare(alloc: Global) -> Result<Vec<Job>, CronError> {
+    let mut rare = Vec::new(alloc);
+    rare.push(Job::read(alloc, LEAP_MONDAY)?)?;
+    Ok(rare)
 }

@@ -11,13 +11,9 @@ use std::hash::{DefaultHasher, Hash, Hasher};
 
 /// The order of two patterns, and whether they are equal; or `"hash"` where they are equal and hash apart.
 pub fn compare(alloc: Global, question: &Value) -> Result<Value, Fault> {
-    let a = side(alloc, member(question, "a")?)?;
-    compare_to(alloc, question, &a)
-}
-
-fn compare_to(alloc: Global, question: &Value, a: &CronPattern) -> Result<Value, Fault> {
-    let b = side(alloc, member(question, "b")?)?;
-    compared(alloc, a, &b)
+    let a = Side::read(alloc, member(question, "a")?)?;
+    let b = Side::read(alloc, member(question, "b")?)?;
+    compared(alloc, &a.pattern, &b.pattern)
 }
 
 fn compared(alloc: Global, a: &CronPattern, b: &CronPattern) -> Result<Value, Fault> {
@@ -32,11 +28,25 @@ fn compared(alloc: Global, a: &CronPattern, b: &CronPattern) -> Result<Value, Fa
 }
 
 // A pattern that is parsed, or only made of its text.
-fn side(alloc: Global, side: &Value) -> Result<CronPattern, Fault> {
-    if switch(side, "unparsed")? {
-        Ok(CronPattern::new(alloc, text(side, "text")?)?)
-    } else {
-        Ok(Job::read(alloc, side)?.cron.pattern)
+struct Side {
+    pattern: CronPattern,
+}
+
+// By hand, as that of `Job`.
+impl Drop for Side {
+    fn drop(self) {
+        let Side { pattern: _ } = self;
+    }
+}
+
+impl Side {
+    fn read(alloc: Global, side: &Value) -> Result<Side, Fault> {
+        let pattern = if switch(side, "unparsed")? {
+            CronPattern::new(alloc, text(side, "text")?)?
+        } else {
+            Job::read(alloc, side)?.into_cron().pattern
+        };
+        Ok(Side { pattern })
     }
 }
 

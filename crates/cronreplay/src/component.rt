@@ -73,10 +73,19 @@ fn enabled(component: &CronComponent) -> u8 {
 /// The answers of calls of one field, and what it holds afterwards.
 pub fn component(alloc: Global, question: &Value) -> Result<Value, Fault> {
     let mut component = made(alloc, member(question, "new")?)?;
-    let results = results(alloc, &mut component, list(question, "calls")?)?;
+    called_in_turn(alloc, question, &mut component)
+}
+
+fn called_in_turn(
+    alloc: Global,
+    question: &Value,
+    component: &mut CronComponent,
+) -> Result<Value, Fault> {
+    let results = results(alloc, component, list(question, "calls")?)?;
+    let after = field(alloc, component)?;
     let mut answer = Map::new(alloc);
     put(&mut answer, alloc, "results", results)?;
-    put(&mut answer, alloc, "after", field(alloc, &component)?)?;
+    put(&mut answer, alloc, "after", after)?;
     Ok(Value::Object(answer))
 }
 

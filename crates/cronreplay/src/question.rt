@@ -108,8 +108,6 @@ fn job_operation(op: &str) -> Result<JobOperation, Fault> {
     }
 }
 
-// No other function of this program lets a job go: the proof of each one that does goes through its seven fields at every
-// exit.
 fn answer_of_job(alloc: Global, question: &Value, operation: JobOperation) -> Result<Value, Fault> {
     let job = Job::read(alloc, question)?;
     answer_on(alloc, question, operation, &job)

@@ -169,13 +169,7 @@ fn runs_of_table<T: Shown>(table: &CronTable, start: T, how: How) -> CronTableIt
 pub fn table(alloc: Global, question: &Value) -> Result<CronTable, Fault> {
     let mut table = CronTable::new(alloc);
     for pattern in list(question, "patterns")? {
-        push(alloc, &mut table, pattern)?;
+        table.push(Job::read(alloc, pattern)?.into_cron())?;
     }
     Ok(table)
-}
-
-fn push(alloc: Global, table: &mut CronTable, pattern: &Value) -> Result<(), Fault> {
-    let job = Job::read(alloc, pattern)?;
-    let _place = table.push(job.cron)?;
-    Ok(())
 }
