@@ -197,6 +197,7 @@ fn pass<T: CronDateTime, S: Schedule>(
 }
 
 // Where a walk begins, from what the origin shows.
+#[inline(always)]
 fn first_second(
     shown: CivilDateTime,
     inclusive: bool,

@@ -18,6 +18,7 @@ impl CronPattern {
     ///
     /// A field of another shape refuses a year that it doesn't hold: `ComponentError`, or `OutOfMemory` where the message
     /// finds no memory. With the shape of its place it refuses none.
+    #[inline(always)]
     pub fn year_match(&self, year: i32) -> Result<bool, CronError>
         ensures outside { (year <ℤ pos 1) ⊎ (pos 5000 <ℤ year) → result ≡ Ok false }
         ensures asked { pos 1 ≤ℤ year → year ≤ℤ pos 5000 →
