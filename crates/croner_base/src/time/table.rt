@@ -213,6 +213,7 @@ impl<'t> CronDateTime for TableTime<'t> {
 
     ghost can_lack_memory = { false };
 
+    #[inline(always)]
     fn to_civil(&self) -> CivilDateTime {
         civil_of_second(self.wall())
     }
@@ -222,6 +223,7 @@ impl<'t> CronDateTime for TableTime<'t> {
         Weekday::from_days_from_sunday((day + 4).rem_euclid(7) as u32)
     }
 
+    #[inline(always)]
     fn resolve_civil(
         &self,
         _alloc: Global,
