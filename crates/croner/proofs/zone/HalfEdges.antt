@@ -230,9 +230,6 @@ edge_found moment direction m inside outside t found close at =
 
 -- ---- tests
 
-pub both_or_not : (direction : Direction) (fixed b halves : Bool) → b ≡ fixed → (IsTrue halves ↔ CountsBoth direction b) → IsTrue halves ↔ CountsBoth direction fixed
-both_or_not direction fixed b halves e test = subst (λ (x : Bool). IsTrue halves ↔ CountsBoth direction x) e test
-
 pub not_so : (P : Type 0) (b : Bool) → b ≡ false → IsTrue b ↔ P → P → ⊥
 not_so P b e test = refuted P b e test
 

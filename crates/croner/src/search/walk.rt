@@ -196,6 +196,7 @@ fn pass<T: CronDateTime, S: Schedule>(
 }
 
 // Where a walk begins, from what the origin shows.
+#[inline(always)]
 fn first_second(
     shown: CivilDateTime,
     inclusive: bool,

@@ -214,6 +214,7 @@ impl<'t> CronDateTime for TableTime<'t> {
 
     ghost can_lack_memory = { false };
 
+    #[inline(always)]
     fn to_civil(&self) -> CivilDateTime {
         civil_of_second(self.wall())
     }
@@ -223,6 +224,7 @@ impl<'t> CronDateTime for TableTime<'t> {
         Weekday::from_days_from_sunday((day + 4).rem_euclid(7) as u32)
     }
 
+    #[inline(always)]
     fn resolve_civil(
         &self,
         _alloc: Global,

@@ -19,6 +19,7 @@ impl CronPattern {
     ///
     /// A field of another shape refuses a year that it doesn't hold: `ComponentError`, or `OutOfMemory` where the message
     /// finds no memory. With the shape of its place it refuses none.
+    #[inline(always)]
     pub fn year_match(&self, year: i32) -> Result<bool, CronError>
         ensures outside { (year <ℤ pos first_year) ⊎ (pos last_year <ℤ year) → result ≡ Ok false }
         ensures asked { pos first_year ≤ℤ year → year ≤ℤ pos last_year →

@@ -25,6 +25,7 @@ const SATURDAYS: u32 = 1 << SATURDAY;
 const WORKING_DAYS: u32 = WEEK_BITS - SUNDAYS - SATURDAYS;
 
 /// The days that fit the field.
+#[inline(always)]
 pub fn days_named(days: &CronComponent, length: u32, first: u32) -> u32
     requires shape { is_like days.now.shape day_shape ≡ true }
     requires length { IsInRange 28 31 length }

@@ -16,6 +16,7 @@ use croner_base::component::{
 };
 
 /// The days that fit the field.
+#[inline(always)]
 pub fn weekdays_named(weekdays: &CronComponent, length: u32, first: u32) -> u32
     requires shape { (is_like weekdays.now.shape (weekday_shape 0) || is_like weekdays.now.shape (weekday_shape 1)) ≡ true }
     requires length { IsInRange 28 31 length }
