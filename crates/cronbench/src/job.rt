@@ -27,4 +27,10 @@ impl Job {
         let cron = Cron::from_str(alloc, pattern)?;
         Ok(Job { cron })
     }
+
+    /// A copy of the job.
+    pub fn copied(&self) -> Result<Job, CronError> {
+        let cron = self.cron.clone()?;
+        Ok(Job { cron })
+    }
 }

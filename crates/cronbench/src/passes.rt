@@ -3,10 +3,10 @@
 use crate::answers::Answers;
 use crate::job::Job;
 use crate::moment::Moment;
+use croner::CronIterator;
 use croner::describe::Language;
 use croner::errors::CronError;
 use croner::time::Direction;
-use croner::CronIterator;
 use std::alloc::Global;
 
 /// How many runs an iterator is asked for.
@@ -103,8 +103,8 @@ pub fn describe<L: Language + Copy + Drop>(
 pub fn compare(jobs: &[Job]) -> Result<Answers, CronError> {
     let mut answers = Answers::default();
     for job in jobs {
-        let copy = job.cron.clone()?;
-        answers.add(i64::from(job.cron.cmp(&copy).is_eq()));
+        let copy = job.copied()?;
+        answers.add(i64::from(job.cron.cmp(&copy.cron).is_eq()));
     }
     Ok(answers)
 }
@@ -113,7 +113,7 @@ pub fn compare(jobs: &[Job]) -> Result<Answers, CronError> {
 pub fn copy(jobs: &[Job]) -> Result<Answers, CronError> {
     let mut answers = Answers::default();
     for job in jobs {
-        answers.add_text(job.cron.clone()?.as_str());
+        answers.add_text(job.copied()?.cron.as_str());
     }
     Ok(answers)
 }

@@ -1,15 +1,11 @@
 //! Bounds of a backend that are moved second by second around the moments that matter to a search.
-ghost use Rattle.std.specs.Prelude.{◌≡◌, true};
-ghost use Rattle.croner_pattern.specs.Shapes.{has_field_shapes};
-ghost use Rattle.croner.specs.Views.{job_of};
 
 use crate::clock::clock;
 use crate::fault::Fault;
-use crate::job::job;
+use crate::job::Job;
 use crate::narrow::{PARIS, answer_between};
 use crate::table::{Question, differing};
 use crate::words::{number, push_text};
-use croner::Cron;
 use croner::time::table::TableTime;
 use croner_backends::NarrowTime;
 use std::alloc::Global;
@@ -36,25 +32,33 @@ impl Question for Moving {
         };
         let clock = clock(alloc, PARIS)?;
         let start = TableTime::new(&clock, number(start)?)?;
-        let job = job(alloc, "", text)?;
-        let mut answers = String::new(alloc);
-        add_around_start(alloc, &job, search, start, &mut answers)?;
-        for moment in moments.split(',') {
-            add_around(alloc, &job, search, start, number(moment)?, &mut answers)?;
-        }
-        Ok(answers)
+        let job = Job::of_text(alloc, text)?;
+        answers(alloc, &job, search, start, moments)
     }
+}
+
+fn answers(
+    alloc: Global,
+    job: &Job,
+    search: &str,
+    start: TableTime<'_>,
+    moments: &str,
+) -> Result<String, Fault> {
+    let mut answers = String::new(alloc);
+    add_around_start(alloc, job, search, start, &mut answers)?;
+    for moment in moments.split(',') {
+        add_around(alloc, job, search, start, number(moment)?, &mut answers)?;
+    }
+    Ok(answers)
 }
 
 fn add_around_start(
     alloc: Global,
-    job: &Cron,
+    job: &Job,
     search: &str,
     start: TableTime<'_>,
     answers: &mut String,
-) -> Result<(), Fault>
-    requires { has_field_shapes (job_of job.now) ≡ true }
-{
+) -> Result<(), Fault> {
     for away in AWAY {
         let moment = start.second().saturating_add(away);
         add_around(alloc, job, search, start, moment, answers)?;
@@ -64,14 +68,12 @@ fn add_around_start(
 
 fn add_around(
     alloc: Global,
-    job: &Cron,
+    job: &Job,
     search: &str,
     start: TableTime<'_>,
     moment: i64,
     answers: &mut String,
-) -> Result<(), Fault>
-    requires { has_field_shapes (job_of job.now) ≡ true }
-{
+) -> Result<(), Fault> {
     for step in -STEPS..=STEPS {
         add_at(
             alloc,
@@ -88,14 +90,12 @@ fn add_around(
 // With the bound as the first instant that is held, the last one, or each in its turn where it is the start.
 fn add_at(
     alloc: Global,
-    job: &Cron,
+    job: &Job,
     search: &str,
     start: TableTime<'_>,
     bound: i64,
     answers: &mut String,
-) -> Result<(), Fault>
-    requires { has_field_shapes (job_of job.now) ≡ true }
-{
+) -> Result<(), Fault> {
     let second = start.second();
     if bound <= second {
         let start = NarrowTime::new(start, bound, second.saturating_add(FAR))?;
@@ -110,13 +110,11 @@ fn add_at(
 
 fn add_answer(
     alloc: Global,
-    job: &Cron,
+    job: &Job,
     search: &str,
     start: NarrowTime<'_>,
     answers: &mut String,
-) -> Result<(), Fault>
-    requires { has_field_shapes (job_of job.now) ≡ true }
-{
+) -> Result<(), Fault> {
     let answer = answer_between(alloc, job, search, start)?;
     if !answers.contains(answer.as_str()) {
         push_text(answers, ", ", answer.as_str())?;

@@ -2,7 +2,7 @@
 
 use crate::clock::{civil, clock};
 use crate::fault::Fault;
-use crate::job::job;
+use crate::job::{Job, way};
 use crate::table::{Question, differing};
 use crate::words::number;
 use croner::Direction;
@@ -62,13 +62,23 @@ impl Question for TakenUp {
         };
         let table = table_of(alloc, texts)?.clone()?;
         let mut runs = table.iter_after(civil(start)?).clone()?;
-        let (mut items, is_over) = next_table_runs(alloc, &mut runs, 2)?;
-        let (second, places) = items.pop().ok_or(Fault::Malformed)?;
-        let (first, others) = items.pop().ok_or(Fault::Malformed)?;
-        let mut rest = resumed_table(&table, second, Direction::Forward);
-        let next = item(alloc, &mut rest)?;
-        Ok(format!(in alloc; "{first} {others:?} {second} {places:?} {next}{is_over}")?)
+        let (items, is_over) = next_table_runs(alloc, &mut runs, 2)?;
+        let items = taken_up(alloc, &table, items.as_slice())?;
+        Ok(format!(in alloc; "{items}{is_over}")?)
     }
+}
+
+fn taken_up(
+    alloc: Global,
+    table: &CronTable,
+    items: &[(DateTime, Vec<usize>)],
+) -> Result<String, Fault> {
+    let [(first, others), (second, places)] = items else {
+        return Err(Fault::Malformed);
+    };
+    let mut rest = resumed_table(table, *second, Direction::Forward);
+    let next = item(alloc, &mut rest)?;
+    Ok(format!(in alloc; "{first} {others:?} {second} {places:?} {next}")?)
 }
 
 // The jobs of texts that semicolons part; of an empty text none.
@@ -76,7 +86,7 @@ fn table_of(alloc: Global, texts: &str) -> Result<CronTable, Fault> {
     let mut table = CronTable::new(alloc);
     for text in texts.split(';') {
         if !text.trim().is_empty() {
-            table.push(job(alloc, "", text)?)?;
+            table.push(Job::of_text(alloc, text)?.into_cron())?;
         }
     }
     Ok(table)
@@ -87,13 +97,12 @@ fn found<T: CronDateTime>(
     search: &str,
     start: &T,
 ) -> Result<(T, Vec<usize>), Fault> {
-    match search {
-        "after" => Ok(table.find_next_occurrence(start, false)?),
-        "from" => Ok(table.find_next_occurrence(start, true)?),
-        "before" => Ok(table.find_previous_occurrence(start, false)?),
-        "back from" => Ok(table.find_previous_occurrence(start, true)?),
-        _ => Err(Fault::Malformed),
-    }
+    let (direction, inclusive) = way(search)?;
+    let found = match direction {
+        Direction::Forward => table.find_next_occurrence(start, inclusive),
+        Direction::Backward => table.find_previous_occurrence(start, inclusive),
+    };
+    Ok(found?)
 }
 
 fn iterator<'t>(

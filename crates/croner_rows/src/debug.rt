@@ -2,7 +2,7 @@
 
 use crate::clock::{civil, clock};
 use crate::fault::Fault;
-use crate::job::job;
+use crate::job::Job;
 use crate::table::{Question, add_differing};
 use croner::component::{CronComponent, NONE_BIT};
 use croner::errors::CronError;
@@ -96,8 +96,8 @@ fn long_value(alloc: Global, name: &str) -> Result<String, Fault> {
     match name {
         "parser" => shown(alloc, &CronParser::new()),
         "builder" => shown(alloc, &CronParser::builder()),
-        "job" => copied_job(&job(alloc, "", "5 4 * * *")?),
-        "pattern" => copied_pattern(&job(alloc, "", "5 4 * * *")?.pattern),
+        "job" => copied_job(&Job::of_text(alloc, "5 4 * * *")?.cron),
+        "pattern" => copied_pattern(&Job::of_text(alloc, "5 4 * * *")?.cron.pattern),
         _ => Err(Fault::Malformed),
     }
 }

@@ -1,7 +1,7 @@
 //! Searches over tables of offsets with as many changes, and with as many seconds left out, as they may have.
 
 use crate::fault::Fault;
-use crate::job::run_of;
+use crate::job::Job;
 use crate::table::{Question, differing};
 use crate::words::number;
 use croner::time::table::{ClockTable, TableTime};
@@ -20,7 +20,7 @@ impl Question for OverManyChanges {
         };
         let clock = clock_of(alloc, table)?;
         let start = TableTime::new(&clock, number(start)?)?;
-        let run = run_of(alloc, text, search, &start)?;
+        let run = Job::of_text(alloc, text)?.run_found(search, &start)?;
         Ok(run.second().to_string(alloc)?)
     }
 }

@@ -1,16 +1,13 @@
 //! What an iterator keeps where a call gives no item.
-ghost use Rattle.std.specs.Prelude.{◌≡◌, true};
-ghost use Rattle.croner_pattern.specs.Shapes.{has_field_shapes};
-ghost use Rattle.croner.specs.Views.{job_of};
 
 use crate::clock::{civil, clock};
 use crate::fault::{Fault, refusal};
-use crate::job::{job, runs_of};
+use crate::job::Job;
 use crate::table::{Question, add_differing};
 use crate::words::{number, push_text};
+use croner::CronIterator;
 use croner::time::CronDateTime;
 use croner::time::table::TableTime;
-use croner::{Cron, CronIterator};
 use std::alloc::{AllocError, Global};
 use std::test::Fail;
 
@@ -48,30 +45,9 @@ fn answers<T: CronDateTime>(
     start: T,
     count: u32,
 ) -> Result<String, Fault> {
-    let job = job(alloc, "", text)?;
-    answers_of(alloc, &job, way, start, count)
-}
-
-fn answers_of<T: CronDateTime>(
-    alloc: Global,
-    job: &Cron,
-    way: &str,
-    start: T,
-    count: u32,
-) -> Result<String, Fault>
-    requires { has_field_shapes (job_of job.now) ≡ true }
-{
-    let runs = runs_of(job, way, start)?;
-    listed_by_a_copy(alloc, &runs, count)
-}
-
-fn listed_by_a_copy<T: CronDateTime>(
-    alloc: Global,
-    runs: &CronIterator<T>,
-    count: u32,
-) -> Result<String, Fault> {
-    let mut copy = runs.clone()?;
-    listed(alloc, &mut copy, count)
+    let job = Job::of_text(alloc, text)?;
+    let mut copy = job.runs(way, start)?.copied()?;
+    listed(alloc, &mut copy.iterator, count)
 }
 
 fn listed<T: CronDateTime>(

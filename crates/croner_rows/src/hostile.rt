@@ -1,10 +1,10 @@
 //! Texts that no crontab has: very long ones, white space of every kind, and characters without a meaning.
 
 use crate::fault::Fault;
-use crate::job::job;
+use crate::job::Job;
 use crate::table::{Question, differing};
 use crate::words::number;
-use croner::Cron;
+use croner::CronPattern;
 use croner::component::CronComponent;
 use std::alloc::{AllocError, Global};
 use std::test::Fail;
@@ -66,12 +66,11 @@ fn text_of(
 }
 
 fn values_of_text(alloc: Global, text: &str, field: &str) -> Result<String, Fault> {
-    let job = job(alloc, "", text)?;
-    values_shown(alloc, field_of(&job, field))
+    let job = Job::of_text(alloc, text)?;
+    values_shown(alloc, field_of(&job.cron.pattern, field))
 }
 
-fn field_of<'j>(job: &'j Cron, field: &str) -> &'j CronComponent {
-    let pattern = &job.pattern;
+fn field_of<'p>(pattern: &'p CronPattern, field: &str) -> &'p CronComponent {
     match field {
         "seconds" => &pattern.seconds,
         "minutes" => &pattern.minutes,

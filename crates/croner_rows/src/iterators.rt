@@ -1,13 +1,10 @@
 //! Equality, order and hash of iterators.
-ghost use Rattle.std.specs.Prelude.{◌≡◌, true};
-ghost use Rattle.croner_pattern.specs.Shapes.{has_field_shapes};
-ghost use Rattle.croner.specs.Views.{job_of};
 
 use crate::clock::civil;
 use crate::fault::Fault;
-use crate::job::{job, runs_of};
+use crate::job::{Job, Runs};
 use crate::table::{Question, differing};
-use croner::{Cron, CronIterator};
+use croner::CronIterator;
 use jiff::civil::DateTime;
 use std::alloc::Global;
 use std::hash::{DefaultHasher, Hash, Hasher};
@@ -22,35 +19,11 @@ impl Question for Comparison {
         let [text, start, one, other] = cells else {
             return Err(Fault::Malformed);
         };
-        let job = job(alloc, "", text)?;
-        compared(alloc, &job, civil(start)?, one, other)
+        let (job, start) = (Job::of_text(alloc, text)?, civil(start)?);
+        let one = runs(&job, start, one)?;
+        let other = runs(&job, start, other)?;
+        shown(alloc, &one.iterator, &other.iterator)
     }
-}
-
-fn compared(
-    alloc: Global,
-    job: &Cron,
-    start: DateTime,
-    one: &str,
-    other: &str,
-) -> Result<String, Fault>
-    requires { has_field_shapes (job_of job.now) ≡ true }
-{
-    let one = runs(job, start, one)?;
-    compared_to(alloc, job, start, &one, other)
-}
-
-fn compared_to(
-    alloc: Global,
-    job: &Cron,
-    start: DateTime,
-    one: &CronIterator<DateTime>,
-    other: &str,
-) -> Result<String, Fault>
-    requires { has_field_shapes (job_of job.now) ≡ true }
-{
-    let other = runs(job, start, other)?;
-    shown(alloc, one, &other)
 }
 
 fn shown(
@@ -69,17 +42,15 @@ fn shown(
 }
 
 // An iterator that has been asked for one run where its name says so.
-fn runs(job: &Cron, start: DateTime, way: &str) -> Result<CronIterator<DateTime>, Fault>
-    requires { has_field_shapes (job_of job.now) ≡ true }
-{
-    match way {
-        "after, asked" => asked(runs_of(job, "after", start)?),
-        way => runs_of(job, way, start),
+fn runs(job: &Job, start: DateTime, way: &str) -> Result<Runs<DateTime>, Fault> {
+    match way.strip_suffix(", asked") {
+        Some(way) => asked(job.runs(way, start)?),
+        None => job.runs(way, start),
     }
 }
 
-fn asked(mut runs: CronIterator<DateTime>) -> Result<CronIterator<DateTime>, Fault> {
-    let _run = runs.next();
+fn asked(mut runs: Runs<DateTime>) -> Result<Runs<DateTime>, Fault> {
+    let _run = runs.iterator.next();
     Ok(runs)
 }
 

@@ -1,5 +1,5 @@
 //! The jobs of rows: a parser's settings and a text, and searches and iterators of a job.
-ghost use Rattle.std.specs.Prelude.{◌≡◌, true, IfOk};
+ghost use Rattle.std.specs.Prelude.{◌≡◌, true};
 ghost use Rattle.croner_pattern.specs.Shapes.{has_field_shapes};
 ghost use Rattle.croner.specs.Views.{job_of};
 
@@ -7,25 +7,103 @@ use crate::fault::Fault;
 use croner::parser::{CronParser, CronParserBuilder, Seconds, Year};
 use croner::time::{CronDateTime, Direction};
 use croner::{Cron, CronIterator};
+use serde_json::Value;
 use std::alloc::Global;
 
-/// The job of a text, read by the parser of some settings, which commas part; no setting is the default parser.
-pub fn job(alloc: Global, settings: &str, text: &str) -> Result<Cron, Fault>
-    ensures { IfOk result (λ job. has_field_shapes (job_of job) ≡ true) }
-{
-    let parser = parser(settings)?;
-    Ok(parser.parse(alloc, text)?)
+/// A job that was read from a text.
+pub struct Job {
+    pub cron: Cron,
+    ghost shaped: { has_field_shapes (job_of cron) ≡ true },
 }
 
-/// The run that a search of a text's job finds, as `run_found` has it.
-pub fn run_of<T: CronDateTime>(
-    alloc: Global,
-    text: &str,
-    search: &str,
-    start: &T,
-) -> Result<T, Fault> {
-    let job = job(alloc, "", text)?;
-    run_found(&job, search, start)
+// By hand, so that a function that lets a job go calls this one: its proof doesn't go through the fields at each exit.
+impl Drop for Job {
+    fn drop(self) {
+        let Job { cron: _ } = self;
+    }
+}
+
+impl Job {
+    /// The job of a text, read by the default parser.
+    pub fn of_text(alloc: Global, text: &str) -> Result<Job, Fault> {
+        Job::read(alloc, "", text)
+    }
+
+    /// The job of a text, read by the parser of some settings, which commas part; no setting is the default parser.
+    pub fn read(alloc: Global, settings: &str, text: &str) -> Result<Job, Fault> {
+        let parser = parser(settings)?;
+        let cron = parser.parse(alloc, text)?;
+        Ok(Job { cron })
+    }
+
+    /// The job of a JSON value.
+    pub fn of_json(alloc: Global, value: &Value) -> Result<Job, Fault> {
+        let cron = Cron::from_json(alloc, value)?;
+        Ok(Job { cron })
+    }
+
+    /// The job itself.
+    pub fn into_cron(self) -> Cron
+        ensures { has_field_shapes (job_of result) ≡ true }
+    {
+        let Job { cron } = self;
+        cron
+    }
+
+    /// The next run `after` a time or `from` it on, or the previous one `before` it or `back from` it.
+    pub fn run_found<T: CronDateTime>(&self, search: &str, start: &T) -> Result<T, Fault> {
+        let (direction, inclusive) = way(search)?;
+        let found = match direction {
+            Direction::Forward => self.cron.find_next_occurrence(start, inclusive),
+            Direction::Backward => self.cron.find_previous_occurrence(start, inclusive),
+        };
+        Ok(found?)
+    }
+
+    /// An iterator over the runs that `run_found` finds one after the other, by the same word.
+    pub fn runs<T: CronDateTime>(&self, search: &str, start: T) -> Result<Runs<T>, Fault> {
+        let iterator = match search {
+            "after" => self.cron.iter_after(start),
+            "from" => self.cron.iter_from(start, Direction::Forward),
+            "before" => self.cron.iter_before(start),
+            "back from" => self.cron.iter_from(start, Direction::Backward),
+            _ => return Err(Fault::Malformed),
+        };
+        Ok(Runs {
+            iterator: iterator?,
+        })
+    }
+}
+
+/// The direction of a search, and whether it counts its start.
+pub fn way(search: &str) -> Result<(Direction, bool), Fault> {
+    match search {
+        "after" => Ok((Direction::Forward, false)),
+        "from" => Ok((Direction::Forward, true)),
+        "before" => Ok((Direction::Backward, false)),
+        "back from" => Ok((Direction::Backward, true)),
+        _ => Err(Fault::Malformed),
+    }
+}
+
+/// An iterator over the runs of a job.
+pub struct Runs<T> {
+    pub iterator: CronIterator<T>,
+}
+
+impl<T: CronDateTime> Runs<T> {
+    /// A copy of the iterator.
+    pub fn copied(&self) -> Result<Runs<T>, Fault> {
+        let iterator = self.iterator.clone()?;
+        Ok(Runs { iterator })
+    }
+}
+
+// By hand, as that of `Job`.
+impl<T: Drop> Drop for Runs<T> {
+    fn drop(self) {
+        let Runs { iterator: _ } = self;
+    }
 }
 
 /// The parser of some settings, which commas part.
@@ -44,36 +122,6 @@ fn with(builder: CronParserBuilder, setting: &str) -> Result<CronParserBuilder, 
         "seconds disallowed" => Ok(builder.seconds(Seconds::Disallowed)),
         "year required" => Ok(builder.year(Year::Required)),
         "year disallowed" => Ok(builder.year(Year::Disallowed)),
-        _ => Err(Fault::Malformed),
-    }
-}
-
-/// The next run `after` a time or `from` it on, or the previous one `before` it or `back from` it.
-pub fn run_found<T: CronDateTime>(job: &Cron, search: &str, start: &T) -> Result<T, Fault>
-    requires { has_field_shapes (job_of job.now) ≡ true }
-{
-    match search {
-        "after" => Ok(job.find_next_occurrence(start, false)?),
-        "from" => Ok(job.find_next_occurrence(start, true)?),
-        "before" => Ok(job.find_previous_occurrence(start, false)?),
-        "back from" => Ok(job.find_previous_occurrence(start, true)?),
-        _ => Err(Fault::Malformed),
-    }
-}
-
-/// An iterator over the runs that `run_found` finds one after the other, by the same word.
-pub fn runs_of<T: CronDateTime>(
-    job: &Cron,
-    search: &str,
-    start: T,
-) -> Result<CronIterator<T>, Fault>
-    requires { has_field_shapes (job_of job.now) ≡ true }
-{
-    match search {
-        "after" => Ok(job.iter_after(start)?),
-        "from" => Ok(job.iter_from(start, Direction::Forward)?),
-        "before" => Ok(job.iter_before(start)?),
-        "back from" => Ok(job.iter_from(start, Direction::Backward)?),
         _ => Err(Fault::Malformed),
     }
 }

@@ -1,8 +1,8 @@
 //! What JSON values read as, and the messages of those that are refused.
 
 use crate::fault::Fault;
+use crate::job::Job;
 use crate::table::{Question, Told, differing};
-use croner::Cron;
 use serde_json::Value;
 use std::alloc::Global;
 use std::test::Fail;
@@ -29,8 +29,8 @@ fn written_again(alloc: Global, value: &Value) -> Result<String, Fault> {
 }
 
 fn read_and_written(alloc: Global, value: &Value) -> Result<Value, Fault> {
-    let job = Cron::from_json(alloc, value)?;
-    Ok(job.to_json()?)
+    let job = Job::of_json(alloc, value)?;
+    Ok(job.cron.to_json()?)
 }
 
 const VALUES: &str = r#"

@@ -1,7 +1,7 @@
 //! Languages: descriptions in two of the tests, and the texts of English and Swedish that no description has.
 
 use crate::fault::Fault;
-use crate::job::job;
+use crate::job::Job;
 use crate::table::{Question, add_differing};
 use croner::Cron;
 use croner::describe::Language;
@@ -19,7 +19,8 @@ impl Question for Described {
         let [language, text] = cells else {
             return Err(Fault::Malformed);
         };
-        description_of(&job(alloc, "", text)?, language)
+        let job = Job::of_text(alloc, text)?;
+        description_of(&job.cron, language)
     }
 }
 

@@ -1,11 +1,8 @@
 //! The laws whose calls take memory, once each with enough of it.
-ghost use Rattle.std.specs.Prelude.{◌≡◌, true};
-ghost use Rattle.croner_pattern.specs.Shapes.{has_field_shapes};
-ghost use Rattle.croner.specs.Views.{job_of};
 
 use crate::clock::{civil, clock};
 use crate::fault::Fault;
-use crate::job::{job, parser};
+use crate::job::{Job, parser};
 use crate::table::{Question, add_differing};
 use crate::words::{number, push_text};
 use croner::describe::lang::english::English;
@@ -31,10 +28,11 @@ impl Question for TwiceRead {
             return Err(Fault::Malformed);
         };
         let parser = parser(settings)?;
-        match read_twice(&parser, alloc, text) {
-            Ok((first, second)) => texts(alloc, &first, &second),
-            Err(refused) => Err(Fault::from(refused)),
-        }
+        let (first, second) = read_twice(&parser, alloc, text)?;
+        let texts = texts(alloc, &first, &second);
+        drop(first);
+        drop(second);
+        texts
     }
 }
 
@@ -57,14 +55,9 @@ impl Question for Descriptions {
         let [one, other] = cells else {
             return Err(Fault::Malformed);
         };
-        let one = job(alloc, "", one)?;
-        described_beside(alloc, &one, other)
+        let (one, other) = (Job::of_text(alloc, one)?, Job::of_text(alloc, other)?);
+        described(alloc, &one.cron, &other.cron)
     }
-}
-
-fn described_beside(alloc: Global, one: &Cron, other: &str) -> Result<String, Fault> {
-    let other = job(alloc, "", other)?;
-    described(alloc, one, &other)
 }
 
 fn described(alloc: Global, one: &Cron, other: &Cron) -> Result<String, Fault> {
@@ -85,17 +78,15 @@ impl Question for OverCivilTime {
         let [law, text, start] = cells else {
             return Err(Fault::Malformed);
         };
-        let job = job(alloc, "", text)?;
+        let job = Job::of_text(alloc, text)?;
         in_civil_time(alloc, law, &job, civil(start)?)
     }
 }
 
-fn in_civil_time(alloc: Global, law: &str, job: &Cron, start: DateTime) -> Result<String, Fault>
-    requires { has_field_shapes (job_of job.now) ≡ true }
-{
+fn in_civil_time(alloc: Global, law: &str, job: &Job, start: DateTime) -> Result<String, Fault> {
     match law {
-        "runs" => runs(alloc, &mut job.iter_after(start)?),
-        "order" => order(alloc, &mut job.iter_before(start)?),
+        "runs" => runs(alloc, &mut job.runs("after", start)?.iterator),
+        "order" => order(alloc, &mut job.runs("before", start)?.iterator),
         "back" => back(alloc, job, &start),
         _ => Err(Fault::Malformed),
     }
@@ -116,10 +107,8 @@ fn order(alloc: Global, iterator: &mut CronIterator<DateTime>) -> Result<String,
     Ok(format!(in alloc; "{shown}; {orders:?}")?)
 }
 
-fn back(alloc: Global, job: &Cron, run: &DateTime) -> Result<String, Fault>
-    requires { has_field_shapes (job_of job.now) ≡ true }
-{
-    let (there, back) = there_and_back(job, run)?;
+fn back(alloc: Global, job: &Job, run: &DateTime) -> Result<String, Fault> {
+    let (there, back) = there_and_back(&job.cron, run)?;
     shown(alloc, [there, back?].as_slice())
 }
 
@@ -151,7 +140,7 @@ impl Question for OverBackends {
         };
         let clock = clock(alloc, table)?;
         let start = TableTime::new(&clock, number(start)?)?;
-        let job = job(alloc, "", text)?;
+        let job = Job::of_text(alloc, text)?;
         over_backend(alloc, law, &job, start)
     }
 }
@@ -159,11 +148,9 @@ impl Question for OverBackends {
 fn over_backend<'t>(
     alloc: Global,
     law: &str,
-    job: &Cron,
+    job: &Job,
     start: TableTime<'t>,
-) -> Result<String, Fault>
-    requires { has_field_shapes (job_of job.now) ≡ true }
-{
+) -> Result<String, Fault> {
     match law {
         "boxed" => boxed(alloc, job, BoxedTime::new(alloc, start)?),
         "narrow" => narrow(alloc, job, held_around(start)?),
@@ -186,22 +173,20 @@ fn held_around<'t>(time: TableTime<'t>) -> Result<NarrowTime<'t>, Fault> {
 }
 
 // The previous run, and the first ones ahead.
-fn boxed<'t>(alloc: Global, job: &Cron, start: BoxedTime<'t>) -> Result<String, Fault>
-    requires { has_field_shapes (job_of job.now) ≡ true }
-{
-    let previous = nearest_boxed_run(job, &start, false, Direction::Backward)?;
+fn boxed<'t>(alloc: Global, job: &Job, start: BoxedTime<'t>) -> Result<String, Fault> {
+    let previous = nearest_boxed_run(&job.cron, &start, false, Direction::Backward)?;
     let previous = shown(alloc, [previous].as_slice())?;
-    let (runs, _) = next_boxed_runs(alloc, &mut job.iter_after(start)?, CALLS)?;
+    let mut iterator = job.runs("after", start)?;
+    let (runs, _) = next_boxed_runs(alloc, &mut iterator.iterator, CALLS)?;
     let runs = shown(alloc, runs.as_slice())?;
     Ok(format!(in alloc; "{previous}; {runs}")?)
 }
 
-fn narrow<'t>(alloc: Global, job: &Cron, start: NarrowTime<'t>) -> Result<String, Fault>
-    requires { has_field_shapes (job_of job.now) ≡ true }
-{
-    let previous = nearest_narrow_run(job, &start, false, Direction::Backward)?;
+fn narrow<'t>(alloc: Global, job: &Job, start: NarrowTime<'t>) -> Result<String, Fault> {
+    let previous = nearest_narrow_run(&job.cron, &start, false, Direction::Backward)?;
     let previous = shown(alloc, [previous].as_slice())?;
-    let (runs, _) = next_narrow_runs(alloc, &mut job.iter_after(start)?, CALLS)?;
+    let mut iterator = job.runs("after", start)?;
+    let (runs, _) = next_narrow_runs(alloc, &mut iterator.iterator, CALLS)?;
     let runs = shown(alloc, runs.as_slice())?;
     Ok(format!(in alloc; "{previous}; {runs}")?)
 }

@@ -1,10 +1,9 @@
 //! Long texts: what they name, and how short their messages are.
 
 use crate::fault::Fault;
-use crate::job::job;
+use crate::job::Job;
 use crate::table::{Question, Told, add_differing};
 use crate::words::number;
-use croner::Cron;
 use std::alloc::{AllocError, Global};
 use std::test::Fail;
 
@@ -18,18 +17,10 @@ impl Question for Minutes {
             return Err(Fault::Malformed);
         };
         let text = text_of(alloc, piece, number(count)?, end)?;
-        let minutes = minutes_of_text(alloc, text.as_str())?;
+        let job = Job::of_text(alloc, text.as_str())?;
+        let minutes = job.cron.pattern.minutes.values()?;
         Ok(format!(in alloc; "{minutes:?}")?)
     }
-}
-
-fn minutes_of_text(alloc: Global, text: &str) -> Result<Vec<u16>, Fault> {
-    let job = job(alloc, "", text)?;
-    minutes_of(&job)
-}
-
-fn minutes_of(job: &Cron) -> Result<Vec<u16>, Fault> {
-    Ok(job.pattern.minutes.values()?)
 }
 
 fn text_of(alloc: Global, piece: &str, count: u32, end: &str) -> Result<String, AllocError> {

@@ -1,10 +1,9 @@
 //! The messages of refusals: which field, which part of the text, and what was expected.
 
 use crate::fault::Fault;
-use crate::job::job;
+use crate::job::Job;
 use crate::table::{Question, Told, add_differing};
 use crate::words::number;
-use croner::Cron;
 use croner::component::{ALL_BIT, CronComponent, NONE_BIT, NTH_ALL};
 use croner::time::{Direction, TimeComponent};
 use std::alloc::{AllocError, Global};
@@ -64,14 +63,9 @@ impl Question for Pattern {
         let [settings, text] = cells else {
             return Err(Fault::Malformed);
         };
-        accept(alloc, settings, text)?;
+        let _job = Job::read(alloc, settings, text)?;
         Ok(String::from_str(alloc, "accepted")?)
     }
-}
-
-fn accept(alloc: Global, settings: &str, text: &str) -> Result<(), Fault> {
-    let _job = job(alloc, settings, text)?;
-    Ok(())
 }
 
 const PATTERNS: &str = r#"
@@ -124,12 +118,8 @@ impl Question for Member {
 }
 
 fn member_from(alloc: Global, value: u32, part: TimeComponent) -> Result<Option<u32>, Fault> {
-    let job = job(alloc, "", "* * * * *")?;
-    member_of(&job, value, part)
-}
-
-fn member_of(job: &Cron, value: u32, part: TimeComponent) -> Result<Option<u32>, Fault> {
-    let pattern = &job.pattern;
+    let job = Job::of_text(alloc, "* * * * *")?;
+    let pattern = &job.cron.pattern;
     Ok(pattern.find_match_in_component(value, part, Direction::Forward)?)
 }
 

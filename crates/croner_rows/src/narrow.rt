@@ -1,15 +1,12 @@
 //! Searches over a backend that holds what lies between two instants, and iterators over it, as the two come nearer.
-ghost use Rattle.std.specs.Prelude.{◌≡◌, true};
-ghost use Rattle.croner_pattern.specs.Shapes.{has_field_shapes};
-ghost use Rattle.croner.specs.Views.{job_of};
 
 use crate::clock::clock;
 use crate::fault::{Fault, refusal};
-use crate::job::{job, run_found, run_of, runs_of};
+use crate::job::Job;
 use crate::table::{Question, add_differing};
 use crate::words::{number, push_text};
+use croner::CronIterator;
 use croner::time::table::TableTime;
-use croner::{Cron, CronIterator};
 use croner_backends::NarrowTime;
 use std::alloc::{AllocError, Global};
 use std::test::Fail;
@@ -30,7 +27,7 @@ impl Question for OverNarrowTime {
         let clock = clock(alloc, table)?;
         let start = TableTime::new(&clock, number(start)?)?;
         let start = NarrowTime::new(start, number(low)?, number(high)?)?;
-        let run = run_of(alloc, text, search, &start)?;
+        let run = Job::of_text(alloc, text)?.run_found(search, &start)?;
         Ok(run.time().second().to_string(alloc)?)
     }
 }
@@ -47,20 +44,18 @@ impl Question for Shrinking {
         let clock = clock(alloc, PARIS)?;
         let start = TableTime::new(&clock, number(start)?)?;
         let bounds = (number(low)?, number(high)?);
-        let job = job(alloc, "", text)?;
+        let job = Job::of_text(alloc, text)?;
         answers(alloc, &job, search, start, bounds)
     }
 }
 
 fn answers(
     alloc: Global,
-    job: &Cron,
+    job: &Job,
     search: &str,
     start: TableTime<'_>,
     bounds: (i64, i64),
-) -> Result<String, Fault>
-    requires { has_field_shapes (job_of job.now) ≡ true }
-{
+) -> Result<String, Fault> {
     let (low, high) = bounds;
     let mut answers = String::new(alloc);
     for step in 0..=LAST_STEP {
@@ -74,15 +69,13 @@ fn answers(
 /// A search's answer, and what an iterator gives instead, where it gives another.
 pub fn answer_between(
     alloc: Global,
-    job: &Cron,
+    job: &Job,
     search: &str,
     start: NarrowTime<'_>,
-) -> Result<String, Fault>
-    requires { has_field_shapes (job_of job.now) ≡ true }
-{
-    let answer = answer_of(alloc, run_found(job, search, &start))?;
-    let mut runs = runs_of(job, search, start)?;
-    compared(alloc, answer, &mut runs)
+) -> Result<String, Fault> {
+    let answer = answer_of(alloc, job.run_found(search, &start))?;
+    let mut runs = job.runs(search, start)?;
+    compared(alloc, answer, &mut runs.iterator)
 }
 
 fn answer_of(alloc: Global, found: Result<NarrowTime<'_>, Fault>) -> Result<String, Fault> {

@@ -1,13 +1,9 @@
 //! Starts in the time zone of Paris: whether one is named, and searches from one with a fraction of a second.
-ghost use Rattle.std.specs.Prelude.{◌≡◌, true};
-ghost use Rattle.croner_pattern.specs.Shapes.{has_field_shapes};
-ghost use Rattle.croner.specs.Views.{job_of};
 
 use crate::fault::Fault;
-use crate::job::{job, run_found};
+use crate::job::Job;
 use crate::table::{Question, differing};
 use crate::words::number;
-use croner::Cron;
 use croner::time::CronDateTime;
 use jiff::tz::TimeZone;
 use jiff::{Timestamp, Zoned};
@@ -25,18 +21,16 @@ impl Question for InParis {
             return Err(Fault::Malformed);
         };
         let start = zoned(start)?;
-        let job = job(alloc, "", text)?;
+        let job = Job::of_text(alloc, text)?;
         answered(alloc, &job, asked, &start)
     }
 }
 
-fn answered(alloc: Global, job: &Cron, asked: &str, start: &Zoned<'_>) -> Result<String, Fault>
-    requires { has_field_shapes (job_of job.now) ≡ true }
-{
+fn answered(alloc: Global, job: &Job, asked: &str, start: &Zoned<'_>) -> Result<String, Fault> {
     if asked == "at" {
-        return Ok(job.is_time_matching(start)?.to_string(alloc)?);
+        return Ok(job.cron.is_time_matching(start)?.to_string(alloc)?);
     }
-    shown(alloc, &run_found(job, asked, start)?)
+    shown(alloc, &job.run_found(asked, start)?)
 }
 
 // What the clock reads, and the instant in nanoseconds from 1970-01-01T00:00:00 UTC.

@@ -12,20 +12,15 @@ pub fn cronrun(alloc: Global, question: &Value) -> Result<Value, Fault> {
     let mut out = Vec::new(alloc);
     let mut err = Vec::new(alloc);
     let status = run(alloc, words.as_slice(), &mut out, &mut err);
+    answer(alloc, status, out.as_slice(), err.as_slice())
+}
+
+fn answer(alloc: Global, status: u8, out: &[u8], err: &[u8]) -> Result<Value, Fault> {
+    let (out, err) = (written(alloc, out)?, written(alloc, err)?);
     let mut answer = Map::new(alloc);
     put(&mut answer, alloc, "status", Value::from(status))?;
-    put(
-        &mut answer,
-        alloc,
-        "stdout",
-        written(alloc, out.as_slice())?,
-    )?;
-    put(
-        &mut answer,
-        alloc,
-        "stderr",
-        written(alloc, err.as_slice())?,
-    )?;
+    put(&mut answer, alloc, "stdout", out)?;
+    put(&mut answer, alloc, "stderr", err)?;
     Ok(Value::Object(answer))
 }
 

@@ -117,10 +117,19 @@ pub enum How {
 }
 
 /// An iterator over the runs of a job or of a table.
-#[derive(Drop)]
 pub enum Runs<'j, T> {
     OfJob(CronIterator<T>),
     OfTable(CronTableIterator<'j, T>),
+}
+
+// By hand, as that of `Job`.
+impl<T: Drop> Drop for Runs<'_, T> {
+    fn drop(self) {
+        match self {
+            Runs::OfJob(_) => {}
+            Runs::OfTable(_) => {}
+        }
+    }
 }
 
 impl<'j, T: Shown> Runs<'j, T> {
