@@ -7,14 +7,12 @@ use Rattle.croner_base.specs.declared.errors.CronError.{CronError}
 use Rattle.croner_base.specs.declared.errors.CronError.TheVariants.{TimeSearchLimitExceeded, OutOfMemory}
 use Rattle.croner_base.specs.declared.time.Direction.TheVariants.{Forward, Backward}
 use Rattle.croner_base.specs.declared.time.civil.CivilDateTime.{CivilDateTime}
-use Rattle.croner_base.specs.Calendar.{IsRealDate, day_number, year_start, days_since_zero, days_until_zero}
+use Rattle.croner_base.specs.Calendar.{day_number, year_start, days_since_zero, days_until_zero}
 use Rattle.croner_base.specs.Calm.{IsCalm}
 use Rattle.croner_base.specs.Civil.{wall_second}
 use Rattle.croner_base.specs.Zone.{Zone, Moment, at_instant}
 use Rattle.croner_base.proofs.Chronology.{year_reached}
 use Rattle.croner_base.specs.Limits.{fold_limit}
-use Rattle.croner_base.proofs.Days.{day_number-lt_year}
-use Rattle.croner_base.proofs.JiffSeconds.{wall_second-parts}
 use Rattle.croner_pattern.specs.Meaning.{Meaning}
 use Rattle.croner.specs.search.Limit.{InSpan, NoneInSpan, year_2}
 use Rattle.croner.specs.search.PatternJob.{timetable_of, pattern_job}

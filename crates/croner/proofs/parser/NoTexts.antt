@@ -1,6 +1,6 @@
 -- Settings that accept no text.
-use Rattle.std.proofs.Common.{◌≡◌, ℕ, Bool, true, false, cond, eqb, List, length, Option, Some, None, Result, Ok, Err, refl, ap, sym, subst}
-use Rattle.std.proofs.lemmas.Bool.{cond_both, false≢true}
+use Rattle.std.proofs.Common.{◌≡◌, ℕ, false, cond, eqb, List, length, Option, Some, None, Result, Ok, Err, refl, ap, sym, subst}
+use Rattle.std.proofs.lemmas.Bool.{cond_both}
 use Rattle.std.specs.Str.{trim, str_to_ascii_uppercase}
 use Rattle.croner_pattern.specs.Meaning.{Meaning}
 use Rattle.croner.specs.declared.parser.Seconds.TheVariants as seconds

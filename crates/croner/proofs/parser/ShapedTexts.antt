@@ -1,6 +1,6 @@
 -- A pattern that a text means has the shape of its place in each field.
 use Rattle.std.proofs.Common.{◌≡◌, ℕ, Bool, true, false, cond, eqb, ◌||◌, List, [], ◌∷◌, length, fold, Option, Some, None, Result, Ok, Err, IfOk, refl, ap, ◌∙◌, subst}
-use Rattle.std.proofs.lemmas.Bool.{false≢true, cond_both, and_from}
+use Rattle.std.proofs.lemmas.Bool.{cond_both, and_from}
 use Rattle.std.specs.Str.{trim, str_to_ascii_uppercase}
 use Rattle.croner_base.specs.declared.errors.CronError.{CronError}
 use Rattle.croner_base.specs.Field.{Shape, Field, empty_field, with_sloppy, with_mark, without_mark, is_marked}

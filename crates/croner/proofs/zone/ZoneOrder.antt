@@ -1,5 +1,5 @@
 -- The order of readings in a calm zone.
-use Rattle.std.proofs.Common.{◌≡◌, ℕ, zero, suc, ◌+◌, ◌*◌, ℤ, pos, negsuc, ◌+ℤ◌, ◌-ℤ◌, ◌<ℤ◌, ◌≤ℤ◌, ◌⊎◌, arith, ◌∙◌, inl, inr, ap, subst}
+use Rattle.std.proofs.Common.{◌≡◌, ℕ, zero, suc, ◌+◌, ◌*◌, ℤ, pos, negsuc, ◌+ℤ◌, ◌-ℤ◌, ◌<ℤ◌, ◌≤ℤ◌, ◌⊎◌, arith, refl, ◌∙◌, inl, inr, ap, subst}
 use Rattle.std.proofs.lemmas.Int.{ints, by_lt_z}
 use borrow.Author.Differences.{up}
 use Rattle.croner_base.specs.Limits.{gap_limit, fold_limit, apart_limit}
@@ -182,40 +182,31 @@ module _ (reads : ℤ → ℤ) (calm : Calm reads) where
       let apart = calm.apart p q turn.breaks other.breaks (omega (arith, ints)) in
       omega (arith, ints)
 
-  -- before a change all readings are lower than right before it, and after it none is lower than at it
-  pub below_before : (p i : ℤ) → Break reads p → i ≤ℤ p → reads i ≤ℤ reads p
-  below_before p i breaks h =
-      elim (cases_lt_z (reads p) (reads i)) [
+  -- up to a change, and from right after it on, no reading is lower than the ones before
+  beside_break : (i j p : ℤ) → Break reads p → i ≤ℤ j → (p ≡ j) ⊎ (p +ℤ pos 1 ≡ i) → reads i ≤ℤ reads j
+  beside_break i j p breaks h beside =
+      elim (cases_lt_z (reads j) (reads i)) [
         | inr le ↦ le
         | inl lt ↦
-            elim (cases_lt_z i p) [
-              | inr at ↦ let same : reads i ≡ reads p = ap reads (omega (arith, ints)) in absurd (omega (arith, ints))
-              | inl under ↦
-                  let (q, turn) = put_back i p under (omega (arith, ints)) in
+            elim (cases_lt_z i j) [
+              | inr at ↦ let same : reads i ≡ reads j = ap reads (omega (arith, ints)) in absurd (omega (arith, ints))
+              | inl before ↦
+                  let (q, turn) = put_back i j before (omega (arith, ints)) in
                   let a = turn.low in
                   let b = turn.high in
                   let c = turn.near in
-                  let apart = calm.apart q p turn.breaks breaks b in
-                  absurd (omega (arith, ints))
+                  elim beside [
+                    | inl at ↦ let apart = calm.apart q p turn.breaks breaks (omega (arith, ints)) in absurd (omega (arith, ints))
+                    | inr at ↦ let apart = calm.apart p q breaks turn.breaks (omega (arith, ints)) in absurd (omega (arith, ints))
+                  ]
             ]
       ]
 
+  pub below_before : (p i : ℤ) → Break reads p → i ≤ℤ p → reads i ≤ℤ reads p
+  below_before p i breaks h = beside_break i p p breaks h (inl refl)
+
   pub above_after : (p i : ℤ) → Break reads p → p <ℤ i → reads (p +ℤ pos 1) ≤ℤ reads i
-  above_after p i breaks h =
-      elim (cases_lt_z (reads i) (reads (p +ℤ pos 1))) [
-        | inr le ↦ le
-        | inl lt ↦
-            elim (cases_lt_z (p +ℤ pos 1) i) [
-              | inr at ↦ let same : reads i ≡ reads (p +ℤ pos 1) = ap reads (omega (arith, ints)) in absurd (omega (arith, ints))
-              | inl above ↦
-                  let (q, turn) = put_back (p +ℤ pos 1) i above (omega (arith, ints)) in
-                  let a = turn.low in
-                  let b = turn.high in
-                  let c = turn.near in
-                  let apart = calm.apart p q breaks turn.breaks (omega (arith, ints)) in
-                  absurd (omega (arith, ints))
-            ]
-      ]
+  above_after p i breaks h = beside_break (p +ℤ pos 1) i p breaks (omega (arith, ints)) (inr refl)
 
   -- a reading between two readings is read between them, or skipped there
   pub read_or_skipped : (w i j : ℤ) → i ≤ℤ j → reads i ≤ℤ w → w ≤ℤ reads j → ((k : ℤ) × (i ≤ℤ k) × (k ≤ℤ j) × (reads k ≡ w)) ⊎ ((p : ℤ) × (i ≤ℤ p) × (p <ℤ j) × (reads p <ℤ w) × (w <ℤ reads (p +ℤ pos 1)))
