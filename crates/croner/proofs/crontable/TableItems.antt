@@ -1,9 +1,10 @@
 -- What an iterator over a table gave between two standings, call by call.
-use Rattle.std.proofs.Common.{◌≡◌, ◌↔◌, ℕ, suc, ◌+◌, ℤ, inl, inr, refl, sym, subst, arith, Bool, true, false, IsTrue, List, [], ◌∷◌, ◌++◌, Option, None, ap, ◌∙◌, get_or}
+use Rattle.std.proofs.Common.{◌≡◌, ◌↔◌, ℕ, zero, suc, ◌+◌, ℤ, ◌⊎◌, inl, inr, refl, sym, subst, arith, Bool, true, false, IsTrue, List, [], ◌∷◌, ◌++◌, Option, None, ap, ◌∙◌, length, map, get_or}
 use Rattle.std.proofs.lemmas.Bool.{false≢true}
 use Rattle.std.proofs.lemmas.Int.{ints}
 use Rattle.std.proofs.lemmas.List.{map_push}
 use Rattle.std.proofs.lemmas.List.Elements.{All-push}
+use Rattle.std.specs.List.{All}
 use Rattle.std.specs.declared.alloc.Global.{Global}
 use Rattle.std.specs.declared.vec.Vec.{Vec}
 use Rattle.croner_base.specs.Calm.{IsCalm}
@@ -13,15 +14,16 @@ use Rattle.croner_base.specs.declared.errors.CronError.TheVariants.{TimeSearchLi
 use Rattle.croner_base.specs.declared.time.Direction.{Direction}
 use Rattle.croner_base.specs.declared.time.Direction.TheVariants.{Forward, Backward}
 use Rattle.croner_pattern.specs.Meaning.{Meaning}
-use Rattle.croner.specs.search.Runs.{Job, Counts, Precedes, Reaches}
+use Rattle.croner.specs.search.Runs.{Job, Run, Counts, Precedes, Reaches}
+use Rattle.croner.specs.iterator.Faults.{fault_of}
 use Rattle.croner.specs.search.Premises.{StartsCalm}
 use Rattle.croner.specs.search.PatternJob.{pattern_job}
 use Rattle.croner.specs.search.Limit.{InSpan}
-use Rattle.croner.specs.crontable.Tables.{CountsAt, ArePlaces}
+use Rattle.croner.specs.crontable.Tables.{CountsAt, TableCounts, ArePlaces}
 use Rattle.croner.specs.crontable.TableListing.{TableStanding, table_standing_of, new_table_standing, counts_table_position, table_moved, IsLeftAt, IsTableLeft, GivesTableItem, GivesNoTableItem}
 use Rattle.croner.specs.crontable.TableItems.{instants_of, HavePlaces, BeginsTableRest, GaveTable, GaveAllTable, table_items, TakesTable, TakesTableInTurn}
 use Rattle.croner.specs.declared.crontable.iterator.CronTableIterator.{CronTableIterator}
-use Rattle.croner.proofs.cursor.Ahead.{same_or_ahead}
+use Rattle.croner.proofs.cursor.Ahead.{precedes-trans, same_or_ahead}
 use Rattle.croner.proofs.iterator.Faults.{no_fault_is_limit}
 use Rattle.croner.proofs.iterator.Listings.{Splits, splits_none, splits_next, IsNext, is_run, begins_where, past_start}
 

@@ -1,9 +1,9 @@
 -- The nearest of the answers of a table's patterns, place by place, and what they come to.
-use Rattle.std.proofs.Common.{◌≡◌, ◌⊎◌, inl, inr, ℕ, ◌+◌, ◌<◌, ℤ, arith, refl, sym, ap, subst, ◌∙◌, Bool, true, List, [], ◌∷◌, ◌++◌, length, get_or, Option, Some, None, Result, Ok, Err}
-use Rattle.std.proofs.lemmas.Bool.{cases_lt}
-use Rattle.std.proofs.lemmas.Int.{ints}
+use Rattle.std.proofs.Common.{◌≡◌, ◌⊎◌, inl, inr, ℕ, zero, suc, ◌+◌, ◌<◌, ◌≤◌, ℤ, pos, ◌+ℤ◌, ◌*ℤ◌, arith, refl, sym, ap, subst, ◌∙◌, Bool, true, false, IsTrue, List, [], ◌∷◌, ◌++◌, length, get_or, map, Option, Some, None, Result, Ok, Err, rules}
+use Rattle.std.proofs.lemmas.Bool.{false≢true, cases_lt}
+use Rattle.std.proofs.lemmas.Int.{ints, by_lt_z}
 use Rattle.std.proofs.lemmas.List.{length_push}
-use Rattle.std.proofs.lemmas.List.Elements.{All-nil, All-push, Contains-push, Contains-append_left}
+use Rattle.std.proofs.lemmas.List.Elements.{All-nil, All-push, All-contains, Contains-push, Contains-append_left}
 use Rattle.std.proofs.lemmas.List.Quantifiers.{all_pairs_push}
 use Rattle.std.proofs.lemmas.Option.{slice_get_within, get_or_from_slice_get}
 use Rattle.std.specs.Prelude.{slice_get, IfOk, IfErr}
@@ -19,13 +19,13 @@ use Rattle.croner_base.specs.Zone.{Zone, Moment, reading, nanos_of}
 use Rattle.croner_pattern.specs.Meaning.{Meaning}
 use Rattle.croner.specs.search.Limit.{InSpan, NoneInSpanWhere, IsPast}
 use Rattle.croner.specs.search.PatternJob.{pattern_job, timetable_of}
-use Rattle.croner.specs.search.Premises.{IsSearchable, StartsCalm}
-use Rattle.croner.specs.search.Refusal.{IsRefusal, IsBackendError}
+use Rattle.croner.specs.search.Premises.{IsSearchable, StartsCalm, Shows}
+use Rattle.croner.specs.search.Refusal.{IsRefusal, IsBackendError, IsLimitOrMemory}
 use Rattle.croner.specs.search.Runs.{Precedes, Reaches, Counts}
 use Rattle.croner.specs.search.Searches.{IsFound, IsRefused}
-use Rattle.croner.specs.crontable.Tables.{CountsAt, TableCounts, ShowsAt, AllPast, IsTableFound, IsTableRefused}
+use Rattle.croner.specs.crontable.Tables.{CountsAt, TableCounts, ArePlaces, ShowsAt, AllPast, IsTableFound, IsTableRefused}
 use Rattle.croner.specs.Private.crontable.Met.{Answers, new_met, IsOrdered, Meets, TakesIn}
-use Rattle.croner.proofs.cursor.Ahead.{reaches-trans, precedes-reaches, not_both, either}
+use Rattle.croner.proofs.cursor.Ahead.{reaches-trans, precedes-reaches, not_both, either, reaches-equal}
 use Rattle.croner.proofs.iterator.Listings.{is_run}
 use Rattle.croner.proofs.iterator.ThereAndBack.{searchable_run}
 use Rattle.croner.proofs.zone.SearchLimit.{calm_start}

@@ -1,15 +1,15 @@
 -- Which runs lie in the span of a search: those that read a year of it, as does the half of a repeated range behind them.
-use Rattle.std.proofs.Common.{◌≡◌, ℤ, pos, ◌+ℤ◌, ◌-ℤ◌, ◌<ℤ◌, ◌≤ℤ◌, arith, refl, sym, ◌∙◌, inl, inr, ap, subst, Bool, true, false, IsTrue, ◌↔◌, Some}
+use Rattle.std.proofs.Common.{◌≡◌, ℤ, pos, ◌+ℤ◌, ◌-ℤ◌, ◌<ℤ◌, ◌≤ℤ◌, ◌⊎◌, arith, refl, sym, ◌∙◌, inl, inr, ap, subst, Bool, true, false, IsTrue, ◌↔◌, Some}
 use Rattle.std.proofs.lemmas.Bool.{false≢true}
 use Rattle.std.proofs.lemmas.Int.{ints}
 use Rattle.croner_base.specs.declared.time.Direction.{Direction}
 use Rattle.croner_base.specs.declared.time.Direction.TheVariants.{Forward, Backward}
 use Rattle.croner_base.specs.Limits.{fold_limit}
 use Rattle.croner_base.specs.Zone.{Zone, Moment, reading}
-use Rattle.croner.specs.search.Runs.{Reaches}
+use Rattle.croner.specs.search.Runs.{Precedes, Reaches}
 use Rattle.croner.specs.search.Limit.{IsWithin, InSpan}
-use Rattle.croner.specs.search.Premises.{StartsCalm}
-use Rattle.croner.specs.Private.search.Halves.{HasTwin, EdgeOf, IsEdge, opposite_way}
+use Rattle.croner.specs.search.Premises.{StartsCalm, IsCalmStart}
+use Rattle.croner.specs.Private.search.Halves.{Break, HasTwin, EdgeOf, IsEdge, opposite_way}
 use Rattle.croner.proofs.zone.ZoneOrder.{Calm, Turned, cases_lt_z, put_back, before_break, after_break, below_before, above_after}
 use Rattle.croner.proofs.zone.CalmZone.{calm_of}
 
