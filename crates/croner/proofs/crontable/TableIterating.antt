@@ -1,10 +1,12 @@
 -- What a call of `next` of an iterator over a table does, from the search that it makes.
-use Rattle.std.proofs.Common.{◌≡◌, ℕ, Bool, Option, Some, None, Result, Ok, Err, IfOk, IfErr, sym, subst, ap, ◌∙◌}
+use Rattle.std.proofs.Common.{◌≡◌, ℕ, IsTrue, Bool, true, List, Option, Some, None, Result, Ok, Err, IfOk, IfErr, sym, subst, inr, ap, ◌∙◌, refl}
 use Rattle.std.specs.declared.alloc.Global.{Global}
 use Rattle.std.specs.declared.vec.Vec.{Vec}
 use Rattle.croner_base.specs.Zone.{Moment}
 use Rattle.croner_base.specs.declared.errors.CronError.{CronError}
 use Rattle.croner_base.specs.declared.errors.CronError.TheVariants.{OutOfMemory}
+use Rattle.croner_base.specs.declared.time.Direction.{Direction}
+use Rattle.croner_pattern.specs.Meaning.{Meaning}
 use Rattle.croner.specs.crontable.Tables.{IsTableFound, IsTableRefused}
 use Rattle.croner.specs.crontable.TableListing.{table_standing_of, counts_table_position, table_moved, TableSettles, TableSteps}
 use Rattle.croner.specs.declared.crontable.iterator.CronTableIterator.{CronTableIterator}

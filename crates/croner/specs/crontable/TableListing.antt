@@ -1,6 +1,7 @@
 -- The listing of a table's runs from a start: lists of instants with their places that begin it, and what an iterator has yet
 -- to give.
-use Rattle.std.specs.Prelude.{◌≡◌, ◌&&◌, ℕ, ℤ, Bool, true, false, IsTrue, List, Option, Some, None, Result, Ok, Err, MatchOption}
+use Rattle.std.specs.Prelude.{◌≡◌, ◌&&◌, ℕ, ℤ, Bool, true, false, IsTrue, List, Option, Some, None, Result, Ok, Err, MatchOption, map}
+use Rattle.std.specs.List.{All}
 use Rattle.croner_base.specs.Zone.{Moment}
 use Rattle.croner_base.specs.declared.errors.CronError.{CronError}
 use Rattle.croner_base.specs.declared.errors.CronError.TheVariants.{OutOfMemory}
@@ -9,7 +10,8 @@ use Rattle.croner_pattern.specs.Meaning.{Meaning}
 use Rattle.std.specs.declared.alloc.Global.{Global}
 use Rattle.std.specs.declared.vec.Vec.{Vec}
 use Rattle.croner.specs.iterator.Faults.{fault_of}
-use Rattle.croner.specs.crontable.Tables.{patterns_of, CountsAt, TableCounts, IsTableFound, IsTableRefused}
+use Rattle.croner.specs.iterator.Listing.{BeginsWhere}
+use Rattle.croner.specs.crontable.Tables.{patterns_of, CountsAt, TableCounts, ArePlaces, IsTableFound, IsTableRefused}
 use Rattle.croner.specs.declared.crontable.iterator.CronTableIterator.{CronTableIterator}
 
 -- where an iterator over a table stands: as one over a pattern, with the table's patterns in the place of the one

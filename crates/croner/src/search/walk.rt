@@ -212,9 +212,8 @@ fn first_second(
     }
 }
 
-/// The nearest run that a walk along the wall clock from the origin meets, over one half of each repeated range. `shown` is
-/// what the origin reads. `None`
-/// where it meets none in the years that are searched, and without a question where nothing is scheduled ahead.
+/// The nearest run that a walk along the wall clock from the origin, which reads `shown`, meets, over one half of each repeated
+/// range; `None` where it meets none in the years that are searched, and without a question where nothing is scheduled ahead.
 pub(crate) fn walk<T: CronDateTime, S: Schedule>(
     alloc: Global,
     schedule: &S,

@@ -1,4 +1,4 @@
-use Rattle.std.proofs.Common.{◌≡◌, length, refl, arith}
+use Rattle.std.proofs.Common.{◌≡◌, ◌+◌, length, refl, arith}
 use Rattle.croner.specs.crontable.Tables.{patterns_of}
 use Rattle.croner.specs.Private.crontable.Met.{met_of}
 use Rattle.croner.specs.Views.{job_of}
