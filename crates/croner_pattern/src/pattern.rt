@@ -268,8 +268,9 @@ impl Clone for CronPattern {
 
     ghost is_clone = { λ original copy. meaning_of copy ≡ meaning_of original };
 
-    // What takes memory comes first, so that nothing that is copied has to wait in a third place.
-    #[inline(always)]
+    // What takes memory comes first, so that nothing that is copied has to wait in a third place. A function of its own,
+    // since a caller that it is built into joins both ways, and puts each field aside for that.
+    #[inline(never)]
     fn clone(&self) -> Result<CronPattern, AllocError> {
         if self.has_fields_of_one_word() {
             let text = self.text.copied(self.alloc)?;
