@@ -104,12 +104,16 @@ fn long_value(alloc: Global, name: &str) -> Result<String, Fault> {
 
 fn copied_job(job: &Cron) -> Result<String, Fault> {
     let copy = job.clone()?;
-    shown(copy.pattern.allocator(), &copy)
+    let text = shown(copy.pattern.allocator(), &copy);
+    drop(copy);
+    text
 }
 
 fn copied_pattern(pattern: &CronPattern) -> Result<String, Fault> {
     let copy = pattern.clone()?;
-    shown(copy.allocator(), &copy)
+    let text = shown(copy.allocator(), &copy);
+    drop(copy);
+    text
 }
 
 const SHOWN: &str = "

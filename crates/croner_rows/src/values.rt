@@ -23,5 +23,6 @@ fn shows_single_values(rt: HostRuntime) -> Result<(), Fail> {
     assert_eq!(rt; date.to_string(rt.alloc())?.as_str(), "-005-01-01");
     let unread = CronPattern::new(rt.alloc(), "a")?;
     assert_eq!(rt; unread.as_str(), "a");
+    drop(unread);
     Ok(())
 }
