@@ -1,5 +1,5 @@
 -- Beyond the instants of a table the clock shows no second of the years that it holds.
-use Rattle.std.proofs.Common.{◌≡◌, ◌∙◌, sym, refl, arith, Bool, true, false, ◌==◌, ℤ, pos, neg_ℤ, ◌+ℤ◌, ◌-ℤ◌, ◌<ℤ◌, ◌≤ℤ◌, int_lt}
+use Rattle.std.proofs.Common.{◌≡◌, ◌∙◌, sym, refl, arith, Bool, true, false, ◌==◌, ℤ, pos, ◌+ℤ◌, ◌-ℤ◌, ◌<ℤ◌, ◌≤ℤ◌, int_lt}
 use Rattle.std.proofs.lemmas.Int.{ints, by_lt_z}
 use Rattle.std.specs.Ordering.{int_cmp, ordering_index}
 use Rattle.std.specs.declared.cmp.Ordering.{Ordering}
@@ -8,10 +8,10 @@ use Rattle.croner_base.specs.declared.time.civil.CivilDateTime.{CivilDateTime}
 use Rattle.croner_base.specs.declared.time.table.ClockTable.{ClockTable}
 use Rattle.croner_base.specs.declared.time.table.TableTime.{TableTime}
 use Rattle.croner_base.specs.Civil.{wall_second}
-use Rattle.croner_base.specs.Table.{is_table_second}
+use Rattle.croner_base.specs.Table.{first_instant, last_instant, offset_limit, is_table_second}
 use Rattle.croner_base.specs.TableZone.{clock, table_zone}
 use Rattle.croner_base.specs.ZonedZone.{is_near_year}
-use Rattle.croner_base.proofs.JiffSeconds.{near_second}
+use Rattle.croner_base.proofs.JiffSeconds.{first_near, last_near, near_second}
 use Rattle.croner_base.proofs.TableTests.{both_parts, le_of, instant_bounds, instant_test}
 use Rattle.croner_base.proofs.TableOffsets.{offset_within}
 use Rattle.croner_base.proofs.TableReadings.{calm_offsets}
@@ -34,22 +34,22 @@ is_greater a b h = grind (arith, ints)
 not_greater : (a b : ℤ) → (int_cmp a b ≡ Greater → ⊥) → int_lt b a ≡ false
 not_greater a b h = by_lt_z b a (λ lt. absurd (h (greater_of a b lt))) (λ ge. lt_false b a ge)
 
-near_bounds : (c : CivilDateTime) → is_near_year c.date.year ≡ true → (neg_ℤ (pos 377_673_580_800) ≤ℤ wall_second c) × (wall_second c ≤ℤ pos 253_370_764_799)
+near_bounds : (c : CivilDateTime) → is_near_year c.date.year ≡ true → (first_near ≤ℤ wall_second c) × (wall_second c ≤ℤ last_near)
 near_bounds c h = let p = both_parts _ _ h in near_second c (le_of _ _ p.0) (le_of _ _ p.1)
 
 -- what the clock shows is at most a day from the instant
-shows_near : (t : ClockTable) (i : ℤ) → ((i -ℤ pos 86_400) ≤ℤ (table_zone t).reads i) × ((table_zone t).reads i ≤ℤ (i +ℤ pos 86_400))
+shows_near : (t : ClockTable) (i : ℤ) → ((i -ℤ pos offset_limit) ≤ℤ (table_zone t).reads i) × ((table_zone t).reads i ≤ℤ (i +ℤ pos offset_limit))
 unfolding clock
 shows_near t i =
     let o = offset_within t.first_offset t.changes.items i (calm_offsets t.first_offset t.changes.items t.calm) in
     (omega (arith, ints, o), omega (arith, ints, o))
 
 -- before the instants of the table
-pub shows_less : (t : ClockTable) (i : ℤ) (c : CivilDateTime) → i <ℤ neg_ℤ (pos 377_705_116_800) → is_near_year c.date.year ≡ true → (table_zone t).reads i <ℤ wall_second c
+pub shows_less : (t : ClockTable) (i : ℤ) (c : CivilDateTime) → i <ℤ first_instant → is_near_year c.date.year ≡ true → (table_zone t).reads i <ℤ wall_second c
 shows_less t i c h near = let s = shows_near t i in let b = near_bounds c near in omega (arith, ints, s, b, h)
 
 -- and after them
-pub shows_more : (t : ClockTable) (i : ℤ) (c : CivilDateTime) → pos 253_402_300_799 <ℤ i → is_near_year c.date.year ≡ true → wall_second c <ℤ (table_zone t).reads i
+pub shows_more : (t : ClockTable) (i : ℤ) (c : CivilDateTime) → last_instant <ℤ i → is_near_year c.date.year ≡ true → wall_second c <ℤ (table_zone t).reads i
 shows_more t i c h near = let s = shows_near t i in let b = near_bounds c near in omega (arith, ints, s, b, h)
 
 -- so an instant that the table does not have lies on the same side of the table's instants as its reading of the second
@@ -57,12 +57,12 @@ pub compares_beyond : (x : TableTime) (i : ℤ) (c : CivilDateTime) → is_table
 compares_beyond x i c out near =
     let t = x.table.now in
     let in_table = instant_bounds x.second x.held in
-    by_lt_z i (neg_ℤ (pos 377_705_116_800))
+    by_lt_z i first_instant
     (λ before.
     let less = shows_less t i c before near in
     less_of i x.second (omega (arith, ints, before, in_table)) ∙ sym (less_of ((table_zone t).reads i) (wall_second c) less))
     (λ from.
-    by_lt_z (pos 253_402_300_799) i
+    by_lt_z last_instant i
     (λ after.
     let more = shows_more t i c after near in
     greater_of i x.second (omega (arith, ints, after, in_table)) ∙ sym (greater_of ((table_zone t).reads i) (wall_second c) more))

@@ -1,7 +1,8 @@
-use Rattle.std.proofs.Common.{◌≡◌, ◌∙◌, sym, true, int_lt, arith, rules, pos, neg_ℤ, ◌-ℤ◌, ◌<ℤ◌, FitsSigned, w64}
+use Rattle.std.proofs.Common.{◌≡◌, ◌∙◌, sym, true, int_lt, arith, rules, pos, ◌-ℤ◌, ◌<ℤ◌, FitsSigned, w64}
 use Rattle.std.proofs.lemmas.Int.{ints, by_lt_z, to_z-of_z}
 use Rattle.std.specs.declared.cmp.Ordering.TheVariants.{Less}
 use Rattle.croner_base.specs.Civil.{wall_second}
+use Rattle.croner_base.specs.Table.{first_instant}
 use Rattle.croner_base.specs.TableZone.{table_zone}
 use Rattle.croner_base.proofs.TableTests.{lt_test}
 use Rattle.croner_backends.proofs.Bounds.{is_less, index_less, index_greater, shows_less}
@@ -26,7 +27,7 @@ returns-then-eq c =
           is_less (z.reads (t.low -ℤ pos 1)) w (rw before.1 at (sym order ∙ sym v.less-is ∙ less))
       | in-None v ↦
           let far = simp to_z-of_z at v.in-None.ensures in
-          let before : (t.low -ℤ pos 1) <ℤ neg_ℤ (pos 377_705_116_800) = by_lt_z _ _ (λ lt. lt) (λ from. absurd (far (omega (arith, ints, from, f)))) in
+          let before : (t.low -ℤ pos 1) <ℤ first_instant = by_lt_z _ _ (λ lt. lt) (λ from. absurd (far (omega (arith, ints, from, f)))) in
           lt_test _ _ (shows_less t.time.table.now (t.low -ℤ pos 1) c.args.civil before near)
     ] in
     let last = simp to_z-of_z at (c.cmp_shown.ensures near) in
