@@ -128,24 +128,6 @@ impl CronComponent {
         }
     }
 
-    /// Takes over all of another component, marks and bounds, in memory of this component's allocator.
-    ///
-    /// It gives what a clone gives, in the place of what was here. The only error is want of memory, and it leaves the
-    /// component as it was.
-    pub fn copy_from(&mut self, other: &CronComponent) -> Result<(), AllocError>
-        ensures ok { OnOk result (self.new ≡ other.now) }
-        ensures err { OnErr result (self.new ≡ self.old) }
-    {
-        self.marks.copy_from(&other.marks, self.alloc)?;
-        self.min = other.min;
-        self.step = other.step;
-        self.from_wildcard = other.from_wildcard;
-        self.enabled_features = other.enabled_features;
-        self.input_offset = other.input_offset;
-        self.sloppy_ranges = other.sloppy_ranges;
-        Ok(())
-    }
-
     /// Whether its values fit one word of 64 bits: a clone of such a component takes no memory.
     #[inline(always)]
     pub fn is_of_one_word(&self) -> bool

@@ -1,6 +1,6 @@
 //! Marks of values, kept as rows of words: one row for each supported modifier, with one bit a value.
 
-ghost use Rattle.std.specs.Prelude.{◌≡◌, ℕ, ◌+◌, ◌*◌, ◌/◌, ◌^◌, ◌<◌, ◌≤◌, true, false, ◌==◌, length, bit_and, bit_or, nat_lt, slice_index, IfOk, OnOk, OnErr, MatchOption};
+ghost use Rattle.std.specs.Prelude.{◌≡◌, ℕ, ◌+◌, ◌*◌, ◌/◌, ◌^◌, ◌<◌, ◌≤◌, true, false, ◌==◌, length, bit_and, bit_or, nat_lt, slice_index, IfOk, MatchOption};
 ghost use Rattle.std.specs.Int.{bit_at};
 ghost use Rattle.croner_base.specs.Field.{room};
 ghost use Rattle.croner_base.specs.Private.Words.Marked.{is_set, set_at, unset_at, nothing_set, GainsRange};
@@ -136,15 +136,6 @@ impl Marks {
             max: self.max,
             supported: self.supported,
         }
-    }
-
-    /// Takes over all of another, in memory of the allocator. An error leaves it as it was.
-    pub fn copy_from(&mut self, other: &Marks, alloc: Global) -> Result<(), AllocError>
-        ensures ok { OnOk result (self.new ≡ other.now) }
-        ensures err { OnErr result (self.new ≡ self.old) }
-    {
-        *self = other.copied(alloc)?;
-        Ok(())
     }
 
     /// Whether the value has one of the modifiers of `bits`.
