@@ -1,5 +1,5 @@
 -- The order of civil date-times is that of their wall seconds, and a wall second has one date and time.
-use Rattle.std.proofs.Common.{◌≡◌, ◌↔◌, ◌==◌, if◌then◌else◌, ap, ℕ, ◌+◌, ◌-◌, ◌%◌, ◌<◌, refl, sym, subst, ◌∙◌, arith, ℤ, pos, neg_ℤ, ◌+ℤ◌, ◌*ℤ◌, ◌<ℤ◌, ◌≤ℤ◌, nat_cmp, int_cmp}
+use Rattle.std.proofs.Common.{◌≡◌, ◌↔◌, ℕ, ◌+◌, ◌-◌, ◌%◌, ◌<◌, refl, sym, subst, ◌∙◌, arith, ℤ, pos, neg_ℤ, ◌+ℤ◌, ◌*ℤ◌, ◌<ℤ◌, ◌≤ℤ◌, nat_cmp, int_cmp}
 use Rattle.std.proofs.lemmas.Int.{by_lt_z}
 use Rattle.std.proofs.Props.{props}
 use mathlib.Core.HLevel.{is_prop→PathP}
@@ -12,13 +12,10 @@ use Rattle.jiff_core.proofs.SignedLemmas.{signed_arith}
 use Rattle.croner_base.specs.declared.time.civil.CivilDate.{CivilDate}
 use Rattle.croner_base.specs.declared.time.civil.CivilTime.{CivilTime}
 use Rattle.croner_base.specs.declared.time.civil.CivilDateTime.{CivilDateTime}
-use Rattle.croner_base.specs.declared.time.civil.Weekday.{Weekday}
-use Rattle.croner_base.specs.declared.time.civil.Weekday.TheVariants.{Sunday, Monday, Tuesday, Wednesday, Thursday, Friday, Saturday}
 use Rattle.croner_base.specs.Calendar.{IsRealDate, day_number, weekday_of_day, day_seconds}
-use Rattle.croner_base.specs.Civil.{wall_second, day_of_date, seconds_of_time, weekday_index}
+use Rattle.croner_base.specs.Civil.{wall_second, day_of_date, seconds_of_time}
 use Rattle.croner_base.specs.Limits.{first_year, last_year, year_limit}
 use Rattle.croner_base.specs.Calm.{IsSearched, IsInReach, IsStart}
-use Rattle.croner_base.specs.Limits.{first_year, last_year}
 use Rattle.croner_base.proofs.ExamplesCalendar.{year_0, year_1, year_5001, year_5002, year_before_9996, year_9998}
 use Rattle.croner_base.proofs.Days.{day_number-parts, day_number-lt_year, day_number-lt_month}
 use Rattle.croner_base.proofs.JiffSeconds.{wall_second-parts}
@@ -171,30 +168,6 @@ weekday_of_day-next n = omega (arith, signed_arith)
 pub weekday_of_day-epoch : weekday_of_day (pos 0) ≡ 4
 unfolding weekday_of_day
 weekday_of_day-epoch = refl
-
--- a weekday is its number
-of_number : ℕ → Weekday
-of_number n =
-    if n == 0 then Sunday
-    else (if n == 1 then Monday
-    else (if n == 2 then Tuesday
-    else (if n == 3 then Wednesday
-    else (if n == 4 then Thursday
-    else (if n == 5 then Friday
-    else Saturday)))))
-
-of_number-index : (w : Weekday) → of_number (weekday_index w) ≡ w
-unfolding of_number
-of_number-index Sunday = refl
-of_number-index Monday = refl
-of_number-index Tuesday = refl
-of_number-index Wednesday = refl
-of_number-index Thursday = refl
-of_number-index Friday = refl
-of_number-index Saturday = refl
-
-pub weekday_index-injective : (a b : Weekday) → weekday_index a ≡ weekday_index b → a ≡ b
-weekday_index-injective a b e = sym (of_number-index a) ∙ ap of_number e ∙ of_number-index b
 
 -- years from one to another are the wall seconds from the first of the one to the last of the other
 years_between : (c : CivilDateTime) (y z a b : ℤ) → day_number y 1 1 *ℤ pos day_seconds ≡ a → day_number (z +ℤ pos 1) 1 1 *ℤ pos day_seconds ≡ b +ℤ pos 1 → ((a ≤ℤ wall_second c) × (wall_second c ≤ℤ b)) ↔ ((y ≤ℤ c.date.year) × (c.date.year ≤ℤ z))

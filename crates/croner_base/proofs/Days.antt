@@ -1,6 +1,6 @@
 -- How day numbers go on from a date to the next.
 use mir.Val.{bool_byte}
-use Rattle.std.proofs.Common.{add-one, add-zero, Bool, true, false, sym, nat_lt, get_or, [], ◌∷◌, ◌≡◌, ℕ, zero, suc, ◌+◌, ◌-◌, ◌<◌, ◌≤◌, ◌⊎◌, refl, ◌∙◌, arith, ℤ, pos, negsuc, neg_ℤ, ◌+ℤ◌, ◌-ℤ◌, ◌<ℤ◌, ◌≤ℤ◌}
+use Rattle.std.proofs.Common.{add-one, add-zero, Bool, true, false, sym, nat_lt, get_or, [], ◌∷◌, ◌≡◌, ℕ, zero, suc, ◌+◌, ◌-◌, ◌<◌, ◌≤◌, refl, ◌∙◌, arith, ℤ, pos, negsuc, neg_ℤ, ◌+ℤ◌, ◌-ℤ◌, ◌<ℤ◌, ◌≤ℤ◌}
 use Rattle.std.specs.Int.{IsInRange}
 use Rattle.std.proofs.lemmas.Bool.Decides.{nat_tests}
 use Rattle.jiff_core.specs.Calendar.{is_leap_year, days_in_year, days_in_month, days_of_months, day_of_year, day_count, days_from_civil}
@@ -57,10 +57,6 @@ day_number-next_month y m d h e =
 pub day_number-next_year : (y : ℤ) → day_number (y +ℤ pos 1) 1 1 ≡ day_number y 12 31 +ℤ pos 1
 day_number-next_year y =
     omega (arith, signed_arith, day_number-parts (y +ℤ pos 1) 1 1, day_number-parts y 12 31, year_start-next y, days_of_months_more y 12 (omega arith), days_of_months_all y, days_of_months-zero (y +ℤ pos 1))
-
--- dates in order have day numbers in order
-abbrev pub IsEarlier : ℤ → ℕ → ℕ → ℤ → ℕ → ℕ → Type 0
-IsEarlier y m d y₂ m₂ d₂ = (y <ℤ y₂) ⊎ ((y ≡ y₂) × ((m < m₂) ⊎ ((m ≡ m₂) × (d < d₂))))
 
 pub day_number-lt_year : (y : ℤ) (m d : ℕ) (y₂ : ℤ) (m₂ d₂ : ℕ) → IsRealDate y m d → IsRealDate y₂ m₂ d₂ → y <ℤ y₂ → day_number y m d <ℤ day_number y₂ m₂ d₂
 day_number-lt_year y m d y₂ m₂ d₂ h h₂ lt =

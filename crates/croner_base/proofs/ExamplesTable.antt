@@ -1,5 +1,5 @@
 -- Tables that are accepted and refused, and what their clocks read, computed from the definitions.
-use Rattle.std.proofs.Common.{◌≡◌, refl, true, false, ℕ, ◌+◌, ℤ, pos, neg_ℤ, ◌+ℤ◌, ◌-ℤ◌, ◌*ℤ◌, List, [], ◌∷◌}
+use Rattle.std.proofs.Common.{◌≡◌, refl, true, false, ◌+◌, ℤ, pos, neg_ℤ, ◌+ℤ◌, ◌-ℤ◌, ◌*ℤ◌, List, [], ◌∷◌}
 use Rattle.jiff_core.specs.Calendar.{days_of_months}
 use Rattle.croner_base.specs.declared.time.value.Resolution.TheVariants.{Single, Ambiguous, Gap}
 use Rattle.croner_base.specs.Calendar.{day_number, year_start, days_since_zero, day_seconds}

@@ -1,5 +1,5 @@
 -- Wall seconds and jiff's civil seconds.
-use Rattle.std.proofs.Common.{ℕ, ◌%◌, true, false, ◌≡◌, ◌+◌, ◌-◌, refl, sym, ap, ◌∙◌, arith, ℤ, pos, neg_ℤ, ◌+ℤ◌, ◌-ℤ◌, ◌*ℤ◌, ◌≤ℤ◌}
+use Rattle.std.proofs.Common.{◌%◌, true, false, ◌≡◌, ◌+◌, ◌-◌, refl, sym, ap, ◌∙◌, arith, ℤ, pos, neg_ℤ, ◌+ℤ◌, ◌-ℤ◌, ◌*ℤ◌, ◌≤ℤ◌}
 use Rattle.std.proofs.lemmas.Int.{by_lt_z}
 use Rattle.std.specs.Int.{int_div_euclid}
 use Rattle.jiff_core.specs.Calendar.{IsYear, IsEpochDay, weekday_number}
@@ -14,8 +14,7 @@ use Rattle.croner_base.specs.declared.time.civil.CivilDateTime.{CivilDateTime}
 use Rattle.croner_base.specs.declared.time.civil.CivilDate.{CivilDate}
 use Rattle.croner_base.specs.Limits.{year_limit}
 use Rattle.croner_base.specs.Calendar.{IsRealDate, day_number, weekday_of_day, day_seconds}
-use Rattle.croner_base.specs.declared.time.civil.CivilTime.{CivilTime}
-use Rattle.croner_base.specs.Civil.{HasYmd, wall_second, day_of_date, seconds_of_time, weekday_of_second}
+use Rattle.croner_base.specs.Civil.{wall_second, day_of_date, seconds_of_time, weekday_of_second}
 use Rattle.croner_base.specs.CivilZone.{is_jiff_second}
 use Rattle.croner_base.specs.Table.{first_instant, last_instant}
 use Rattle.croner_base.proofs.TableTests.{between_test, between_false}
@@ -168,8 +167,3 @@ day_before = omega (arith, signed_arith, first_day, day_number-next_year (first_
 
 pub day_after : day_number (last_jiff_year +ℤ pos 1) 1 1 ≡ pos 2_932_897
 day_after = omega (arith, signed_arith, last_day, day_number-next_year last_jiff_year)
-
-pub wall_second-of : (c : CivilDateTime) (d : CivilDate) (t : CivilTime) (y : ℤ) (m n s : ℕ) (day : ℤ) → c.date ≡ d → c.time ≡ t → HasYmd y m n d → seconds_of_time t ≡ s → day_number y m n ≡ day → wall_second c ≡ day *ℤ pos day_seconds +ℤ pos s
-wall_second-of c d t y m n s day p q h e f =
-    let same : day_of_date d ≡ day = rw (h.year_is, h.month_is, h.day_is) f in
-    wall_second-parts c ∙ rw (p, q, same, e)

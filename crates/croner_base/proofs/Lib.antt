@@ -19,6 +19,9 @@ pub mod PickExact
 pub mod ExamplesParts
 pub mod TableMoments
 pub mod TableCalm
+pub mod ZoneYears
+pub mod ZoneStays
+pub mod ZoneChanges
 pub mod Filling
 pub mod MarkSets
 pub mod Parts
@@ -29,6 +32,7 @@ pub mod Stepping
 pub mod Steps
 pub mod Texts
 pub mod ExamplesTable
+pub mod ExamplesZones
 pub mod Excerpts
 mod Defaults
 mod Counts

@@ -226,9 +226,6 @@ empty_list : (xs : List ℕ) → eqb (length xs) 0 ≡ true → xs ≡ []
 empty_list [] h = refl
 empty_list (x ∷ xs) h = absurd (omega (arith, eqb-true (length (x ∷ xs)) 0 h))
 
-names-empty : (shape : Shape) (k w : ℕ) → names k (part_of shape []) w ≡ false
-names-empty shape k w = refl
-
 names-first : (shape : Shape) (text : List ℕ) (k w : ℕ) → names k (cond (eqb (length text) 0) nothing (part_of shape text)) w ≡ names k (part_of shape text) w
 names-first shape text k w = elim (cases_Bool (eqb (length text) 0)) [
   | inl hit ↦ rw hit (sym (ap (λ t. names k (part_of shape t) w) (empty_list text hit)))

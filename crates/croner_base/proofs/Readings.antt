@@ -34,13 +34,6 @@ Completes-all r f = record { accepted = refl; state = refl }
 pub shape-Reads : {X : Type 0} {r : Reading} {old new : Field} {answer : Result X CronError} → Reads r old new answer → new.shape ≡ old.shape
 shape-Reads {r = r} {old = old} h = ap (λ f. f.shape) h.state ∙ shape-applied r.done old
 
--- what completes the whole does so to the end
-pub Reads-completes : {X : Type 0} {rest whole : Reading} {here start new : Field} {answer : Result X CronError} → Completes rest here whole start → Reads rest here new answer → Reads whole start new answer
-Reads-completes {answer = answer} c h = record {
-  answer = subst (λ b. SucceedsIff b answer) c.accepted h.answer;
-  state = h.state ∙ c.state;
-}
-
 -- after a first step that succeeded the next completes the whole
 pub Completes-next : {X : Type 0} {first whole : Reading} {here start new : Field} {x : X} (next : Reading) → Reads first here new (Ok x) → Completes (first then next) here whole start → Completes next new whole start
 Completes-next {first = first} {here = here} next h c =
@@ -80,12 +73,3 @@ all_marked-fault shape bits v last {whole} {here} {start} {new} {e} same h a err
     (Reads-set_bit here.shape bits v {answer = Err e} a tt err)
     (subst (λ s. Completes (marked s bits v then all_marked shape bits (values_between (v + 1) last)) here whole start) (sym same)
     (subst (λ r. Completes r here whole start) (all_marked-more shape bits v last h) c))
-
-pub all_marked-next : (shape : Shape) (bits v last : ℕ) {whole : Reading} {here start new : Field} → here.shape ≡ shape → v ≤ last → can_mark here.shape v bits ≡ true → new ≡ with_mark here (v - here.shape.offset) bits → Completes (all_marked shape bits (values_between v last)) here whole start → (new.shape ≡ shape) × Completes (all_marked shape bits (values_between (v + 1) last)) new whole start
-all_marked-next shape bits v last {whole} {here} {start} {new} same h a ok c =
-    let one : Reads {X = Unit {0}} (marked here.shape bits v) here new (Ok tt) = Reads-set_bit here.shape bits v {answer = Ok tt} a ok tt in (
-      shape-Reads one ∙ same,
-      Completes-next (all_marked shape bits (values_between (v + 1) last)) one
-          (subst (λ s. Completes (marked s bits v then all_marked shape bits (values_between (v + 1) last)) here whole start) (sym same)
-          (subst (λ r. Completes r here whole start) (all_marked-more shape bits v last h) c)),
-    )

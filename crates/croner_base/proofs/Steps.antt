@@ -7,7 +7,7 @@ use Rattle.croner_base.specs.Field.{Shape, Field, can_mark, with_mark}
 use Rattle.croner_base.specs.Answers.{IsFieldError}
 use Rattle.croner_base.specs.Part.{marked, all_marked, stepped, stepped_marks}
 use Rattle.croner_base.specs.Reading.{Effect, Reading, refused, nothing, ◌then◌, wants, Reads, applied}
-use Rattle.croner_base.proofs.Readings.{Completes, Completes-next, Reads-fault, Reads-set_bit, shape-Reads, Completes-all}
+use Rattle.croner_base.proofs.Readings.{Completes, Completes-next, Reads-fault, Reads-set_bit, shape-Reads}
 
 then_assoc-at : (x y : Bool) (xs ys : List Effect) (c : Reading) → let a : Reading = record { done = xs; accepted = x } in let b : Reading = record { done = ys; accepted = y } in (a then b) then c ≡ a then (b then c)
 then_assoc-at false y xs ys c = refl
@@ -93,13 +93,3 @@ stepped-over shape bits v e step {whole} {here} {start} h fault c =
       answer = (sym c.accepted ∙ ap (λ r. r.accepted) stop, fault);
       state = sym (ap (λ r. applied r.done here) stop) ∙ c.state;
     }
-
--- at the end
-pub stepped-end : (shape : Shape) (bits v e step : ℕ) {whole : Reading} {here start : Field} → e < v → Completes (rest_from shape bits v e step) here whole start → Completes nothing here whole start
-stepped-end shape bits v e step {whole} {here} {start} h c =
-    subst (λ r. Completes r here whole start) (ap (λ b. cond b (stepped_marks shape bits v e step) nothing) (lt-leb v e h)) c
-
--- at the start
-pub stepped-start : (shape : Shape) (bits v e step : ℕ) (start : Field) → v ≤ e → Completes (rest_from shape bits v e step) start (stepped_marks shape bits v e step) start
-stepped-start shape bits v e step start h =
-    subst (λ r. Completes r start (stepped_marks shape bits v e step) start) (sym (ap (λ b. cond b (stepped_marks shape bits v e step) nothing) (le-leb v e h))) (Completes-all _ start)

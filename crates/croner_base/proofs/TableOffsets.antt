@@ -1,5 +1,5 @@
 -- The offsets of a table around an instant.
-use Rattle.std.proofs.Common.{ℕ, ◌+◌, ◌<◌, length, get_or, drop, drop-cons, add-one, ◌≡◌, ◌⊎◌, inl, inr, true, false, refl, arith, ℤ, pos, neg_ℤ, ◌+ℤ◌, ◌-ℤ◌, ◌<ℤ◌, ◌≤ℤ◌, List, [], ◌∷◌, int_le}
+use Rattle.std.proofs.Common.{◌+◌, ◌<◌, ◌≡◌, ◌⊎◌, inl, inr, true, false, refl, arith, ℤ, pos, neg_ℤ, ◌+ℤ◌, ◌-ℤ◌, ◌<ℤ◌, ◌≤ℤ◌, List, [], ◌∷◌, int_le}
 use Rattle.std.proofs.lemmas.Int.{ints, by_lt_z}
 use Rattle.jiff_core.proofs.SignedLemmas.{signed_arith}
 use Rattle.croner_base.specs.Limits.{apart_limit}
@@ -66,10 +66,3 @@ candidates o cs w i s a e =
       | inl p ↦ inl (omega (arith, signed_arith, e, p))
       | inr p ↦ inr (omega (arith, signed_arith, e, p))
     ]
-
--- a change at or before the instant is passed
-pub offset_at-passed : (cs : List (ℤ × ℤ)) (k : ℕ) (o s r : ℤ) → k < length cs → (get_or cs k (pos 0, pos 0)).0 ≤ℤ s → offset_at o (drop k cs) s ≡ r → offset_at (get_or cs k (pos 0, pos 0)).1 (drop (k + 1) cs) s ≡ r
-offset_at-passed cs k o s r h le e =
-    let t : int_le (get_or cs k (pos 0, pos 0)).0 s ≡ true = int_le-true _ s le in
-    let e2 = rw (drop-cons cs k (pos 0, pos 0) h, t) at e in
-    rw add-one e2

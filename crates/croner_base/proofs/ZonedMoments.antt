@@ -42,9 +42,6 @@ shown_is tz dt i n e r h =
 pub nanos_of-zoned : (z : Zoned) → nanos_of (zoned_moment z) ≡ z.timestamp.nanosecond
 nanos_of-zoned z = omega (arith, signed_arith)
 
-pub floor_in_range : (n : ℤ) → IsTimestampNanos n → IsTimestampNanos (int_div_euclid n (pos 1_000_000_000) *ℤ pos 1_000_000_000)
-floor_in_range n h = (omega (arith, signed_arith), omega (arith, signed_arith))
-
 pub is_timestamp_second-true : (i : ℤ) → first_timestamp ≤ℤ i → i ≤ℤ last_timestamp → is_timestamp_second i ≡ true
 is_timestamp_second-true i low high = between_test first_timestamp last_timestamp i low high
 

@@ -10,6 +10,7 @@ pub mod Limits
 pub mod Calm
 pub mod Table
 pub mod TableZone
+pub mod ZoneTable
 pub mod Answers
 pub mod Excerpt
 pub mod Field

@@ -6,6 +6,38 @@ use Rattle.std.specs.Str.Parse.{digits_value, without_leading_plus}
 use Rattle.croner_base.specs.Field.{Shape, can_mark, has_all, is_in_bounds, values_between}
 use Rattle.croner_base.specs.Reading.{marks, enables, steps, stars, Reading, nothing, did, ◌then◌, wants, with}
 
+-- ---- the signs of a part, and the bits of the modifiers that it can name
+
+abbrev pub hash : ℕ
+hash = 35
+
+abbrev pub comma : ℕ
+comma = 44
+
+abbrev pub dash : ℕ
+dash = 45
+
+abbrev pub slash : ℕ
+slash = 47
+
+abbrev pub letter_l : ℕ
+letter_l = 76
+
+abbrev pub letter_w : ℕ
+letter_w = 87
+
+abbrev pub plain_bit : ℕ
+plain_bit = 1
+
+abbrev pub nth_bits : ℕ
+nth_bits = 62
+
+abbrev pub last_bit : ℕ
+last_bit = 64
+
+abbrev pub nearest_bit : ℕ
+nearest_bit = 128
+
 -- one or more decimal digits that write at most 65535, after at most one plus
 abbrev pub number_of : List ℕ → Option ℕ
 number_of text =
@@ -36,7 +68,7 @@ two_of (a ∷ b ∷ []) = Some (a, b)
 two_of other = None
 
 abbrev pub ends_in_l : List ℕ → Bool
-ends_in_l text = slice_index text (length text - 1) == 76
+ends_in_l text = slice_index text (length text - 1) == letter_l
 
 -- the modifier of a part: last, an nth, or plain
 abbrev pub nth_bit : ℕ → Option ℕ
@@ -44,12 +76,12 @@ nth_bit n = if nat_le 1 n && nat_le n 5 then Some (2 ^ n) else None
 
 abbrev pub tag_of : List ℕ → Option ℕ
 tag_of part =
-    if ends_in_l part then Some 64
-    else if contains_byte 35 part then option_and_then nth_bit (number_of (after_first (λ b. b == 35) part))
-    else Some 1
+    if ends_in_l part then Some last_bit
+    else if contains_byte hash part then option_and_then nth_bit (number_of (after_first (λ b. b == hash) part))
+    else Some plain_bit
 
 abbrev pub head_of : List ℕ → List ℕ
-head_of part = before_first (λ b. b == 35) part
+head_of part = before_first (λ b. b == hash) part
 
 -- s, s + step, .. up to e
 abbrev pub stepped : ℕ → ℕ → ℕ → List ℕ
@@ -66,8 +98,8 @@ stepped_marks f bits s e step =
 abbrev pub step_bounds : Shape → List ℕ → Option (ℕ × ℕ)
 step_bounds f left =
     if bytes_eq left (codes "*") then Some (f.min + f.offset, f.max)
-    else if contains_byte 45 left then
-    option_and_then (λ sides. option_and_then (λ a. option_and_then (λ b. Some (a, b)) (number_of sides.1)) (number_of sides.0)) (two_of (pieces_at 45 left))
+    else if contains_byte dash left then
+    option_and_then (λ sides. option_and_then (λ a. option_and_then (λ b. Some (a, b)) (number_of sides.1)) (number_of sides.0)) (two_of (pieces_at dash left))
     else if not f.sloppy then None
     else if length left == 0 then Some (f.min + f.offset, f.max)
     else option_and_then (λ a. Some (a, f.max)) (number_of left)
@@ -79,7 +111,7 @@ is_starred f left = bytes_eq left (codes "*") || (f.sloppy && length left == 0)
 abbrev pub stepping : Shape → List ℕ → Reading
 stepping f part =
     with (tag_of part) (λ tag.
-    with (two_of (pieces_at 47 (head_of part))) (λ sides.
+    with (two_of (pieces_at slash (head_of part))) (λ sides.
     with (number_of sides.1) (λ step.
     did (steps step)
     then wants (not (step == 0)) nothing
@@ -91,7 +123,7 @@ stepping f part =
 abbrev pub ranged : Shape → List ℕ → Reading
 ranged f part =
     with (tag_of part) (λ tag.
-    with (two_of (pieces_at 45 (head_of part))) (λ sides.
+    with (two_of (pieces_at dash (head_of part))) (λ sides.
     with (number_of (trim sides.0)) (λ a.
     with (number_of (trim sides.1)) (λ b.
     wants ((nat_le f.min a && nat_le b f.max) && nat_le a b)
@@ -103,26 +135,26 @@ is_letter_l text = bytes_eq text (codes "L") || bytes_eq text (codes "l")
 
 abbrev pub nearest_weekday : Shape → List ℕ → Reading
 nearest_weekday f part =
-    let day = before_first (λ b. b == 87) part in
-    if is_letter_l day then (enabled f 64 then enabled f 128)
-    else with (number_of day) (λ n. wants (is_in_bounds f n) (marked f 128 n))
+    let day = before_first (λ b. b == letter_w) part in
+    if is_letter_l day then (enabled f last_bit then enabled f nearest_bit)
+    else with (number_of day) (λ n. wants (is_in_bounds f n) (marked f nearest_bit n))
 
 abbrev pub single : Shape → ℕ → List ℕ → Reading
 single f tag head = with (number_of head) (λ n. wants (is_in_bounds f n) (marked f tag n))
 
 abbrev pub one_number : Shape → List ℕ → Reading
 one_number f part =
-    wants (not (contains_byte 35 part || contains_byte 76 part) || has_all f.supported 62)
-    (if ends_in_l part && not (contains_byte 35 part)
-    then single f 64 (before_first (λ b. b == 76) part)
+    wants (not (contains_byte hash part || contains_byte letter_l part) || has_all f.supported nth_bits)
+    (if ends_in_l part && not (contains_byte hash part)
+    then single f last_bit (before_first (λ b. b == letter_l) part)
     else with (tag_of part) (λ tag. single f tag (head_of part)))
 
 abbrev pub part_of : Shape → List ℕ → Reading
 part_of f part =
-    if contains_byte 47 part then stepping f part
-    else if contains_byte 45 part then ranged f part
-    else if contains_byte 87 part then nearest_weekday f part
-    else if is_letter_l part then enabled f 64
+    if contains_byte slash part then stepping f part
+    else if contains_byte dash part then ranged f part
+    else if contains_byte letter_w part then nearest_weekday f part
+    else if is_letter_l part then enabled f last_bit
     else one_number f part
 
 -- the parts of a list, empty ones skipped, up to the first that is refused
@@ -135,5 +167,5 @@ parts_of f (part ∷ parts) =
 abbrev pub field_of : Shape → List ℕ → Reading
 field_of f text =
     if bytes_eq text (codes "*")
-    then (did stars then all_marked f 1 (range_with_len (f.min + f.offset) ((f.max + 1) - f.min)))
-    else parts_of f (pieces_at 44 text)
+    then (did stars then all_marked f plain_bit (range_with_len (f.min + f.offset) ((f.max + 1) - f.min)))
+    else parts_of f (pieces_at comma text)

@@ -1,3 +1,4 @@
 -- How tables are checked and marks are kept. Private contracts alone cite these definitions.
 pub mod TableSteps
 pub mod Words
+pub mod ZoneSteps

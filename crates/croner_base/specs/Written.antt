@@ -33,21 +33,21 @@ field_writes f =
     sets_writes f.marks f.shape.max f.shape.supported ++ fed.u16 f.shape.min ++ fed.u16 f.shape.max ++ fed.u16 f.step ++ fed.bool f.wildcard ++ fed.u8 f.shape.supported ++ fed.u8 f.enabled ++ fed.u16 f.shape.offset ++ fed.bool f.shape.sloppy
 
 -- a tie of two orders is a tie of each
-tie : (a b : Ordering) → is_eq (ordering_then a b) ≡ true → (is_eq a ≡ true) × (is_eq b ≡ true)
+pub tie : (a b : Ordering) → is_eq (ordering_then a b) ≡ true → (is_eq a ≡ true) × (is_eq b ≡ true)
 tie Less b h = absurd (false≢true h)
 tie Equal b h = (refl, h)
 tie Greater b h = absurd (false≢true h)
 
-nat_tie : (a b : ℕ) → is_eq (nat_cmp a b) ≡ true → a ≡ b
+pub nat_tie : (a b : ℕ) → is_eq (nat_cmp a b) ≡ true → a ≡ b
 nat_tie a b h = grind (arith, nat_tests)
 
-bool_tie : (a b : Bool) → is_eq (bool_cmp a b) ≡ true → a ≡ b
+pub bool_tie : (a b : Bool) → is_eq (bool_cmp a b) ≡ true → a ≡ b
 bool_tie false false h = refl
 bool_tie false true h = absurd (false≢true h)
 bool_tie true false h = absurd (false≢true h)
 bool_tie true true h = refl
 
-list_tie : (xs ys : List ℕ) → is_eq (slice_cmp nat_cmp xs ys) ≡ true → xs ≡ ys
+pub list_tie : (xs ys : List ℕ) → is_eq (slice_cmp nat_cmp xs ys) ≡ true → xs ≡ ys
 list_tie [] [] h = refl
 list_tie [] (y ∷ ys) h = absurd (false≢true h)
 list_tie (x ∷ xs) [] h = absurd (false≢true h)

@@ -6,7 +6,7 @@
 ghost use Rattle.std.specs.Prelude.{◌≡◌, ◌+◌, ◌-◌, ◌≤◌, ◌<◌, ◌==◌, ℕ, true, length, OnOk, OnErr, IfOk, IfErr, MatchOption};
 ghost use Rattle.std.specs.Int.{bit_at};
 ghost use Rattle.croner_base.specs.Answers.{SucceedsIff};
-ghost use Rattle.croner_base.specs.Field.{with_mark, without_mark, with_sloppy, is_marked, can_mark, can_ask, is_of_one_word, default_field, empty_field, new_shape, has_all, has_any, has_modifiers, marked_values};
+ghost use Rattle.croner_base.specs.Field.{with_mark, without_mark, with_sloppy, is_marked, can_mark, can_ask, is_of_one_word, default_field, empty_field, new_shape, has_all, has_modifiers, marked_values};
 ghost use Rattle.croner_base.specs.Marks.{IsWellFormed, HasNoPlainFrom, IsLeastPlainValue, HasNoPlainTo, IsGreatestPlainValue};
 ghost use Rattle.croner_base.specs.Part.{enabled};
 ghost use Rattle.croner_base.specs.Reading.{Reads};
@@ -56,9 +56,9 @@ pub const CLOSEST_WEEKDAY_BIT: u8 = 128;
 ///
 /// Marks are added by [`parse`](Self::parse), [`handle_stepping`](Self::handle_stepping) and
 /// [`set_bit`](Self::set_bit). The component keeps the allocator that its maker took: room for every mark is taken
-/// by [`new`](Self::new), and later calls take memory for the message of a refusal and for the lists that they
-/// answer alone.
-#[derive(Debug, Drop)]
+/// by [`new`](Self::new). Later calls take memory for the message of a refusal, for the lists that they answer, and
+/// for a clone whose values do not fit one word, and for nothing else.
+#[derive(Debug)]
 pub struct CronComponent {
     marks: Marks,
     min: u16,
@@ -79,6 +79,22 @@ impl Model for CronComponent {
     ghost view = { λ c. record { shape = record { min = c.min; max = c.marks.max; supported = c.marks.supported; offset = c.input_offset; sloppy = c.sloppy_ranges }; marks = c.marks.marks; enabled = c.enabled_features; step = c.step; wildcard = c.from_wildcard } };
 
     ghost invariant = { λ c. (length c.marks.marks ≡ room c.marks.max) × (c.min ≤ c.marks.max) × (c.marks.max + c.input_offset < 2 ^ 16) };
+}
+
+// By hand, so that a function that lets a component go calls this one.
+impl Drop for CronComponent {
+    fn drop(self) {
+        let CronComponent {
+            marks: _,
+            min: _,
+            step: _,
+            from_wildcard: _,
+            enabled_features: _,
+            input_offset: _,
+            sloppy_ranges: _,
+            alloc: _,
+        } = self;
+    }
 }
 
 impl CronComponent {
@@ -169,14 +185,15 @@ impl CronComponent {
         self.marks.max()
     }
 
-    /// The step of the last part with a `/` that was read, also of a refused one; 1 before any.
+    /// The step of the last part with a `/` whose step was read, also of one that was refused for another reason then. Before
+    /// any it is 1, and 0 in a default component.
     pub fn step(&self) -> u16
         ensures { result ≡ self.now.step }
     {
         self.step
     }
 
-    /// Whether a `*` was read: as the whole field, or before a `/`.
+    /// Whether a `*` was read: as the whole field, or before a `/`, where with sloppy ranges nothing stands for one too (`/10`).
     pub fn from_wildcard(&self) -> bool
         ensures { result ≡ self.now.wildcard }
     {
@@ -375,8 +392,14 @@ impl CronComponent {
     }
 }
 
+/// A copy is equal in all its parts. The only error is want of memory, and a component of one word takes none.
 impl Clone for CronComponent {
+    ghost use Rattle.std.specs.Prelude.{◌≡◌, true};
+    ghost use Rattle.croner_base.specs.Field.{is_of_one_word};
+
     ghost is_clone = { λ original copy. copy ≡ original };
+
+    ghost is_infallible = { λ original. is_of_one_word original.shape ≡ true };
 
     #[inline(always)]
     fn clone(&self) -> Result<CronComponent, AllocError> {

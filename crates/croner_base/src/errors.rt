@@ -14,7 +14,7 @@ pub enum CronError {
     EmptyPattern,
     /// There is no such date, or the time library doesn't hold it.
     InvalidDate,
-    /// There is no such time of day, or the time library or a table doesn't hold it.
+    /// There is no such time of day, or the time library doesn't hold it; or a table of offsets, or a second on one, is refused.
     InvalidTime,
     /// A search came to the end of the years, of its passes or of its look over a gap.
     TimeSearchLimitExceeded,

@@ -1,7 +1,7 @@
 //! Steps along the wall clock: to the second, and to the day, that is next to one.
-ghost use Rattle.std.specs.Prelude.{◌≡◌, ◌+◌, ◌-◌, pos, neg_ℤ, ◌+ℤ◌, ◌-ℤ◌, MatchOption};
+ghost use Rattle.std.specs.Prelude.{◌≡◌, ◌+◌, ◌-◌, pos, ◌+ℤ◌, ◌-ℤ◌, MatchOption};
 ghost use Rattle.croner_base.specs.Calendar.{day_seconds};
-ghost use Rattle.croner_base.specs.Civil.{HasYmd, wall_second, day_of_date, seconds_of_time};
+ghost use Rattle.croner_base.specs.Civil.{wall_second, day_of_date, seconds_of_time};
 ghost use Rattle.croner_base.specs.Ends.{IsLastDate, IsFirstDate};
 
 use crate::time::{CivilDate, CivilDateTime, CivilTime, days_in_month};

@@ -1,13 +1,13 @@
 -- Tests of a field by counting and by its first value.
-use Rattle.std.proofs.Common.{◌≡◌, ℕ, zero, suc, ◌+◌, ◌-◌, ◌<◌, ◌≤◌, Bool, true, false, not, cond, ◌&&◌, eqb, leb, List, [], ◌∷◌, length, get_or, refl, ap, sym, ◌∙◌, arith, inl, inr}
+use Rattle.std.proofs.Common.{◌≡◌, ℕ, zero, suc, ◌+◌, ◌-◌, ◌<◌, ◌≤◌, Bool, true, false, not, cond, ◌&&◌, eqb, leb, List, [], length, get_or, refl, ap, sym, ◌∙◌, arith, inl, inr}
 use Rattle.std.specs.List.{filter, list_all, range_with_len}
-use Rattle.std.proofs.lemmas.Bool.{and_parts, cases_Bool, cases_eq, false≢true}
+use Rattle.std.proofs.lemmas.Bool.{and_parts, cases_Bool, cases_eq}
 use Rattle.std.proofs.lemmas.Bool.Decides.{nat_tests}
 use Rattle.std.proofs.lemmas.List.{get_or_past}
 use Rattle.croner_base.specs.Field.{Field, has_all, has_any, is_in_bounds, is_marked, room, values_between}
 use Rattle.croner_base.specs.Marks.{IsWellFormed, HasNoPlainFrom, IsLeastPlainValue}
 use Rattle.croner_pattern.specs.Schedule.{is_plain}
-use Rattle.croner_pattern.specs.Description.{plain_values, first_value, is_only, is_one, begins_with}
+use Rattle.croner_pattern.specs.Description.{plain_values, first_value, begins_with}
 
 -- values from a place on don't begin with an earlier one
 later : (p : ℕ → Bool) (n a value : ℕ) → value < a → begins_with value (filter p (range_with_len a n)) ≡ false
@@ -96,21 +96,6 @@ not_with_zero f h =
       | inl given ↦ rw given (later (is_marked 1 f) ((f.shape.max + 1) - f.shape.min) f.shape.min 0 h)
       | inr lacking ↦ rw lacking refl
     ]
-
--- 0 alone is one value, the first of which is 0
-pub not_zero : (s : Bool) (xs : List ℕ) → (s && is_one xs) ≡ false → (s && is_only 0 xs) ≡ false
-not_zero false xs h = refl
-not_zero true [] h = refl
-not_zero true (x ∷ []) h = absurd (false≢true (sym h))
-not_zero true (x ∷ y ∷ xs) h = refl
-
-pub is_zero_by : (s : Bool) (xs : List ℕ) → (s && is_one xs) ≡ true → begins_with 0 xs ≡ (s && is_only 0 xs)
-is_zero_by false xs h = absurd (false≢true h)
-is_zero_by true [] h = absurd (false≢true h)
-is_zero_by true (x ∷ []) h = refl
-is_zero_by true (x ∷ y ∷ xs) h =
-    let other : eqb (length (x ∷ y ∷ xs)) 1 ≡ false = grind (arith, nat_tests) in
-    absurd (false≢true (sym other ∙ h))
 
 -- each value passes where as many pass as there are
 kept_at_most : (p : ℕ → Bool) (n a : ℕ) → length (filter p (range_with_len a n)) ≤ n

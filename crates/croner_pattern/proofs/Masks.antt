@@ -4,16 +4,12 @@ use Rattle.std.specs.Int.{bit_at, w32}
 use Rattle.std.specs.List.{list_all, range_with_len}
 use Rattle.std.proofs.lemmas.Bool.{cases_eq}
 use Rattle.std.proofs.lemmas.Bool.Decides.{nat_tests}
-use Rattle.std.proofs.lemmas.Nat.Bits.{bit_at-zero, bit_at_set_same, bit_at_set_other}
+use Rattle.std.proofs.lemmas.Nat.Bits.{bit_at_set_same, bit_at_set_other}
 use Rattle.croner_pattern.proofs.Tests.{and_false}
 
 -- the days up to a number of them: each has its bit, and no other bit is set
 abbrev pub MaskUpTo : (ℕ → Bool) → ℕ → ℕ → Type 0
 MaskUpTo fits done mask = (place : ℕ) → bit_at mask place ≡ (if nat_lt place done && fits (place + 1) then 1 else 0)
-
-pub mask-none : (fits : ℕ → Bool) → MaskUpTo fits 0 0
-mask-none fits place =
-    let below : nat_lt place 0 ≡ false = grind (arith, nat_tests) in rw below (bit_at-zero place)
 
 done_last : (fits : ℕ → Bool) (done : ℕ) → (nat_lt done done && fits (done + 1)) ≡ false
 done_last fits done = let same : nat_lt done done ≡ false = grind (arith, nat_tests) in rw same refl

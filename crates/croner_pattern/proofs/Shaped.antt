@@ -4,12 +4,9 @@ use Rattle.std.proofs.lemmas.Bool.{and_parts, eqb-true}
 use Rattle.std.proofs.lemmas.Bool.Decides.{nat_tests}
 use Rattle.croner_base.specs.declared.errors.CronError.{CronError}
 use Rattle.croner_base.specs.Answers.{Finds}
-use Rattle.croner_base.specs.Limits.{first_year, last_year}
 use Rattle.croner_base.specs.Field.{Shape, Field, can_ask, has_all, is_marked}
-use Rattle.croner_base.specs.Limits.{first_year, last_year}
 use Rattle.croner_pattern.specs.Meaning.{Meaning}
 use Rattle.croner_pattern.specs.Schedule.{is_named}
-use Rattle.croner_pattern.specs.Questions.{asked}
 use Rattle.croner_pattern.specs.Shapes.{is_like, has_field_shapes, sixty_shape, hour_shape, day_shape, month_shape, weekday_shape, year_shape}
 
 -- like shapes answer alike
@@ -80,18 +77,11 @@ asks_hour s v h b = can_ask-alike s hour_shape v 1 h ∙ rw (in_bounds 0 23 v (o
 pub asks_month : (s : Shape) (v : ℕ) → Alike s month_shape → 1 ≤ v → v ≤ 12 → can_ask s v 1 ≡ true
 asks_month s v h a b = can_ask-alike s month_shape v 1 h ∙ rw (in_bounds 1 12 v a b) refl
 
-pub asks_year : (s : Shape) (v : ℕ) → Alike s year_shape → first_year ≤ v → v ≤ last_year → can_ask s v 1 ≡ true
-asks_year s v h a b = can_ask-alike s year_shape v 1 h ∙ rw (in_bounds first_year last_year v a b) refl
-
 pub asks_day : (s : Shape) (v bits : ℕ) → Alike s day_shape → has_all 193 bits ≡ true → 1 ≤ v → v ≤ 31 → can_ask s v bits ≡ true
 asks_day s v bits h has a b = can_ask-alike s day_shape v bits h ∙ rw (in_bounds 1 31 v a b, has) refl
 
 pub asks_weekday : (s : Shape) (v bits : ℕ) → Alike s (weekday_shape 0) → has_all 127 bits ≡ true → v ≤ 7 → can_ask s v bits ≡ true
 asks_weekday s v bits h has b = can_ask-alike s (weekday_shape 0) v bits h ∙ rw (in_bounds 0 7 v (omega arith) b, has) refl
-
--- the answer is membership
-pub asked-is : (bits : ℕ) (f : Field) (v : ℕ) → can_ask f.shape v bits ≡ true → asked bits f v ≡ Some (is_named bits f v)
-asked-is bits f v h = rw h refl
 
 pub marked-named : (bits : ℕ) (f : Field) (v : ℕ) → can_ask f.shape v bits ≡ true → is_marked bits f v ≡ is_named bits f v
 marked-named bits f v h = rw h refl

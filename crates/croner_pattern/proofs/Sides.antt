@@ -137,10 +137,6 @@ near_is days len first day true k h =
 near_is days len first day false k h =
     sym (any-false (is_target days len first day) 1 len (λ x low high. misses days len first day k h x low high))
 
-or_true : (b : Bool) → (b || true) ≡ true
-or_true true = refl
-or_true false = refl
-
 -- three questions in turn say yes where one of them does
 three : (a b c : Option Bool) (x y z : Bool) (r : Bool) → ((v : Bool) → a ≡ Some v → x ≡ v) → ((v : Bool) → b ≡ Some v → y ≡ v) → ((v : Bool) → c ≡ Some v → z ≡ v) → first_yes (a ∷ b ∷ c ∷ []) ≡ Some r → r ≡ (x || (y || z))
 three None b c x y z r fa fb fc h = absurd (none-some r h)

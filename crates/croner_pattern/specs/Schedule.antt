@@ -9,7 +9,6 @@ use Rattle.croner_base.specs.Calendar.{day_number, weekday_of_day}
 use Rattle.croner_base.specs.Civil.{wall_second}
 use Rattle.croner_base.specs.Limits.{first_year, last_year}
 use Rattle.croner_base.specs.Field.{Field, has_all, can_ask, is_marked, marked_values}
-use Rattle.croner_base.specs.Limits.{first_year, last_year}
 use Rattle.croner_pattern.specs.Days.{days_of, weekday_of, occurrence, is_last_weekday, is_last_day, is_last_working, is_nearest}
 use Rattle.croner_pattern.specs.Meaning.{Meaning}
 

@@ -2,7 +2,6 @@
 use Rattle.std.specs.Prelude.{ℕ, Bool, false, ◌&&◌, ◌||◌, ◌==◌, List}
 use Rattle.croner_base.specs.Limits.{first_year, last_year}
 use Rattle.croner_base.specs.Field.{Shape, new_shape, empty_field}
-use Rattle.croner_base.specs.Limits.{first_year, last_year}
 use Rattle.croner_pattern.specs.Meaning.{Meaning}
 
 -- seconds and minutes

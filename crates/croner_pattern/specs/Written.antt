@@ -1,13 +1,10 @@
 -- What a pattern's hash is made of. Patterns that compare as equal write the same; the proof stands here since the laws of
 -- an impl may cite this crate's specs alone.
-use Rattle.std.specs.Prelude.{◌≡◌, ℕ, Bool, true, false, List, ◌++◌, refl}
-use Rattle.std.specs.declared.cmp.Ordering.{Ordering}
-use Rattle.std.specs.declared.cmp.Ordering.TheVariants.{Less, Equal, Greater}
-use Rattle.std.specs.Ordering.{bool_cmp, is_eq, ordering_then, eq_by_cmp}
+use Rattle.std.specs.Prelude.{◌≡◌, ℕ, true, List, ◌++◌}
+use Rattle.std.specs.Ordering.{eq_by_cmp}
 use Rattle.std.specs.Hash as fed
 use Rattle.std.proofs.Common.{ap}
-use Rattle.std.proofs.lemmas.Bool.{false≢true}
-use Rattle.croner_base.specs.Written.{field_writes, writes_alike}
+use Rattle.croner_base.specs.Written.{field_writes, writes_alike, tie, bool_tie}
 use Rattle.croner_pattern.specs.declared.pattern.CronPattern.{CronPattern}
 use Rattle.croner_pattern.specs.Meaning.{Meaning, meaning_of}
 use Rattle.croner_pattern.specs.Order.{meaning_cmp, pattern_cmp}
@@ -19,18 +16,6 @@ meaning_writes m =
 
 abbrev pub pattern_writes : CronPattern → List (List ℕ)
 pattern_writes p = meaning_writes (meaning_of p)
-
--- a tie of two orders is a tie of each
-tie : (a b : Ordering) → is_eq (ordering_then a b) ≡ true → (is_eq a ≡ true) × (is_eq b ≡ true)
-tie Less b h = absurd (false≢true h)
-tie Equal b h = (refl, h)
-tie Greater b h = absurd (false≢true h)
-
-bool_tie : (a b : Bool) → is_eq (bool_cmp a b) ≡ true → a ≡ b
-bool_tie false false h = refl
-bool_tie false true h = absurd (false≢true h)
-bool_tie true false h = absurd (false≢true h)
-bool_tie true true h = refl
 
 -- ten equal parts make equal wholes
 joined : (a b c d e f g h i j a₂ b₂ c₂ d₂ e₂ f₂ g₂ h₂ i₂ j₂ : List (List ℕ)) → a ≡ a₂ → b ≡ b₂ → c ≡ c₂ → d ≡ d₂ → e ≡ e₂ → f ≡ f₂ → g ≡ g₂ → h ≡ h₂ → i ≡ i₂ → j ≡ j₂ → a ++ b ++ c ++ d ++ e ++ f ++ g ++ h ++ i ++ j ≡ a₂ ++ b₂ ++ c₂ ++ d₂ ++ e₂ ++ f₂ ++ g₂ ++ h₂ ++ i₂ ++ j₂

@@ -1,6 +1,6 @@
 //! The description of a pattern in words.
 
-ghost use Rattle.std.specs.Prelude.{◌≡◌, ◌∷◌, [], codes, map, string_bytes};
+ghost use Rattle.std.specs.Prelude.{◌∷◌, [], string_bytes};
 ghost use Rattle.std.specs.List.{filter};
 ghost use Rattle.croner_pattern.specs.Description.{day_text, description, is_some_text, month_text, sentence, times_text, years_text};
 ghost use Rattle.croner_pattern.specs.Private.Lists.{AddsTexts, ListsTexts};

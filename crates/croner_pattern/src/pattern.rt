@@ -1,9 +1,9 @@
 //! A pattern: its seven fields, and the dates and times that they name.
 
-ghost use Rattle.std.specs.Prelude.{◌≡◌, true, IfOk, IfErr, OnOk};
+ghost use Rattle.std.specs.Prelude.{◌≡◌, true, IfOk, IfErr};
 ghost use Rattle.croner_base.specs.Answers.{Finds, IsFieldError, SucceedsIff};
 ghost use Rattle.croner_base.specs.Field.{new_shape};
-ghost use Rattle.croner_pattern.specs.Meaning.{Meaning, meaning_of};
+ghost use Rattle.croner_pattern.specs.Meaning.{meaning_of};
 ghost use Rattle.croner_pattern.specs.Questions.{asked, clock_field, can_find, FindsMember, IsNearestMember};
 ghost use Rattle.croner_pattern.specs.Schedule.{is_single, is_fixed_time};
 ghost use Rattle.croner_pattern.specs.Private.Clones.{has_fields_of_one_word};
@@ -56,7 +56,8 @@ pub struct CronPattern {
     pub days: CronComponent,
     /// Months, 1 to 12.
     pub months: CronComponent,
-    /// Weekdays, 0 for Sunday to 6 for Saturday. The field has a place 7, which names no weekday.
+    /// Weekdays, 0 for Sunday to 6 for Saturday. The field has a place 7 besides, which no day matches: no text names it, a
+    /// lone `*` in Quartz mode marks it with all others, and a description calls it Sunday.
     pub days_of_week: CronComponent,
     /// Years, 1 to 5000.
     pub years: CronComponent,

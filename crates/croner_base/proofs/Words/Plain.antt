@@ -1,15 +1,15 @@
 -- The plain row and the plain values.
-use Rattle.std.proofs.Common.{◌≡◌, ◌≢◌, ℕ, ◌+◌, ◌*◌, ◌/◌, ◌%◌, ◌<◌, ◌≤◌, true, false, not, eqb, List, [], length, get_or, take, Option, None, Some, MatchOption, bit_and, ap, sym, ◌∙◌, arith, subst, inl, inr, min}
+use Rattle.std.proofs.Common.{◌≡◌, ◌≢◌, ℕ, ◌+◌, ◌*◌, ◌/◌, ◌%◌, ◌<◌, ◌≤◌, true, false, not, eqb, List, [], get_or, take, Option, None, Some, MatchOption, bit_and, ap, sym, ◌∙◌, arith, subst, inl, inr, min}
 use Rattle.std.specs.Int.{bit_at}
 use Rattle.std.proofs.lemmas.Bool.{cases_eq, cases_lt}
 use Rattle.std.proofs.lemmas.Bool.Decides.{nat_tests}
-use Rattle.std.proofs.lemmas.List.{get_or-take, get_or_past}
+use Rattle.std.proofs.lemmas.List.{get_or-take}
 use Rattle.std.proofs.lemmas.Nat.{mul-le}
 use Rattle.std.proofs.lemmas.Nat.Bits.{and_pow, bit_at-lt, bit_at-zero}
 use Rattle.croner_base.specs.Field.{room}
 use Rattle.croner_base.specs.Private.Words.Counts.{ShowsMarked}
 use Rattle.croner_base.specs.Private.Words.Marked.{Marked, is_set}
-use Rattle.croner_base.specs.Private.Words.Next.{NonePlainFrom, IsLeastPlain, NonePlainTo, IsGreatestPlain}
+use Rattle.croner_base.specs.Private.Words.Next.{NonePlainFrom, NonePlainTo, IsGreatestPlain}
 use Rattle.croner_base.specs.Private.Words.Search.{HasNoneFrom, IsLeastFrom, HasNoneTo, IsGreatestTo}
 use Rattle.croner_base.specs.Private.Words.Rows.{width, in_row, rows_below, sums_of}
 use Rattle.croner_base.proofs.Words.Places.{row_before, rows_below-zero, word_within, value_within}
@@ -75,22 +75,6 @@ least_none row f from shows none v above = not_shown row f v shows (λ _. none v
 
 pub least_past : (row : List ℕ) (f : Marked) (from least : ℕ) → Shows row f → IsLeastFrom row from least → room f.max ≤ least → NonePlainFrom f from
 least_past row f from least shows is past v above = not_shown row f v shows (λ lt. is.first v above (omega arith))
-
-pub least_some : (row : List ℕ) (f : Marked) (from least : ℕ) → Shows row f → IsLeastFrom row from least → least < room f.max → IsLeastPlain f from least
-least_some row f from least shows is here = record {
-  above = is.above;
-  plain = is_plain f least (sym (shows.plain least here) ∙ is.has);
-  first = λ v above below. not_shown row f v shows (λ _. is.first v above below);
-}
-
-pub empty_row : (row : List ℕ) (f : Marked) → Shows row f → length row ≡ 0 → (v : ℕ) → is_set 1 f v ≡ false
-empty_row row f shows none v = not_shown row f v shows (λ _. ap (λ w. bit_at w (v % 64)) (get_or_past row (v / 64) 0 (omega arith)) ∙ bit_at-zero (v % 64))
-
-pub no_room : (f : Marked) (row : List ℕ) → Shows row f → f.max ≡ 0 → (v : ℕ) → is_set 1 f v ≡ false
-no_room f row shows none v = not_shown row f v shows (λ lt. absurd (omega (arith, room_zero f.max v none lt)))
-  where
-    room_zero : (max v : ℕ) → max ≡ 0 → v < room max → 1 ≤ 0
-    room_zero max v e h = grind (arith, nat_tests)
 
 in_room : (v max : ℕ) → v ≤ max → max ≢ 0 → v < room max
 in_room v max h ne = grind (arith, nat_tests)

@@ -1,8 +1,7 @@
 -- Marking the words of a range.
-use Rattle.std.proofs.Common.{◌≡◌, ◌≢◌, ℕ, ◌+◌, ◌-◌, ◌*◌, ◌/◌, ◌%◌, ◌^◌, ◌<◌, ◌≤◌, List, ◌++◌, take, drop, length, get_or, set, bit_and, bit_or, refl, ap, sym, ◌∙◌, arith, subst, inl, inr, max, get_or-set_same, get_or-set_other}
+use Rattle.std.proofs.Common.{◌≡◌, ◌≢◌, ℕ, ◌+◌, ◌-◌, ◌*◌, ◌/◌, ◌%◌, ◌^◌, ◌<◌, ◌≤◌, List, length, get_or, set, bit_and, bit_or, refl, ap, sym, ◌∙◌, arith, subst, inl, inr, max, get_or-set_same, get_or-set_other}
 use Rattle.std.specs.Int.{bit_at}
 use Rattle.std.proofs.lemmas.Bool.{cases_eq, cases_lt}
-use Rattle.std.proofs.Math.Seq.{take-append_seam}
 use Rattle.std.proofs.lemmas.Nat.Bits.{bit_at_and, bit_at_or, bit_at-lt}
 use Rattle.std.proofs.lemmas.Nat.{mul-add-lt, mul-le, or_lt, pow_below}
 use Rattle.std.proofs.lemmas.Nat.Bits.{bit_at-pow_same, bit_at-pow_other, same_from_bits_below}
@@ -21,15 +20,6 @@ pub record HasMarkedTo (old new : List ℕ) (start first last n : ℕ) : Type 0 
   pub below : (i b : ℕ) → b < 64 → i * 64 + b < first → bit_at (get_or new (start + i) 0) b ≡ bit_at (get_or old (start + i) 0) b
   pub above : (i b : ℕ) → b < 64 → last < i * 64 + b → bit_at (get_or new (start + i) 0) b ≡ bit_at (get_or old (start + i) 0) b
   pub behind : (i : ℕ) → n ≤ i → get_or new (start + i) 0 ≡ get_or old (start + i) 0
-
-pub range-none : (xs : List ℕ) (start first last n : ℕ) → n ≡ first / 64 → HasMarkedTo xs xs start first last n
-range-none xs start first last n e = record {
-  inside = λ i b h lt above below. absurd (omega arith);
-  before = λ p h. refl;
-  below = λ i b h lt. refl;
-  above = λ i b h lt. refl;
-  behind = λ i le. refl;
-}
 
 pub range-more : (xs ys : List ℕ) (start first last n from to : ℕ) → HasMarkedTo xs ys start first last n → MasksFrom from first n → MasksTo to last n → start + n < length ys
     → HasMarkedTo xs (set ys (start + n) (bit_or (get_or ys (start + n) 0) (bit_and from to))) start first last (n + 1)
@@ -58,22 +48,7 @@ range-more xs ys start first last n from to done masks_from masks_to within =
       behind = λ i le. other i (omega arith) ∙ done.behind i (omega arith);
     }
 
-pub range-all : (xs ys : List ℕ) (start first last n : ℕ) → HasMarkedTo xs ys start first last n → n ≡ last / 64 + 1 → HasMarked xs ys start first last
-range-all xs ys start first last n done e = record {
-  inside = λ i b h above below. done.inside i b h (omega arith) above below;
-  before = done.before;
-  below = done.below;
-  above = done.above;
-}
-
--- words written over all words are the words
-pub refilled : (xs ws : List ℕ) → length ws ≡ length xs → take (length xs) (ws ++ drop (length ws) xs) ≡ ws
-refilled xs ws e = ap (λ n. take n (ws ++ drop (length ws) xs)) (sym e) ∙ take-append_seam ws (drop (length ws) xs)
-
 -- ---- what that does to the marks
-
-at_zero : (x : ℕ) → 0 + x ≡ x
-at_zero x = omega arith
 
 range_in : (old new : List ℕ) (wide s k first last v : ℕ) → bit_at s k ≡ 1 → HasMarked old new (rows_below s k * wide) first last → first ≤ v → v ≤ last → mark_at new wide s k v ≡ 1
 range_in old new wide s k first last v one done above below =

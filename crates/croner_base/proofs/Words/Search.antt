@@ -114,7 +114,7 @@ word_of_none_down row to i mask behind masks none v below above = elim (cases_lt
       in_word row i v place ∙ omega (arith, bit_at_and (get_or row i 0) mask (v % 64), ap (λ n. bit_at n (v % 64)) none, bit_at-zero (v % 64), bit_at-lt (get_or row i 0) (v % 64))
 ]
 
-top_bit : (n j : ℕ) → 2 ^ j ≤ n → n < 2 ^ suc j → bit_at n j ≡ 1
+pub top_bit : (n j : ℕ) → 2 ^ j ≤ n → n < 2 ^ suc j → bit_at n j ≡ 1
 top_bit n j le lt =
     let twice : n < 2 ^ j * 2 = omega (arith, pow-suc 2 j) in
     let one : n / 2 ^ j ≡ 1 = quotient_one n (2 ^ j) (pow_pos j) le twice in

@@ -1,6 +1,6 @@
 //! Marks of values, kept as rows of words: one row for each supported modifier, with one bit a value.
 
-ghost use Rattle.std.specs.Prelude.{◌≡◌, ℕ, ◌+◌, ◌*◌, ◌/◌, ◌^◌, ◌<◌, ◌≤◌, true, false, ◌==◌, length, bit_and, bit_or, nat_lt, slice_index, IfOk, MatchOption};
+ghost use Rattle.std.specs.Prelude.{◌≡◌, ℕ, ◌+◌, ◌*◌, ◌/◌, ◌^◌, ◌<◌, ◌≤◌, true, false, ◌==◌, length, bit_and, nat_lt, slice_index, IfOk, IsOk, MatchOption};
 ghost use Rattle.std.specs.Int.{bit_at};
 ghost use Rattle.croner_base.specs.Field.{room};
 ghost use Rattle.croner_base.specs.Private.Words.Marked.{is_set, set_at, unset_at, nothing_set, GainsRange};
@@ -25,7 +25,6 @@ mod words;
 /// The words stand in place where a row has one word, with a row for each of the eight modifiers, and else in one
 /// piece of memory, with a row for each supported modifier, one after another. What isn't used is zero or empty: a
 /// clone takes both over without asking which it is.
-#[derive(Drop)]
 pub struct Marks {
     in_place: [u64; MODIFIERS],
     on_heap: Vec<u64>,
@@ -45,6 +44,19 @@ impl Model for Marks {
     ghost view = { λ c. record { max = c.max; supported = c.supported; marks = sums_of (words_of c.is_in_place c.in_place c.on_heap.items) c.max (rows_of c.is_in_place c.supported) } };
 
     ghost invariant = { λ c. (length (words_of c.is_in_place c.in_place c.on_heap.items) ≡ rows_below (rows_of c.is_in_place c.supported) 8 * width c.max) × (c.is_in_place ≡ (width c.max == 1)) };
+}
+
+// By hand, so that a function that lets marks go calls this one.
+impl Drop for Marks {
+    fn drop(self) {
+        let Marks {
+            in_place: _,
+            on_heap: _,
+            is_in_place: _,
+            max: _,
+            supported: _,
+        } = self;
+    }
 }
 
 impl Marks {
@@ -100,11 +112,15 @@ impl Marks {
         self.supported
     }
 
-    /// The same marks, in memory of the allocator.
+    /// The same marks, in memory of the allocator; none is taken where a row has one word.
     #[inline(always)]
     pub fn copied(&self, alloc: Global) -> Result<Self, AllocError>
-        ensures { IfOk result (λ copy. copy ≡ self.now) }
+        ensures value { IfOk result (λ copy. copy ≡ self.now) }
+        ensures in_place { width self.now.max ≡ 1 → IsOk result }
     {
+        if self.is_in_place {
+            return Ok(self.copied_in_place(alloc));
+        }
         let on_heap = copied_words(alloc, &self.on_heap)?;
         Ok(Marks {
             in_place: same_words(&self.in_place),

@@ -17,8 +17,9 @@ impl CronComponent {
     /// Adds the marks that a field's text names to those that stand already.
     ///
     /// A lone `*` marks every value plain and sets the wildcard mark. Any other text is a list split at commas, each
-    /// part trimmed, empty parts skipped: numbers, ranges `a-b`, steps `*/n` and `a-b/n`, nearest weekdays `nW`,
-    /// `L` and `LW`, and with `#` or `L` behind a number the nth or the last such weekday.
+    /// part trimmed, empty parts skipped: numbers, ranges `a-b`, steps `*/n` and `a-b/n`, each of these also with `#1` to
+    /// `#5` or `#L` behind it for the nth or the last such weekday, numbers with `L` for the last one, nearest weekdays
+    /// `nW`, and `L` and `LW`. Where ranges are sloppy, steps are `a/n` and `/n` too.
     ///
     /// `ComponentError` at the first part that has none of these forms, is out of bounds or asks for a modifier that
     /// isn't supported; `OutOfMemory` where its message finds no memory. Either leaves the marks, features, step and

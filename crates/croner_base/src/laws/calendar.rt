@@ -78,8 +78,9 @@ pub fn year_begins_on_its_first_day(civil: CivilDateTime)
         → (year ≤ℤ civil.date.year) ↔ ((day_number year 1 1 *ℤ pos day_seconds) ≤ℤ wall_second civil) }
 {}
 
-/// The wall seconds that a pattern can name are those of the years 1 to 5000, a search needs those of the years 0 to
-/// 5001 held, and what it needs around its start is held from the year -9997 to the year 9997.
+/// The wall seconds that a pattern can name are those of the years 1 to 5000, those that a search needs held wherever it
+/// starts are those of the years 0 to 5001, and the starts around which the laws say that all is held that a search needs
+/// are those of the years -9997 to 9997.
 pub fn years_of_the_limits(civil: CivilDateTime)
     ensures searched { IsSearched (wall_second civil) ↔ IsBetween (pos first_year) (pos last_year) civil.date.year }
     ensures needed { IsInReach (wall_second civil) ↔ IsBetween (pos 0) (pos 5001) civil.date.year }

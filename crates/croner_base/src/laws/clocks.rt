@@ -1,7 +1,6 @@
 //! What the clocks of `jiff` keep, whatever a search asks of them.
 //!
-//! A zone is calm where each second that is held is resolved to exactly the instants that show it, and where its clock is changed
-//! by little, seldom, and at moments far apart. [`ClockTable`](crate::time::table::ClockTable) has the numbers.
+//! When a zone is calm is said at [`CronDateTime`](crate::time::CronDateTime).
 ghost use Rattle.std.specs.Prelude.{◌≡◌, ℤ, Some};
 ghost use Rattle.croner_base.specs.declared.time.civil.CivilDateTime.{CivilDateTime};
 ghost use Rattle.croner_base.specs.declared.time.value.Resolution.{Resolution};

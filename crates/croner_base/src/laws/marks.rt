@@ -39,7 +39,8 @@ pub fn a_list_names_the_union()
     ensures { (shape : Shape) (parts : List (List ℕ)) → NamesUnion shape parts }
 {}
 
-/// The values that are listed for some modifiers are the members of their sets, in ascending order.
+/// The values that are listed for some modifiers are the members of their sets within the bounds, in ascending order; none
+/// where one of the modifiers isn't supported.
 pub fn values_list_the_set()
     ensures { (f : Field) (bits : ℕ) → ListsSet bits f }
 {}
@@ -56,7 +57,7 @@ pub fn a_maximum_of_zero_holds_nothing()
 {}
 
 /// A default component has nothing and takes nothing: no value is listed for any modifiers, each set, unset and
-/// question is refused, and so is each feature, and each text but a list of empty parts.
+/// question is refused, and so is each feature but `NONE_BIT`, and each text but a list of empty parts.
 pub fn a_default_component_holds_nothing()
     ensures lists { (bits : ℕ) → marked_values bits default_field ≡ [] }
     ensures modifiers { has_modifiers default_field ≡ false }

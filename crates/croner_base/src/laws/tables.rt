@@ -7,8 +7,7 @@ ghost use Rattle.croner_base.specs.Zone.{reading};
 
 use crate::time::table::{ClockTable, TableTime};
 
-/// The clock of a table is calm: each second that is held is resolved to exactly the instants that show it, and the
-/// changes are small, far apart and few.
+/// The clock of a table is calm, as [`CronDateTime`](crate::time::CronDateTime) says what that is.
 pub fn table_is_calm(table: &ClockTable)
     ensures { IsCalm (table_zone table.now) }
 {}

@@ -1,6 +1,6 @@
 //! Dates and times of day without a zone, and weekdays.
-ghost use Rattle.std.specs.Prelude.{◌≡◌, ◌↔◌, ◌+◌, ◌*◌, ◌<◌, ◌≤◌, ◌%◌, ◌++◌, ◌∷◌, ℤ, pos, ◌+ℤ◌, unsigned_abs, Some, IsSome, IfSome, IsOk, IfOk, IfErr, FitsSigned};
-ghost use Rattle.std.specs.Int.{IsInRange, int_rem_euclid};
+ghost use Rattle.std.specs.Prelude.{◌≡◌, ◌↔◌, ◌+◌, ◌*◌, ◌<◌, ◌%◌, ℤ, pos, ◌+ℤ◌, unsigned_abs, Some, IsSome, IfSome, IsOk, IfOk, IfErr, FitsSigned};
+ghost use Rattle.std.specs.Int.{int_rem_euclid};
 ghost use mir.Syntax.{w32};
 ghost use Rattle.jiff_core.specs.Calendar.{days_in_month as month_days};
 ghost use Rattle.croner_base.specs.Calendar.{IsRealDate, place_in_year, day_seconds};

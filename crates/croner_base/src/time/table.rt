@@ -5,12 +5,14 @@ ghost use Rattle.croner_base.specs.Table as Spec;
 
 mod check;
 mod civil;
+mod of_zone;
 
 use crate::errors::CronError;
 use crate::limits::YEAR_LIMIT;
 use crate::time::table::check::{OFFSET_LIMIT_SECONDS, is_calm, is_instant};
 use crate::time::table::civil::{SECONDS_PER_DAY, civil_of_second, second_of_civil};
 use crate::time::{CivilDateTime, CronDateTime, Resolution, Weekday};
+use jiff::Timestamp;
 use std::alloc::Global;
 use std::cmp::Ordering;
 
@@ -22,10 +24,7 @@ const LAST_YEAR: i32 = YEAR_LIMIT;
 
 /// A clock that is some seconds ahead of UTC, up to its first change and from each change on.
 ///
-/// Every `ClockTable` is calm, as a search wants a clock to be: a change moves it forward by at most a day or back by at
-/// most two hours, changes lie more than two days apart, those with a reading in the years 1 to 5000 are at most 20,000 and
-/// skip at most 20,000,000 seconds together, and each second that is asked for is resolved to exactly the instants that
-/// show it.
+/// Every `ClockTable` is calm, as a search wants a clock to be ([`CronDateTime`] says when a zone is calm).
 ///
 /// Paris in 2024 is one hour ahead of UTC, and two from 2024-03-31T01:00:00 UTC to 2024-10-27T01:00:00 UTC:
 ///
@@ -160,6 +159,9 @@ impl<'t> TableTime<'t> {
     ghost use Rattle.croner_base.specs.TableZone.{table_zone, table_moment};
     ghost use Rattle.croner_base.specs.Private.TableSteps.{first_reading, last_reading};
     ghost use Rattle.croner_base.specs.Zone.{reading, at_instant};
+    ghost use Rattle.croner_base.specs.ZonedZone.{is_timestamp_second};
+    ghost use Rattle.jiff_core.specs.Timestamp.{nanos_of_seconds};
+    ghost use Rattle.std.specs.Int.{int_div_euclid};
 
     /// The second on the clock of the table. Refused as `InvalidTime` outside -377,705,116,800 to 253,402,300,799, the
     /// UTC years -9999 to 9999.
@@ -173,6 +175,31 @@ impl<'t> TableTime<'t> {
             Ok(TableTime { table, second })
         } else {
             Err(CronError::InvalidTime)
+        }
+    }
+
+    /// The second on the clock of the table in which an instant of `jiff` lies. Its fraction of a second is left out, so
+    /// that a search backward from within a second finds a run at its beginning only where it is inclusive.
+    pub fn of_timestamp(table: &'t ClockTable, instant: Timestamp) -> TableTime<'t>
+        ensures value { result.second ≡ int_div_euclid instant.nanosecond (pos 1_000_000_000) }
+        ensures table { result.table.now ≡ table.now }
+    {
+        TableTime {
+            table,
+            second: instant.to_plain().floor_second(),
+        }
+    }
+
+    /// The instant of `jiff`. Refused as `InvalidTime` outside -377,705,023,201 to 253,402,207,200, the seconds that
+    /// `jiff` has as instants.
+    pub fn timestamp(&self) -> Result<Timestamp, CronError>
+        ensures ok { IsOk result ↔ IsTrue (is_timestamp_second self.now.second) }
+        ensures value { IfOk result (λ t. t.nanosecond ≡ nanos_of_seconds self.now.second) }
+        ensures err { IfErr result (λ e. e ≡ CronError.InvalidTime) }
+    {
+        match Timestamp::from_second(self.second) {
+            Ok(instant) => Ok(instant),
+            Err(_) => Err(CronError::InvalidTime),
         }
     }
 

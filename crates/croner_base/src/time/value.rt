@@ -1,5 +1,5 @@
 //! The trait that connects a date and time library.
-ghost use Rattle.std.specs.Prelude.{◌≡◌, ◌↔◌, ◌⊎◌, Bool, true, false, IsTrue, pos, ◌+ℤ◌, IfOk, IfErr};
+ghost use Rattle.std.specs.Prelude.{◌≡◌, Bool, false, IsTrue, IfOk, IfErr};
 ghost use Rattle.std.specs.Ordering.{int_cmp};
 
 use crate::errors::CronError;
@@ -7,14 +7,14 @@ use crate::time::{CivilDateTime, Weekday};
 use std::alloc::Global;
 use std::cmp::Ordering;
 
-/// What a wall second names in a zone: the instants at which the zone's clock shows it.
+/// What a wall second names in a zone: instants at which the zone's clock shows it, and in a calm zone all of them.
 #[derive(Debug, Clone, Drop, PartialEq, Eq)]
 pub enum Resolution<T> {
     /// One instant.
     Single(T),
-    /// Two instants, the earlier first: the clock was moved back over the second.
+    /// Two instants, the earlier first: in a calm zone the clock was moved back over the second.
     Ambiguous(T, T),
-    /// None: the clock was moved forward over the second.
+    /// None: in a calm zone the clock was moved forward over the second.
     Gap,
 }
 
@@ -23,6 +23,18 @@ pub enum Resolution<T> {
 /// A value has a zone, a whole second and a fraction of a second. The zone's clock shows one wall second at each whole
 /// second. An implementation states once which zone, second and fraction its values name; the five functions and
 /// `Clone` are then held to it, whatever the zone does.
+///
+/// # Calm zones
+///
+/// Most of what is promised of searches is promised in a calm zone. A zone is calm where
+/// - a change moves its clock forward by at most a day, or back by at most two hours;
+/// - any two changes lie more than two days apart;
+/// - the changes at which its clock shows a second of the years 1 to 5000, at the change or one second before it, are at most
+///   20,000, and skip at most 20,000,000 seconds together;
+/// - each second that the implementation holds is resolved to exactly the instants that show it.
+///
+/// Civil time and every table of offsets are proved to be calm ([`laws::clocks`](crate::laws::clocks),
+/// [`laws::tables`](crate::laws::tables)). Whether another zone is calm, its caller has to know.
 pub trait CronDateTime: Sized + Clone + Drop {
     ghost use Rattle.croner_base.specs.Zone.{Moment, nanos_of, reading, IsResolved, IsUnheld, IsMoved};
     ghost use Rattle.croner_base.specs.Civil.{wall_second, weekday_index, weekday_of_second};

@@ -1,6 +1,5 @@
 //! The months and the years of a pattern in words.
 
-ghost use Rattle.std.specs.Prelude.{◌≡◌};
 ghost use Rattle.croner_pattern.specs.Description.{month_names, month_text, plain_values, years_text};
 ghost use Rattle.croner_words.specs.Writes.{Writes};
 

@@ -1,6 +1,6 @@
 //! The days of a pattern in words.
 
-ghost use Rattle.std.specs.Prelude.{◌≡◌, ◌++◌, codes, map, string_bytes};
+ghost use Rattle.std.specs.Prelude.{◌≡◌, ◌++◌, codes};
 ghost use Rattle.croner_base.specs.Field.{marked_values};
 ghost use Rattle.croner_pattern.specs.Description.{day_parts, day_text, days_text, if_also, last_weekdays, nth_weekdays, plain_values, plain_weekdays, texts, weekday_names, weekday_parts, where_any, numbers};
 ghost use Rattle.croner_pattern.specs.Private.Lists.{AddsTexts, ListsTexts};

@@ -1,10 +1,9 @@
 //! Lists in words: of texts, of names and of numbers.
 
-ghost use Rattle.std.specs.Prelude.{true, ◌≡◌, ◌+◌, ◌-◌, ◌<◌, ◌≤◌, ◌∷◌, ◌++◌, [], List, ℕ, codes, decimal, drop, length, map, slice_index, string_bytes, MatchResult};
-ghost use Rattle.croner_base.specs.declared.errors.CronError.TheVariants.{OutOfMemory};
+ghost use Rattle.std.specs.Prelude.{true, ◌≡◌, ◌+◌, ◌-◌, ◌<◌, ◌≤◌, ◌∷◌, ◌++◌, [], codes, decimal, length, map, string_bytes};
 ghost use Rattle.croner_pattern.specs.Description.{cyclic_name};
-ghost use Rattle.croner_pattern.specs.Lists.{item_text, items_of, joined, number_list, runs_of, text_list};
-ghost use Rattle.croner_pattern.specs.Private.Lists.{AddsTexts, Appends, comma, from_place, is_empty, goes_on, separator, WritesRun, EndsRun};
+ghost use Rattle.croner_pattern.specs.Lists.{joined, number_list, text_list};
+ghost use Rattle.croner_pattern.specs.Private.Lists.{AddsTexts, Appends, comma, goes_on, separator, WritesRun, EndsRun};
 ghost use Rattle.croner_words.specs.Writes.{Writes};
 
 use croner_base::errors::CronError;

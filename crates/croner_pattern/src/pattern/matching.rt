@@ -1,6 +1,6 @@
 //! Whether a year, a month, an hour, a minute or a second is a plain value of its field.
 
-ghost use Rattle.std.specs.Prelude.{◌≡◌, ◌≤◌, ◌<◌, ◌⊎◌, ◌^◌, pos, ◌≤ℤ◌, ◌<ℤ◌, true, false, Ok, Err, unsigned_abs};
+ghost use Rattle.std.specs.Prelude.{◌≡◌, ◌≤◌, ◌<◌, ◌⊎◌, pos, ◌≤ℤ◌, ◌<ℤ◌, true, false, Ok, Err, unsigned_abs};
 ghost use Rattle.std.specs.Int.{IsInRange};
 ghost use Rattle.croner_base.specs.Answers.{Finds};
 ghost use Rattle.croner_base.specs.Limits.{first_year, last_year};

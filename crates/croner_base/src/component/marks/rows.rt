@@ -5,7 +5,7 @@ ghost use Rattle.std.specs.Int.{bit_at};
 ghost use Rattle.croner_base.specs.Field.{room};
 ghost use Rattle.croner_base.specs.Private.Words.Counts.{ShowsMarked};
 ghost use Rattle.croner_base.specs.Private.Words.Marked.{GainsRange};
-ghost use Rattle.croner_base.specs.Private.Words.Rows.{width, rows_below, in_row, mark_at, sum_below, sums_of, marks_in};
+ghost use Rattle.croner_base.specs.Private.Words.Rows.{width, rows_below, in_row, mark_at, sums_of, marks_in};
 ghost use Rattle.croner_base.specs.Private.Words.Word.{word_bits};
 
 use super::row;

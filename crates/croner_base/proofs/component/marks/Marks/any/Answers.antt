@@ -1,4 +1,4 @@
-use Rattle.std.proofs.Common.{◌≡◌, ap, sym, ◌∙◌, subst}
+use Rattle.std.proofs.Common.{ap, sym, ◌∙◌, subst}
 use Rattle.croner_base.specs.Private.Words.Counts.{ShowsMarked}
 use Rattle.croner_base.specs.Private.Words.Kept.{words_of, rows_of}
 use Rattle.croner_base.specs.Private.Words.Rows.{sums_of, marks_in}

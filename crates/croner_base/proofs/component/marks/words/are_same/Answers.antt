@@ -1,4 +1,4 @@
-use Rattle.std.proofs.Common.{arith, ◌<◌, length}
+use Rattle.std.proofs.Common.{arith}
 use Rattle.std.proofs.lemmas.Bool.{eqb-true}
 use Rattle.croner_base.proofs.Words.Differing.{same_none, same_one_more, same_lists}
 use Rattle.croner_base.proofs.component.marks.words.are_same.Goals as goal

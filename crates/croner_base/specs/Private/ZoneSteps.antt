@@ -1,0 +1,35 @@
+-- The steps by which a window of a zone is gone through, from one question to the next.
+-- Private contracts alone cite these definitions.
+use Rattle.std.specs.Prelude.{◌≡◌, ℤ, pos, ◌-ℤ◌, ◌<ℤ◌, ◌≤ℤ◌}
+use Rattle.jiff_core.specs.Timestamp.{nanos_of_seconds}
+use Rattle.jiff_tz.specs.Year.{year_of_nanos}
+use Rattle.jiff_tz.specs.declared.timezone.TimeZone.{TimeZone}
+use Rattle.croner_base.specs.declared.time.table.of_zone.Shown.{Shown}
+use Rattle.croner_base.specs.ZonedZone.{first_timestamp, last_timestamp}
+use Rattle.croner_base.specs.ZoneTable.{ahead_at}
+
+-- a whole second of jiff's instants
+pub record IsHeld (i : ℤ) : Type 0 where
+  pub low : first_timestamp ≤ℤ i
+  pub high : i ≤ℤ last_timestamp
+
+-- what a zone shows at a second
+pub record IsShown (tz : TimeZone) (i : ℤ) (s : Shown) : Type 0 where
+  pub second_is : s.second ≡ i
+  pub ahead_is : s.ahead ≡ ahead_at tz i
+
+-- the first whole second that is not before an instant
+pub record IsFirstSecond (n i : ℤ) : Type 0 where
+  pub late_enough : n ≤ℤ nanos_of_seconds i
+  pub early_enough : nanos_of_seconds (i -ℤ pos 1) <ℤ n
+
+-- an instant's year lasts until this second
+pub record IsYearEnd (n i : ℤ) : Type 0 where
+  pub later : n <ℤ nanos_of_seconds i
+  pub same : (m : ℤ) → n ≤ℤ m → m <ℤ nanos_of_seconds i → year_of_nanos m ≡ year_of_nanos n
+
+-- a later second of a window, up to which the zone keeps its offset
+pub record IsNextQuestion (tz : TimeZone) (second last i : ℤ) : Type 0 where
+  pub later : second <ℤ i
+  pub within : i ≤ℤ last
+  pub stays : (j : ℤ) → second ≤ℤ j → j <ℤ i → ahead_at tz j ≡ ahead_at tz second
