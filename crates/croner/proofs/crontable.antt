@@ -1,4 +1,7 @@
--- Tables of patterns: the nearest of several answers, and iterators call by call.
+-- Tables of patterns: the nearest of several answers, what is kept of them, tables that change, and iterators call by call.
+pub mod KeptRuns
+pub mod KnownRuns
+pub mod TableChanges
 pub mod TableItems
 pub mod TableIterating
 pub mod TableRuns

@@ -16,3 +16,4 @@ pub mod WalkPace
 pub mod WalkSteps
 pub mod WallSeconds
 pub mod ZoneOrder
+pub mod Windows

@@ -1,3 +1,26 @@
+-- the words of lower crates that the public clauses cite, and that a backend or a language of one's own is stated by
+pub use Rattle.croner_base.specs.Calendar
+pub use Rattle.croner_base.specs.Calm
+pub use Rattle.croner_base.specs.Civil
+pub use Rattle.croner_base.specs.CivilZone
+pub use Rattle.croner_base.specs.Field
+pub use Rattle.croner_base.specs.Limits
+pub use Rattle.croner_base.specs.Table
+pub use Rattle.croner_base.specs.TableZone
+pub use Rattle.croner_base.specs.Zone
+pub use Rattle.croner_base.specs.ZonedValue
+pub use Rattle.croner_base.specs.ZonedZone
+pub use Rattle.croner_words.specs.English
+pub use Rattle.croner_words.specs.Numbers
+pub use Rattle.croner_words.specs.Swedish
+pub use Rattle.croner_words.specs.Wording
+pub use Rattle.croner_words.specs.Writes
+pub use Rattle.croner_pattern.specs.Description
+pub use Rattle.croner_pattern.specs.Meaning
+pub use Rattle.croner_pattern.specs.Order
+pub use Rattle.croner_pattern.specs.Schedule
+pub use Rattle.croner_pattern.specs.Shapes
+pub use Rattle.croner_pattern.specs.Written
 pub mod parser
 pub mod search
 pub mod iterator

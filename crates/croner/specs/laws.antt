@@ -1,3 +1,4 @@
 -- Words of the laws alone.
 pub mod Equality
 pub mod Neighbours
+pub mod Zones

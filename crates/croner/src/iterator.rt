@@ -2,7 +2,6 @@
 ghost use Rattle.std.specs.Prelude.{◌≡◌, true, None, IsTrue};
 ghost use Rattle.croner_base.specs.declared.time.Direction.{Direction};
 ghost use Rattle.croner_pattern.specs.Meaning.{meaning_of};
-ghost use Rattle.croner_pattern.specs.Shapes.{has_field_shapes};
 ghost use Rattle.croner.specs.iterator.Faults.{is_kept, fault_of};
 
 mod compare;
@@ -12,14 +11,14 @@ use croner_base::errors::CronError;
 use croner_base::time::{CronDateTime, Direction};
 use std::alloc::AllocError;
 
-/// The runs of a pattern from a start, in one direction, each once.
+/// The runs of a pattern from a start, in one direction.
 ///
 /// Each item is the position from which the next search starts. A call of `next` that gives no item leaves the iterator
 /// where it stands, so a later call can go on; `fault` says why it gave none where the end of the searched years is not the reason.
 ///
-/// In a calm zone (one whose clock is moved by at most two hours at a time, seldom, at moments more than two days apart; see
-/// [`Cron::find_next_occurrence`]) and from a whole second, no item and no fault says that no run is left in the searched years,
-/// over whatever backend.
+/// In a calm zone ([`CronDateTime`] says when a zone is calm) and from a whole second the items are the runs in order, each once
+/// and none left out between them, over whatever backend; and no item and no fault says that no run is left in the searched
+/// years ([`Cron::find_next_occurrence`] says which these are).
 #[derive(Debug, Drop)]
 pub struct CronIterator<T> {
     cron: Cron,
@@ -28,7 +27,6 @@ pub struct CronIterator<T> {
     inclusive: bool,
     direction: Direction,
     fault: Option<CronError>,
-    ghost shaped: { has_field_shapes (meaning_of cron.pattern) ≡ true },
     ghost kept: { IsTrue (is_kept fault) },
 }
 
@@ -37,10 +35,9 @@ impl<T: CronDateTime> CronIterator<T> {
     ghost use Rattle.croner.specs.iterator.Listing.{standing_of, new_standing, counts_position, moved, Settles};
     ghost use Rattle.croner.specs.search.Refusal.{IsRefusal};
 
-    /// An iterator from a start: it counts the start where it is inclusive and the start is a run. The fields of the pattern must
-    /// have the shapes of their places, as those of every parsed pattern have.
+    /// An iterator from a start, which counts as that of a search does: where `inclusive` says so, and forward not where a run is
+    /// only carried to it.
     pub fn new(cron: Cron, start: T, inclusive: bool, direction: Direction) -> Self
-        requires { has_field_shapes (meaning_of cron.pattern) ≡ true }
         ensures { standing_of T.moment result ≡ new_standing (meaning_of cron.pattern) (T.moment start) inclusive direction }
     {
         CronIterator {
@@ -53,7 +50,8 @@ impl<T: CronDateTime> CronIterator<T> {
         }
     }
 
-    /// The error, other than the limit, that ended the last call of `next`; none where that call gave an item or found none left.
+    /// The error, other than the limit, that ended the last call of `next`; none where that call gave an item or came to the
+    /// limit, and none before the first call.
     pub fn fault(&self) -> Option<&CronError>
         ensures { option_map (λ e. e.now) result ≡ (standing_of T.moment self.now).fault }
     {

@@ -1,21 +1,14 @@
 //! A job: a cron pattern, and the times at which it runs.
 
 ghost use Rattle.std.specs.Prelude.{◌≡◌, ◌↔◌, ◌&&◌, true, Ok, IsTrue, IsOk, IfOk, if◌then◌else◌};
-ghost use Rattle.jiff_core.specs.Calendar.{days_in_month};
-ghost use Rattle.croner_base.specs.Civil.{weekday_index, weekday_of_date};
-ghost use Rattle.croner_base.specs.Zone.{reading};
-ghost use Rattle.croner_pattern.specs.Schedule.{is_date_matching, is_day_matching, is_plain, first_weekday, is_fixed_time, IsScheduled};
+ghost use Rattle.croner_pattern.specs.Meaning.{meaning_of};
 ghost use Rattle.croner_pattern.specs.Shapes.{has_field_shapes};
-ghost use Rattle.croner.specs.parser.Gives.{Gives};
-ghost use Rattle.croner.specs.parser.Grammar.{outcome};
-ghost use Rattle.croner.specs.parser.Settings.{default_settings};
-ghost use Rattle.croner.specs.Views.{job_of};
 
 use crate::parser::CronParser;
 use croner_base::errors::CronError;
 use croner_base::time::{CivilDate, CivilDateTime, CronDateTime, Weekday};
 use croner_pattern::pattern::CronPattern;
-use std::alloc::Global;
+use std::alloc::{AllocError, Global};
 use std::fmt;
 
 /// How a job meets changes of the clock.
@@ -33,13 +26,27 @@ pub enum JobType {
 }
 
 /// A cron job: the pattern of its times. Jobs compare, and are hashed, as their patterns do, and not by their texts.
-#[derive(Debug, Clone, Drop, PartialEq, Eq, PartialOrd, Ord, Hash)]
+///
+/// Each field of its pattern has the shape of its place: the bounds, the modifiers and the offset of such a field. That is part
+/// of the type. The parser gives such a pattern; a `Cron` can be made of another one only where its
+/// [`has_field_shapes`](CronPattern::has_field_shapes) is true, and who writes to `pattern` keeps it so.
+#[derive(Debug, Drop, PartialEq, Eq, PartialOrd, Ord, Hash)]
 pub struct Cron {
     /// The fields, the flags and the text.
     pub pattern: CronPattern,
+    ghost shaped: { has_field_shapes (meaning_of pattern) ≡ true },
 }
 
 impl Cron {
+    ghost use Rattle.jiff_core.specs.Calendar.{days_in_month};
+    ghost use Rattle.croner_base.specs.Civil.{weekday_index, weekday_of_date};
+    ghost use Rattle.croner_base.specs.Zone.{reading};
+    ghost use Rattle.croner_pattern.specs.Schedule.{is_date_matching, is_day_matching, is_plain, first_weekday, is_fixed_time, IsScheduled};
+    ghost use Rattle.croner.specs.parser.Gives.{Gives};
+    ghost use Rattle.croner.specs.parser.Grammar.{outcome};
+    ghost use Rattle.croner.specs.parser.Settings.{default_settings};
+    ghost use Rattle.croner.specs.Views.{job_of};
+
     /// Reads a pattern with the default settings; see [`CronParser::parse`] for the errors.
     ///
     /// ```
@@ -48,8 +55,7 @@ impl Cron {
     /// let is_run = job.is_time_matching(&monday)?; // true
     /// ```
     pub fn from_str(alloc: Global, text: &str) -> Result<Cron, CronError>
-        ensures meaning { Gives job_of result (outcome default_settings text.now) }
-        ensures shapes { IfOk result (λ job. has_field_shapes (job_of job) ≡ true) }
+        ensures { Gives job_of result (outcome default_settings text.now) }
     {
         CronParser::new().parse(alloc, text)
     }
@@ -64,7 +70,7 @@ impl Cron {
     /// Whether the clock of a time's zone shows a scheduled second there. The fraction of a second is dropped. It is true
     /// in both halves of a repeated range, and false where a run is only carried over a gap.
     ///
-    /// Each field has to have the shape of its place, as in every pattern that was parsed; the answer is then always `Ok`.
+    /// The answer is always `Ok`.
     ///
     /// ```
     /// let job = Cron::from_str(alloc, "30 9 * * MON-FRI")?;
@@ -72,7 +78,6 @@ impl Cron {
     /// let is_run = job.is_time_matching(&sunday)?; // false
     /// ```
     pub fn is_time_matching<T: CronDateTime>(&self, time: &T) -> Result<bool, CronError>
-        requires { has_field_shapes (job_of self.now) ≡ true }
         ensures ok { IsOk result }
         ensures value { IfOk result (λ held. IsTrue held ↔ IsScheduled (job_of self.now) (reading (T.moment time.now))) }
     {
@@ -86,7 +91,6 @@ impl Cron {
 
     /// Whether the second, the minute and the hour are named.
     fn matches_time(&self, civil: CivilDateTime) -> Result<bool, CronError>
-        requires { has_field_shapes (job_of self.now) ≡ true }
         ensures { result ≡ Ok (is_plain (job_of self.now).seconds civil.time.second
             && (is_plain (job_of self.now).minutes civil.time.minute && is_plain (job_of self.now).hours civil.time.hour)) }
     {
@@ -101,8 +105,7 @@ impl Cron {
 
     /// Whether a date is named. The weekday is that of the date.
     fn matches_date(&self, date: CivilDate, weekday: Weekday) -> Result<bool, CronError>
-        requires shapes { has_field_shapes (job_of self.now) ≡ true }
-        requires weekday { weekday_index weekday ≡ weekday_of_date date }
+        requires { weekday_index weekday ≡ weekday_of_date date }
         ensures { result ≡ Ok (is_date_matching (job_of self.now) date) }
     {
         if !self.pattern.year_match(date.year())? {
@@ -116,8 +119,7 @@ impl Cron {
 
     /// Whether the day of a date is named. The weekday is that of the date.
     fn matches_day(&self, date: CivilDate, weekday: Weekday) -> Result<bool, CronError>
-        requires shapes { has_field_shapes (job_of self.now) ≡ true }
-        requires weekday { weekday_index weekday ≡ weekday_of_date date }
+        requires { weekday_index weekday ≡ weekday_of_date date }
         ensures { result ≡ Ok (is_day_matching (job_of self.now) (days_in_month date.year date.month) (first_weekday date.year date.month) date.day) }
     {
         self.pattern
@@ -133,6 +135,21 @@ impl Cron {
         } else {
             JobType::IntervalWildcard
         }
+    }
+}
+
+/// A copy has the same pattern. The only error is want of memory.
+impl Clone for Cron {
+    ghost use Rattle.std.specs.Prelude.{◌≡◌};
+    ghost use Rattle.croner.specs.Views.{job_of};
+
+    ghost is_clone = { λ original copy. job_of copy ≡ job_of original };
+
+    #[inline(always)]
+    fn clone(&self) -> Result<Cron, AllocError> {
+        Ok(Cron {
+            pattern: self.pattern.clone()?,
+        })
     }
 }
 

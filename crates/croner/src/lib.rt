@@ -20,5 +20,6 @@ pub use croner_base::time::{
 pub use croner_base::{component, errors, time};
 pub use croner_pattern::describe;
 pub use croner_pattern::pattern::CronPattern;
+pub use croner_words::english_form;
 pub use iterator::CronIterator;
 pub use job::{Cron, JobType};

@@ -1,6 +1,7 @@
 //! The searches of a job: its next and its previous run.
 ghost use Rattle.std.specs.Prelude.{◌≡◌, true, false, IfOk, IfErr};
-ghost use Rattle.croner_pattern.specs.Shapes.{has_field_shapes};
+ghost use Rattle.croner_base.specs.Civil.{wall_second};
+ghost use Rattle.croner_base.specs.Zone.{reading};
 ghost use Rattle.croner.specs.iterator.Listing.{standing_of, new_standing};
 ghost use Rattle.croner.specs.search.PatternJob.{timetable_of};
 ghost use Rattle.croner.specs.search.Searches.{IsFound, IsRefused};
@@ -9,7 +10,7 @@ ghost use Rattle.croner.specs.Views.{job_of};
 use crate::iterator::CronIterator;
 use crate::{Cron, search};
 use croner_base::errors::CronError;
-use croner_base::time::{CronDateTime, Direction};
+use croner_base::time::{CivilDateTime, CronDateTime, Direction};
 
 impl Cron {
     /// The next run after a time, or from it on where the search is inclusive, in the time's zone.
@@ -18,21 +19,20 @@ impl Cron {
     /// runs at the earlier instant of a repeated second alone, and a second of it that lies in a gap is carried to the gap's end,
     /// where the date there matches. A run that is only carried to the start itself is not given.
     ///
-    /// A zone is calm where its clock is moved by at most two hours at a time, seldom, at moments more than two days apart, and
-    /// the backend resolves each second that it holds to just the instants that show it. In a calm zone and from a whole second
-    /// the answer is the nearest run, over whatever backend. In every zone and from every start, a fraction of a second
-    /// included, it is a whole second of the start's zone, and an interval job's answer shows a scheduled second.
+    /// In a calm zone ([`CronDateTime`] says when a zone is calm) and from a whole second the answer is the nearest run, over
+    /// whatever backend. In every zone and from every start, a fraction of a second included, it is a whole second of the
+    /// start's zone, and an interval job's answer shows a scheduled second.
     ///
     /// It is refused by
-    /// - `TimeSearchLimitExceeded`: in a calm zone and from a whole second no run is left before year 5000; runs of year 5000
-    ///   itself may be found or not. It always comes from a start past the years, which reads year 5000 or later with nothing
-    ///   scheduled ahead, as each start from year 5001 on.
+    /// - `TimeSearchLimitExceeded`: in a calm zone and from a whole second no run is left in the searched years, which end where
+    ///   the zone's clock first shows year 5000. Runs from then on may be found or not, also where the clock is put back to year
+    ///   4999 once more. It always comes from a start past the years, which reads year 5000 or later with nothing scheduled
+    ///   ahead, as each start from year 5001 on.
     /// - `InvalidDate` or `InvalidTime`, as the backend has it: a moment that had to be asked for is not held, and a run may be
     ///   left. Neither comes in a calm zone from a whole second where the years 0 to 5001 and two days around the start are held.
     /// - `OutOfMemory`, only over a backend that can lack memory.
     ///
-    /// Nothing is changed by a search. The fields of the pattern must have the shapes of their places (their bounds, and the
-    /// modifiers that they know), as those of every parsed pattern have.
+    /// Nothing is changed by a search.
     ///
     /// ```
     /// let job = Cron::from_str(alloc, "30 9,17 * * MON")?;
@@ -45,7 +45,6 @@ impl Cron {
         start: &T,
         inclusive: bool,
     ) -> Result<T, CronError>
-        requires { has_field_shapes (job_of self.now) ≡ true }
         ensures found { IfOk result (λ t. IsFound Direction.Forward inclusive (timetable_of (job_of self.now)) (T.moment start.now) (T.moment t)) }
         ensures refused { IfErr result (IsRefused T.can_lack_memory Direction.Forward inclusive (timetable_of (job_of self.now)) (T.moment start.now)) }
     {
@@ -54,8 +53,9 @@ impl Cron {
 
     /// The previous run before a time, or from it back where the search is inclusive, in the time's zone: as
     /// [`find_next_occurrence`](Self::find_next_occurrence), the other way. A run that is only carried to the start counts here
-    /// where the search is inclusive. `TimeSearchLimitExceeded` says there that no run is left after year 1, and always comes from a
-    /// start that reads year 1 or earlier with nothing scheduled ahead, as each start of year 0 or earlier.
+    /// where the search is inclusive. The searched years begin there where the zone's clock has last shown year 1, and
+    /// `TimeSearchLimitExceeded` always comes from a start that reads year 1 or earlier with nothing scheduled ahead, as each start
+    /// of year 0 or earlier.
     ///
     /// ```
     /// let job = Cron::from_str(alloc, "30 9,17 * * MON")?;
@@ -67,7 +67,6 @@ impl Cron {
         start: &T,
         inclusive: bool,
     ) -> Result<T, CronError>
-        requires { has_field_shapes (job_of self.now) ≡ true }
         ensures found { IfOk result (λ t. IsFound Direction.Backward inclusive (timetable_of (job_of self.now)) (T.moment start.now) (T.moment t)) }
         ensures refused { IfErr result (IsRefused T.can_lack_memory Direction.Backward inclusive (timetable_of (job_of self.now)) (T.moment start.now)) }
     {
@@ -81,7 +80,6 @@ impl Cron {
         inclusive: bool,
         direction: Direction,
     ) -> Result<T, CronError>
-        requires { has_field_shapes (job_of self.now) ≡ true }
         ensures found { IfOk result (λ t. IsFound direction inclusive (timetable_of (job_of self.now)) (T.moment start.now) (T.moment t)) }
         ensures refused { IfErr result (IsRefused T.can_lack_memory direction inclusive (timetable_of (job_of self.now)) (T.moment start.now)) }
     {
@@ -89,9 +87,24 @@ impl Cron {
         search::find(alloc, &self.pattern, start, inclusive, direction)
     }
 
-    /// The runs from a start on, the start itself included where it is a run, in a direction. The pattern is copied for the
-    /// iterator, and the only error is `OutOfMemory`; the start is let go then. The fields of the pattern must have the shapes of
-    /// their places, as those of every parsed pattern have.
+    // The same for a caller that has read the start: `shown` is what it reads.
+    pub(crate) fn find_occurrence_with_reading<T: CronDateTime>(
+        &self,
+        start: &T,
+        shown: CivilDateTime,
+        inclusive: bool,
+        direction: Direction,
+    ) -> Result<T, CronError>
+        requires { wall_second shown ≡ reading (T.moment start.now) }
+        ensures found { IfOk result (λ t. IsFound direction inclusive (timetable_of (job_of self.now)) (T.moment start.now) (T.moment t)) }
+        ensures refused { IfErr result (IsRefused T.can_lack_memory direction inclusive (timetable_of (job_of self.now)) (T.moment start.now)) }
+    {
+        let alloc = self.pattern.allocator();
+        search::find_with_reading(alloc, &self.pattern, start, shown, inclusive, direction)
+    }
+
+    /// The runs from a start on in a direction; the start counts as in an inclusive search. The pattern is copied for the iterator,
+    /// and the only error is `OutOfMemory`; the start is let go then.
     ///
     /// ```
     /// let job = Cron::from_str(alloc, "*/20 9 * * *")?;
@@ -106,15 +119,13 @@ impl Cron {
         start: T,
         direction: Direction,
     ) -> Result<CronIterator<T>, CronError>
-        requires { has_field_shapes (job_of self.now) ≡ true }
         ensures ok { IfOk result (λ it. standing_of T.moment it ≡ new_standing (job_of self.now) (T.moment start) true direction) }
         ensures err { IfErr result (λ e. e ≡ CronError.OutOfMemory) }
     {
         self.iter(start, true, direction)
     }
 
-    /// The runs after a start, forward, without the start. Errors, and the condition on the pattern, as for
-    /// [`iter_from`](Self::iter_from).
+    /// The runs after a start, forward, without the start. Errors as for [`iter_from`](Self::iter_from).
     ///
     /// ```
     /// let job = Cron::from_str(alloc, "0 0 29 2 *")?;
@@ -122,15 +133,13 @@ impl Cron {
     /// let next = runs.next(); // 2104-02-29T00:00:00
     /// ```
     pub fn iter_after<T: CronDateTime>(&self, start: T) -> Result<CronIterator<T>, CronError>
-        requires { has_field_shapes (job_of self.now) ≡ true }
         ensures ok { IfOk result (λ it. standing_of T.moment it ≡ new_standing (job_of self.now) (T.moment start) false Direction.Forward) }
         ensures err { IfErr result (λ e. e ≡ CronError.OutOfMemory) }
     {
         self.iter(start, false, Direction::Forward)
     }
 
-    /// The runs before a start, backward, without the start. Errors, and the condition on the pattern, as for
-    /// [`iter_from`](Self::iter_from).
+    /// The runs before a start, backward, without the start. Errors as for [`iter_from`](Self::iter_from).
     ///
     /// ```
     /// let job = Cron::from_str(alloc, "0 0 29 2 *")?;
@@ -138,7 +147,6 @@ impl Cron {
     /// let previous = runs.next(); // 2096-02-29T00:00:00
     /// ```
     pub fn iter_before<T: CronDateTime>(&self, start: T) -> Result<CronIterator<T>, CronError>
-        requires { has_field_shapes (job_of self.now) ≡ true }
         ensures ok { IfOk result (λ it. standing_of T.moment it ≡ new_standing (job_of self.now) (T.moment start) false Direction.Backward) }
         ensures err { IfErr result (λ e. e ≡ CronError.OutOfMemory) }
     {
@@ -151,7 +159,6 @@ impl Cron {
         inclusive: bool,
         direction: Direction,
     ) -> Result<CronIterator<T>, CronError>
-        requires { has_field_shapes (job_of self.now) ≡ true }
         ensures ok { IfOk result (λ it. standing_of T.moment it ≡ new_standing (job_of self.now) (T.moment start) inclusive direction) }
         ensures err { IfErr result (λ e. e ≡ CronError.OutOfMemory) }
     {

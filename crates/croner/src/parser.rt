@@ -136,7 +136,6 @@ impl CronParser {
     ghost use Rattle.croner.specs.parser.Gives.{Gives};
     ghost use Rattle.croner.specs.parser.Grammar.{outcome, of_trimmed, nicknamed, of_replaced, of_fields, fields_of, of_settled, has_plus};
     ghost use Rattle.croner.specs.Views.{job_of, texts_of};
-    ghost use Rattle.croner_pattern.specs.Shapes.{has_field_shapes};
 
     /// A parser with the default settings: seconds and year optional, and the three switches off.
     pub fn new() -> Self
@@ -159,8 +158,7 @@ impl CronParser {
     /// let job = parser.parse(alloc, "0 30 9 * * MON-FRI")?; // the text that is kept: 0 30 9 * * 1-5
     /// ```
     pub fn parse(&self, alloc: Global, pattern: &str) -> Result<Cron, CronError>
-        ensures meaning { Gives job_of result (outcome self.now pattern.now) }
-        ensures shapes { IfOk result (λ job. has_field_shapes (job_of job) ≡ true) }
+        ensures { Gives job_of result (outcome self.now pattern.now) }
     {
         self.parse_text(alloc, pattern)
     }

@@ -1,5 +1,5 @@
 -- What an iterator over a table gave between two standings, call by call.
-use Rattle.std.proofs.Common.{◌≡◌, ◌↔◌, ℕ, suc, ◌+◌, ℤ, inl, inr, refl, sym, subst, arith, Bool, true, false, IsTrue, List, [], ◌∷◌, ◌++◌, Option, None, ap, ◌∙◌, get_or}
+use Rattle.std.proofs.Common.{◌≡◌, ◌↔◌, ℕ, suc, ◌+◌, ℤ, inl, inr, sym, subst, arith, Bool, true, false, IsTrue, List, [], ◌∷◌, ◌++◌, Option, None, ap, ◌∙◌, get_or}
 use Rattle.std.proofs.lemmas.Bool.{false≢true}
 use Rattle.std.proofs.lemmas.List.{map_push}
 use Rattle.std.proofs.lemmas.List.Elements.{All-push}
@@ -11,8 +11,9 @@ use Rattle.croner_base.specs.declared.errors.CronError.{CronError}
 use Rattle.croner_base.specs.declared.errors.CronError.TheVariants.{TimeSearchLimitExceeded}
 use Rattle.croner_base.specs.declared.time.Direction.{Direction}
 use Rattle.croner_pattern.specs.Meaning.{Meaning}
+use Rattle.croner.specs.iterator.Faults.{fault_of, IsMemoryAlone}
 use Rattle.croner.specs.search.Runs.{Precedes, Reaches}
-use Rattle.croner.specs.search.Premises.{StartsCalm}
+use Rattle.croner.specs.search.Premises.{StartsCalm, IsSearchable}
 use Rattle.croner.specs.search.PatternJob.{pattern_job}
 use Rattle.croner.specs.search.Limit.{InSpan}
 use Rattle.croner.specs.crontable.Tables.{CountsAt, ArePlaces}
@@ -21,8 +22,10 @@ use Rattle.croner.specs.crontable.TableItems.{item_instants, HavePlaces, BeginsT
 use Rattle.croner.specs.declared.crontable.iterator.CronTableIterator.{CronTableIterator}
 use Rattle.croner.proofs.zone.Ahead.{same_or_ahead, reaches-precedes}
 use Rattle.croner.proofs.zone.RunsOfSeconds.{counts_reaches}
+use Rattle.croner.proofs.zone.SearchLimit.{calm_start}
 use Rattle.croner.proofs.iterator.Faults.{no_fault_is_limit}
-use Rattle.croner.proofs.iterator.Listings.{all_given, same_span, Splits, splits_none, splits_next, IsNext, is_run, begins_where, past_start}
+use Rattle.croner.proofs.iterator.Listings.{all_given, same_span, Splits, splits_next, IsNext, is_run, begins_where, past_start}
+use Rattle.croner.proofs.iterator.ThereAndBack.{searchable_run}
 
 -- ---- one place
 
@@ -53,21 +56,11 @@ pub record TableGoes (old cur : TableStanding) (items : List (ℤ × List ℕ)) 
   pub direction : cur.direction ≡ old.direction
   pub zone : cur.position.zone ≡ old.position.zone
   pub calm : StartsCalm old.position → StartsCalm cur.position
+  pub searchable : IsSearchable old.position → IsSearchable cur.position
   pub splits : StartsCalm old.position → Splits old.direction (IsTableLeft old) (IsTableLeft cur) (item_instants items)
   pub within_at : StartsCalm old.position → (k : ℕ) (i : ℤ) → IsLeftAt cur k i → IsLeftAt old k i
   pub back_at : StartsCalm old.position → (k : ℕ) (i : ℤ) → IsTableLeft cur i → IsLeftAt old k i → IsLeftAt cur k i
   pub places : StartsCalm old.position → HavePlaces old items
-
-pub goes_none : (s : TableStanding) → TableGoes s s []
-goes_none s = record {
-  direction = refl;
-  zone = refl;
-  calm = λ p. p;
-  splits = λ p. splits_none s.direction (IsTableLeft s);
-  within_at = λ p k i at. at;
-  back_at = λ p k i left at. at;
-  places = λ p k d within. absurd (omega arith);
-}
 
 -- a call without an item
 goes_on : (old cur new : TableStanding) (items : List (ℤ × List ℕ)) → TableGoes old cur items → GivesNoTableItem cur new → TableGoes old new items
@@ -77,6 +70,7 @@ goes_on old cur new items g n =
       direction = g.direction;
       zone = g.zone;
       calm = g.calm;
+      searchable = g.searchable;
       splits = g.splits;
       within_at = g.within_at;
       back_at = g.back_at;
@@ -86,6 +80,13 @@ goes_on old cur new items g n =
 module _ (cur : TableStanding) (item : Moment) (places : List ℕ) (new : TableStanding) (g : GivesTableItem cur item places new) (p : StartsCalm cur.position) where
   first_at : IsTableLeft cur item.instant
   first_at = (g.found.nearest p).counts
+
+  -- around it the backend holds what a search needs, where it does around the position
+  searchable_there : IsSearchable cur.position → IsSearchable item
+  searchable_there held =
+      let at = first_at.1 in
+      searchable_run at.pattern cur.position item held g.found.zone g.found.whole
+      (is_run cur.direction (counts_table_position cur) (pattern_job at.pattern cur.position.zone) cur.position.instant item.instant at.counts)
 
   on_item : Reaches cur.direction cur.position.instant item.instant
   on_item =
@@ -122,6 +123,9 @@ module _ (cur : TableStanding) (item : Moment) (places : List ℕ) (new : TableS
     behind = moved_ahead;
   }
 
+searchable_at : (cur : TableStanding) (item : Moment) (places : List ℕ) (new : TableStanding) → GivesTableItem cur item places new → IsSearchable cur.position → IsSearchable item
+searchable_at cur item places new g held = searchable_there cur item places new g (calm_start cur.position held) held
+
 -- a call with an item
 goes_to : (old cur new : TableStanding) (items : List (ℤ × List ℕ)) (item : Moment) (places : List ℕ) → TableGoes old cur items → GivesTableItem cur item places new
     → TableGoes old new (items ++ (item.instant, places) ∷ [])
@@ -132,6 +136,7 @@ goes_to old cur new items item places g n =
       direction = g.direction;
       zone = n.found.zone ∙ g.zone;
       calm = λ p. record { calm = subst IsCalm (sym n.found.zone) (g.calm p).calm; whole = n.found.whole };
+      searchable = λ p. searchable_at cur item places new n (g.searchable p);
       splits = λ p.
           let Q : Direction → Type 0 = λ d. IsNext d (IsTableLeft cur) (IsTableLeft (table_moved cur item)) item.instant in
           let R : List ℤ → Type 0 = Splits old.direction (IsTableLeft old) (IsTableLeft (table_moved cur item)) in
@@ -184,8 +189,17 @@ is_over old cur new items g n without =
 pub gave_all_table : (old cur : TableStanding) (items : List (ℤ × List ℕ)) → TableGoes old cur items → IsTableOver old cur → StartsCalm old.position → GaveAllTable old items
 gave_all_table old cur items g over p = all_given old.direction (IsTableLeft old) (IsTableLeft cur) (InSpan old.direction old.position.zone.reads) (item_instants items) (g.splits p) (over p)
 
+-- where what a search needs is held, a call without an item keeps nothing but want of memory
+memory_alone : (cur new : TableStanding) → GivesNoTableItem cur new → IsSearchable cur.position → IsMemoryAlone true new.fault
+memory_alone cur new n p =
+    let fault : TableStanding → Option CronError = λ s. s.fault in
+    elim (n.refused.promised p) [
+      | inl limit ↦ inl (ap fault n.stands ∙ ap fault_of limit)
+      | inr (wanting, can) ↦ inr (ap fault n.stands ∙ ap fault_of wanting, can)
+    ]
+
 -- one call more
-module _ {T : Type 0} (moment : T → Moment) (old : TableStanding) (cur new : CronTableIterator T) (before after : List (T × Vec ℕ Global)) where
+module _ {T : Type 0} {d : _} {c : _} (moment : T → Moment) (old : TableStanding) (cur new : CronTableIterator T d c) (before after : List (T × Vec ℕ Global)) where
   pub goes_by_call : (b : Bool) → TableGoes old (table_standing_of moment cur) (table_items moment before) → TakesTable moment cur new before after b → TableGoes old (table_standing_of moment new) (table_items moment after)
   goes_by_call true g (none, without, e) =
       let P : List (T × Vec ℕ Global) → Type 0 = λ ts. TableGoes old (table_standing_of moment new) (table_items moment ts) in
@@ -205,8 +219,19 @@ module _ {T : Type 0} (moment : T → Moment) (old : TableStanding) (cur new : C
   over_by_call true g (none, without, e) h = is_over old (table_standing_of moment cur) (table_standing_of moment new) (table_items moment before) g none without
   over_by_call false g takes h = absurd (false≢true h)
 
+  -- where what searches need is held, the call keeps nothing but want of memory
+  pub fault_by_call : (b : Bool) → TableGoes old (table_standing_of moment cur) (table_items moment before) → TakesTable moment cur new before after b
+      → IsSearchable old.position → IsMemoryAlone true (table_standing_of moment new).fault
+  fault_by_call true g (none, without, e) p = inl without
+  fault_by_call false g takes p =
+      let fault : TableStanding → Option CronError = λ s. s.fault in
+      elim takes [
+        | inl (none, with_fault, e) ↦ memory_alone (table_standing_of moment cur) (table_standing_of moment new) none (g.searchable p)
+        | inr (t, item, e) ↦ inl (ap fault item.stands)
+      ]
+
   -- and one more of the calls in turn
-  pub called_again : (start : CronTableIterator T) (calls : ℕ) (b mark : Bool) → TakesTableInTurn moment calls start cur before b → TakesTable moment cur new before after mark
+  pub called_again : (start : CronTableIterator T d c) (calls : ℕ) (b mark : Bool) → TakesTableInTurn moment calls start cur before b → TakesTable moment cur new before after mark
       → TakesTableInTurn moment (calls + 1) start new after mark
   called_again start calls b mark called takes =
       let P : ℕ → Type 0 = λ n. TakesTableInTurn moment n start new after mark in

@@ -1,5 +1,5 @@
 -- The nearest of the answers of a table's patterns, place by place, and what they come to.
-use Rattle.std.proofs.Common.{◌≡◌, ◌⊎◌, inl, inr, ℕ, ◌+◌, ◌<◌, ℤ, arith, refl, sym, ap, subst, ◌∙◌, Bool, true, List, [], ◌∷◌, ◌++◌, length, get_or, Option, Some, None, Result, Ok, Err}
+use Rattle.std.proofs.Common.{◌≡◌, ◌⊎◌, inl, inr, ℕ, ◌+◌, ◌<◌, ℤ, arith, refl, sym, subst, ◌∙◌, Bool, true, List, [], ◌∷◌, ◌++◌, length, get_or, Option, Some, None, Result, Ok, Err}
 use Rattle.std.proofs.lemmas.Bool.{cases_lt}
 use Rattle.std.proofs.lemmas.Int.{ints}
 use Rattle.std.proofs.lemmas.List.{length_push}
@@ -21,11 +21,12 @@ use Rattle.croner.specs.search.Limit.{InSpan, NoneInSpanWhere, IsPast}
 use Rattle.croner.specs.search.PatternJob.{pattern_job, timetable_of}
 use Rattle.croner.specs.Private.search.Held.{IsBackendError}
 use Rattle.croner.specs.search.Premises.{IsSearchable, StartsCalm}
-use Rattle.croner.specs.search.Refusal.{IsRefusal}
+use Rattle.croner.specs.search.Refusal.{IsRefusal, IsLimitOrMemory}
 use Rattle.croner.specs.search.Runs.{Precedes, Reaches, Counts}
 use Rattle.croner.specs.search.Searches.{IsFound, IsRefused}
 use Rattle.croner.specs.crontable.Tables.{CountsAt, TableCounts, ShowsAt, AllPast, IsTableFound, IsTableRefused}
 use Rattle.croner.specs.Private.crontable.Met.{MetAnswers, new_met, IsOrdered, Meets, TakesIn}
+use Rattle.croner.specs.Private.crontable.Room.{IsRefusedInRoom}
 use Rattle.croner.proofs.zone.Ahead.{reaches-trans, precedes-reaches, not_both, either}
 use Rattle.croner.proofs.iterator.Listings.{is_run}
 use Rattle.croner.proofs.iterator.ThereAndBack.{searchable_run}
@@ -43,14 +44,12 @@ ok_is_err r x e good bad = absurd (cc)
 same_err : {X : Type 0} (r : Result X CronError) (e f : CronError) → r ≡ Err e → r ≡ Err f → e ≡ f
 same_err r e f one other = cc
 
--- an error of a backend that can lack memory, where memory can be wanting in any case
+-- the limit, or an error of a backend that can lack memory, where memory can be wanting in any case
+or_memory : (lack : Bool) (e : CronError) → IsLimitOrMemory lack e → IsLimitOrMemory true e
+or_memory lack e why = elim why [ inl limit ↦ inl limit | inr (memory, can) ↦ inr (memory, refl) ]
+
 with_memory : (lack : Bool) (e : CronError) → IsRefusal lack e → IsRefusal true e
-with_memory lack e kind =
-    elim kind [
-      | inl (inl limit) ↦ inl (inl limit)
-      | inl (inr (memory, can)) ↦ inl (inr (memory, refl))
-      | inr other ↦ inr other
-    ]
+with_memory lack e kind = elim kind [ inl why ↦ inl (or_memory lack e why) | inr other ↦ inr other ]
 
 backend_no_limit : (lack : Bool) (unheld : Type 0) (e : CronError) → IsBackendError lack unheld e → e ≡ TimeSearchLimitExceeded → ⊥
 backend_no_limit lack unheld e error is =
@@ -72,14 +71,24 @@ last_or_before k n lt = elim (cases_lt k n) [ inl below ↦ inl below | inr abov
 one_nanos : (a b : Moment) → a.fraction ≡ 0 → b.fraction ≡ 0 → nanos_of a ≡ nanos_of b → a.instant ≡ b.instant
 one_nanos a b f g e = omega (arith, ints)
 
-order_nanos : (direction : Direction) (a b : Moment) → a.fraction ≡ 0 → b.fraction ≡ 0 → Precedes direction (nanos_of a) (nanos_of b) → Precedes direction a.instant b.instant
+pub order_nanos : (direction : Direction) (a b : Moment) → a.fraction ≡ 0 → b.fraction ≡ 0 → Precedes direction (nanos_of a) (nanos_of b) → Precedes direction a.instant b.instant
 order_nanos Forward a b f g lt = omega (arith, ints)
 order_nanos Backward a b f g lt = omega (arith, ints)
 
 -- the limit, with what it says
-table_limit : (direction : Direction) (inclusive : Bool) (patterns : List Meaning) (start : Moment) → (StartsCalm start → NoneInSpanWhere direction start.zone.reads (TableCounts direction inclusive patterns start.zone start.instant))
-    → IsTableRefused direction inclusive patterns start TimeSearchLimitExceeded
-table_limit direction inclusive patterns start none = record { limit = λ calm e. none calm; promised = λ p. inl refl; kind = inl (inl refl); past = λ p. inl refl }
+table_limit : (lack : Bool) (direction : Direction) (inclusive : Bool) (patterns : List Meaning) (start : Moment) → (StartsCalm start → NoneInSpanWhere direction start.zone.reads (TableCounts direction inclusive patterns start.zone start.instant))
+    → IsRefusedInRoom lack direction inclusive patterns start TimeSearchLimitExceeded
+table_limit lack direction inclusive patterns start none = record { limit = λ calm e. none calm; promised = λ p. inl refl; kind = inl (inl refl); past = λ p. refl }
+
+-- what refuses a search in room refuses the search
+pub refused_in_room : (lack : Bool) (direction : Direction) (inclusive : Bool) (patterns : List Meaning) (start : Moment) (e : CronError) → IsRefusedInRoom lack direction inclusive patterns start e
+    → IsTableRefused direction inclusive patterns start e
+refused_in_room lack direction inclusive patterns start e why = record {
+  limit = why.limit;
+  promised = λ p. or_memory lack e (why.promised p);
+  kind = with_memory lack e why.kind;
+  past = λ past. inl (why.past past);
+}
 
 -- there is no memory for the places
 pub room_refused : (direction : Direction) (inclusive : Bool) (patterns : List Meaning) (start : Moment) → IsTableRefused direction inclusive patterns start OutOfMemory
@@ -89,13 +98,6 @@ room_refused direction inclusive patterns start = record {
   kind = inl (inr (refl, refl));
   past = λ p. inr (refl, refl);
 }
-
--- nor is there a pattern
-pub no_patterns : (direction : Direction) (inclusive : Bool) (patterns : List Meaning) (start : Moment) → patterns ≡ [] → IsTableRefused direction inclusive patterns start TimeSearchLimitExceeded
-no_patterns direction inclusive patterns start none = table_limit direction inclusive patterns start (λ calm i span (k, at).
-    let lt : k < length patterns = slice_get_within patterns k at.pattern at.stands in
-    let length_none : length patterns ≡ 0 = ap length none in
-    absurd (omega arith))
 
 module _ {T : Type 0} (moment : T → Moment) (direction : Direction) (inclusive : Bool) (patterns : List Meaning) (start : Moment) where
   abbrev pub At : ℕ → ℤ → Type 0
@@ -340,22 +342,22 @@ module _ {T : Type 0} (moment : T → Moment) (direction : Direction) (inclusive
     -- the error of the place that ends the search of the table
     pub refused_place : (lack : Bool) (answer : Result T CronError) (new : MetAnswers T) (result : Result (Unit {0}) CronError) (e : CronError)
         → IfErr answer (IsRefused lack direction inclusive (timetable_of m) start)
-        → TakesIn moment direction n answer old new result → result ≡ Err e → IsTableRefused direction inclusive patterns start e
+        → TakesIn moment direction n answer old new result → result ≡ Err e → IsRefusedInRoom lack direction inclusive patterns start e
     refused_place lack (Ok found) new result e refused (order, ordered, step, ok) bad = absurd (ok_is_err result tt e ok bad)
     refused_place lack (Err f) new result e refused takes bad =
         elim takes [
           | inl (limit, step, ok) ↦ absurd (ok_is_err result tt e ok bad)
           | inr (other, same) ↦
               let the : f ≡ e = same_err result f e same bad in
-              subst (IsTableRefused direction inclusive patterns start) the (record {
+              subst (IsRefusedInRoom lack direction inclusive patterns start) the (record {
                 limit = λ calm is. absurd (other is);
-                promised = λ p. elim (refused.promised p) [ inl limit ↦ inl limit | inr (memory, can) ↦ inr (memory, refl) ];
-                kind = with_memory lack f refused.kind;
+                promised = refused.promised;
+                kind = refused.kind;
                 past = λ past.
                     let lt : n < length patterns = slice_get_within patterns n m stands in
                     let here : get_or patterns n m ≡ m = get_or_from_slice_get patterns n m m stands in
                     let P : Meaning → Type 0 = λ x. IsPast direction inclusive (timetable_of x).scheduled (reading start) in
-                    inl (refused.past (subst P here (past n m lt)));
+                    refused.past (subst P here (past n m lt));
               })
         ]
 
@@ -366,8 +368,8 @@ module _ {T : Type 0} (moment : T → Moment) (direction : Direction) (inclusive
     within k j at = slice_get_within patterns k at.pattern at.stands
 
     -- no pattern has a run
-    pub none_met : met.nearest ≡ None → IsTableRefused direction inclusive patterns start TimeSearchLimitExceeded
-    none_met none = table_limit direction inclusive patterns start (λ calm i span (k, at).
+    pub none_met : (lack : Bool) → met.nearest ≡ None → IsRefusedInRoom lack direction inclusive patterns start TimeSearchLimitExceeded
+    none_met lack none = table_limit lack direction inclusive patterns start (λ calm i span (k, at).
         elim ((s.looked calm).reached k i (within k i at) at) [
           | inl (t, e, reach) ↦ none_is_some t (sym none ∙ e)
           | inr (lim, out) ↦ out span
@@ -381,8 +383,8 @@ module _ {T : Type 0} (moment : T → Moment) (direction : Direction) (inclusive
       calm_best calm = record { calm = subst IsCalm (sym best.zone) calm.calm; whole = best.whole }
 
       -- the nearest lies outside the span
-      pub outside_met : (StartsCalm (moment t) → ¬ (InSpan direction (moment t).zone.reads (moment t).instant)) → IsTableRefused direction inclusive patterns start TimeSearchLimitExceeded
-      outside_met outside = table_limit direction inclusive patterns start (λ calm i span (k, at).
+      pub outside_met : (lack : Bool) → (StartsCalm (moment t) → ¬ (InSpan direction (moment t).zone.reads (moment t).instant)) → IsRefusedInRoom lack direction inclusive patterns start TimeSearchLimitExceeded
+      outside_met lack outside = table_limit lack direction inclusive patterns start (λ calm i span (k, at).
           elim ((s.looked calm).reached k i (within k i at) at) [
             | inl (b, e, reach) ↦
                 let P : T → Type 0 = λ x. Reaches direction (moment x).instant i in
@@ -405,12 +407,12 @@ module _ {T : Type 0} (moment : T → Moment) (direction : Direction) (inclusive
           (is_run direction inclusive (pattern_job at.pattern start.zone) start.instant (moment t).instant at.counts)
 
       -- the span's test is refused
-      pub test_refused : (lack : Bool) (e : CronError) → IsBackendError lack (¬ (IsSearchable (moment t))) e → IsTableRefused direction inclusive patterns start e
+      pub test_refused : (lack : Bool) (e : CronError) → IsBackendError lack (¬ (IsSearchable (moment t))) e → IsRefusedInRoom lack direction inclusive patterns start e
       test_refused lack e error = record {
         limit = λ calm is. absurd (backend_no_limit lack _ e error is);
-        promised = λ p. elim error [ inl (memory, can) ↦ inr (memory, refl) | inr (kind, stuck) ↦ absurd (stuck (searchable_best p)) ];
+        promised = λ p. elim error [ inl (memory, can) ↦ inr (memory, can) | inr (kind, stuck) ↦ absurd (stuck (searchable_best p)) ];
         kind = elim error [
-          | inl (memory, can) ↦ inl (inr (memory, refl))
+          | inl (memory, can) ↦ inl (inr (memory, can))
           | inr (inl date, stuck) ↦ inr (inl date)
           | inr (inr time, stuck) ↦ inr (inr time)
         ];

@@ -1,33 +1,22 @@
 -- A search over a table, as the code makes it: its jobs and their places, and what the decision answers.
-use Rattle.std.proofs.Common.{◌≡◌, ℕ, ◌<◌, arith, refl, sym, ap, subst, ◌∙◌, inl, inr, Bool, true, false, List, [], ◌∷◌, length, get_or, map, Option, Some, None, Result, Ok, Err}
-use Rattle.std.specs.Prelude.{slice_get, option_map, IfOk, IfErr}
-use Rattle.std.specs.List.{All, AllZip}
+use Rattle.std.proofs.Common.{◌≡◌, ℕ, refl, sym, ap, subst, ◌∙◌, inl, inr, Bool, true, false, List, [], ◌∷◌, length, map, Option, Some, None, Result, Ok, Err}
+use Rattle.std.specs.Prelude.{IfOk, IfErr}
+use Rattle.std.specs.List.{AllZip}
 use Rattle.std.specs.declared.alloc.Global.{Global}
 use Rattle.std.specs.declared.vec.Vec.{Vec}
-use Rattle.std.proofs.lemmas.Bool.{false≢true}
-use Rattle.std.proofs.lemmas.List.{length-map, get_or-map}
-use Rattle.std.proofs.lemmas.Option.{slice_get-map, slice_get_read}
+use Rattle.std.proofs.lemmas.List.{length-map}
 use Rattle.croner_base.specs.declared.errors.CronError.{CronError}
-use Rattle.croner_base.specs.declared.errors.CronError.TheVariants.{TimeSearchLimitExceeded}
 use Rattle.croner_base.specs.declared.time.Direction.{Direction}
 use Rattle.croner_base.specs.Zone.{Moment}
 use Rattle.croner_pattern.specs.Meaning.{Meaning}
-use Rattle.croner_pattern.specs.Shapes.{has_field_shapes}
 use Rattle.croner.specs.declared.job.Cron.{Cron}
 use Rattle.croner.specs.Views.{job_of}
 use Rattle.croner.specs.crontable.Tables.{IsTableFound, IsTableRefused}
+use Rattle.croner.specs.Private.crontable.Room.{IsRefusedInRoom}
 use Rattle.croner.specs.Private.crontable.Met.{MetAnswers, new_met, Decides, DecidesRefusal}
-use Rattle.croner.proofs.crontable.TableRuns.{Searched, searched_none, none_met, outside_met, test_refused, found_met}
+use Rattle.croner.proofs.crontable.TableRuns.{Searched, searched_none, none_met, outside_met, test_refused, found_met, refused_in_room}
 
--- the pattern of the job at a place
-pub place_stands : (jobs : List Cron) (k : ℕ) (job : Cron) → k < length jobs → job ≡ get_or jobs k job → slice_get (map job_of jobs) k ≡ Some (job_of job)
-place_stands jobs k job lt at = slice_get-map job_of jobs k ∙ ap (option_map job_of) (slice_get_read jobs (length jobs) k job refl lt at)
-
--- it has its shapes
-pub place_shaped : (jobs : List Cron) (k : ℕ) (job : Cron) → All (λ j. has_field_shapes (job_of j) ≡ true) jobs → k < length jobs → job ≡ get_or jobs k job → has_field_shapes (job_of job) ≡ true
-place_shaped jobs k job shaped lt at = subst (λ j. has_field_shapes (job_of j) ≡ true) (sym at) (shaped k job lt)
-
--- a copy of jobs has their patterns, and their shapes
+-- a copy of jobs has their patterns
 pub copied_jobs : (xs ys : List Cron) → AllZip (λ a b. job_of b ≡ job_of a) xs ys → map job_of ys ≡ map job_of xs
 copied_jobs [] [] z = refl
 copied_jobs [] (y ∷ ys) z = absurd z
@@ -36,19 +25,6 @@ copied_jobs (x ∷ xs) (y ∷ ys) z =
     let one : job_of y ≡ job_of x = z.0 in
     let more : map job_of ys ≡ map job_of xs = copied_jobs xs ys z.1 in
     cc
-
-pub copied_shapes : (xs ys : List Cron) → map job_of ys ≡ map job_of xs → All (λ j. has_field_shapes (job_of j) ≡ true) xs → All (λ j. has_field_shapes (job_of j) ≡ true) ys
-copied_shapes xs ys e shaped k d within =
-    let as_long : length ys ≡ length xs = sym (length-map ys job_of) ∙ ap length e ∙ length-map xs job_of in
-    let lt : k < length xs = omega (arith, within, as_long) in
-    let here = get_or-map job_of ys k d (job_of d) within in
-    let there = get_or-map job_of xs k d (job_of d) lt in
-    let same : job_of (get_or ys k d) ≡ job_of (get_or xs k d) = sym here ∙ ap (λ (ms : List Meaning). get_or ms k (job_of d)) e ∙ there in
-    subst (λ m. has_field_shapes m ≡ true) (sym same) (shaped k d lt)
-
--- a table with a job has a pattern
-pub some_pattern : (jobs : List Cron) → map job_of jobs ≡ [] → length jobs ≡ 0
-some_pattern jobs none = sym (length-map jobs job_of) ∙ ap length none
 
 module _ {T : Type 0} (moment : T → Moment) (lack : Bool) (direction : Direction) (inclusive : Bool) (start : Moment) where
   pub searched_first : (patterns : List Meaning) (met : MetAnswers T) → met ≡ new_met → Searched moment direction inclusive patterns start 0 met
@@ -59,16 +35,16 @@ module _ {T : Type 0} (moment : T → Moment) (lack : Bool) (direction : Directi
   searched_all jobs k met all s = subst (λ (n : ℕ). Searched moment direction inclusive (map job_of jobs) start n met) (all ∙ sym (length-map jobs job_of)) s
 
   module _ (patterns : List Meaning) (met : MetAnswers T) (s : Searched moment direction inclusive patterns start (length patterns) met) where
-    refused_by : (nearest : Option T) → met.nearest ≡ nearest → (is_limited : Bool) → (e : CronError) → DecidesRefusal moment lack direction nearest is_limited e → IsTableRefused direction inclusive patterns start e
-    refused_by None at is_limited e limit = subst (IsTableRefused direction inclusive patterns start) (sym limit) (none_met moment direction inclusive patterns start met s at)
+    refused_by : (nearest : Option T) → met.nearest ≡ nearest → (is_limited : Bool) → (e : CronError) → DecidesRefusal moment lack direction nearest is_limited e → IsRefusedInRoom lack direction inclusive patterns start e
+    refused_by None at is_limited e limit = subst (IsRefusedInRoom lack direction inclusive patterns start) (sym limit) (none_met moment direction inclusive patterns start met s lack at)
     refused_by (Some t) at false e none = absurd none
     refused_by (Some t) at true e why =
         elim why [
-          | inl (limit, outside) ↦ subst (IsTableRefused direction inclusive patterns start) (sym limit) (outside_met moment direction inclusive patterns start met s t at outside)
+          | inl (limit, outside) ↦ subst (IsRefusedInRoom lack direction inclusive patterns start) (sym limit) (outside_met moment direction inclusive patterns start met s t at lack outside)
           | inr error ↦ test_refused moment direction inclusive patterns start met s t at lack e error
         ]
 
-    pub decided_refused : (places : Vec ℕ Global) (result : Result (T × Vec ℕ Global) CronError) → Decides moment lack direction met places result → IfErr result (IsTableRefused direction inclusive patterns start)
+    pub decided_refused : (places : Vec ℕ Global) (result : Result (T × Vec ℕ Global) CronError) → Decides moment lack direction met places result → IfErr result (IsRefusedInRoom lack direction inclusive patterns start)
     decided_refused places (Ok answer) decides = tt
     decided_refused places (Err e) decides = refused_by met.nearest refl met.is_limited e decides
 
@@ -79,3 +55,9 @@ module _ {T : Type 0} (moment : T → Moment) (lack : Bool) (direction : Directi
         let items : met.places ≡ answer.1.items = same ∙ sym (ap (λ (v : Vec ℕ Global). v.items) is) in
         subst P items (found_met moment direction inclusive patterns start met s answer.0 at inside)
     decided_found places (Err e) same decides = tt
+
+-- an answer that is refused in room is refused
+pub answered_in_room : {X : Type 0} (lack : Bool) (direction : Direction) (inclusive : Bool) (patterns : List Meaning) (start : Moment) (result : Result X CronError) → IfErr result (IsRefusedInRoom lack direction inclusive patterns start)
+    → IfErr result (IsTableRefused direction inclusive patterns start)
+answered_in_room lack direction inclusive patterns start (Ok x) why = tt
+answered_in_room lack direction inclusive patterns start (Err e) why = refused_in_room lack direction inclusive patterns start e why

@@ -1,5 +1,5 @@
 -- The search for the first date that matches after a date.
-use Rattle.std.proofs.Common.{◌≡◌, ◌↔◌, ℕ, ◌+◌, ◌-◌, ◌<◌, ◌≤◌, ◌⊎◌, inl, inr, Bool, true, false, ◌&&◌, nat_lt, if◌then◌else◌, refl, sym, ap, subst, ◌∙◌, arith, ℤ, pos, negsuc, ◌<ℤ◌, ◌≤ℤ◌, int_le, unsigned_abs}
+use Rattle.std.proofs.Common.{◌≡◌, ◌↔◌, ℕ, ◌+◌, ◌-◌, ◌<◌, ◌≤◌, ◌⊎◌, inl, inr, Bool, true, false, ◌&&◌, nat_lt, if◌then◌else◌, refl, sym, ap, subst, ◌∙◌, arith, ℤ, pos, negsuc, ◌≤ℤ◌, int_le, unsigned_abs}
 use Rattle.std.proofs.lemmas.Int.{ints}
 use Rattle.std.proofs.lemmas.Bool.{false≢true}
 use Rattle.std.proofs.lemmas.Bool.Decides.{nat_tests}
@@ -56,18 +56,6 @@ same_match m a b s h =
     parts_match m a (rw (s.year, s.month, s.day) p)
 
 -- ---- the year
-
-pub year-low : (m : Meaning) (y : ℤ) → y <ℤ pos first_year → is_year_matching m y ≡ false
-year-low m y h = let t : int_le (pos first_year) y ≡ false = grind (arith, ints) in rw t refl
-
-and-false : (a : Bool) → (a && false) ≡ false
-and-false true = refl
-and-false false = refl
-
-pub year-high : (m : Meaning) (y : ℤ) → pos last_year <ℤ y → is_year_matching m y ≡ false
-year-high m y h =
-    let t : int_le y (pos last_year) ≡ false = grind (arith, ints) in
-    rw (t, and-false (int_le (pos first_year) y)) refl
 
 pub year-in : (m : Meaning) (y : ℤ) → pos first_year ≤ℤ y → y ≤ℤ pos last_year → is_year_matching m y ≡ is_plain m.years (unsigned_abs y)
 year-in m y low high =

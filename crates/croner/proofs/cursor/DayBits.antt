@@ -1,13 +1,13 @@
 -- Days of a month as the bits of a word.
-use Rattle.std.proofs.Common.{◌≡◌, ◌↔◌, ℕ, suc, ◌+◌, ◌-◌, ◌*◌, ◌/◌, ◌%◌, ◌^◌, ◌<◌, ◌≤◌, bit_and, inl, inr, ap, ◌∙◌, subst, arith, w32, pos}
+use Rattle.std.proofs.Common.{◌≡◌, ◌↔◌, ℕ, suc, ◌+◌, ◌-◌, ◌*◌, ◌%◌, ◌^◌, ◌<◌, ◌≤◌, bit_and, inl, inr, subst, arith, w32, pos}
 use Rattle.std.specs.Int.{bit_at, bit_not, trailing_zeros, leading_zeros}
 use Rattle.std.proofs.lemmas.Bool.{cases_lt}
-use Rattle.std.proofs.lemmas.Nat.{leading_top, pow_pos, div-mul-add}
+use Rattle.std.proofs.lemmas.Nat.{leading_top, pow_pos}
 use Rattle.std.proofs.lemmas.Nat.Bits.{bit_at_and, bit_at_not, bit_at-lt, bit_at-trailing_zeros, ones_shl, bit_at_above, bit_at_mask_inside, bit_at_mask_below}
-use native.Mathlib.Nat.{pow-suc}
 use Rattle.jiff_core.proofs.SignedLemmas.{signed_arith}
 use Rattle.croner_base.specs.declared.time.Direction.{Direction}
 use Rattle.croner_base.specs.declared.time.Direction.TheVariants.{Forward, Backward}
+use Rattle.croner_base.proofs.Words.Search.{top_bit}
 use Rattle.croner.specs.search.Runs.{Precedes}
 use Rattle.croner.specs.Private.cursor.Cursor.{HasDay, IsForemost}
 
@@ -29,15 +29,6 @@ first_forward Forward days is some fits =
     let t = bit_at-trailing_zeros w32 days some fits in
     lowest_day days (trailing_zeros w32 days) t.1 t.2
 first_forward Backward days is some fits = absurd cc
-
-pub top_bit : (n j : ℕ) → 2 ^ j ≤ n → n < 2 ^ suc j → bit_at n j ≡ 1
-top_bit n j le lt =
-    let twice : n < 2 ^ j * 2 = omega (arith, pow-suc 2 j) in
-    let one : n / 2 ^ j ≡ 1 = quotient_one n (2 ^ j) (pow_pos j) le twice in
-    ap (λ x. x % 2) one
-  where
-    quotient_one : (n m : ℕ) → 0 < m → m ≤ n → n < m * 2 → n / m ≡ 1
-    quotient_one n m some le lt = let e : n ≡ 1 * m + (n - m) = omega arith in ap (λ x. x / m) e ∙ div-mul-add 1 m (n - m) (omega arith)
 
 highest_day : (days j : ℕ) → bit_at days j ≡ 1 → ((b : ℕ) → j < b → bit_at days b ≡ 0) → IsForemost pos (HasDay days) Backward (j + 1)
 highest_day days j one rest = record {

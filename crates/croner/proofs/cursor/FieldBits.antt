@@ -8,13 +8,13 @@ use Rattle.jiff_core.proofs.SignedLemmas.{signed_arith}
 use Rattle.croner_base.specs.declared.time.Direction.{Direction}
 use Rattle.croner_base.specs.declared.time.Direction.TheVariants.{Forward, Backward}
 use Rattle.croner_base.specs.Field.{Field, can_ask, is_marked}
+use Rattle.croner_base.proofs.Words.Search.{top_bit}
 use Rattle.croner_pattern.specs.Meaning.{Meaning}
 use Rattle.croner_pattern.specs.Schedule.{is_plain}
 use Rattle.croner_pattern.specs.Shapes.{has_field_shapes}
 use Rattle.croner_pattern.proofs.Shaped.{shaped, asks_sixty, asks_hour, asks_month, marked-named}
 use Rattle.croner.specs.search.Runs.{Reaches}
 use Rattle.croner.specs.Private.cursor.Cursor.{AreFrom, HoldsAll, IsOnTheWay, IsPlainWithin, IsForemost, IsNearest, NoneOn}
-use Rattle.croner.proofs.cursor.DayBits.{top_bit}
 
 -- ---- bits of a word
 

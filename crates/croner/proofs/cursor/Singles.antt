@@ -91,6 +91,12 @@ like_bounds shape max h =
     let two = and-split _ _ one.1 in
     (equal_test shape.min 0 one.0, equal_test shape.max max two.0)
 
+pub second_bounds : (m : Meaning) → has_field_shapes m ≡ true → Bounds m.seconds 59
+second_bounds m h =
+    let one = and-split _ _ h in
+    let b = like_bounds m.seconds.shape 59 one.0 in
+    record { min = b.0; max = b.1 }
+
 pub hour_bounds : (m : Meaning) → has_field_shapes m ≡ true → Bounds m.hours 23
 hour_bounds m h =
     let one = and-split _ _ h in
@@ -107,6 +113,7 @@ minute_bounds m h =
     record { min = b.0; max = b.1 }
 
 pub record SingleTime (m : Meaning) : Type 0 where
+  pub seconds : is_single m.seconds ≡ true
   pub minutes : is_single m.minutes ≡ true
   pub hours : is_single m.hours ≡ true
 
@@ -114,4 +121,4 @@ pub single_time : (m : Meaning) → is_fixed_time m ≡ true → SingleTime m
 single_time m h =
     let one = and-split _ _ h in
     let two = and-split _ _ one.1 in
-    record { minutes = two.0; hours = two.1 }
+    record { seconds = one.0; minutes = two.0; hours = two.1 }

@@ -1,5 +1,5 @@
 -- The items of an iterator one by one: how each compares with the one before it.
-use Rattle.std.proofs.Common.{◌≡◌, ℕ, ◌+◌, ◌-◌, ◌<◌, ◌≤◌, ℤ, pos, ◌+ℤ◌, ◌*ℤ◌, List, [], ◌∷◌, ◌++◌, length, get_or, map, arith, refl, sym, ap, subst, ◌∙◌, ◌⊎◌, inl, inr}
+use Rattle.std.proofs.Common.{◌≡◌, ℕ, ◌+◌, ◌-◌, ◌<◌, ◌≤◌, ℤ, pos, ◌+ℤ◌, ◌*ℤ◌, List, [], ◌∷◌, ◌++◌, length, get_or, map, arith, sym, ap, subst, ◌∙◌, ◌⊎◌, inl, inr}
 use Rattle.std.proofs.lemmas.Bool.{cases_lt}
 use Rattle.std.proofs.lemmas.Bool.Decides.{nat_tests}
 use Rattle.std.proofs.lemmas.Int.{ints}
@@ -23,13 +23,6 @@ pub record ComparedBelow {T : Type 0} (moment : T → Moment) (items : List T) (
   pub counted : length orders + 1 ≡ k
   pub within : (k ≤ length items) ⊎ (k ≡ 1)
   pub each : (j : ℕ) (d : T) (o : Ordering) → j < length orders → get_or orders j o ≡ order_at moment items j d
-
-pub compared_none : {T : Type 0} (moment : T → Moment) (items : List T) → ComparedBelow moment items [] 1
-compared_none moment items = record {
-  counted = refl;
-  within = inr refl;
-  each = λ j d o lt. absurd (omega arith);
-}
 
 module _ {T : Type 0} (moment : T → Moment) (items : List T) (orders : List Ordering) (k : ℕ) where
   -- one more

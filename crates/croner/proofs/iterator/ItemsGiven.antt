@@ -1,5 +1,5 @@
 -- What an iterator gave between two standings, call by call.
-use Rattle.std.proofs.Common.{◌≡◌, ℕ, suc, ℤ, ◌⊎◌, inl, inr, refl, sym, subst, arith, Bool, true, false, List, [], ◌∷◌, ◌++◌, None, ap, ◌∙◌, IsTrue, length, ◌+◌, Option}
+use Rattle.std.proofs.Common.{◌≡◌, ℕ, suc, ℤ, ◌⊎◌, inl, inr, sym, subst, arith, Bool, true, false, List, [], ◌∷◌, ◌++◌, None, ap, ◌∙◌, IsTrue, length, ◌+◌, Option}
 use Rattle.croner_base.specs.Calm.{IsCalm}
 use Rattle.croner_base.specs.Zone.{Zone, Moment}
 use Rattle.croner_base.specs.declared.errors.CronError.{CronError}
@@ -7,7 +7,7 @@ use Rattle.croner_base.specs.declared.errors.CronError.TheVariants.{TimeSearchLi
 use Rattle.croner_base.specs.declared.time.Direction.{Direction}
 use Rattle.std.specs.List.{All}
 use Rattle.croner.specs.search.Runs.{Counts}
-use Rattle.croner.specs.iterator.Faults.{fault_of}
+use Rattle.croner.specs.iterator.Faults.{fault_of, IsMemoryAlone}
 use Rattle.croner.specs.search.Premises.{IsSearchable, StartsCalm}
 use Rattle.croner.specs.search.PatternJob.{pattern_job}
 use Rattle.croner.specs.search.Limit.{InSpan}
@@ -17,7 +17,7 @@ use Rattle.croner.specs.declared.iterator.CronIterator.{CronIterator}
 use Rattle.std.proofs.lemmas.Bool.{false≢true}
 use Rattle.std.proofs.lemmas.List.{map_push, length_push}
 use Rattle.std.proofs.lemmas.List.Elements.{All-push}
-use Rattle.croner.proofs.iterator.Listings.{all_given, same_span, Splits, splits_none, splits_next, IsNext, is_next, is_run, begins}
+use Rattle.croner.proofs.iterator.Listings.{all_given, same_span, Splits, splits_next, IsNext, is_next, is_run, begins}
 use Rattle.croner.proofs.iterator.Faults.{no_fault_is_limit}
 use Rattle.croner.proofs.zone.SearchLimit.{calm_start}
 use Rattle.croner.proofs.iterator.ThereAndBack.{searchable_run}
@@ -29,15 +29,6 @@ pub record Goes (old cur : Standing) (items : List ℤ) : Type 0 where
   pub splits : StartsCalm old.position → Splits old.direction (IsLeft old) (IsLeft cur) items
   pub calm : StartsCalm old.position → StartsCalm cur.position
   pub searchable : IsSearchable old.position → IsSearchable cur.position
-
-pub goes_none : (s : Standing) → Goes s s []
-goes_none s = record {
-  direction = refl;
-  zone = refl;
-  splits = λ p. splits_none s.direction (IsLeft s);
-  calm = λ p. p;
-  searchable = λ p. p;
-}
 
 -- a call without an item
 pub goes_on : (lack : Bool) (old cur new : Standing) (items : List ℤ) → Goes old cur items → GivesNone lack cur new → Goes old new items
@@ -129,12 +120,20 @@ still_over old cur new items item g n over =
     let P : Standing → Type 0 = λ s. IsOver old s in
     subst P (sym n.stands) (λ p i left span. over p i ((next_of cur new item (g.calm p) n).within i left) span)
 
--- without want of memory a call without an item has no fault
-without_fault : (lack : Bool) (cur new : Standing) → GivesNone lack cur new → lack ≡ false → IsSearchable cur.position → new.fault ≡ None
-without_fault lack cur new n memory p =
+-- where what a search needs is held, a call without an item keeps nothing but want of memory
+memory_alone : (lack : Bool) (cur new : Standing) → GivesNone lack cur new → IsSearchable cur.position → IsMemoryAlone lack new.fault
+memory_alone lack cur new n p =
     let fault : Standing → Option CronError = λ s. s.fault in
     elim (n.refused.promised p) [
-      | inl limit ↦ ap fault n.stands ∙ ap fault_of limit
+      | inl limit ↦ inl (ap fault n.stands ∙ ap fault_of limit)
+      | inr (wanting, can) ↦ inr (ap fault n.stands ∙ ap fault_of wanting, can)
+    ]
+
+-- and without want of memory nothing at all
+without_fault : (lack : Bool) (cur new : Standing) → GivesNone lack cur new → lack ≡ false → IsSearchable cur.position → new.fault ≡ None
+without_fault lack cur new n memory p =
+    elim (memory_alone lack cur new n p) [
+      | inl none ↦ none
       | inr (wanting, can) ↦ let t : IsTrue false = subst IsTrue memory can in absurd (false≢true t)
     ]
 
@@ -176,6 +175,17 @@ module _ {T : Type 0} (moment : T → Moment) (lack : Bool) (old : Standing) (cu
         | inl (none, with_fault, e) ↦ subst P (sym e) wholes
         | inr (t, item, e) ↦
             subst P (sym e) (All-push (λ x. IsWholeIn old.position.zone (moment x)) before t wholes (record { zone = item.found.zone ∙ g.zone; whole = item.found.whole }))
+      ]
+
+  -- where what searches need is held, the call keeps nothing but want of memory
+  pub fault_by_call : (b : Bool) → Goes old (standing_of moment cur) (instants moment before) → Takes moment lack cur new before after b
+      → IsSearchable old.position → IsMemoryAlone lack (standing_of moment new).fault
+  fault_by_call true g (none, without, e) p = inl without
+  fault_by_call false g takes p =
+      let fault : Standing → Option CronError = λ s. s.fault in
+      elim takes [
+        | inl (none, with_fault, e) ↦ memory_alone lack (standing_of moment cur) (standing_of moment new) none (g.searchable p)
+        | inr (t, item, e) ↦ inl (ap fault item.stands)
       ]
 
   -- over a backend that cannot lack memory there is an item for each call, or nothing is left in the span

@@ -1,5 +1,5 @@
 -- Listings of runs, item by item: a list that begins what is left, and what is left behind its last item.
-use Rattle.std.proofs.Common.{◌≡◌, ◌↔◌, ℤ, ◌⊎◌, arith, sym, inl, inr, subst, Bool, false, List, [], ◌∷◌, ◌++◌, get_or, rules}
+use Rattle.std.proofs.Common.{◌≡◌, ◌↔◌, ℤ, ◌⊎◌, sym, inl, inr, subst, Bool, false, List, [], ◌∷◌, ◌++◌, get_or, rules}
 use Rattle.std.proofs.lemmas.Bool.{false≢true}
 use Rattle.std.proofs.lemmas.List.Elements.{All-push, All-contains, Contains-push, Contains-append_left}
 use Rattle.std.proofs.lemmas.List.Quantifiers.{all_pairs_push}
@@ -43,15 +43,6 @@ pub record Splits (direction : Direction) (left rest : ℤ → Type 0) (items : 
   pub either : (i : ℤ) → left i → Contains items i ⊎ rest i
   pub behind : (i : ℤ) → rest i → All (λ x. Precedes direction x i) items
   pub within : (i : ℤ) → rest i → left i
-
-pub splits_none : (direction : Direction) (left : ℤ → Type 0) → Splits direction left left []
-splits_none direction left = record {
-  ordered = λ i j d lt within. absurd (omega arith);
-  counts = λ k d within. absurd (omega arith);
-  either = λ i h. inr h;
-  behind = λ i h k d within. absurd (omega arith);
-  within = λ i h. h;
-}
 
 -- the nearest of the rest is the next item
 pub record IsNext (direction : Direction) (rest after : ℤ → Type 0) (t : ℤ) : Type 0 where

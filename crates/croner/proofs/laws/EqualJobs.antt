@@ -1,27 +1,16 @@
 -- Jobs that are equal differ in their texts at most, and what does not look at the text is the same of both.
-use Rattle.std.proofs.Common.{◌≡◌, ◌↔◌, ℕ, ℤ, Bool, true, false, IsTrue, List, [], ◌∷◌, refl, ap, sym, ◌∙◌, subst}
+use Rattle.std.proofs.Common.{◌≡◌, ◌↔◌, ℤ, Bool, true, false, IsTrue, refl, ap, sym, ◌∙◌, subst}
 use Rattle.std.proofs.lemmas.Bool.{false≢true}
 use Rattle.std.specs.declared.cmp.Ordering.TheVariants.{Equal}
 use Rattle.std.specs.Cmp.{tied_itself}
-use Rattle.std.specs.Cmp.Lexicographic.{slice_cmp}
-use Rattle.std.specs.Ordering.{nat_cmp, is_eq, eq_by_cmp}
+use Rattle.std.specs.Ordering.{is_eq, eq_by_cmp}
 use Rattle.croner_base.specs.Field.{Field}
 use Rattle.croner_base.specs.Order.{field_cmp}
+use Rattle.croner_base.specs.Written.{tie, nat_tie, bool_tie, list_tie}
 use Rattle.croner_pattern.specs.Meaning.{Meaning}
 use Rattle.croner_pattern.specs.Order.{meaning_cmp, meaning_cmp_total}
 use Rattle.croner_pattern.specs.Schedule.{IsScheduled, DateMatches}
 use Rattle.croner.specs.laws.Equality.{AreSameButTexts}
-use Rattle.croner.specs.iterator.IteratorOrder.{tie, nat_tie, bool_tie}
-
-list_tie : (xs ys : List ℕ) → is_eq (slice_cmp nat_cmp xs ys) ≡ true → xs ≡ ys
-list_tie [] [] h = refl
-list_tie [] (y ∷ ys) h = absurd (false≢true h)
-list_tie (x ∷ xs) [] h = absurd (false≢true h)
-list_tie (x ∷ xs) (y ∷ ys) h =
-    let t = tie (nat_cmp x y) (slice_cmp nat_cmp xs ys) h in
-    let one = nat_tie x y t.0 in
-    let more = list_tie xs ys t.1 in
-    cc
 
 -- fields that compare as equal are the same
 field_tie : (x y : Field) → is_eq (field_cmp x y) ≡ true → x ≡ y

@@ -1,19 +1,12 @@
 -- A pattern that a text means has the shape of its place in each field.
-use Rattle.std.proofs.Common.{◌≡◌, ℕ, Bool, true, false, cond, eqb, ◌||◌, List, [], ◌∷◌, length, fold, Option, Some, None, Result, Ok, Err, IfOk, refl, ap, ◌∙◌, subst}
+use Rattle.std.proofs.Common.{◌≡◌, ℕ, Bool, true, false, cond, ◌||◌, List, [], ◌∷◌, fold, Result, Ok, Err, refl, ap, ◌∙◌, subst}
 use Rattle.std.proofs.lemmas.Bool.{cond_both, and_from}
-use Rattle.std.specs.Str.{trim, str_to_ascii_uppercase}
-use Rattle.croner_base.specs.declared.errors.CronError.{CronError}
 use Rattle.croner_base.specs.Field.{Shape, Field, empty_field, with_sloppy, with_mark, without_mark, is_marked}
 use Rattle.croner_base.proofs.Readings.{shape-applied}
 use Rattle.croner_pattern.specs.Meaning.{Meaning}
 use Rattle.croner_pattern.specs.Shapes.{sixty_shape, hour_shape, day_shape, month_shape, weekday_shape, year_shape, is_like, has_field_shapes}
-use Rattle.croner.specs.declared.job.Cron.{Cron}
-use Rattle.croner.specs.parser.Cut.{replaced}
-use Rattle.croner.specs.parser.Gives.{Gives}
-use Rattle.croner.specs.parser.Grammar.{Texts, Refusal, Empty, Invalid, Illegal, Component, outcome, of_replaced, of_fields, of_settled, of_legal, fields_of, settled, has_plus, are_legal, are_read, nicknamed, meaning, value_of, reading_of, start_of, weekdays_of, settled_weekdays, sunday_moved, weekday_modifiers}
-use Rattle.croner.specs.parser.Settings.{Settings, accepts_count}
-use Rattle.croner.specs.Views.{job_of}
-use Rattle.croner.specs.parser.Words.{words}
+use Rattle.croner.specs.parser.Grammar.{Texts, Refusal, Component, of_legal, are_read, meaning, value_of, reading_of, start_of, weekdays_of, settled_weekdays, sunday_moved, weekday_modifiers}
+use Rattle.croner.specs.parser.Settings.{Settings}
 
 abbrev IsShaped : Result Meaning Refusal → Type 0
 IsShaped r = (m : Meaning) → r ≡ Ok m → has_field_shapes m ≡ true
@@ -58,31 +51,6 @@ meaning_shaped s text t and =
 
 -- ---- the whole
 
-legal_shaped : (s : Settings) (text : List ℕ) (t : Texts) (and : Bool) → IsShaped (of_legal s text t and)
+pub legal_shaped : (s : Settings) (text : List ℕ) (t : Texts) (and : Bool) → IsShaped (of_legal s text t and)
 legal_shaped s text t and =
     cond_both (are_read s t) (Ok (meaning s text t and)) (Err Component) IsShaped (λ _. ok_shaped (meaning s text t and) (meaning_shaped s text t and)) (λ _. err_shaped Component)
-
-settled_shaped : (s : Settings) (text : List ℕ) (t : Texts) (and : Bool) → IsShaped (of_settled s text t and)
-settled_shaped s text t and =
-    cond_both (are_legal t) (of_legal s text t and) (Err Illegal) IsShaped (λ _. legal_shaped s text t and) (λ _. err_shaped Illegal)
-
-fields_shaped : (s : Settings) (text : List ℕ) (o : Option Texts) → IsShaped (of_fields s text o)
-fields_shaped s text None = err_shaped Invalid
-fields_shaped s text (Some t) = settled_shaped s text (settled t) (s.both_days || has_plus t.days_of_week)
-
-replaced_shaped : (s : Settings) (full : List ℕ) (o : Option (List ℕ)) → IsShaped (of_replaced s full o)
-replaced_shaped s full None =
-    cond_both (accepts_count s.seconds_field s.year_field (length (words full))) (Err Illegal) (Err Invalid) IsShaped (λ _. err_shaped Illegal) (λ _. err_shaped Invalid)
-replaced_shaped s full (Some text) = fields_shaped s text (fields_of s (words text))
-
-outcome_shaped : (s : Settings) (given : List ℕ) → IsShaped (outcome s given)
-outcome_shaped s given =
-    let text = trim (str_to_ascii_uppercase given) in
-    let full = nicknamed s text in
-    cond_both (eqb (length text) 0) (Err Empty) (of_replaced s full (replaced s.quartz false full)) IsShaped (λ _. err_shaped Empty)
-    (λ _. replaced_shaped s full (replaced s.quartz false full))
-
--- so has what a call gives
-pub gives_shaped : (s : Settings) (text : List ℕ) (r : Result Cron CronError) → Gives job_of r (outcome s text) → IfOk r (λ job. has_field_shapes (job_of job) ≡ true)
-gives_shaped s text (Ok job) h = outcome_shaped s text (job_of job) h
-gives_shaped s text (Err e) h = tt

@@ -1,5 +1,5 @@
 -- The search for the two sides of a gap.
-use Rattle.std.proofs.Common.{◌≡◌, ℕ, zero, suc, ◌-◌, ◌*◌, ◌+◌, ◌≤◌, ◌<◌, ℤ, pos, ◌+ℤ◌, ◌-ℤ◌, ◌<ℤ◌, ◌≤ℤ◌, arith, refl, sym, ◌∙◌, inl, inr, ap, subst, Bool, Some, IsSome, Ok, Err}
+use Rattle.std.proofs.Common.{◌≡◌, ℕ, zero, suc, ◌-◌, ◌*◌, ◌+◌, ◌≤◌, ◌<◌, ℤ, pos, ◌+ℤ◌, ◌-ℤ◌, ◌<ℤ◌, ◌≤ℤ◌, arith, refl, sym, ◌∙◌, inl, inr, ap, subst, Bool, Option, Some, None, IsSome, Ok, Err}
 use Rattle.std.proofs.lemmas.Int.{ints}
 use borrow.Author.Differences.{up}
 use Rattle.croner_base.specs.declared.time.Direction.{Direction}
@@ -13,9 +13,10 @@ use Rattle.croner_base.specs.Calm.{IsCalm}
 use Rattle.croner_base.specs.Limits.{gap_limit, fold_limit, apart_limit}
 use Rattle.croner.specs.search.Premises.{HasOneInstantEach}
 use Rattle.croner.specs.Private.search.Held.{HoldsYears, IsBackendError}
+use Rattle.croner.specs.search.Limit.{IsWithin}
 use Rattle.croner.specs.search.Runs.{Precedes}
 use Rattle.croner.specs.declared.search.gap.Around.{Around}
-use Rattle.croner.specs.Private.search.Gaps.{IsSkipped, UnreadTo, IsFirstShown, IsBeyond, IsAround, HasGapSide}
+use Rattle.croner.specs.Private.search.Gaps.{IsSkipped, UnreadTo, IsFirstShown, IsBeyond, IsAround, HasGapSide, CrossesGap}
 use Rattle.croner.specs.Private.search.Halves.{Break, offset_from}
 use Rattle.croner.specs.Private.search.Walk.{HasGapEnd, HasGapFront}
 use Rattle.croner.proofs.zone.CalmZone.{Exactly, calm_of, exact_of}
@@ -204,3 +205,13 @@ module _ {T : Type 0} (moment : T → Moment) (lack : Bool) (direction : Directi
     before,
     λ calm. (λ u from to. unread calm u (omega (arith, ints)) (omega (arith, ints)), ((moment found.1).instant, shown.at calm)),
   )
+
+-- from the held second to the side that is found, where both lie in the years that are searched whole
+pub crosses_gap : {T : Type 0} (moment : T → Moment) (direction : Direction) (limit : ℕ) (z : Zone) (held : ℤ) (found : CivilDateTime × T) → HasGapSide moment direction limit z held (Some found) → IsWithin direction held → IsWithin direction (wall_second found.0) → CrossesGap direction z held (wall_second found.0)
+crosses_gap moment direction limit z held found (past, shown, unread) from to =
+    record { on = past; from = from; to = to; unread = unread; reached = λ calm. ((moment found.1).instant, shown.at calm) }
+
+-- what is found forward is the gap's end
+pub gap_end_or_none : {T : Type 0} (moment : T → Moment) (lack : Bool) (z : Zone) (held : CivilDateTime) → z.resolves held ≡ Some Gap → (found : Option (CivilDateTime × T)) → HasGapSide moment Forward gap_limit z (wall_second held) found → HasGapEnd moment z (wall_second held) found
+gap_end_or_none moment lack z held named (Some found) side = gap_end_of moment lack Forward z held named found side
+gap_end_or_none moment lack z held named None out = side_out moment lack Forward z held named out

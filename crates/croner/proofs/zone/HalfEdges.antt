@@ -5,17 +5,16 @@ use Rattle.croner_base.specs.declared.time.Direction.{Direction}
 use Rattle.croner_base.specs.declared.time.Direction.TheVariants.{Forward, Backward}
 use Rattle.croner.proofs.zone.ZoneOrder.{cases_lt_z, put_back, put_back_once, before_break, after_break}
 use Rattle.croner.proofs.zone.WalkLoop.{never_true}
-use Rattle.croner_base.specs.Zone.{Zone, Moment, reading, nanos_of, IsUnheld}
+use Rattle.croner_base.specs.Zone.{Zone, Moment, reading, nanos_of}
 use Rattle.croner_base.specs.Calm.{IsCalm, HoldsAround, IsNear}
-use Rattle.croner.specs.Private.search.Halves.{edge_limit, Break, HasTwin, EdgeOf, offset_from, CountsBoth, moment_from, IsEdge}
+use Rattle.croner.specs.Private.search.Halves.{edge_limit, Break, HasTwin, EdgeOf, offset_from, moment_from, IsEdge}
 use Rattle.croner.proofs.zone.GapSides.{zero_on}
 use Rattle.croner.proofs.zone.CalmZone.{Exactly, calm_of, exact_of}
 use Rattle.croner.proofs.zone.ZoneOrder.{Calm, gains, loses}
 use Rattle.croner_base.specs.declared.time.civil.CivilDateTime.{CivilDateTime}
 use Rattle.croner_base.specs.Civil.{wall_second}
 use Rattle.croner.specs.search.Premises.{IsCalmStart}
-use Rattle.croner.specs.Private.search.Held.{HoldsSecond, IsBackendError}
-use Rattle.croner_base.specs.declared.errors.CronError.{CronError}
+use Rattle.croner.specs.Private.search.Held.{HoldsSecond}
 use Rattle.croner_base.specs.declared.time.value.Resolution.TheVariants.{Single, Ambiguous, Gap}
 
 module _ (reads : ℤ → ℤ) (calm : Calm reads) where
@@ -162,13 +161,6 @@ holds_second_there direction m there n h same stuck start holds =
     let near = reads_near direction m.zone.reads (calm_of m.zone start.calm) m.instant n h in
     here (λ c at. holds.near c (subst (IsNear (reading m)) (sym at) near))
 
-pub unheld_here : (lack : Bool) (m : Moment) (c : CivilDateTime) (e : CronError) → wall_second c ≡ reading m → IsUnheld lack m.zone c e → IsBackendError lack (HoldsSecond m.zone (reading m) → ⊥) e
-unheld_here lack m c e at unheld =
-    elim unheld [
-      | inl memory ↦ inl memory
-      | inr (kind, none) ↦ inr (kind, λ holds. let some = holds c at in let never = rw none at some in absurd (cc))
-    ]
-
 -- ---- the bisection
 
 refuted : (P : Type 0) (b : Bool) → b ≡ false → IsTrue b ↔ P → P → ⊥
@@ -229,9 +221,6 @@ edge_found moment direction m inside outside t found close at =
     )
 
 -- ---- tests
-
-pub not_so : (P : Type 0) (b : Bool) → b ≡ false → IsTrue b ↔ P → P → ⊥
-not_so P b e test = refuted P b e test
 
 pub is_so : (P : Type 0) (b : Bool) → b ≡ true → IsTrue b ↔ P → P
 is_so P b e test = shown P b e test

@@ -16,7 +16,7 @@ use Rattle.croner.specs.search.Premises.{IsSearchable, IsCalmStart, StartsCalm}
 use Rattle.croner.specs.search.Refusal.{IsRefusal}
 use Rattle.croner.specs.Private.search.Walk.{RunOf, NoneOf, WalkedFrom, walk_start, one_on, OutFrom, IsWalked, IsWalkRefused}
 use Rattle.croner.specs.search.Searches.{IsFound, IsRefused}
-use Rattle.croner.specs.Private.search.Halves.{edge_limit, EdgeOf, HasTwin, CountsBoth, IsEdge, HasOtherHalf, opposite_way, offset_from, moment_from}
+use Rattle.croner.specs.Private.search.Halves.{edge_limit, EdgeOf, HasTwin, CountsBoth, IsEdge, HasOtherHalf, opposite_way, offset_from}
 use Rattle.croner.proofs.zone.ZoneOrder.{Calm, before_break, after_break}
 use Rattle.croner.proofs.zone.CalmZone.{calm_of}
 use Rattle.croner.proofs.zone.RunsOfSeconds.{counts_reaches}
@@ -271,20 +271,7 @@ module _ {T : Type 0} (moment : T → Moment) (direction : Direction) (inclusive
       out_twice direction inclusive (job_in start.zone timetable) (calm_of start.zone h.calm) start.instant (moment edge).instant both (edge_of h) (out h)
       (out_there moment direction start (moment edge) timetable zone_is second (record { calm = h.calm; whole = fraction_is ∙ h.whole }))
 
--- the other half, from the edge and the instant before it
-opposite_one : (direction : Direction) (i : ℤ) → offset_from (opposite_way direction) i 1 ≡ one_on (opposite_way direction) i
-opposite_one Forward i = refl
-opposite_one Backward i = refl
-
-pub halves_found : {T : Type 0} (moment : T → Moment) (direction : Direction) (start : Moment) (edge own : T) (twin : Bool) → twin ≡ true → (IsCalmStart start.zone start.fraction → IsTrue twin ↔ HasTwin direction start.zone.reads start.instant) → IsEdge moment direction start (Some edge) → moment own ≡ moment_from (opposite_way direction) (moment edge) 1 → HasOtherHalf moment direction start (Some (edge, own))
-halves_found moment direction start edge own twin is_twin test (zone_is, fraction_is, edge_of, far) at = (
-  zone_is,
-  fraction_is,
-  ap (λ (x : Moment). x.zone) at ∙ zone_is,
-  ap (λ (x : Moment). x.instant) at ∙ opposite_one direction (moment edge).instant,
-  λ h. edge_of h ((test h).0 is_twin),
-)
-
+-- the instant before the edge lies near the start
 one_back_near : (direction : Direction) (s e : ℤ) (n : ℕ) → n ≤ edge_limit → e ≡ offset_from direction s n → IsNear s (offset_from (opposite_way direction) e 1)
 one_back_near Forward s e n h at = (omega (arith, ints), omega (arith, ints))
 one_back_near Backward s e n h at = (omega (arith, ints), omega (arith, ints))

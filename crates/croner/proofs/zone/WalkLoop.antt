@@ -11,6 +11,7 @@ use Rattle.croner_base.specs.Zone.{Zone, Moment, Names}
 use Rattle.croner_base.specs.Calm.{IsCalm, IsSearched, IsInReach}
 use Rattle.croner.specs.search.Limit.{NoneAhead}
 use Rattle.croner.specs.search.Runs.{Job, Precedes, Reaches, Ahead}
+use Rattle.croner.specs.Private.search.Gaps.{UnreadTo, CrossesGap, GoesPast}
 use Rattle.croner.specs.Private.search.Schedule.{NextScheduled, NoneScheduled}
 use Rattle.croner.specs.search.Premises.{IsCalmStart, HasOneInstantEach, Shows}
 use Rattle.croner.specs.Private.search.Held.{HoldsYears, IsBackendError}
@@ -19,8 +20,8 @@ use Rattle.croner.specs.Private.search.Walk.{NoneOf, WalkedFrom, Walking, walk_s
 use Rattle.croner.proofs.zone.CalmZone.{calm_of, exact_of}
 use Rattle.croner.proofs.zone.ZoneOrder.{cases_lt_z}
 use Rattle.croner.proofs.zone.RunsOfSeconds.{true_or_false}
-use Rattle.croner.proofs.zone.Ahead.{reaches-same, reaches-trans}
-use Rattle.croner.proofs.zone.WalkSteps.{none_at_start, none_to_next, one_on_reaches, start_reaches, start_ahead}
+use Rattle.croner.proofs.zone.Ahead.{reaches-same, reaches-trans, precedes-reaches, either}
+use Rattle.croner.proofs.zone.WalkSteps.{none_at_start, none_to_next, one_on_reaches, start_reaches, start_ahead, each_reads}
 use Rattle.croner.proofs.zone.WalkArms.{single_answer, two_each_answer, two_each_past, gap_each_past, two_fixed_answer, two_fixed_past, gap_answer, gap_fixed_past_forward, gap_fixed_past_backward}
 use Rattle.croner.proofs.zone.WallSeconds.{IsFar, last_year_far}
 
@@ -102,6 +103,18 @@ module _ (direction : Direction) (inclusive : Bool) (job : Job) (s : ℤ) (f : �
       walking_on (wall_second c) moved there moves
       (λ is_calm none whole. gap_each_past job (calm_of job.zone is_calm) inclusive direction s (walk_start direction inclusive (job.zone.reads s)) (wall_second c) each (exact_of job.zone is_calm c Gap named) none)
 
+  -- no run of an interval job is passed over between the two sides of a gap
+  pub walking_across : (held side : ℤ) → job.timetable.fixed_time ≡ false → Walking direction inclusive job s f held → CrossesGap direction job.zone held side → Walking direction inclusive job s f side
+  walking_across held side each there crosses =
+      record {
+        reaches = reaches-trans direction (walk_start direction inclusive (job.zone.reads s)) held side there.reaches (precedes-reaches direction held side crosses.on);
+        none = λ start w i a b own of ahead.
+            elim (either direction w held) [
+              | inl before ↦ there.none start w i a before own of ahead
+              | inr from ↦ crosses.unread start.calm w from b i (each_reads job w i each of)
+            ];
+      }
+
   pub walked_gap : (held end t : ℤ) → job.timetable.fixed_time ≡ true → Walking direction inclusive job s f held → job.timetable.scheduled held → GapEnd job.zone.reads held end t → job.timetable.date_matches end → Ahead direction inclusive s t → IsCalmStart job.zone f → WalkedFrom direction inclusive job s t
   walked_gap held end t fixed walking own gap_end date ahead start =
       gap_answer job (calm_of job.zone start.calm) inclusive direction s held end t fixed (le_of_lt held end gap_end.past) gap_end.unread gap_end.first walking.reaches own (walking.none start) (subst job.timetable.date_matches (sym gap_end.at) date) ahead
@@ -161,6 +174,24 @@ onward_front Backward reads held front f past unread =
       );
     }
 
+pub onward_across : (direction : Direction) (reads : ℤ → ℤ) (held side : ℤ) → Precedes direction held side → UnreadTo direction reads held side → Onward direction reads held side
+onward_across Forward reads held side on unread =
+    record {
+      on = on;
+      within = λ p below above. (
+        omega (arith, ints),
+        elim (cases_lt_z (reads (p +ℤ pos 1)) side) [ inr le ↦ le | inl lt ↦ absurd (unread (reads (p +ℤ pos 1)) (omega (arith, ints)) lt (p +ℤ pos 1) refl) ],
+      );
+    }
+onward_across Backward reads held side on unread =
+    record {
+      on = on;
+      within = λ p below above. (
+        elim (cases_lt_z side (reads p)) [ inr le ↦ le | inl lt ↦ absurd (unread (reads p) (omega (arith, ints)) lt p refl) ],
+        omega (arith, ints),
+      );
+    }
+
 -- a walk that comes to a scheduled second has something scheduled ahead
 pub something_ahead : (direction : Direction) (inclusive : Bool) (job : Job) (s : ℤ) (f : ℕ) (wall : ℤ) → Walking direction inclusive job s f wall → job.timetable.scheduled wall → NoneAhead direction inclusive job.timetable.scheduled (job.zone.reads s) → ⊥
 something_ahead direction inclusive job s f wall walking own none = none wall (start_ahead direction inclusive (job.zone.reads s) wall walking.reaches) own
@@ -205,11 +236,21 @@ module _ {T : Type 0} (moment : T → Moment) (direction : Direction) (inclusive
     λ start. inr (moves, ((moment e).instant, named_e.reads_it, one_behind moment b direction origin.instant e l (chosen start.whole named_e.whole named_l.whole))),
   )
 
-  pub past_gap_each : (c : CivilDateTime) (moved : ℤ) → job.timetable.fixed_time ≡ false → job.zone.resolves c ≡ Some Gap → Walking direction inclusive job origin.instant origin.fraction (wall_second c) → moved ≡ one_on direction (wall_second c) → Walking direction inclusive job origin.instant origin.fraction moved × (IsCalmStart job.zone origin.fraction → Paces direction job.zone.reads origin.instant (wall_second c) moved)
+  past_gap_each : (c : CivilDateTime) (moved : ℤ) → job.timetable.fixed_time ≡ false → job.zone.resolves c ≡ Some Gap → Walking direction inclusive job origin.instant origin.fraction (wall_second c) → moved ≡ one_on direction (wall_second c) → Walking direction inclusive job origin.instant origin.fraction moved × (IsCalmStart job.zone origin.fraction → Paces direction job.zone.reads origin.instant (wall_second c) moved)
   past_gap_each c moved each is there moves = (
     walking_past_gap direction inclusive job origin.instant origin.fraction c moved each there is moves,
     λ start. inl (exact_of job.zone start.calm c Gap is, onward_one direction job.zone.reads (wall_second c) moved moves),
   )
+
+  pub past_gap_on : (c : CivilDateTime) (wall : ℤ) → job.timetable.fixed_time ≡ false → job.zone.resolves c ≡ Some Gap → Walking direction inclusive job origin.instant origin.fraction (wall_second c) → GoesPast direction job.zone (wall_second c) wall → Walking direction inclusive job origin.instant origin.fraction wall × (IsCalmStart job.zone origin.fraction → Paces direction job.zone.reads origin.instant (wall_second c) wall)
+  past_gap_on c wall each is there goes =
+      elim goes [
+        | inl next ↦ past_gap_each c wall each is there next
+        | inr crosses ↦ (
+          walking_across direction inclusive job origin.instant origin.fraction (wall_second c) wall each there crosses,
+          λ start. inl (exact_of job.zone start.calm c Gap is, onward_across direction job.zone.reads (wall_second c) wall crosses.on (crosses.unread start.calm)),
+        )
+      ]
 
   pub carried_walked : (c end : CivilDateTime) (t : T) → job.timetable.fixed_time ≡ true → job.timetable.scheduled (wall_second c) → Walking direction inclusive job origin.instant origin.fraction (wall_second c) → HasGapEnd moment job.zone (wall_second c) (Some (end, t)) → job.timetable.date_matches (wall_second end) → (origin.fraction ≡ 0 → (moment t).fraction ≡ 0 → Ahead direction inclusive origin.instant (moment t).instant) → IsWalked moment direction inclusive job origin t
   carried_walked c end t fixed own there (past, zone_is, whole, many, gap_end) date ahead =

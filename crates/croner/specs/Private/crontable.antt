@@ -1,2 +1,4 @@
--- What the searches of a table's patterns come to together. Private contracts alone cite these definitions.
+-- What the searches of a table's patterns come to together, and what an iterator keeps of them. Private contracts alone cite these definitions.
+pub mod Kept
 pub mod Met
+pub mod Room

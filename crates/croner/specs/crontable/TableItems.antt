@@ -46,7 +46,7 @@ abbrev pub table_items : {T : Type 0} → (T → Moment) → List (T × Vec ℕ 
 table_items moment items = map (λ item. ((moment item.0).instant, item.1.items)) items
 
 -- a call put its item behind the others; or it gave none, and the mark says whether it kept no fault, so that nothing is left
-abbrev pub TakesTable : {T : Type 0} → (T → Moment) → CronTableIterator T → CronTableIterator T → List (T × Vec ℕ Global) → List (T × Vec ℕ Global) → Bool → Type 0
+abbrev pub TakesTable : {T : Type 0} {d : _} {c : _} → (T → Moment) → CronTableIterator T d c → CronTableIterator T d c → List (T × Vec ℕ Global) → List (T × Vec ℕ Global) → Bool → Type 0
 TakesTable moment old new before after true =
     GivesNoTableItem (table_standing_of moment old) (table_standing_of moment new) × ((table_standing_of moment new).fault ≡ None) × (after ≡ before)
 TakesTable {T} moment old new before after false =
@@ -54,8 +54,8 @@ TakesTable {T} moment old new before after false =
     ⊎ ((item : T × Vec ℕ Global) × GivesTableItem (table_standing_of moment old) (moment item.0) item.1.items (table_standing_of moment new) × (after ≡ before ++ item ∷ []))
 
 -- so many calls one after the other: where the iterator then stands, the items, and the mark of the last call
-abbrev pub TakesTableInTurn : {T : Type 0} → (T → Moment) → ℕ → CronTableIterator T → CronTableIterator T → List (T × Vec ℕ Global) → Bool → Type 0
+abbrev pub TakesTableInTurn : {T : Type 0} {d : _} {c : _} → (T → Moment) → ℕ → CronTableIterator T d c → CronTableIterator T d c → List (T × Vec ℕ Global) → Bool → Type 0
 TakesTableInTurn moment zero old new items mark = (new ≡ old) × (items ≡ []) × (mark ≡ false)
-TakesTableInTurn {T} moment (suc calls) old new items mark =
-    (between : CronTableIterator T) × (before : List (T × Vec ℕ Global)) × (b : Bool)
+TakesTableInTurn {T} {d} {c} moment (suc calls) old new items mark =
+    (between : CronTableIterator T d c) × (before : List (T × Vec ℕ Global)) × (b : Bool)
     × TakesTableInTurn moment calls old between before b × TakesTable moment between new before items mark

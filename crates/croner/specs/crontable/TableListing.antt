@@ -1,7 +1,6 @@
 -- The listing of a table's runs from a start: lists of instants with their places that begin it, and what an iterator has yet
 -- to give.
-use Rattle.std.specs.Prelude.{◌≡◌, ◌&&◌, ℕ, ℤ, Bool, true, false, IsTrue, List, Option, Some, None, Result, Ok, Err, MatchOption, map}
-use Rattle.std.specs.List.{All}
+use Rattle.std.specs.Prelude.{◌≡◌, ◌&&◌, ℕ, ℤ, Bool, true, false, IsTrue, List, Option, Some, None, Result, Ok, Err, MatchOption}
 use Rattle.croner_base.specs.Zone.{Moment}
 use Rattle.croner_base.specs.declared.errors.CronError.{CronError}
 use Rattle.croner_base.specs.declared.errors.CronError.TheVariants.{OutOfMemory}
@@ -10,8 +9,7 @@ use Rattle.croner_pattern.specs.Meaning.{Meaning}
 use Rattle.std.specs.declared.alloc.Global.{Global}
 use Rattle.std.specs.declared.vec.Vec.{Vec}
 use Rattle.croner.specs.iterator.Faults.{fault_of}
-use Rattle.croner.specs.iterator.Listing.{BeginsWhere}
-use Rattle.croner.specs.crontable.Tables.{patterns_of, CountsAt, TableCounts, ArePlaces, IsTableFound, IsTableRefused}
+use Rattle.croner.specs.crontable.Tables.{patterns_of, CountsAt, TableCounts, IsTableFound, IsTableRefused}
 use Rattle.croner.specs.declared.crontable.iterator.CronTableIterator.{CronTableIterator}
 
 -- where an iterator over a table stands: as one over a pattern, with the table's patterns in the place of the one
@@ -24,7 +22,7 @@ pub record TableStanding : Type 0 where
   pub fault : Option CronError
 
 -- what contracts see of such an iterator
-abbrev pub table_standing_of : {T : Type 0} → (T → Moment) → CronTableIterator T → TableStanding
+abbrev pub table_standing_of : {T : Type 0} {d : _} {c : _} → (T → Moment) → CronTableIterator T d c → TableStanding
 table_standing_of moment it = record {
   patterns = patterns_of it.table.now;
   position = moment it.position;
@@ -82,7 +80,7 @@ TableSettles moment lack old (Err refusal) (Some item) new = ⊥
 TableSettles moment lack old (Err refusal) None new = new ≡ record old { fault = fault_of refusal }
 
 -- what a call of `next` does
-abbrev pub TableSteps : {T : Type 0} → (T → Moment) → CronTableIterator T → Option (T × Vec ℕ Global) → CronTableIterator T → Type 0
+abbrev pub TableSteps : {T : Type 0} {d : _} {c : _} → (T → Moment) → CronTableIterator T d c → Option (T × Vec ℕ Global) → CronTableIterator T d c → Type 0
 TableSteps moment old result new =
     MatchOption result (GivesNoTableItem (table_standing_of moment old) (table_standing_of moment new))
     (λ item. GivesTableItem (table_standing_of moment old) (moment item.0) item.1.items (table_standing_of moment new))

@@ -1,5 +1,5 @@
 -- The errors that an iterator keeps.
-use Rattle.std.specs.Prelude.{Bool, true, false, Option, Some, None}
+use Rattle.std.specs.Prelude.{◌≡◌, ◌⊎◌, Bool, true, false, IsTrue, Option, Some, None}
 use Rattle.croner_base.specs.declared.errors.CronError.{CronError}
 use Rattle.croner_base.specs.declared.errors.CronError.TheVariants.{InvalidDate, InvalidTime, TimeSearchLimitExceeded, OutOfMemory}
 
@@ -15,3 +15,7 @@ is_kept other = false
 abbrev pub fault_of : CronError → Option CronError
 fault_of TimeSearchLimitExceeded = None
 fault_of refusal = Some refusal
+
+-- no error, or want of memory where the backend can lack it
+abbrev pub IsMemoryAlone : Bool → Option CronError → Type 0
+IsMemoryAlone lack fault = (fault ≡ None) ⊎ ((fault ≡ Some OutOfMemory) × IsTrue lack)

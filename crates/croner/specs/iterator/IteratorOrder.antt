@@ -1,17 +1,15 @@
 -- The equality, the order and the hash of iterators: by pattern, position, first mark, inclusive mark and direction, in that
 -- order. The kept fault has no part in them, nor has the pattern's text. The proofs of their laws stand here since the laws of
 -- an impl may cite this crate's specs alone.
-use Rattle.std.specs.Prelude.{◌≡◌, ℕ, pos, Bool, true, false, ◌&&◌, Option, Some, List, ◌++◌, refl}
+use Rattle.std.specs.Prelude.{◌≡◌, ℕ, pos, Bool, true, ◌&&◌, Option, Some, List, ◌++◌}
 use Rattle.std.specs.declared.cmp.Ordering.{Ordering}
-use Rattle.std.specs.declared.cmp.Ordering.TheVariants.{Less, Equal, Greater}
-use Rattle.std.specs.Ordering.{nat_cmp, bool_cmp, is_eq, on, then_cmp, ordering_then, partial_ordering_then, eq_by_cmp}
+use Rattle.std.specs.Ordering.{nat_cmp, bool_cmp, on, then_cmp, partial_ordering_then, eq_by_cmp}
 use Rattle.std.specs.Cmp.{IsPartialEquivalence, IsEquivalence, IsPartialOrder, IsTotalOrder, partial_equiv_from_equiv, eq_by_cmp_equiv, and_per, and_equiv, on_per, on_equiv, on_po, on_total, then_po, then_total, partial_order_from_total, nat_cmp_total, bool_cmp_total, first_so, second_so}
 use Rattle.std.specs.Hash as fed
-use Rattle.std.proofs.Common.{ap, arith}
-use Rattle.std.proofs.lemmas.Bool.{false≢true}
-use Rattle.std.proofs.lemmas.Bool.Decides.{nat_tests}
+use Rattle.std.proofs.Common.{ap}
 use Rattle.croner_base.specs.declared.time.Direction.{Direction}
 use Rattle.croner_base.specs.declared.time.Direction.TheVariants.{Forward, Backward}
+use Rattle.croner_base.specs.Written.{tie, nat_tie, bool_tie}
 use Rattle.croner_pattern.specs.Order.{pattern_cmp, pattern_cmp_total}
 use Rattle.croner_pattern.specs.Written.{pattern_writes, patterns_alike}
 use Rattle.croner.specs.declared.iterator.CronIterator.{CronIterator}
@@ -61,21 +59,6 @@ pub iterator_po : {T : Type 0} {equal : T → T → Bool} {compare : T → T →
 iterator_po {T} o =
     then_po (on_po (λ (i : CronIterator T). i.cron.pattern) (partial_order_from_total pattern_cmp_total))
     (then_po (on_po (λ (i : CronIterator T). i.position) o) (partial_order_from_total marks_cmp_total))
-
--- a tie of two orders is a tie of each
-pub tie : (a b : Ordering) → is_eq (ordering_then a b) ≡ true → (is_eq a ≡ true) × (is_eq b ≡ true)
-tie Less b h = absurd (false≢true h)
-tie Equal b h = (refl, h)
-tie Greater b h = absurd (false≢true h)
-
-pub nat_tie : (a b : ℕ) → is_eq (nat_cmp a b) ≡ true → a ≡ b
-nat_tie a b h = grind (arith, nat_tests)
-
-pub bool_tie : (a b : Bool) → is_eq (bool_cmp a b) ≡ true → a ≡ b
-bool_tie false false h = refl
-bool_tie false true h = absurd (false≢true h)
-bool_tie true false h = absurd (false≢true h)
-bool_tie true true h = refl
 
 -- five equal parts make equal wholes
 joined : (a b c d e a₂ b₂ c₂ d₂ e₂ : List (List ℕ)) → a ≡ a₂ → b ≡ b₂ → c ≡ c₂ → d ≡ d₂ → e ≡ e₂ → a ++ b ++ c ++ d ++ e ≡ a₂ ++ b₂ ++ c₂ ++ d₂ ++ e₂

@@ -11,6 +11,20 @@ use Rattle.croner.specs.parser.Settings.{Settings, seconds_required, year_requir
 use Rattle.croner.specs.parser.Cut.{replaced}
 use Rattle.croner.specs.parser.Words.{words}
 
+-- ---- signs
+
+abbrev pub star : ℕ
+star = 42
+
+abbrev pub plus : ℕ
+plus = 43
+
+abbrev pub question_mark : ℕ
+question_mark = 63
+
+abbrev pub at_sign : ℕ
+at_sign = 64
+
 -- why a text has no meaning
 pub data Refusal : Type 0 where
   Empty Invalid Illegal Component : Refusal
@@ -30,7 +44,7 @@ nickname_of text =
 -- a text with `@`, nickname or not, gets the fields that the settings require
 abbrev pub nicknamed : Settings → List ℕ → List ℕ
 nicknamed s text =
-    if contains_byte 64 text
+    if contains_byte at_sign text
     then (if seconds_required s.seconds_field then codes "0 " else []) ++ nickname_of text ++ (if year_required s.year_field then codes " *" else [])
     else text
 
@@ -59,15 +73,15 @@ fields_of s given = if accepts_count s.seconds_field s.year_field (length given)
 
 -- each `?` becomes `*`
 abbrev pub starred : List ℕ → List ℕ
-starred text = map (λ c. if c == 63 then 42 else c) text
+starred text = map (λ c. if c == question_mark then star else c) text
 
 abbrev pub has_plus : List ℕ → Bool
-has_plus text = slice_index text 0 == 43
+has_plus text = slice_index text 0 == plus
 
 -- one leading `+` is taken off
 abbrev pub without_plus : List ℕ → List ℕ
 without_plus [] = []
-without_plus (c ∷ cs) = if c == 43 then cs else (c ∷ cs)
+without_plus (c ∷ cs) = if c == plus then cs else (c ∷ cs)
 
 -- the two day fields lose each `?`, and the weekday field one leading `+`
 abbrev pub settled : Texts → Texts

@@ -1,37 +1,47 @@
 //! Iterators over the runs of a table.
-ghost use Rattle.std.specs.Prelude.{◌≡◌, true, None, IsTrue};
+ghost use Rattle.std.specs.Prelude.{◌≡◌, ◌&&◌, true, false, None, IsTrue};
 ghost use Rattle.croner_base.specs.declared.time.Direction.{Direction};
+ghost use Rattle.croner.specs.crontable.Tables.{patterns_of};
 ghost use Rattle.croner.specs.iterator.Faults.{is_kept};
+ghost use Rattle.croner.specs.Private.crontable.Kept.{AreKnown};
 
 use super::CronTable;
+use super::asked::{let_go, search, unasked};
+use super::kept::Answer;
 use crate::iterator::{copied, fault_of};
 use croner_base::errors::CronError;
 use croner_base::time::{CronDateTime, Direction};
 use std::alloc::AllocError;
 
-/// The runs of a table's jobs from a start, in one direction: each instant at which some job runs once, with the places of all
-/// jobs that run then, ascending.
+/// The runs of a table's jobs from a start, in one direction: instants at which some job runs, each with the places of all jobs
+/// that run then, ascending.
 ///
 /// It borrows the table. Each item's instant is the position from which the next search starts. A call of `next` that gives no
 /// item leaves the iterator where it stands, so a later call can go on; `fault` says why it gave none where the end of the
-/// searched years is not the reason. In a calm zone (see [`Cron::find_next_occurrence`](crate::Cron::find_next_occurrence)) and from a
-/// whole second, no item and no fault says that no run of any job is left in the searched years, over whatever backend.
+/// searched years is not the reason. In a calm zone ([`CronDateTime`] says when a zone is calm) and from a whole second the items
+/// are these instants in order, each once and none left out between them, over whatever backend; and no item and no fault says
+/// that no run of any job is left in the searched years.
 #[derive(Debug, Drop)]
-pub struct CronTableIterator<'t, T> {
+pub struct CronTableIterator<'t, T: CronDateTime> {
     table: &'t CronTable,
     position: T,
     is_first: bool,
     inclusive: bool,
     direction: Direction,
+    answers: Vec<Answer<T>>,
     fault: Option<CronError>,
     ghost kept: { IsTrue (is_kept fault) },
+    ghost whole: { is_first ≡ false → (T.moment position).fraction ≡ 0 },
+    ghost known: { AreKnown T.moment (patterns_of table.now) direction (is_first && inclusive) (T.moment position) answers.items },
 }
 
 impl<'t, T: CronDateTime> CronTableIterator<'t, T> {
     ghost use Rattle.std.specs.Prelude.{IfSome, IfNone, IfErr, Some, option_map};
     ghost use Rattle.croner.specs.search.Refusal.{IsRefusal};
     ghost use Rattle.croner.specs.crontable.TableListing.{table_standing_of, new_table_standing, counts_table_position, table_moved, TableSettles};
-    ghost use Rattle.croner.specs.crontable.Tables.{patterns_of};
+    ghost use Rattle.croner.specs.crontable.Tables.{IsTableFound, IsTableRefused};
+    ghost use Rattle.croner.specs.Private.crontable.Kept.{LeadsTo};
+    ghost use Rattle.std.specs.Prelude.{IfOk};
 
     // An iterator from a start: it counts the start where it is inclusive and some job runs there.
     pub(crate) fn new(
@@ -48,11 +58,13 @@ impl<'t, T: CronDateTime> CronTableIterator<'t, T> {
             is_first: true,
             inclusive,
             direction,
+            answers: Vec::new(table.alloc),
             fault: None,
         }
     }
 
-    /// The error, other than the limit, that ended the last call of `next`; none where that call gave an item or found none left.
+    /// The error, other than the limit, that ended the last call of `next`; none where that call gave an item or came to the
+    /// limit, and none before the first call.
     pub fn fault(&self) -> Option<&CronError>
         ensures { option_map (λ e. e.now) result ≡ (table_standing_of T.moment self.now).fault }
     {
@@ -66,8 +78,34 @@ impl<'t, T: CronDateTime> CronTableIterator<'t, T> {
         self.is_first && self.inclusive
     }
 
-    // Stands at the run that was found from now on, and gives it with its places; or keeps the want of memory for its copy.
+    // What the next search answers. What is kept of the jobs stays so.
+    fn find(&mut self) -> Result<(T, Vec<usize>), CronError>
+        ensures same { table_standing_of T.moment self.new ≡ table_standing_of T.moment self.old }
+        ensures found { IfOk result (λ r. IsTableFound self.old.direction (counts_table_position (table_standing_of T.moment self.old))
+            (patterns_of self.old.table.now) (T.moment self.old.position) (T.moment r.0) r.1.items) }
+        ensures refused { IfErr result (IsTableRefused self.old.direction (counts_table_position (table_standing_of T.moment self.old))
+            (patterns_of self.old.table.now) (T.moment self.old.position)) }
+    {
+        if self.table.is_empty() {
+            return Err(CronError::TimeSearchLimitExceeded);
+        }
+        if self.answers.len() != self.table.len() {
+            self.answers = unasked(self.table.alloc, self.table.len())?;
+        }
+        let inclusive = self.counts_position();
+        search(
+            self.table,
+            &mut self.answers,
+            &self.position,
+            inclusive,
+            self.direction,
+        )
+    }
+
+    // Stands at the run that was found from now on, and gives it with its places; or keeps the want of memory for its copy. From
+    // a start, which may have a fraction, nothing is kept.
     fn step_to(&mut self, found: T, places: Vec<usize>) -> Option<(T, Vec<usize>)>
+        requires { LeadsTo self.old.direction (T.moment self.old.position) (T.moment found) }
         ensures item { IfSome result (λ item. T.moment item.0 ≡ T.moment found) }
         ensures places { IfSome result (λ item. item.1 ≡ places) }
         ensures moved { IfSome result
@@ -78,6 +116,7 @@ impl<'t, T: CronDateTime> CronTableIterator<'t, T> {
     {
         match found.clone() {
             Ok(item) => {
+                let_go(&mut self.answers, self.is_first);
                 self.position = found;
                 self.is_first = false;
                 self.fault = None;
@@ -92,7 +131,8 @@ impl<'t, T: CronDateTime> CronTableIterator<'t, T> {
 
     // What a call gives once its search has answered, and where the iterator stands then.
     fn settle(&mut self, answer: Result<(T, Vec<usize>), CronError>) -> Option<(T, Vec<usize>)>
-        requires { IfErr answer (IsRefusal true) }
+        requires refusal { IfErr answer (IsRefusal true) }
+        requires leads { IfOk answer (λ r. LeadsTo (table_standing_of T.moment self.old).direction (table_standing_of T.moment self.old).position (T.moment r.0)) }
         ensures { TableSettles T.moment T.can_lack_memory (table_standing_of T.moment self.old) answer result (table_standing_of T.moment self.new) }
     {
         match answer {
@@ -105,8 +145,8 @@ impl<'t, T: CronDateTime> CronTableIterator<'t, T> {
     }
 }
 
-/// A copy stands where the original stands, over the same table, and gives the same runs from there. The only error is want of
-/// memory.
+/// A copy stands where the original stands, over the same table, and gives the same runs from there; its first search is of all
+/// jobs. The only error is want of memory.
 impl<'t, T: CronDateTime> Clone for CronTableIterator<'t, T> {
     ghost use Rattle.croner.specs.crontable.TableListing.{table_standing_of};
 
@@ -119,6 +159,7 @@ impl<'t, T: CronDateTime> Clone for CronTableIterator<'t, T> {
             is_first: self.is_first,
             inclusive: self.inclusive,
             direction: self.direction,
+            answers: Vec::new(self.table.alloc),
             fault: copied(&self.fault),
         })
     }
@@ -132,10 +173,7 @@ impl<'t, T: CronDateTime> Iterator for CronTableIterator<'t, T> {
     ghost next_gives = { TableSteps T.moment };
 
     fn next(&mut self) -> Option<(T, Vec<usize>)> {
-        let inclusive = self.counts_position();
-        let answer = self
-            .table
-            .find_occurrence(&self.position, inclusive, self.direction);
+        let answer = self.find();
         self.settle(answer)
     }
 }

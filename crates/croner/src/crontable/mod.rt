@@ -1,10 +1,10 @@
 //! Many patterns at once: the next moment at which any of them runs, and which ones run then.
 ghost use Rattle.std.specs.Prelude.{◌≡◌, true};
-ghost use Rattle.std.specs.List.{All};
-ghost use Rattle.croner_pattern.specs.Shapes.{has_field_shapes};
 ghost use Rattle.croner.specs.Views.{job_of};
 
+mod asked;
 mod iterator;
+mod kept;
 mod nearest;
 
 use crate::Cron;
@@ -13,23 +13,29 @@ use croner_base::time::{CronDateTime, Direction};
 pub use iterator::CronTableIterator;
 use nearest::Met;
 use std::alloc::{AllocError, Global};
+use std::{mem, slice};
 
 /// A list of jobs that is searched as one.
 ///
-/// A job's place is the number of jobs that were pushed before it, from 0. Equal jobs may stand more than once, and each has
-/// its own place. The table keeps the allocator that its maker took.
+/// A job's place is the number of jobs that stand before it, from 0. Equal jobs may stand more than once, and each has its own
+/// place. The table keeps the allocator that its maker took.
+///
+/// `push` alone asks for memory: `replace`, `remove` and `clear` take none, and keep the room that there is.
 #[derive(Debug, Drop)]
 pub struct CronTable {
     jobs: Vec<Cron>,
     alloc: Global,
-    ghost shaped: { All (λ job. has_field_shapes (job_of job) ≡ true) jobs.items },
 }
 
 impl CronTable {
-    ghost use Rattle.std.specs.Prelude.{◌↔◌, ◌<◌, ◌++◌, ◌∷◌, [], Err, false, length, slice_get, option_map, Some, IfSome, IfOk, IfErr, IsTrue};
+    ghost use Rattle.std.specs.Prelude.{◌↔◌, ◌<◌, ◌≤◌, ◌++◌, ◌∷◌, [], Err, false, length, map, slice_get, slice_set, option_map, Some, IfSome, IfNone, IfOk, IfErr, IsTrue, vec_len, vec_capacity};
+    ghost use Rattle.std.specs.List.{remove};
+    ghost use Rattle.std.specs.Slice.Iter.{iter_rest};
     ghost use Rattle.croner_base.specs.declared.errors.CronError.TheVariants.{TimeSearchLimitExceeded};
     ghost use Rattle.croner.specs.crontable.Tables.{patterns_of, IsTableFound, IsTableRefused};
     ghost use Rattle.croner.specs.crontable.TableListing.{table_standing_of, new_table_standing};
+    ghost use Rattle.croner.specs.Private.crontable.Met.{met_of, new_met};
+    ghost use Rattle.croner.specs.Private.crontable.Room.{IsRefusedInRoom};
 
     /// A table without jobs. Takes no memory.
     pub fn new(alloc: Global) -> CronTable
@@ -43,10 +49,8 @@ impl CronTable {
 
     /// Puts a job behind the others, and answers its place.
     ///
-    /// The only error is `OutOfMemory`: the table is then as it was, and the job is dropped. The fields of the job's pattern
-    /// must have the shapes of their places, as those of every parsed pattern have.
+    /// The only error is `OutOfMemory`: the table is then as it was, and the job is dropped.
     pub fn push(&mut self, job: Cron) -> Result<usize, CronError>
-        requires { has_field_shapes (job_of job) ≡ true }
         ensures place { IfOk result (λ place. place ≡ length (patterns_of self.old)) }
         ensures appended { IfOk result (λ place. patterns_of self.new ≡ patterns_of self.old ++ job_of job ∷ []) }
         ensures kept { IfErr result (λ e. patterns_of self.new ≡ patterns_of self.old) }
@@ -59,6 +63,78 @@ impl CronTable {
         }
         self.jobs.push_reserved(job);
         Ok(place)
+    }
+
+    /// Puts a job in the place of another, and answers that other one. `None` where there is no such place: the table is then
+    /// as it was, and the job is dropped.
+    ///
+    /// All other jobs stay at their places. Takes no memory, and the same time however many jobs there are.
+    ///
+    /// ```
+    /// let mut table = CronTable::new(alloc);
+    /// table.push(Cron::from_str(alloc, "0 0 * * MON")?)?;
+    /// let old = table.replace(0, Cron::from_str(alloc, "0 0 * * TUE")?); // the job of Mondays
+    /// let none = table.replace(1, Cron::from_str(alloc, "0 0 * * SUN")?); // None: there is no place 1
+    /// ```
+    pub fn replace(&mut self, place: usize, job: Cron) -> Option<Cron>
+        ensures old { option_map job_of result ≡ slice_get (patterns_of self.old) place }
+        ensures replaced { IfSome result (λ old. patterns_of self.new ≡ slice_set (patterns_of self.old) place (job_of job)) }
+        ensures kept { IfNone result (patterns_of self.new ≡ patterns_of self.old) }
+    {
+        if place < self.jobs.len() {
+            Some(mem::replace(&mut self.jobs[place], job))
+        } else {
+            None
+        }
+    }
+
+    /// Takes a job out of the table, and answers it. `None` where there is no such place: the table is then as it was.
+    ///
+    /// The jobs behind it move up, each to the place before its own; those before it stay. Takes no memory; its time grows with
+    /// the number of jobs behind the place.
+    ///
+    /// ```
+    /// let mut table = CronTable::new(alloc);
+    /// table.push(Cron::from_str(alloc, "0 0 * * MON")?)?;
+    /// table.push(Cron::from_str(alloc, "0 0 1 * *")?)?;
+    /// let mondays = table.remove(0); // the job of Mondays; the other one stands at place 0 now
+    /// let none = table.remove(1); // None: there is no place 1 any more
+    /// ```
+    pub fn remove(&mut self, place: usize) -> Option<Cron>
+        ensures old { option_map job_of result ≡ slice_get (patterns_of self.old) place }
+        ensures removed { IfSome result (λ old. patterns_of self.new ≡ remove (patterns_of self.old) place) }
+        ensures kept { IfNone result (patterns_of self.new ≡ patterns_of self.old) }
+    {
+        if place < self.jobs.len() {
+            Some(self.jobs.remove(place))
+        } else {
+            None
+        }
+    }
+
+    /// Drops all jobs. Takes no memory; its time grows with the number of jobs.
+    ///
+    /// ```
+    /// table.clear();
+    /// let place = table.push(Cron::from_str(alloc, "0 0 * * MON")?)?; // 0
+    /// ```
+    pub fn clear(&mut self)
+        ensures { patterns_of self.new ≡ [] }
+    {
+        self.jobs.clear();
+    }
+
+    /// The jobs, in the order of their places. Takes no memory; the iterator borrows the table.
+    ///
+    /// ```
+    /// for job in table.iter() {
+    ///     println!(rt; "{}", job.as_str())?;
+    /// }
+    /// ```
+    pub fn iter(&self) -> slice::Iter<'_, Cron>
+        ensures { map job_of (iter_rest result) ≡ patterns_of self.now }
+    {
+        self.jobs.iter()
     }
 
     /// How many jobs there are.
@@ -75,9 +151,8 @@ impl CronTable {
         self.jobs.is_empty()
     }
 
-    /// The job at a place; `None` where there is none. Its fields have the shapes of their places.
+    /// The job at a place; `None` where there is none.
     pub fn get(&self, place: usize) -> Option<&Cron>
-        ensures shapes { IfSome result (λ job. has_field_shapes (job_of job.now) ≡ true) }
         ensures job { option_map (λ job. job_of job.now) result ≡ slice_get (patterns_of self.now) place }
     {
         if place < self.jobs.len() {
@@ -90,7 +165,6 @@ impl CronTable {
     // The job at a place that there is.
     fn job_at(&self, place: usize) -> &Cron
         requires { place < length (patterns_of self.now) }
-        ensures shapes { has_field_shapes (job_of result.now) ≡ true }
         ensures stands { slice_get (patterns_of self.now) place ≡ Some (job_of result.now) }
     {
         &self.jobs[place]
@@ -100,14 +174,15 @@ impl CronTable {
     /// of all jobs that run then, ascending.
     ///
     /// Which instants are runs of a job, and which of them count, is said at
-    /// [`Cron::find_next_occurrence`](crate::Cron::find_next_occurrence), and so is when a zone is calm. In a calm zone and from a
-    /// whole second the answer is the nearest instant at which some job runs, with exactly the places of the jobs that run then,
-    /// over whatever backend. In every zone and from every start it is a whole second of the start's zone, with one place or more.
+    /// [`Cron::find_next_occurrence`](crate::Cron::find_next_occurrence), and when a zone is calm at [`CronDateTime`]. In a calm
+    /// zone and from a whole second the answer is the nearest instant at which a run of some job counts, with exactly the places
+    /// of the jobs whose runs count there, over whatever backend. In every zone and from every start it is a whole second of the
+    /// start's zone, with one place or more.
     ///
     /// It is refused by
-    /// - `TimeSearchLimitExceeded`: in a calm zone and from a whole second no run of any job is left before year 5000. Where one
-    ///   job's search comes to that limit, a run of another job in year 5000 or later is not given, since an unseen run might
-    ///   be nearer. A table without jobs always gets it.
+    /// - `TimeSearchLimitExceeded`: in a calm zone and from a whole second no run of any job is left in the searched years, which
+    ///   end where the zone's clock first shows year 5000. Where one job's search comes to that limit, a run of another job from
+    ///   then on is not given, since an unseen run might be nearer. A table without jobs always gets it.
     /// - `OutOfMemory`: there is no memory for the places, which is asked for first, or the backend lacks memory.
     /// - `InvalidDate` or `InvalidTime`, as the backend has it: a moment that had to be asked for is not held. Neither comes in a
     ///   calm zone from a whole second where the years 0 to 5001 and two days around the start are held.
@@ -134,8 +209,8 @@ impl CronTable {
     }
 
     /// The previous run of any job before a time, or from it back where the search is inclusive: as
-    /// [`find_next_occurrence`](Self::find_next_occurrence), the other way. `TimeSearchLimitExceeded` says there that no run of any
-    /// job is left after year 1.
+    /// [`find_next_occurrence`](Self::find_next_occurrence), the other way. The searched years begin there where the zone's clock has
+    /// last shown year 1.
     ///
     /// ```
     /// let (run, places) = table.find_previous_occurrence(&start, true)?;
@@ -169,7 +244,8 @@ impl CronTable {
         self.search_jobs(start, inclusive, direction)
     }
 
-    // Each job is searched in its turn, and the nearest answers are kept.
+    // Takes room for as many places as there are jobs, and searches in it. Only the request for that room lacks memory where the
+    // backend can't.
     fn search_jobs<T: CronDateTime>(
         &self,
         start: &T,
@@ -179,13 +255,32 @@ impl CronTable {
         ensures found { IfOk result (λ r. IsTableFound direction inclusive (patterns_of self.now) (T.moment start.now) (T.moment r.0) r.1.items) }
         ensures refused { IfErr result (IsTableRefused direction inclusive (patterns_of self.now) (T.moment start.now)) }
     {
-        let Ok(mut met) = Met::new(self.alloc, self.jobs.len()) else {
+        let Ok(met) = Met::new(self.alloc, self.jobs.len()) else {
             return Err(CronError::OutOfMemory);
         };
+        self.search_in_room(met, start, inclusive, direction)
+    }
+
+    // Each job is searched in its turn, from a start that is read once, and the nearest answers are kept in the room that there
+    // is for them.
+    fn search_in_room<T: CronDateTime>(
+        &self,
+        mut met: Met<T>,
+        start: &T,
+        inclusive: bool,
+        direction: Direction,
+    ) -> Result<(T, Vec<usize>), CronError>
+        requires begun { met_of met ≡ new_met }
+        requires empty { vec_len met.places ≡ 0 }
+        requires room { vec_len self.now.jobs ≤ vec_capacity met.places }
+        ensures found { IfOk result (λ r. IsTableFound direction inclusive (patterns_of self.now) (T.moment start.now) (T.moment r.0) r.1.items) }
+        ensures refused { IfErr result (IsRefusedInRoom T.can_lack_memory direction inclusive (patterns_of self.now) (T.moment start.now)) }
+    {
+        let shown = start.to_civil();
         for place in 0..self.jobs.len() {
             let answer = self
                 .job_at(place)
-                .find_occurrence(start, inclusive, direction);
+                .find_occurrence_with_reading(start, shown, inclusive, direction);
             match met.take(place, answer, direction) {
                 Ok(()) => {}
                 Err(refused) => return Err(refused),
@@ -194,8 +289,8 @@ impl CronTable {
         met.decide(self.alloc, direction)
     }
 
-    /// The runs of all jobs from a start on, the start itself included where it is a run, in a direction: each instant once, with
-    /// the places of the jobs that run then. Takes no memory; the iterator borrows the table.
+    /// The runs of all jobs from a start on in a direction, each instant with the places of the jobs that run then. The start
+    /// counts as in an inclusive search. Takes no memory; the iterator borrows the table.
     ///
     /// ```
     /// let start = DateTime::new(2024, 7, 1, 0, 0, 0, 0)?;

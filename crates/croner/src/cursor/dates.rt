@@ -1,5 +1,5 @@
 //! The nearest date that matches a pattern.
-ghost use Rattle.std.specs.Prelude.{◌≡◌, ◌≤◌, true, false, pos, MatchOption};
+ghost use Rattle.std.specs.Prelude.{◌≡◌, true, false, pos, MatchOption};
 ghost use Rattle.std.specs.Int.{IsInRange};
 ghost use Rattle.jiff_core.specs.Calendar.{days_in_month};
 ghost use Rattle.croner_base.specs.Civil.{day_of_date};

@@ -1,10 +1,11 @@
 //! Laws of iterators over tables of patterns.
 //!
-//! When a zone is calm is said at [`Cron::find_next_occurrence`](crate::Cron::find_next_occurrence).
+//! When a zone is calm is said at [`CronDateTime`].
 ghost use Rattle.std.specs.Prelude.{◌≡◌, ◌≤◌, ◌<◌, ◌+◌, ◌↔◌, ℕ, ℤ, true, false, IfOk, IfErr, IsTrue, length, vec_len, vec_capacity};
-ghost use Rattle.croner.specs.search.Premises.{StartsCalm};
+ghost use Rattle.croner.specs.iterator.Faults.{IsMemoryAlone};
+ghost use Rattle.croner.specs.search.Premises.{StartsCalm, IsSearchable};
 ghost use Rattle.croner.specs.crontable.Tables.{patterns_of};
-ghost use Rattle.croner.specs.crontable.TableListing.{TableStanding, table_standing_of, new_table_standing, table_moved, IsLeftAt, IsTableLeft};
+ghost use Rattle.croner.specs.crontable.TableListing.{TableStanding, table_standing_of, new_table_standing, table_moved, IsLeftAt};
 ghost use Rattle.croner.specs.crontable.TableItems.{BeginsTableRest, GaveTable, GaveAllTable, table_items, TakesTable, TakesTableInTurn};
 
 use crate::crontable::{CronTable, CronTableIterator};
@@ -12,13 +13,15 @@ use croner_base::errors::CronError;
 use croner_base::time::{CronDateTime, Direction};
 use std::alloc::Global;
 
-/// The items of up to so many calls of `next`, whatever calls without an item come between, and whether the last call gave
-/// none and kept no fault, so that nothing is left.
+/// The items of so many calls of `next`, whatever calls without an item come between, and a mark that says that nothing is left:
+/// the last call gave none and kept no fault.
 ///
 /// The items and the mark are those of just so many calls, one after the other. In a calm zone and from a whole second, over
 /// whatever backend, the items begin the listing of what the iterator had yet to give, strictly in its direction, each with
 /// exactly the places that count at its instant, and the iterator goes on with the rest; where nothing is said to be left, they
-/// are all of it up to the end of the searched years. The only error is `OutOfMemory`, for the room of as many items as there are
+/// are all of it up to the end of the searched years. Where the backend holds what a search from the iterator's position needs,
+/// it holds what one from its new position needs, so that the only fault after any number of calls is want of memory, which the
+/// places of an item take over whatever backend. The only error is `OutOfMemory`, for the room of as many items as there are
 /// calls, which is taken first: the iterator then stands where it stood.
 pub fn next_table_runs<T: CronDateTime>(
     alloc: Global,
@@ -31,6 +34,10 @@ pub fn next_table_runs<T: CronDateTime>(
         IfOk result (λ r. GaveTable (table_standing_of T.moment iterator.old) (table_standing_of T.moment iterator.new) (table_items T.moment r.0.items)) }
     ensures all { StartsCalm (table_standing_of T.moment iterator.old).position →
         IfOk result (λ r. IsTrue r.1 → GaveAllTable (table_standing_of T.moment iterator.old) (table_items T.moment r.0.items)) }
+    ensures searchable { IsSearchable (table_standing_of T.moment iterator.old).position →
+        IsSearchable (table_standing_of T.moment iterator.new).position }
+    ensures fault { IsSearchable (table_standing_of T.moment iterator.old).position → 0 < calls →
+        IfOk result (λ r. IsMemoryAlone true (table_standing_of T.moment iterator.new).fault) }
     ensures called { IfOk result (λ r. TakesTableInTurn T.moment calls iterator.old iterator.new r.0.items r.1) }
     ensures most { IfOk result (λ r. length r.0.items ≤ calls) }
     ensures kept { IfErr result (λ e. table_standing_of T.moment iterator.new ≡ table_standing_of T.moment iterator.old) }

@@ -19,7 +19,7 @@ use std::hash::{DefaultHasher, Hash, Hasher};
 /// Whether two jobs are equal, and the kind of each.
 ///
 /// Equal jobs differ in their texts at most. So they have the same schedule, also of the dates to which a run is carried, and are
-/// of the same kind: every search answers the same for both.
+/// of the same kind: in every zone the same instants are their runs.
 pub fn equal_and_kinds(one: &Cron, other: &Cron) -> (bool, JobType, JobType)
     ensures equal { IsTrue result.0 ↔ AreSameButTexts (job_of one.now) (job_of other.now) }
     ensures scheduled { IsTrue result.0 → (w : ℤ) → IsScheduled (job_of one.now) w ↔ IsScheduled (job_of other.now) w }

@@ -1,12 +1,10 @@
 //! Laws of iterators, and of searches one after the other.
 //!
-//! A zone is calm where its clock is moved by at most two hours at a time, seldom, at moments more than two days apart, and the
-//! backend resolves each second that it holds to just the instants that show it. Where a law takes a job or a pattern, its fields
-//! must have the shapes of their places, as those of every parsed pattern have.
-ghost use Rattle.std.specs.Prelude.{◌≡◌, ◌≤◌, ◌<◌, ◌+◌, ◌↔◌, ◌⊎◌, ℤ, Bool, true, false, [], IfOk, IfErr, IsTrue, length, vec_len, vec_capacity};
+//! When a zone is calm is said at [`CronDateTime`].
+ghost use Rattle.std.specs.Prelude.{◌≡◌, ◌≤◌, ◌<◌, ◌+◌, ◌↔◌, ◌⊎◌, ℤ, Bool, false, [], IfOk, IfErr, IsTrue, length, vec_len, vec_capacity};
 ghost use Rattle.std.specs.List.{All, AllPairs};
 ghost use Rattle.croner_pattern.specs.Meaning.{meaning_of};
-ghost use Rattle.croner_pattern.specs.Shapes.{has_field_shapes};
+ghost use Rattle.croner.specs.iterator.Faults.{IsMemoryAlone};
 ghost use Rattle.croner.specs.iterator.Listing.{Standing, standing_of, new_standing, moved, instants, IsLeft, BeginsRest, Gave, GaveAll, Takes, TakesInTurn};
 ghost use Rattle.croner.specs.laws.Neighbours.{AreCompared, IsWholeIn, onward};
 ghost use Rattle.croner.specs.search.Runs.{Precedes};
@@ -22,15 +20,16 @@ use croner_base::time::{CronDateTime, Direction};
 use std::alloc::Global;
 use std::cmp::Ordering;
 
-/// The items of up to so many calls of `next`, whatever calls without an item come between, and whether the last call gave
-/// none and kept no fault, so that nothing is left.
+/// The items of so many calls of `next`, whatever calls without an item come between, and a mark: whether the last call gave none
+/// and kept no fault.
 ///
 /// The items and the mark are those of just so many calls, one after the other. In a calm zone and from a whole second, over
 /// whatever backend, the items begin the listing of what the iterator had yet to give, strictly in its direction, and the
 /// iterator goes on with the rest; where nothing is said to be left, they are all of it up to the end of the searched years.
-/// Over a backend that also holds what its searches need and cannot lack memory there is an item for each call, or they are all
-/// of it too. In every zone an item is a whole second of the start's zone. The only error is `OutOfMemory`, for the room of as
-/// many items as there are calls, which is taken first: the iterator then stands where it stood.
+/// Over a backend that also holds what the search from the start needs, each later search finds held what it needs, so that the
+/// only fault after any number of calls is want of memory; where the backend cannot lack memory either, there is an item for each
+/// call, or they are all of it too. In every zone an item is a whole second of the start's zone. The only error is `OutOfMemory`,
+/// for the room of as many items as there are calls, which is taken first: the iterator then stands where it stood.
 pub fn next_runs<T: CronDateTime>(
     alloc: Global,
     iterator: &mut CronIterator<T>,
@@ -44,6 +43,10 @@ pub fn next_runs<T: CronDateTime>(
         IfOk result (λ r. IsTrue r.1 → GaveAll (standing_of T.moment iterator.old) (instants T.moment r.0.items)) }
     ensures counted { IsSearchable (standing_of T.moment iterator.old).position → T.can_lack_memory ≡ false →
         IfOk result (λ r. (length r.0.items ≡ calls) ⊎ GaveAll (standing_of T.moment iterator.old) (instants T.moment r.0.items)) }
+    ensures searchable { IsSearchable (standing_of T.moment iterator.old).position →
+        IfOk result (λ r. IsSearchable (standing_of T.moment iterator.new).position) }
+    ensures fault { IsSearchable (standing_of T.moment iterator.old).position → 0 < calls →
+        IfOk result (λ r. IsMemoryAlone T.can_lack_memory (standing_of T.moment iterator.new).fault) }
     ensures called { IfOk result (λ r. TakesInTurn T.moment T.can_lack_memory calls iterator.old iterator.new r.0.items r.1) }
     ensures whole { IfOk result (λ r. All (λ t. IsWholeIn (standing_of T.moment iterator.old).position.zone (T.moment t)) r.0.items) }
     ensures most { IfOk result (λ r. length r.0.items ≤ calls) }
@@ -65,7 +68,6 @@ pub fn next_runs<T: CronDateTime>(
 /// Whatever iterator gave the item, for the same pattern and in the same direction: both have the same runs yet to give. So a
 /// listing can be taken up from any item that was kept.
 pub fn resumed<T: CronDateTime>(cron: Cron, item: T, direction: Direction) -> CronIterator<T>
-    requires { has_field_shapes (meaning_of cron.pattern) ≡ true }
     ensures stands { standing_of T.moment result ≡ new_standing (meaning_of cron.pattern) (T.moment item) false direction }
     ensures same_rest { (s : Standing) → s.pattern ≡ meaning_of cron.pattern → s.direction ≡ direction → (i : ℤ) →
         IsLeft (moved s (T.moment item)) i ↔ IsLeft (new_standing (meaning_of cron.pattern) (T.moment item) false direction) i }
@@ -73,11 +75,12 @@ pub fn resumed<T: CronDateTime>(cron: Cron, item: T, direction: Direction) -> Cr
     CronIterator::new(cron, item, false, direction)
 }
 
-/// The items of up to so many calls of `next`, and how each compares with the one before it, by `cmp_instant`.
+/// The items of so many calls of `next`, and how each compares with the one before it, by `cmp_instant`.
 ///
 /// In a calm zone and from a whole second the items of a forward iterator are strictly later one by one, and those of a backward
-/// one strictly earlier: as instants, and in the order of the values themselves. There are as many as in [`next_runs`]. The only
-/// error is `OutOfMemory`, for the room of both lists, which is taken first: the iterator then stands where it stood.
+/// one strictly earlier: as instants, and in the order of the values themselves. There are as many as in [`next_runs`], and a fault
+/// is kept for the same reasons. The only error is `OutOfMemory`, for the room of both lists, which is taken first: the iterator then
+/// stands where it stood.
 pub fn items_in_order<T: CronDateTime>(
     alloc: Global,
     iterator: &mut CronIterator<T>,
@@ -87,6 +90,10 @@ pub fn items_in_order<T: CronDateTime>(
         IfOk result (λ r. Gave (standing_of T.moment iterator.old) (standing_of T.moment iterator.new) (instants T.moment r.0.items)) }
     ensures counted { IsSearchable (standing_of T.moment iterator.old).position → T.can_lack_memory ≡ false →
         IfOk result (λ r. (length r.0.items ≡ calls) ⊎ GaveAll (standing_of T.moment iterator.old) (instants T.moment r.0.items)) }
+    ensures searchable { IsSearchable (standing_of T.moment iterator.old).position →
+        IfOk result (λ r. IsSearchable (standing_of T.moment iterator.new).position) }
+    ensures fault { IsSearchable (standing_of T.moment iterator.old).position → 0 < calls →
+        IfOk result (λ r. IsMemoryAlone T.can_lack_memory (standing_of T.moment iterator.new).fault) }
     ensures called { IfOk result
         (λ r. (mark : Bool) × TakesInTurn T.moment T.can_lack_memory calls iterator.old iterator.new r.0.items mark) }
     ensures ordered { StartsCalm (standing_of T.moment iterator.old).position → IfOk result (λ r.
@@ -130,7 +137,6 @@ pub fn there_and_back<T: CronDateTime>(
     job: &Cron,
     run: &T,
 ) -> Result<(T, Result<T, CronError>), CronError>
-    requires { has_field_shapes (job_of job.now) ≡ true }
     ensures there { IfOk result (λ r. IsFound Direction.Forward false (timetable_of (job_of job.now)) (T.moment run.now) (T.moment r.0)) }
     ensures refused { IfErr result (IsRefused T.can_lack_memory Direction.Forward false (timetable_of (job_of job.now)) (T.moment run.now)) }
     ensures back { IfOk result (λ r. IfOk r.1 (λ b. IsFound Direction.Backward false (timetable_of (job_of job.now)) (T.moment r.0) (T.moment b))) }

@@ -7,6 +7,7 @@ pub mod grammar;
 pub mod listing;
 pub mod rereading;
 pub mod searches;
+pub mod zones;
 
 pub use croner_base::laws::{calendar, clocks, marks, tables};
 pub use croner_pattern::laws::lists;

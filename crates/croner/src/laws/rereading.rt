@@ -1,7 +1,6 @@
 //! The law of texts read again.
 ghost use Rattle.std.specs.Prelude.{◌≡◌, Ok, IfOk, IfErr, true};
 ghost use Rattle.std.specs.Ordering.{eq_by_cmp};
-ghost use Rattle.croner_pattern.specs.Meaning.{Meaning};
 ghost use Rattle.croner_pattern.specs.Order.{pattern_cmp};
 ghost use Rattle.croner.specs.parser.Gives.{Fails};
 ghost use Rattle.croner.specs.parser.Grammar.{outcome};

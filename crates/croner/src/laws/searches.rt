@@ -1,10 +1,9 @@
-//! Laws of searches in every zone, calm or not, and from each start, fractions of a second included. What a calm zone is, stands at
-//! [`Cron::find_next_occurrence`]. The fields of a job must have the shapes of their places, as those of every parsed pattern have.
-ghost use Rattle.std.specs.Prelude.{◌≡◌, ◌↔◌, true, false, IsTrue, IfOk, IfErr, Err};
+//! Laws of searches in every zone, calm or not, and from each start, fractions of a second included. When a zone is calm is said
+//! at [`CronDateTime`].
+ghost use Rattle.std.specs.Prelude.{◌≡◌, ◌↔◌, false, IsTrue, IfOk, IfErr, Err};
 ghost use Rattle.croner_base.specs.Civil.{wall_second};
 ghost use Rattle.croner_base.specs.Zone.{reading};
 ghost use Rattle.croner_pattern.specs.Schedule.{IsScheduled, is_fixed_time};
-ghost use Rattle.croner_pattern.specs.Shapes.{has_field_shapes};
 ghost use Rattle.croner.specs.search.Limit.{IsOutside};
 ghost use Rattle.croner.specs.search.PatternJob.{timetable_of};
 ghost use Rattle.croner.specs.search.Premises.{HasOneInstantEach};
@@ -27,7 +26,6 @@ pub fn found_and_matching<T: CronDateTime>(
     inclusive: bool,
     direction: Direction,
 ) -> Result<(T, bool), CronError>
-    requires { has_field_shapes (job_of job.now) ≡ true }
     ensures found { IfOk result (λ r. IsFound direction inclusive (timetable_of (job_of job.now)) (T.moment start.now) (T.moment r.0)) }
     ensures matching { IfOk result (λ r. IsTrue r.1 ↔ IsScheduled (job_of job.now) (reading (T.moment r.0))) }
     ensures interval { is_fixed_time (job_of job.now) ≡ false → IfOk result (λ r. IsTrue r.1) }
@@ -54,7 +52,6 @@ pub fn found_and_shown<T: CronDateTime>(
     inclusive: bool,
     direction: Direction,
 ) -> Result<(T, CivilDateTime), CronError>
-    requires { has_field_shapes (job_of job.now) ≡ true }
     ensures found { IfOk result (λ r. IsFound direction inclusive (timetable_of (job_of job.now)) (T.moment start.now) (T.moment r.0)) }
     ensures zone { IfOk result (λ r. (T.moment r.0).zone ≡ (T.moment start.now).zone) }
     ensures whole { IfOk result (λ r. (T.moment r.0).fraction ≡ 0) }
@@ -75,16 +72,15 @@ pub fn found_and_shown<T: CronDateTime>(
 /// What a search answers, for its refusals.
 ///
 /// It is refused by the limit, by `InvalidDate`, by `InvalidTime` or, only over a backend that can lack memory, by
-/// `OutOfMemory`. In a calm zone from a whole second the limit says that no run is left; where the backend also holds what a
-/// search needs, it is refused by the limit or by want of memory alone. A start whose clock shows year 5001 or later forward,
-/// year 0 or earlier backward, gets the limit, in every zone and over each backend.
+/// `OutOfMemory`. In a calm zone from a whole second the limit says that no run is left in the searched years; where the backend
+/// also holds what a search needs, it is refused by the limit or by want of memory alone. A start whose clock shows year 5001 or
+/// later forward, year 0 or earlier backward, gets the limit, in every zone and over each backend.
 pub fn found_or_refused<T: CronDateTime>(
     job: &Cron,
     start: &T,
     inclusive: bool,
     direction: Direction,
 ) -> Result<T, CronError>
-    requires { has_field_shapes (job_of job.now) ≡ true }
     ensures kinds { IfErr result (IsRefusal T.can_lack_memory) }
     ensures refused { IfErr result (IsRefused T.can_lack_memory direction inclusive (timetable_of (job_of job.now)) (T.moment start.now)) }
     ensures found { IfOk result (λ t. IsFound direction inclusive (timetable_of (job_of job.now)) (T.moment start.now) (T.moment t)) }

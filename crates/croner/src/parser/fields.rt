@@ -1,6 +1,6 @@
 //! The texts of the seven fields, before each is read.
 
-ghost use Rattle.std.specs.Prelude.{◌≡◌, ℕ, List, ◌==◌, if◌then◌else◌, map, not, string_bytes, option_map, is_none, IfOk, MatchOption};
+ghost use Rattle.std.specs.Prelude.{◌≡◌, ℕ, List, ◌==◌, if◌then◌else◌, map, string_bytes, option_map, is_none, IfOk, MatchOption};
 ghost use Rattle.std.specs.List.{list_all};
 ghost use Rattle.croner_base.specs.Part.{contains_byte};
 ghost use Rattle.croner.specs.parser.Grammar.{seven, starred, without_plus, has_plus, is_list_character, is_for_days, is_for_weekdays, are_legal};

@@ -1,9 +1,9 @@
 //! Why a text is refused, in words for a person at a crontab.
 
-ghost use Rattle.std.specs.Prelude.{◌≡◌, Err};
+ghost use Rattle.std.specs.Prelude.{Err};
 ghost use Rattle.croner_base.specs.Answers.{IsFieldError};
 ghost use Rattle.croner_pattern.specs.Meaning.{Meaning};
-ghost use Rattle.croner.specs.parser.Grammar.{Refusal, Invalid, Illegal};
+ghost use Rattle.croner.specs.parser.Grammar.{Invalid, Illegal};
 ghost use Rattle.croner.specs.parser.Gives.{Fails};
 
 use super::{Seconds, Year};

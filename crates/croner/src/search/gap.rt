@@ -1,15 +1,16 @@
 //! The two sides of a gap of the wall clock.
-ghost use Rattle.std.specs.Prelude.{◌≡◌, ◌⊎◌, ◌+◌, ◌-◌, ◌*◌, ◌<◌, ◌≤◌, IfOk, IfErr, MatchOption, Some};
+ghost use Rattle.std.specs.Prelude.{◌≡◌, ◌⊎◌, ◌+◌, ◌-◌, ◌*◌, ◌<◌, ◌≤◌, IfOk, IfErr, IfSome, MatchOption, Some};
 ghost use Rattle.croner_base.specs.declared.time.value.Resolution.TheVariants.{Gap};
-ghost use Rattle.croner_base.specs.Calm.{IsCalm, IsSearched};
+ghost use Rattle.croner_base.specs.Calm.{IsSearched};
 ghost use Rattle.croner_base.specs.Civil.{wall_second};
 ghost use Rattle.croner_base.specs.Limits.{gap_limit};
 ghost use Rattle.croner.specs.Private.search.Held.{HoldsYears, IsBackendError};
-ghost use Rattle.croner.specs.Private.search.Gaps.{HasGapSide, IsAround, IsBeyond, IsSkipped};
+ghost use Rattle.croner.specs.Private.search.Gaps.{CrossesGap, HasGapSide, IsAround, IsBeyond, IsSkipped};
 ghost use Rattle.croner.specs.Private.search.Halves.{offset_from};
 ghost use Rattle.croner.specs.Private.search.Walk.{HasGapEnd, HasGapFront};
 
 use crate::search::distance::seconds_on;
+use crate::search::wall::is_within;
 use croner_base::errors::CronError;
 use croner_base::limits::GAP_LIMIT_SECONDS;
 use croner_base::time::{CivilDateTime, CronDateTime, Direction, Resolution};
@@ -42,11 +43,7 @@ pub(crate) fn gap_end<T: CronDateTime>(
     ensures value { IfOk result (HasGapEnd T.moment (T.moment origin.now).zone (wall_second held)) }
     ensures err { IfErr result (IsBackendError T.can_lack_memory (¬ (HoldsYears (T.moment origin.now).zone))) }
 {
-    match gap_side(alloc, origin, held, Direction::Forward, GAP_SEARCH_SECONDS) {
-        Ok(Some(end)) => Ok(Some(end)),
-        Ok(None) => Ok(None),
-        Err(error) => Err(error),
-    }
+    gap_side(alloc, origin, held, Direction::Forward, GAP_SEARCH_SECONDS)
 }
 
 /// The last second before the gap that holds a second; `None` where the gap reaches further than the search.
@@ -60,10 +57,39 @@ pub(crate) fn gap_front<T: CronDateTime>(
     ensures value { IfOk result (HasGapFront (T.moment origin.now).zone (wall_second held)) }
     ensures err { IfErr result (IsBackendError T.can_lack_memory (¬ (HoldsYears (T.moment origin.now).zone))) }
 {
-    match gap_side(alloc, origin, held, Direction::Backward, GAP_SEARCH_SECONDS) {
-        Ok(Some((front, _))) => Ok(Some(front)),
-        Ok(None) => Ok(None),
-        Err(error) => Err(error),
+    let side = gap_side(alloc, origin, held, Direction::Backward, GAP_SEARCH_SECONDS)?;
+    let Some((front, _)) = side else {
+        return Ok(None);
+    };
+    Ok(Some(front))
+}
+
+/// The nearest second outside the gap that holds one, in the direction, where both lie in the years that are searched whole:
+/// before year 5000 forward, after year 1 backward. `None` where they don't, where the gap reaches further than the search, and
+/// where the backend refuses what has to be asked: whoever asks then goes on as without it.
+pub(crate) fn across_gap<T: CronDateTime>(
+    alloc: Global,
+    origin: &T,
+    held: CivilDateTime,
+    direction: Direction,
+) -> Option<CivilDateTime>
+    requires in_gap { (T.moment origin.now).zone.resolves held ≡ Some Gap }
+    requires searched { IsSearched (wall_second held) }
+    ensures { IfSome result (λ side. CrossesGap direction (T.moment origin.now).zone (wall_second held) (wall_second side)) }
+{
+    if !is_within(held, direction) {
+        return None;
+    }
+    match gap_side(alloc, origin, held, direction, GAP_SEARCH_SECONDS) {
+        Ok(Some((side, _))) => {
+            if is_within(side, direction) {
+                Some(side)
+            } else {
+                None
+            }
+        }
+        Ok(None) => None,
+        Err(_) => None,
     }
 }
 

@@ -1,7 +1,7 @@
 //! Comparing and moving the values of a backend.
-ghost use Rattle.std.specs.Prelude.{◌≡◌, ◌↔◌, ◌≤◌, ℤ, pos, IsTrue, IfOk, IfErr, false};
+ghost use Rattle.std.specs.Prelude.{◌≡◌, ◌↔◌, IsTrue, IfOk, IfErr, false};
 ghost use Rattle.croner_base.specs.Zone.{nanos_of};
-ghost use Rattle.croner.specs.search.Runs.{Precedes, Reaches, Ahead};
+ghost use Rattle.croner.specs.search.Runs.{Precedes, Ahead};
 ghost use Rattle.croner.specs.Private.search.Halves.{moment_from, offset_from, opposite_way};
 ghost use Rattle.croner.specs.Private.search.Walk.{CannotMove};
 ghost use Rattle.croner.specs.Private.search.Held.{IsBackendError};

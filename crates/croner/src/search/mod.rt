@@ -2,10 +2,10 @@
 mod distance;
 pub(crate) mod fold;
 mod gap;
-mod instant;
+pub(crate) mod instant;
 mod schedule;
 mod walk;
-mod wall;
+pub(crate) mod wall;
 
 ghost use Rattle.std.specs.Prelude.{◌≡◌, ◌↔◌, IsTrue, IfOk, IfErr, Err, None};
 ghost use Rattle.croner_base.specs.declared.errors.CronError.TheVariants.{TimeSearchLimitExceeded};
@@ -60,15 +60,11 @@ fn nearer_half<T: CronDateTime, S: Schedule>(
     if !counts_both(schedule, direction) {
         return Ok(first);
     }
-    match is_on_first_half(alloc, start, shown, direction) {
-        Ok(true) => {}
-        Ok(false) => return Ok(first),
-        Err(error) => return Err(error),
+    if !is_on_first_half(alloc, start, shown, direction)? {
+        return Ok(first);
     }
-    let edge = match other_edge(alloc, start, direction) {
-        Ok(Some(edge)) => edge,
-        Ok(None) => return Err(CronError::TimeSearchLimitExceeded),
-        Err(error) => return Err(error),
+    let Some(edge) = other_edge(alloc, start, direction)? else {
+        return Err(CronError::TimeSearchLimitExceeded);
     };
     if precedes(&first, &edge, direction) {
         return Ok(first);
@@ -78,10 +74,8 @@ fn nearer_half<T: CronDateTime, S: Schedule>(
         inclusive: true,
         direction,
     };
-    let second = match walk(alloc, schedule, &across, edge.to_civil()) {
-        Ok(Some(second)) => second,
-        Ok(None) => return Err(CronError::TimeSearchLimitExceeded),
-        Err(error) => return Err(error),
+    let Some(second) = walk(alloc, schedule, &across, edge.to_civil())? else {
+        return Err(CronError::TimeSearchLimitExceeded);
     };
     if precedes(&second, &first, direction) {
         Ok(second)
@@ -145,20 +139,14 @@ fn edge_and_last<T: CronDateTime>(
     ensures value { IfOk result (HasOtherHalf T.moment direction (T.moment start.now)) }
     ensures err { IfErr result (IsBackendError T.can_lack_memory (¬ (IsSearchable (T.moment start.now)))) }
 {
-    match is_on_first_half(alloc, start, shown, direction) {
-        Ok(true) => {}
-        Ok(false) => return Ok(None),
-        Err(error) => return Err(error),
+    if !is_on_first_half(alloc, start, shown, direction)? {
+        return Ok(None);
     }
-    let edge = match other_edge(alloc, start, direction) {
-        Ok(Some(edge)) => edge,
-        Ok(None) => return Ok(None),
-        Err(error) => return Err(error),
+    let Some(edge) = other_edge(alloc, start, direction)? else {
+        return Ok(None);
     };
-    match moved(alloc, &edge, 1, opposite(direction)) {
-        Ok(own_last) => Ok(Some((edge, own_last))),
-        Err(error) => Err(error),
-    }
+    let own_last = moved(alloc, &edge, 1, opposite(direction))?;
+    Ok(Some((edge, own_last)))
 }
 
 /// The nearest run from the start in the direction, itself included where the search is inclusive. The limit where no run
@@ -175,12 +163,35 @@ pub(crate) fn find<T: CronDateTime, S: Schedule>(
     ensures found { IfOk result (λ t. IsFound direction inclusive (S.timetable schedule.now) (T.moment start.now) (T.moment t)) }
     ensures refused { IfErr result (IsRefused T.can_lack_memory direction inclusive (S.timetable schedule.now) (T.moment start.now)) }
 {
+    find_with_reading(
+        alloc,
+        schedule,
+        start,
+        start.to_civil(),
+        inclusive,
+        direction,
+    )
+}
+
+/// The same for a caller that has read the start: `shown` is what it reads.
+pub(crate) fn find_with_reading<T: CronDateTime, S: Schedule>(
+    alloc: Global,
+    schedule: &S,
+    start: &T,
+    shown: CivilDateTime,
+    inclusive: bool,
+    direction: Direction,
+) -> Result<T, CronError>
+    requires shaped { S.shaped schedule.now }
+    requires shown { wall_second shown ≡ reading (T.moment start.now) }
+    ensures found { IfOk result (λ t. IsFound direction inclusive (S.timetable schedule.now) (T.moment start.now) (T.moment t)) }
+    ensures refused { IfErr result (IsRefused T.can_lack_memory direction inclusive (S.timetable schedule.now) (T.moment start.now)) }
+{
     let origin = Origin {
         time: start,
         inclusive,
         direction,
     };
-    let shown = start.to_civil();
     match walk(alloc, schedule, &origin, shown) {
         Ok(Some(first)) => {
             nearer_half(alloc, schedule, start, shown, first, inclusive, direction)

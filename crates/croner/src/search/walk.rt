@@ -1,16 +1,17 @@
 //! One walk along the wall clock.
-ghost use Rattle.std.specs.Prelude.{◌≡◌, ◌⊎◌, ℤ, IfOk, IfErr, MatchOption, Some};
+ghost use Rattle.std.specs.Prelude.{◌≡◌, ◌⊎◌, IfOk, IfErr, MatchOption, Some};
 ghost use Rattle.croner_base.specs.declared.time.value.Resolution.TheVariants.{Ambiguous, Gap};
 ghost use Rattle.croner_base.specs.Zone.{IsResolved, reading};
 ghost use Rattle.croner.specs.Private.search.Wall.{IsLastYear};
-ghost use Rattle.croner_base.specs.Calm.{IsCalm};
+ghost use Rattle.croner_base.specs.Calm.{IsCalm, IsSearched};
 ghost use Rattle.croner_base.specs.Civil.{wall_second};
 ghost use Rattle.croner.specs.search.Runs.{job_in};
+ghost use Rattle.croner.specs.Private.search.Gaps.{GoesPast};
 ghost use Rattle.croner.specs.Private.search.Held.{HoldsYears, IsBackendError};
 ghost use Rattle.croner.specs.Private.search.Walk.{CannotMove, HasPassed, HasWalked, IsWalkRefused, Walking, walk_start, NearerOf, ChosenOf, IsOneOf};
 
 use super::Schedule;
-use super::gap::{gap_end, gap_front};
+use super::gap::{across_gap, gap_end, gap_front};
 use crate::search::instant::{is_behind, lies_ahead};
 use crate::search::wall::one_second_on;
 use croner_base::errors::CronError;
@@ -19,6 +20,10 @@ use std::alloc::Global;
 
 /// The most scheduled seconds that a walk looks at: the seconds of a leap year.
 const PASS_LIMIT: u32 = 31_622_400;
+
+/// At every so many passes the walk of an interval job that is in a gap goes across it in one step. A job that has fewer
+/// seconds in a gap of an hour passes them one by one, which is quicker.
+const PASSES_TO_CROSSING: u32 = 16;
 
 /// From where a walk goes, and which way.
 #[derive(Drop)]
@@ -126,12 +131,36 @@ fn pass_two<T: CronDateTime, S: Schedule>(
     }
 }
 
-// The pass at a scheduled second that lies in a gap.
+// Where the walk of an interval job goes on from a second in a gap, at which it does not run: at the next second, and at
+// every so many passes across the gap, where that can be told.
+fn past_gap<T: CronDateTime>(
+    alloc: Global,
+    origin: &Origin<'_, T>,
+    found: CivilDateTime,
+    passed: u32,
+) -> CivilDateTime
+    requires in_gap { (T.moment origin.now.time.now).zone.resolves found ≡ Some Gap }
+    requires searched { IsSearched (wall_second found) }
+    ensures { GoesPast origin.now.direction (T.moment origin.now.time.now).zone (wall_second found) (wall_second result) }
+{
+    if passed % PASSES_TO_CROSSING == PASSES_TO_CROSSING - 1 {
+        if let Some(side) = across_gap(alloc, origin.time, found, origin.direction) {
+            return side;
+        }
+    }
+    match one_second_on(found, origin.direction) {
+        Some(next) => next,
+        None => unreachable!(),
+    }
+}
+
+// The pass at a scheduled second that lies in a gap, after so many other passes.
 fn pass_gap<T: CronDateTime, S: Schedule>(
     alloc: Global,
     schedule: &S,
     origin: &Origin<'_, T>,
     found: CivilDateTime,
+    passed: u32,
 ) -> Result<Passed<T>, CronError>
     requires shaped { S.shaped schedule.now }
     requires in_gap { (T.moment origin.now.time.now).zone.resolves found ≡ Some Gap }
@@ -146,10 +175,7 @@ fn pass_gap<T: CronDateTime, S: Schedule>(
         (IsCalm (T.moment origin.now.time.now).zone → ¬ (HoldsYears (T.moment origin.now.time.now).zone))) }
 {
     if !schedule.is_fixed_time() {
-        return match one_second_on(found, origin.direction) {
-            Some(next) => Ok(Passed::GoOn(next)),
-            None => unreachable!(),
-        };
+        return Ok(Passed::GoOn(past_gap(alloc, origin, found, passed)));
     }
     let Some((end, carried)) = gap_end(alloc, origin.time, found)? else {
         return Ok(Passed::Limit);
@@ -168,12 +194,13 @@ fn pass_gap<T: CronDateTime, S: Schedule>(
     }
 }
 
-// One pass of the walk, at a scheduled second that it has come to.
+// One pass of the walk, at a scheduled second that it has come to after so many other passes.
 fn pass<T: CronDateTime, S: Schedule>(
     alloc: Global,
     schedule: &S,
     origin: &Origin<'_, T>,
     found: CivilDateTime,
+    passed: u32,
 ) -> Result<Passed<T>, CronError>
     requires shaped { S.shaped schedule.now }
     requires scheduled { (S.timetable schedule.now).scheduled (wall_second found) }
@@ -191,7 +218,7 @@ fn pass<T: CronDateTime, S: Schedule>(
         Resolution::Ambiguous(earlier, later) => {
             pass_two(alloc, schedule, origin, found, earlier, later)
         }
-        Resolution::Gap => pass_gap(alloc, schedule, origin, found),
+        Resolution::Gap => pass_gap(alloc, schedule, origin, found, passed),
     }
 }
 
@@ -230,11 +257,11 @@ pub(crate) fn walk<T: CronDateTime, S: Schedule>(
     let Some(mut wall) = first_second(shown, origin.inclusive, origin.direction) else {
         return Ok(None);
     };
-    for _ in 0..PASS_LIMIT {
+    for passed in 0..PASS_LIMIT {
         let Some(found) = schedule.next_scheduled(wall, origin.direction) else {
             return Ok(None);
         };
-        match pass(alloc, schedule, origin, found)? {
+        match pass(alloc, schedule, origin, found, passed)? {
             Passed::Answer(answer) => return Ok(Some(answer)),
             Passed::GoOn(next) => wall = next,
             Passed::Limit => return Ok(None),

@@ -1,6 +1,6 @@
 -- The side of a gap, as a search by doubling and bisection finds it.
 -- Private contracts alone cite these definitions.
-use Rattle.std.specs.Prelude.{◌≡◌, ℕ, ◌<◌, ◌≤◌, ℤ, Bool, Option, Some, None, Result, Ok, Err}
+use Rattle.std.specs.Prelude.{◌≡◌, ◌⊎◌, ℕ, ◌<◌, ◌≤◌, ℤ, Bool, Option, Some, None, Result, Ok, Err}
 use Rattle.croner_base.specs.declared.errors.CronError.{CronError}
 use Rattle.croner_base.specs.declared.time.Direction.{Direction}
 use Rattle.croner_base.specs.declared.time.civil.CivilDateTime.{CivilDateTime}
@@ -9,10 +9,11 @@ use Rattle.croner_base.specs.Zone.{Zone, Moment}
 use Rattle.croner_base.specs.Calm.{IsCalm}
 use Rattle.croner_base.specs.Limits.{gap_limit}
 use Rattle.croner.specs.Private.search.Held.{HoldsYears, IsBackendError}
+use Rattle.croner.specs.search.Limit.{IsWithin}
 use Rattle.croner.specs.search.Runs.{Precedes, Reaches}
 use Rattle.croner.specs.declared.search.gap.Around.{Around}
 use Rattle.croner.specs.Private.search.Halves.{offset_from}
-use Rattle.croner.specs.Private.search.Walk.{First}
+use Rattle.croner.specs.Private.search.Walk.{First, one_on}
 
 -- in a calm zone no instant shows the second
 abbrev pub IsSkipped : Zone → ℤ → Type 0
@@ -48,3 +49,16 @@ HasGapSide moment direction limit z held (Some found) =
     Precedes direction held (wall_second found.0) × IsFirstShown moment z found
     × (IsCalm z → UnreadTo direction z.reads held (wall_second found.0))
 HasGapSide moment direction limit z held None = IsSkipped z (offset_from direction held limit)
+
+-- from a second in a gap in one step to the nearest second outside it: none on the way there is read, and both lie in the years
+-- that are searched whole
+pub record CrossesGap (direction : Direction) (z : Zone) (held side : ℤ) : Type 0 where
+  pub on : Precedes direction held side
+  pub from : IsWithin direction held
+  pub to : IsWithin direction side
+  pub unread : IsCalm z → UnreadTo direction z.reads held side
+  pub reached : IsCalm z → (x : ℤ) × (z.reads x ≡ side)
+
+-- where the walk of an interval job goes on from a second in a gap: at the next second, or across the gap
+abbrev pub GoesPast : Direction → Zone → ℤ → ℤ → Type 0
+GoesPast direction z held wall = (wall ≡ one_on direction held) ⊎ CrossesGap direction z held wall

@@ -1,61 +1,13 @@
-use Rattle.std.proofs.Common.{◌≡◌, ◌+◌, length, refl, arith}
 use Rattle.croner.specs.crontable.Tables.{patterns_of}
-use Rattle.croner.specs.Private.crontable.Met.{met_of}
-use Rattle.croner.specs.Views.{job_of}
-use Rattle.croner.proofs.crontable.TableRuns.{taken, refused_place, room_refused}
-use Rattle.croner.proofs.crontable.TableSearch.{searched_first, searched_all, decided_found, decided_refused}
+use Rattle.croner.proofs.crontable.TableRuns.{room_refused}
+use Rattle.croner.proofs.crontable.TableSearch.{answered_in_room}
 use Rattle.croner.proofs.crontable.CronTable.search_jobs.Goals as goal
 
 pub returns-in_default-clause-refused : goal.returns-in_default-clause-refused
 returns-in_default-clause-refused g c =
     room_refused c.args.direction c.args.inclusive (patterns_of c.args.self.now) (g.T.CronDateTime.moment c.args.start.now)
 
-pub loop-place-init : goal.loop-place-init
-loop-place-init g c =
-    let moment = g.T.CronDateTime.moment in
-    let begun = rw c.in-Ok.is at c.new.ensures in
-    record {
-      searched = searched_first moment g.T.CronDateTime.can_lack_memory c.args.direction c.args.inclusive (moment c.args.start.now) (patterns_of c.args.self.now) (met_of c.in-Ok.met) begun.ok;
-      filled = omega (arith, begun.empty);
-      room = omega (arith, begun.room, c.len.ensures);
-    }
-
-pub loop-place-preserved : goal.loop-place-preserved
-loop-place-preserved g c =
-    let moment = g.T.CronDateTime.moment in
-    let held = c.loop-place.invariant in
-    record {
-      searched = taken moment c.args.direction c.args.inclusive (patterns_of c.args.self.now) (moment c.args.start.now) c.loop-place.place (met_of c.loop-place.met) held.searched
-          (job_of c.job_at.result.now) c.job_at.ensures.stands g.T.CronDateTime.can_lack_memory c.find_occurrence-answer.result (met_of c.take.new.self) c.take.result
-          c.find_occurrence-answer.ensures.found c.find_occurrence-answer.ensures.refused c.take.ensures.step _ c.in-Ok-take.is;
-      filled = omega (arith, c.take.ensures.longer, held.filled);
-      room = omega (arith, c.take.ensures.room, held.room);
-    }
-
-pub returns-in-Err-clause-refused : goal.returns-in-Err-clause-refused
-returns-in-Err-clause-refused g c =
-    let moment = g.T.CronDateTime.moment in
-    let held = c.loop-place.invariant in
-    refused_place moment c.args.direction c.args.inclusive (patterns_of c.args.self.now) (moment c.args.start.now) c.loop-place.place (met_of c.loop-place.met) held.searched
-    (job_of c.job_at.result.now) c.job_at.ensures.stands g.T.CronDateTime.can_lack_memory c.find_occurrence-answer.result (met_of c.take.new.self) c.take.result c.in-Err.refused
-    c.find_occurrence-answer.ensures.refused c.take.ensures.step c.in-Err.is
-
-pub returns-clause-found : goal.returns-clause-found
-returns-clause-found g c =
-    let moment = g.T.CronDateTime.moment in
-    let lack = g.T.CronDateTime.can_lack_memory in
-    let jobs = c.args.self.now.jobs.items in
-    let met = c.loop-place.met in
-    let all : c.loop-place.place ≡ length c.args.self.now.jobs.items = omega arith in
-    decided_found moment lack c.args.direction c.args.inclusive (moment c.args.start.now) (patterns_of c.args.self.now) (met_of met)
-    (searched_all moment lack c.args.direction c.args.inclusive (moment c.args.start.now) jobs c.loop-place.place (met_of met) all c.loop-place.invariant.searched) met.places c.decide.result refl c.decide.ensures
-
 pub returns-clause-refused : goal.returns-clause-refused
 returns-clause-refused g c =
-    let moment = g.T.CronDateTime.moment in
-    let lack = g.T.CronDateTime.can_lack_memory in
-    let jobs = c.args.self.now.jobs.items in
-    let met = c.loop-place.met in
-    let all : c.loop-place.place ≡ length c.args.self.now.jobs.items = omega arith in
-    decided_refused moment lack c.args.direction c.args.inclusive (moment c.args.start.now) (patterns_of c.args.self.now) (met_of met)
-    (searched_all moment lack c.args.direction c.args.inclusive (moment c.args.start.now) jobs c.loop-place.place (met_of met) all c.loop-place.invariant.searched) met.places c.decide.result c.decide.ensures
+    answered_in_room g.T.CronDateTime.can_lack_memory c.args.direction c.args.inclusive (patterns_of c.args.self.now) (g.T.CronDateTime.moment c.args.start.now) c.search_in_room.result
+    c.search_in_room.ensures.refused

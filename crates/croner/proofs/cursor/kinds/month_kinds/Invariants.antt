@@ -1,4 +1,4 @@
-use Rattle.std.proofs.Common.{ℕ, ◌+◌, ◌/◌, ◌%◌}
+use Rattle.std.proofs.Common.{◌+◌, ◌/◌, ◌%◌}
 use Rattle.croner_pattern.specs.Meaning.{meaning_of}
 use Rattle.croner.specs.Private.cursor.Cursor.{HasOpenDay}
 use Rattle.croner.proofs.cursor.MonthKinds.{Collected}

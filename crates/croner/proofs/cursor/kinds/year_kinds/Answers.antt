@@ -1,5 +1,4 @@
-use Rattle.std.proofs.Common.{◌≡◌, ℕ, ◌+◌, ◌<◌, ◌≤◌, inl, inr, true, sym, subst, arith, ℤ, pos}
-use Rattle.std.specs.Int.{bit_at}
+use Rattle.std.proofs.Common.{◌≡◌, ℕ, inl, inr, subst, arith, pos}
 use Rattle.std.proofs.lemmas.Bool.{cases_lt}
 use Rattle.std.proofs.lemmas.Nat.Bits.{bit_at-zero}
 use Rattle.jiff_core.specs.Calendar.{days_in_month}
@@ -8,7 +7,7 @@ use Rattle.croner_base.specs.declared.time.Direction.TheVariants.{Forward}
 use Rattle.croner_pattern.specs.Meaning.{meaning_of}
 use Rattle.croner_pattern.specs.Schedule.{first_weekday}
 use Rattle.croner.specs.search.Runs.{Reaches}
-use Rattle.croner.specs.Private.cursor.Cursor.{year_kind, HasOpenDay, HasOpenMonth}
+use Rattle.croner.specs.Private.cursor.Cursor.{year_kind, HasOpenDay}
 use Rattle.croner.proofs.cursor.MonthKinds.{either-bit, left-bit, right-bit}
 use Rattle.croner.proofs.cursor.kinds.year_kinds.Goals as goal
 

@@ -8,8 +8,8 @@ use Rattle.croner.specs.Views.{job_of}
 use Rattle.croner.proofs.Matching.{same_ok, is_time_named, date_decides, missed_by_time}
 use Rattle.croner.proofs.job.Cron.is_time_matching.Goals as goal
 
-pub matches_date-requires-clause-weekday : goal.matches_date-requires-clause-weekday
-matches_date-requires-clause-weekday g c =
+pub matches_date-requires : goal.matches_date-requires
+matches_date-requires g c =
     c.civil_weekday.ensures ∙ ap weekday_of_second (sym c.to_civil-civil.ensures) ∙ ap weekday_of_day (wall_second-day c.to_civil-civil.result) ∙ ap weekday_of_date (sym c.date.ensures)
 
 pub returns-then-branch-clause-value : goal.returns-then-branch-clause-value

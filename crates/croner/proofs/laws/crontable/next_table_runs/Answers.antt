@@ -1,7 +1,7 @@
 use Rattle.std.proofs.Common.{◌≡◌, ℕ, subst, arith}
 use Rattle.croner.specs.crontable.TableListing.{table_standing_of}
 use Rattle.croner.specs.crontable.TableItems.{table_items, TakesTableInTurn}
-use Rattle.croner.proofs.crontable.TableItems.{goes_by_call, over_by_call, called_again, begins_table_rest, gave_table, gave_all_table}
+use Rattle.croner.proofs.crontable.TableItems.{goes_by_call, over_by_call, called_again, fault_by_call, begins_table_rest, gave_table, gave_all_table}
 use Rattle.croner.proofs.laws.crontable.next_table_runs.Goals as goal
 
 pub loop-call-preserved : goal.loop-call-preserved
@@ -18,6 +18,7 @@ loop-call-preserved g c =
       goes = goes_by_call moment old cur new before after c.take_next-is_over.result held.goes takes;
       over = over_by_call moment old cur new before after c.take_next-is_over.result held.goes takes;
       called = called_again moment old cur new before after c.args.iterator.now c.loop-call._call c.loop-call.is_over c.take_next-is_over.result held.called takes;
+      fault = λ p some. fault_by_call moment old cur new before after c.take_next-is_over.result held.goes takes p;
       most = omega (arith, c.take_next-is_over.ensures.longer, held.most);
       room = omega (arith, c.take_next-is_over.ensures.room, held.room);
     }
@@ -37,6 +38,12 @@ returns-clause-all g c p over =
     let moment = g.T.CronDateTime.moment in
     gave_all_table (table_standing_of moment c.args.iterator.now) (table_standing_of moment c.loop-call.iterator') (table_items moment c.loop-call.runs.items) c.loop-call.invariant.goes
     (c.loop-call.invariant.over over) p
+
+pub returns-clause-searchable : goal.returns-clause-searchable
+returns-clause-searchable g c p = c.loop-call.invariant.goes.searchable p
+
+pub returns-clause-fault : goal.returns-clause-fault
+returns-clause-fault g c p some = c.loop-call.invariant.fault p (omega arith)
 
 pub returns-clause-called : goal.returns-clause-called
 returns-clause-called g c =

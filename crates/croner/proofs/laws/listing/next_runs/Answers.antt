@@ -1,6 +1,6 @@
 use Rattle.std.proofs.Common.{◌≡◌, ◌⊎◌, ℕ, length, subst, arith}
 use Rattle.croner.specs.iterator.Listing.{standing_of, instants, TakesInTurn}
-use Rattle.croner.proofs.iterator.ItemsGiven.{IsOver, goes_by_call, over_by_call, called_again, wholes_by_call, counted_by_call, begins_rest, gave, gave_all, counted_all}
+use Rattle.croner.proofs.iterator.ItemsGiven.{IsOver, goes_by_call, over_by_call, called_again, wholes_by_call, counted_by_call, fault_by_call, begins_rest, gave, gave_all, counted_all}
 use Rattle.croner.proofs.laws.listing.next_runs.Goals as goal
 
 pub loop-call-preserved : goal.loop-call-preserved
@@ -20,6 +20,7 @@ loop-call-preserved g c =
       called = called_again moment lack old cur new before after c.args.iterator.now c.loop-call._call c.loop-call.is_over c.take_next-is_over.result held.called takes;
       wholes = wholes_by_call moment lack old cur new before after c.take_next-is_over.result held.goes takes held.wholes;
       counted = λ memory p. counted_by_call moment lack old cur new before after c.take_next-is_over.result c.loop-call._call held.goes takes memory (held.counted memory) p;
+      fault = λ p some. fault_by_call moment lack old cur new before after c.take_next-is_over.result held.goes takes p;
       most = omega (arith, c.take_next-is_over.ensures.longer, held.most);
       room = omega (arith, c.take_next-is_over.ensures.room, held.room);
     }
@@ -58,3 +59,9 @@ returns-clause-called g c =
 
 pub returns-clause-whole : goal.returns-clause-whole
 returns-clause-whole g c = c.loop-call.invariant.wholes
+
+pub returns-clause-searchable : goal.returns-clause-searchable
+returns-clause-searchable g c p = c.loop-call.invariant.goes.searchable p
+
+pub returns-clause-fault : goal.returns-clause-fault
+returns-clause-fault g c p some = c.loop-call.invariant.fault p (omega arith)

@@ -13,9 +13,9 @@ pub returns-in-Ok-parse-clause-same : goal.returns-in-Ok-parse-clause-same
 returns-in-Ok-parse-clause-same c =
     let s = c.args.parser.now in
     let first = job_of c.in-Ok.first in
-    let read : outcome s c.args.text.now ≡ Ok first = c.in-Ok.ensures.meaning in
+    let read : outcome s c.args.text.now ≡ Ok first = c.in-Ok.ensures in
     let again : outcome s first.text ≡ Ok (job_of c.in-Ok-parse.second) =
-    subst (λ t. outcome s t ≡ Ok (job_of c.in-Ok-parse.second)) c.as_str.ensures c.in-Ok-parse.ensures.meaning in
+    subst (λ t. outcome s t ≡ Ok (job_of c.in-Ok-parse.second)) c.as_str.ensures c.in-Ok-parse.ensures in
     let is_text : IsUtf8 first.text = subst IsUtf8 c.as_str.ensures c.as_str.utf8 in
     read_same s c.args.text.now first (job_of c.in-Ok-parse.second) c.utf8.text is_text read again
 
@@ -28,8 +28,8 @@ pub returns-in-Err-parse-clause-err : goal.returns-in-Err-parse-clause-err
 returns-in-Err-parse-clause-err c =
     let s = c.args.parser.now in
     let first = job_of c.in-Ok.first in
-    let read : outcome s c.args.text.now ≡ Ok first = c.in-Ok.ensures.meaning in
+    let read : outcome s c.args.text.now ≡ Ok first = c.in-Ok.ensures in
     let is_text : IsUtf8 first.text = subst IsUtf8 c.as_str.ensures c.as_str.utf8 in
     let fails : Fails c.in-Err-parse.refused (outcome s first.text) =
-    subst (λ t. Fails c.in-Err-parse.refused (outcome s t)) c.as_str.ensures c.in-Err-parse.ensures.meaning in
+    subst (λ t. Fails c.in-Err-parse.refused (outcome s t)) c.as_str.ensures c.in-Err-parse.ensures in
     fails_first s c.args.text.now first c.in-Err-parse.refused c.utf8.text is_text read fails

@@ -2,7 +2,9 @@ use Rattle.std.proofs.Common.{◌≡◌, ap, sym, subst, true, cond, Ok, Err}
 use Rattle.std.proofs.lemmas.Result.{err_from_is_err_and}
 use Rattle.croner.specs.parser.Gives.{Fails}
 use Rattle.croner.specs.parser.Grammar.{Illegal, are_legal, of_legal}
-use Rattle.croner.specs.Views.{job_of, texts_of}
+use Rattle.croner.specs.Views.{texts_of}
+use Rattle.croner.proofs.parser.ShapedTexts.{legal_shaped}
+use Rattle.croner_pattern.specs.Meaning.{meaning_of}
 use Rattle.croner.proofs.parser.CronParser.parse_settled.Goals as goal
 
 pub returns-in_err-pattern : goal.returns-in_err-pattern
@@ -20,4 +22,10 @@ returns c =
     let t = texts_of c.args.fields in
     let legal : true ≡ are_legal t = c.in_default.ensures in
     let h = c.in_ok-pattern.ensures s (sym (ap (λ v. v.quartz) c.self.view_is)) (sym (ap (λ v. v.sloppy) c.self.view_is)) in
-    subst (λ b. cond b (of_legal s c.args.text.now t c.args.and) (Err Illegal) ≡ Ok (job_of (record { pattern = c.in_ok-pattern.pattern }))) legal h
+    subst (λ b. cond b (of_legal s c.args.text.now t c.args.and) (Err Illegal) ≡ Ok (meaning_of c.in_ok-pattern.pattern)) legal h
+
+pub invariant_of-result : goal.invariant_of-result
+invariant_of-result c =
+    let s = c.args.self.now in
+    let h = c.in_ok-pattern.ensures s (sym (ap (λ v. v.quartz) c.self.view_is)) (sym (ap (λ v. v.sloppy) c.self.view_is)) in
+    record { shaped = legal_shaped s c.args.text.now (texts_of c.args.fields) c.args.and (meaning_of c.in_ok-pattern.pattern) h }

@@ -1,33 +1,30 @@
 use Rattle.std.proofs.Common.{sym, ◌∙◌}
 use Rattle.croner_base.specs.Civil.{wall_second}
-use Rattle.croner.proofs.zone.WalkLoop.{past_gap_each, carried_walked, past_gap_forward, past_gap_backward, searched_not_last, never_true}
+use Rattle.croner.proofs.zone.WalkLoop.{past_gap_on, carried_walked, past_gap_forward, past_gap_backward, never_true}
 use Rattle.croner.proofs.search.walk.pass_gap.Goals as goal
 use Rattle.croner.proofs.search.walk.pass_gap.Goals.{else-matches_date-via-then-matches_date+else-lies_ahead, else-matches_date-via-else-matches_date}
 
-pub unreachable-requires : goal.unreachable-requires
-unreachable-requires g c =
-    let searched = g.met.S.Schedule.in_years c.args.schedule.now c.requires.shaped (wall_second c.args.found) c.requires.scheduled in
-    let last = rw c.in-None.is at c.one_second_on.ensures in
-    searched_not_last _ _ searched last
+pub past_gap-requires-clause-searched : goal.past_gap-requires-clause-searched
+past_gap-requires-clause-searched g c =
+    g.met.S.Schedule.in_years c.args.schedule.now c.requires.shaped (wall_second c.args.found) c.requires.scheduled
 
 pub returns-then-not-is_fixed_time-clause-value : goal.returns-then-not-is_fixed_time-clause-value
 returns-then-not-is_fixed_time-clause-value g c =
-    let moved = rw c.in-Some.is at c.one_second_on.ensures in
-    past_gap_each g.T.CronDateTime.moment _ _ _ (g.T.CronDateTime.moment c.args.origin.now.time.now) c.args.found _
-    (sym c.is_fixed_time.ensures ∙ c.if-not-is_fixed_time.true) c.requires.in_gap c.requires.walking moved
+    past_gap_on g.T.CronDateTime.moment _ _ _ (g.T.CronDateTime.moment c.args.origin.now.time.now) c.args.found _
+    (sym c.is_fixed_time.ensures ∙ c.if-not-is_fixed_time.true) c.requires.in_gap c.requires.walking c.past_gap.ensures
 
 pub returns-then-lies_ahead-clause-value : goal.returns-then-lies_ahead-clause-value
 returns-then-lies_ahead-clause-value g c =
-    let found = rw c.in-Some-2.is at c.in_ok-end.ensures in
-    carried_walked g.T.CronDateTime.moment _ _ _ (g.T.CronDateTime.moment c.args.origin.now.time.now) c.args.found c.in-Some-2.end c.in-Some-2.carried
+    let found = rw c.in-Some.is at c.in_ok-end.ensures in
+    carried_walked g.T.CronDateTime.moment _ _ _ (g.T.CronDateTime.moment c.args.origin.now.time.now) c.args.found c.in-Some.end c.in-Some.carried
     (sym c.is_fixed_time.ensures ∙ c.if-not-is_fixed_time.false) c.requires.scheduled c.requires.walking found.value
     (c.matches_date.ensures.0 c.if-matches_date.true)
     (λ whole whole2. (c.lies_ahead.ensures whole whole2).0 c.if-lies_ahead.true)
 
 pub returns-in-Forward-clause-value : goal.returns-in-Forward-clause-value
 returns-in-Forward-clause-value g c =
-    let found = rw c.in-Some-2.is at c.in_ok-end.ensures in
-    past_gap_forward g.T.CronDateTime.moment _ _ _ (g.T.CronDateTime.moment c.args.origin.now.time.now) c.args.found c.in-Some-2.end c.in-Some-2.carried
+    let found = rw c.in-Some.is at c.in_ok-end.ensures in
+    past_gap_forward g.T.CronDateTime.moment _ _ _ (g.T.CronDateTime.moment c.args.origin.now.time.now) c.args.found c.in-Some.end c.in-Some.carried
     c.in-Forward.is (sym c.is_fixed_time.ensures ∙ c.if-not-is_fixed_time.false) c.requires.in_gap c.requires.walking found.value
     (λ whole whole2 date ahead.
     elim c.else-matches_date.branch [
@@ -35,11 +32,11 @@ returns-in-Forward-clause-value g c =
       | else-matches_date-via-else-matches_date w ↦ never_true (sym w.if-matches_date.false ∙ c.matches_date.ensures.1 date)
     ])
 
-pub returns-in-Some-3-clause-value : goal.returns-in-Some-3-clause-value
-returns-in-Some-3-clause-value g c =
-    let found = rw c.in-Some-2.is at c.in_ok-end.ensures in
-    let before = rw c.in-Some-3.is at c.in_ok-front-in-Backward.ensures in
-    past_gap_backward g.T.CronDateTime.moment _ _ _ (g.T.CronDateTime.moment c.args.origin.now.time.now) c.args.found c.in-Some-2.end c.in-Some-3.front c.in-Some-2.carried
+pub returns-in-Some-2-clause-value : goal.returns-in-Some-2-clause-value
+returns-in-Some-2-clause-value g c =
+    let found = rw c.in-Some.is at c.in_ok-end.ensures in
+    let before = rw c.in-Some-2.is at c.in_ok-front-in-Backward.ensures in
+    past_gap_backward g.T.CronDateTime.moment _ _ _ (g.T.CronDateTime.moment c.args.origin.now.time.now) c.args.found c.in-Some.end c.in-Some-2.front c.in-Some.carried
     c.in-Backward.is (sym c.is_fixed_time.ensures ∙ c.if-not-is_fixed_time.false) c.requires.in_gap c.requires.walking found.value
     (λ whole whole2 date ahead.
     elim c.else-matches_date.branch [

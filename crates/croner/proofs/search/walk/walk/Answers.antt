@@ -14,8 +14,8 @@ returns-in_default-clause-value g c =
     let origin = g.T.CronDateTime.moment c.args.origin.now.time.now in
     λ start. out_far _ _ (job_in origin.zone (g.S.Schedule.timetable c.args.schedule.now)) origin.instant c.args.shown last c.requires.shown
 
-pub loop-init : goal.loop-init
-loop-init g c =
+pub loop-passed-init : goal.loop-passed-init
+loop-passed-init g c =
     let begun = rw c.in-Some.is at c.first_second.ensures in
     record {
       walking = walking_start _ _ _ _ _ _ (begun ∙ ap (walk_start c.args.origin.now.direction c.args.origin.now.inclusive) c.requires.shown);
@@ -26,7 +26,7 @@ pub returns-in_default-next_scheduled-clause-value :
     goal.returns-in_default-next_scheduled-clause-value
 returns-in_default-next_scheduled-clause-value g c =
     let none = rw c.in_default-next_scheduled.is at c.next_scheduled.ensures in
-    λ start. (wall_second c.loop.wall, c.loop.invariant.walking.none start, none)
+    λ start. (wall_second c.loop-passed.wall, c.loop-passed.invariant.walking.none start, none)
 
 pub pass-requires-clause-scheduled : goal.pass-requires-clause-scheduled
 pass-requires-clause-scheduled g c = (rw c.in-Some-next_scheduled.is at c.next_scheduled.ensures).is
@@ -34,26 +34,26 @@ pass-requires-clause-scheduled g c = (rw c.in-Some-next_scheduled.is at c.next_s
 pub pass-requires-clause-walking : goal.pass-requires-clause-walking
 pass-requires-clause-walking g c =
     let found = rw c.in-Some-next_scheduled.is at c.next_scheduled.ensures in
-    walking_next _ _ _ _ _ _ _ c.loop.invariant.walking found
+    walking_next _ _ _ _ _ _ _ c.loop-passed.invariant.walking found
 
-pub loop-preserved : goal.loop-preserved
-loop-preserved g c =
+pub loop-passed-preserved : goal.loop-passed-preserved
+loop-passed-preserved g c =
     let origin = g.T.CronDateTime.moment c.args.origin.now.time.now in
     let job = job_in origin.zone (g.S.Schedule.timetable c.args.schedule.now) in
     let found = rw c.in-Some-next_scheduled.is at c.next_scheduled.ensures in
     let searched = g.met.S.Schedule.in_years c.args.schedule.now c.requires.shaped (wall_second c.in-Some-next_scheduled.found) found.is in
-    let there = walking_next _ _ job _ _ _ _ c.loop.invariant.walking found in
+    let there = walking_next _ _ job _ _ _ _ c.loop-passed.invariant.walking found in
     let passed = rw c.in-GoOn.is at c.in_ok-answer.ensures in
     record {
       walking = passed.value.0;
-      paced = λ start. paced_on c.args.origin.now.direction origin.zone.reads (calm_of origin.zone start.calm) origin.instant _ _ _ _ (c.loop.invariant.paced start) found.on (walk_reaches _ _ job _ _ _ there) searched (passed.value.1 start);
+      paced = λ start. paced_on c.args.origin.now.direction origin.zone.reads (calm_of origin.zone start.calm) origin.instant _ _ _ _ (c.loop-passed.invariant.paced start) found.on (walk_reaches _ _ job _ _ _ there) searched (passed.value.1 start);
     }
 
 pub returns-clause-value : goal.returns-clause-value
 returns-clause-value g c =
     let origin = g.T.CronDateTime.moment c.args.origin.now.time.now in
     λ start.
-    let ends = paced_ends c.args.origin.now.direction origin.zone start.calm origin.instant (wall_second c.loop.wall) c.loop.counter (c.loop.invariant.paced start) in
+    let ends = paced_ends c.args.origin.now.direction origin.zone start.calm origin.instant (wall_second c.loop-passed.wall) c.loop-passed.passed (c.loop-passed.invariant.paced start) in
     absurd (omega arith)
 
 pub returns-in_err-answer-clause-err : goal.returns-in_err-answer-clause-err
@@ -61,6 +61,6 @@ returns-in_err-answer-clause-err g c =
     let origin = g.T.CronDateTime.moment c.args.origin.now.time.now in
     let timetable = g.S.Schedule.timetable c.args.schedule.now in
     let found = rw c.in-Some-next_scheduled.is at c.next_scheduled.ensures in
-    let there = walking_next _ _ (job_in origin.zone timetable) _ _ _ _ c.loop.invariant.walking found in
+    let there = walking_next _ _ (job_in origin.zone timetable) _ _ _ _ c.loop-passed.invariant.walking found in
     error_kept c.from_residual.result c.in_err-answer.field-0.0 _ c.from_residual.ensures.1
     (record { error = c.in_err-answer.ensures.err; ahead = something_ahead _ _ (job_in origin.zone timetable) _ _ _ there found.is })

@@ -1,5 +1,5 @@
 use Rattle.croner.proofs.zone.SearchLimit.{refused_walk}
-use Rattle.croner.proofs.search.find.Goals as goal
+use Rattle.croner.proofs.search.find_with_reading.Goals as goal
 
 pub returns-in-Err-clause-refused : goal.returns-in-Err-clause-refused
 returns-in-Err-clause-refused g c =

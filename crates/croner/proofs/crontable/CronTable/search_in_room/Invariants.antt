@@ -3,7 +3,7 @@ use Rattle.std.specs.Prelude.{vec_len, vec_capacity}
 use Rattle.croner.specs.crontable.Tables.{patterns_of}
 use Rattle.croner.specs.Private.crontable.Met.{met_of}
 use Rattle.croner.proofs.crontable.TableRuns.{Searched}
-use Rattle.croner.proofs.crontable.CronTable.search_jobs.Given as goal
+use Rattle.croner.proofs.crontable.CronTable.search_in_room.Given as goal
 
 abbrev pub invariant-loop-place : goal.invariant-loop-place
 invariant-loop-place g l = record {
