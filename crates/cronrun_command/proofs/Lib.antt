@@ -1,3 +1,4 @@
+mod Answered
 mod Calls
 mod CountTexts
 mod Examples

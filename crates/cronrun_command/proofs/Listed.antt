@@ -1,20 +1,13 @@
 -- A listing, run by run.
-use Rattle.std.proofs.Common.{◌≡◌, ◌∙◌, ◌++◌, ◌∷◌, ◌+◌, ◌<◌, [], ℕ, Bool, List, Option, is_some, length, inr, refl, sym, subst, ap, arith}
-use Rattle.std.proofs.KnownBytes.{Appends-nil, Appends-trans, Appends-kept}
+use Rattle.std.proofs.Common.{◌≡◌, ◌∙◌, ◌++◌, ◌∷◌, ◌+◌, ◌<◌, [], ℕ, Bool, List, length, refl, sym, subst, ap, arith}
 use Rattle.std.proofs.lemmas.List.{append_assoc, length_push}
-use Rattle.std.specs.Io.KnownBytes.{Appends}
 use Rattle.croner_base.specs.Zone.{Moment}
-use Rattle.croner.specs.parser.Grammar.{outcome}
+use Rattle.croner_base.specs.declared.errors.CronError.{CronError}
 use Rattle.croner.specs.iterator.Listing.{Standing, GivesItem, moved}
-use Rattle.croner.specs.parser.Settings.{default_settings}
-use Rattle.cronrun_command.specs.Answer.{AreGiven, stands_after, zone_of}
+use Rattle.cronrun_command.specs.Answer.{AreGiven, stands_after, GivesLines, EndsEarly}
+use Rattle.cronrun_command.specs.Ended.{Ends}
 use Rattle.cronrun_command.specs.Line.{IsLine, AreLines}
-use Rattle.cronrun_command.specs.Opened.{StandsAtStart}
-use Rattle.cronrun_command.specs.Stopped.{StopsList, StopsNext}
-use Rattle.cronrun_command.specs.Written.{WritesNext}
-use Rattle.cronrun_command.specs.declared.request.Listing.{Listing}
-use Rattle.cronrun_command.specs.declared.stop.Stop.{Stop}
-use Rattle.cronrun_command.specs.declared.stop.Stop.TheVariants as stops
+use Rattle.cronrun_command.specs.Written.{AddsNext}
 
 after_push : (s : Standing) (runs : List Moment) (run : Moment) → stands_after s (runs ++ run ∷ []) ≡ moved (stands_after s runs) run
 after_push s [] run = refl
@@ -46,63 +39,43 @@ lines_push z (r ∷ runs) run text line (first, rest, is_first, more, e) is = (
   ap (λ (t : List ℕ). t ++ (line ++ 10 ∷ [])) e ∙ append_assoc first (10 ∷ rest) (line ++ 10 ∷ []),
 )
 
--- so many runs were given and written
-pub record Wrote (in_zone : Bool) (start cur : Standing) (n : ℕ) (before now : Option (List ℕ)) : Type 0 where
-  pub runs : List Moment
-  pub text : List ℕ
-  pub given : AreGiven start runs
-  pub stands : cur ≡ stands_after start runs
-  pub counted : length runs ≡ n
-  pub lines : AreLines in_zone runs text
-  pub wrote : Appends before now text
+-- so many runs were given, after which it stands there
+pub record Listed (in_zone : Bool) (start cur : Standing) (n : ℕ) (text : List ℕ) : Type 0 where
+  pub gives : GivesLines in_zone start n text
+  pub stands : cur ≡ stands_after start gives.runs
 
-pub wrote_none : (in_zone : Bool) (start : Standing) (now : Option (List ℕ)) → Wrote in_zone start start 0 now now
-wrote_none in_zone start now = record {
-  runs = [];
-  text = [];
-  given = tt;
+pub listed_none : (in_zone : Bool) (start : Standing) → Listed in_zone start start 0 []
+listed_none in_zone start = record {
+  gives = record { runs = []; given = tt; counted = refl; lines = refl };
   stands = refl;
-  counted = refl;
-  lines = refl;
-  wrote = Appends-nil now;
 }
 
-pub wrote_next : (in_zone : Bool) (start cur new : Standing) (n : ℕ) (before mid now : Option (List ℕ)) → Wrote in_zone start cur n before mid
-    → WritesNext in_zone cur new mid now → Wrote in_zone start new (n + 1) before now
-wrote_next in_zone start cur new n before mid now w next =
-    let more = given_next start cur new w.runs next.run w.given w.stands next.gives in
+pub listed_next : (in_zone : Bool) (start cur new : Standing) (n : ℕ) (before after : List ℕ) → Listed in_zone start cur n before
+    → AddsNext in_zone cur new before after → Listed in_zone start new (n + 1) after
+listed_next in_zone start cur new n before after l next =
+    let w = l.gives in
+    let more = given_next start cur new w.runs next.run w.given l.stands next.gives in
+    let P : List ℕ → Type 0 = λ t. AreLines in_zone (w.runs ++ next.run ∷ []) t in
     record {
-      runs = w.runs ++ next.run ∷ [];
-      text = w.text ++ (next.text ++ 10 ∷ []);
-      given = more.0;
+      gives = record {
+        runs = w.runs ++ next.run ∷ [];
+        given = more.0;
+        counted = length_push w.runs next.run ∙ ap (λ (k : ℕ). k + 1) w.counted;
+        lines = subst P (sym next.added) (lines_push in_zone w.runs next.run before next.text w.lines next.line);
+      };
       stands = more.1;
-      counted = length_push w.runs next.run ∙ ap (λ (k : ℕ). k + 1) w.counted;
-      lines = lines_push in_zone w.runs next.run w.text next.text w.lines next.line;
-      wrote = Appends-trans before mid now w.text (next.text ++ 10 ∷ []) w.wrote next.wrote;
     }
 
--- a listing stops where its next run does
-pub stops_list : (lack : Bool) (l : Listing) (start cur new : Standing) (n : ℕ) (before mid now : Option (List ℕ)) (stop : Stop)
-    → StandsAtStart (outcome default_settings l.pattern.now) (zone_of l.zone) l.at l.direction start
-    → Wrote (is_some l.zone) start cur n before mid → n < l.count → StopsNext lack cur new mid now stop → StopsList lack l before now stop
-stops_list lack l start cur new n before mid now (stops.Refused e) stands w few next = inr (record {
-  runs = w.runs;
-  now = cur;
-  gave = record { start = start; stands = stands; given = w.given; now_at = w.stands };
-  fewer = omega (arith, w.counted);
-  text = w.text;
-  lines = w.lines;
-  wrote = Appends-kept before mid now w.text w.wrote next.1;
-  last = new;
-  ends = next.0;
-})
-stops_list lack l start cur new n before mid now (stops.Unwritten e) stands w few next =
-    let more = given_next start cur new w.runs next.0 w.given w.stands next.1 in
-    let count = length_push w.runs next.0 in
+-- a listing ends early where its next run does not come
+pub listed_short : (lack in_zone : Bool) (start cur : Standing) (n count : ℕ) (before after : List ℕ) (e : CronError) → Listed in_zone start cur n before
+    → n < count → after ≡ before → Ends lack cur e → EndsEarly lack in_zone start count after e
+listed_short lack in_zone start cur n count before after e l few same ends =
+    let P : Standing → Type 0 = λ s. Ends lack s e in
+    let Q : List ℕ → Type 0 = λ t. AreLines in_zone l.gives.runs t in
     record {
-      runs = w.runs ++ next.0 ∷ [];
-      now = new;
-      gave = record { start = start; stands = stands; given = more.0; now_at = more.1 };
-      some = omega (arith, count);
-      asked = omega (arith, count, w.counted);
+      runs = l.gives.runs;
+      given = l.gives.given;
+      fewer = omega (arith, l.gives.counted);
+      lines = subst Q (sym same) l.gives.lines;
+      ends = subst P l.stands ends;
     }

@@ -1,12 +1,15 @@
 pub mod Answer
 pub mod Call
 pub mod Command
+pub mod Concluded
 pub mod Count
+pub mod Ended
 pub mod Line
 pub mod Moment
 pub mod Opened
+pub mod Output
 pub mod Reason
 pub mod Refused
 pub mod Start
-pub mod Stopped
+pub mod Stop
 pub mod Written

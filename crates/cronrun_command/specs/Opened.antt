@@ -8,10 +8,6 @@ use Rattle.croner.specs.parser.Grammar.{Refusal}
 use Rattle.croner.specs.iterator.Listing.{Standing, new_standing}
 use Rattle.cronrun_command.specs.Start.{start_instant}
 
--- the pattern is accepted
-abbrev pub IsAccepted : Result Meaning Refusal → Type 0
-IsAccepted outcome = (pattern : Meaning) × (outcome ≡ Ok pattern)
-
 -- the pattern is accepted, and the date and time names the instant
 abbrev pub OpensAt : Result Meaning Refusal → Zone → CivilDateTime → Meaning → ℤ → Type 0
 OpensAt outcome zone at pattern start = (outcome ≡ Ok pattern) × (start_instant (zone.resolves at) ≡ Some start)

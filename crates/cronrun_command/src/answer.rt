@@ -1,6 +1,5 @@
-//! Answering a call.
-ghost use Rattle.std.specs.Prelude.{◌≡◌, ◌↔◌, ◌⊎◌, ◌++◌, ◌∷◌, [], ℤ, Ok, IsTrue, IfOk, IfErr, OnOk, string_bytes};
-ghost use Rattle.std.specs.Io.KnownBytes.{Appends, Keeps};
+//! Answering a call: what stands on standard output, and the refusal that ended it. Nothing is written here.
+ghost use Rattle.std.specs.Prelude.{◌≡◌, ◌↔◌, ◌++◌, ◌∷◌, [], ℤ, Ok, Some, None, IsTrue, IfOk, IfErr, OnOk, string_bytes};
 ghost use Rattle.croner_base.specs.Civil.{wall_second};
 ghost use Rattle.croner_base.specs.CivilZone.{civil_zone};
 ghost use Rattle.croner_pattern.specs.Description.{description};
@@ -9,60 +8,118 @@ ghost use Rattle.croner_pattern.specs.Schedule.{IsScheduled};
 ghost use Rattle.croner_words.specs.English.{english};
 ghost use Rattle.croner.specs.parser.Grammar.{outcome};
 ghost use Rattle.croner.specs.parser.Settings.{default_settings};
-ghost use Rattle.cronrun_command.specs.Answer.{Answers, IsOpened};
+ghost use Rattle.cronrun_command.specs.Answer.{IsAnswer, IsDescribed, IsDescriptionText, IsMatched, IsMatchText, bool_text};
 ghost use Rattle.cronrun_command.specs.Opened.{Opens};
 ghost use Rattle.cronrun_command.specs.Start.{start_instant};
 ghost use Rattle.cronrun_command.specs.Refused.{IsUnopened, IsUnread};
-ghost use Rattle.cronrun_command.specs.Stopped.{Stops};
 
 use crate::request::Request;
 use crate::runs::list;
 use crate::start::start_at;
-use crate::stop::Stop;
 use croner::Cron;
 use croner::errors::CronError;
 use croner::time::CivilDateTime;
 use jiff::civil::DateTime;
 use jiff::{Timestamp, Zoned};
 use std::alloc::Global;
-use std::io;
-use std::io::Write;
 
 // A value of civil time. Any serves, to look a date and time up on its clock.
 const CIVIL_CLOCK: DateTime = DateTime::MIN;
 
-/// Writes the answer of a call.
-pub fn answer<W: Write>(alloc: Global, request: Request<'_>, out: &mut W) -> Result<(), Stop>
-    ensures answers { OnOk result (Answers request.entry (W.contents out.old) (W.contents out.new)) }
-    ensures opened { IsOpened request.entry ⊎ Keeps (W.contents out.old) (W.contents out.new) }
-    ensures stops { IfErr result (Stops request.entry (W.contents out.old) (W.contents out.new)) }
+/// What a call comes to, before it is written.
+#[derive(Drop)]
+pub struct Answer {
+    /// What stands on standard output: the whole answer, or the lines that were found before a refusal.
+    pub text: String,
+    /// Why the answer isn't whole.
+    pub refusal: Option<CronError>,
+}
+
+impl Answer {
+    /// A whole answer, or a refusal with no text.
+    pub fn of(alloc: Global, text: Result<String, CronError>) -> Answer
+        ensures text { IfOk text (λ found. (result.text ≡ found) × (result.refusal ≡ None)) }
+        ensures refusal { IfErr text (λ e. (string_bytes result.text ≡ []) × (result.refusal ≡ Some e)) }
+    {
+        match text {
+            Ok(text) => Answer {
+                text,
+                refusal: None,
+            },
+            Err(refusal) => Answer {
+                text: String::new(alloc),
+                refusal: Some(refusal),
+            },
+        }
+    }
+}
+
+/// The answer of a call.
+pub fn answer_to(alloc: Global, request: Request<'_>) -> Answer
+    ensures { IsAnswer request.entry (string_bytes result.text) result.refusal }
 {
     match request {
-        Request::Describe { pattern } => {
-            let description = described(alloc, pattern)?;
-            write_line(description.as_str(), out)?;
-            Ok(())
-        }
-        Request::Match { pattern, at } => {
-            let matching = is_match(alloc, pattern, at)?;
-            writeln!(out, "{matching}")?;
-            Ok(())
-        }
+        Request::Describe { pattern } => describe(alloc, pattern),
+        Request::Match { pattern, at } => compare(alloc, pattern, at),
         Request::List(listing) => match listing.zone {
             Some(zone) => {
                 let clock = Zoned::new(Timestamp::UNIX_EPOCH, zone);
-                list(alloc, &listing, &clock, out)
+                list(alloc, &listing, &clock)
             }
-            None => list(alloc, &listing, &CIVIL_CLOCK, out),
+            None => list(alloc, &listing, &CIVIL_CLOCK),
         },
     }
 }
 
-// Writes a text as a line.
-fn write_line<W: Write>(text: &str, out: &mut W) -> io::Result<()>
-    ensures { OnOk result (Appends (W.contents out.old) (W.contents out.new) (text.now ++ 10 ∷ [])) }
+// The answer to a call for a description.
+fn describe(alloc: Global, pattern: &str) -> Answer
+    ensures { IsDescribed pattern.now (string_bytes result.text) result.refusal }
 {
-    writeln!(out, "{text}")
+    Answer::of(alloc, description_line(alloc, pattern))
+}
+
+// The answer to a call for a match.
+fn compare(alloc: Global, pattern: &str, at: CivilDateTime) -> Answer
+    ensures { IsMatched pattern.now at (string_bytes result.text) result.refusal }
+{
+    Answer::of(alloc, match_line(alloc, pattern, at))
+}
+
+// The description of a pattern in English, as a line.
+fn description_line(alloc: Global, pattern: &str) -> Result<String, CronError>
+    ensures value { IfOk result (λ text. IsDescriptionText pattern.now (string_bytes text)) }
+    ensures err { IfErr result (IsUnread (outcome default_settings pattern.now)) }
+{
+    let text = described(alloc, pattern)?;
+    ended(text)
+}
+
+// A text with a line feed behind it.
+fn ended(mut text: String) -> Result<String, CronError>
+    ensures value { IfOk result (λ line. string_bytes line ≡ string_bytes text ++ 10 ∷ []) }
+    ensures err { IfErr result (λ e. e ≡ CronError.OutOfMemory) }
+{
+    text.push('\n')?;
+    Ok(text)
+}
+
+// Whether a pattern names a date and time, as a line.
+fn match_line(alloc: Global, pattern: &str, at: CivilDateTime) -> Result<String, CronError>
+    ensures value { IfOk result (λ text. IsMatchText pattern.now at (string_bytes text)) }
+    ensures err { IfErr result
+        (IsUnopened (outcome default_settings pattern.now) (start_instant (civil_zone.resolves at))) }
+{
+    let matching = is_match(alloc, pattern, at)?;
+    truth(alloc, matching)
+}
+
+// The word for a boolean, as a line.
+fn truth(alloc: Global, held: bool) -> Result<String, CronError>
+    ensures value { IfOk result (λ line. string_bytes line ≡ bool_text held ++ 10 ∷ []) }
+    ensures err { IfErr result (λ e. e ≡ CronError.OutOfMemory) }
+{
+    let line = format!(in alloc; "{held}\n")?;
+    Ok(line)
 }
 
 // The description of a pattern in English.

@@ -1,26 +1,29 @@
 //! The command line of `cronrun` as a function: words in, text and a status out.
 #![tactic(auto)]
 
-ghost use Rattle.std.specs.Prelude.{◌≡◌, ◌≤◌, map, string_bytes};
-ghost use Rattle.std.specs.Io.KnownBytes.{Keeps};
-ghost use Rattle.cronrun_command.specs.Answer.{AnswersWords, OpensWords};
+ghost use Rattle.std.specs.Prelude.{◌≡◌, ◌≤◌, ◌++◌, ◌∷◌, [], Some, map, string_bytes};
 ghost use Rattle.cronrun_command.specs.Call.{IsCall};
-ghost use Rattle.cronrun_command.specs.Stopped.{StopsWords};
+ghost use Rattle.cronrun_command.specs.Concluded.{IsConcluded, IsEnded};
+ghost use Rattle.cronrun_command.specs.Output.{Delivers, IsGiven, IsTold};
+ghost use Rattle.cronrun_command.specs.Stop.{status_of};
 
 mod answer;
 mod count;
 mod line;
 mod moment;
+mod output;
 mod request;
 mod runs;
 mod start;
 mod stop;
 mod zone;
 
+use answer::{Answer, answer_to};
+pub use output::Output;
+use output::deliver;
 use request::Request;
 use std::alloc::Global;
-use std::io::Write;
-use stop::Stop;
+use stop::{Stop, stop_of};
 
 /// The status of a call that was answered.
 pub const ANSWERED: u8 = 0;
@@ -49,41 +52,58 @@ const USAGE: &str =
 /// shows twice names the earlier instant.
 ///
 /// The status is [`MISUSED`] with the usage line on standard error where the words are no call;
-/// [`REFUSED`] with the error's text there where the pattern is refused, the zone's clock never
-/// shows DATETIME or doesn't reach it, fewer than COUNT runs are found, or memory is lacking; else
-/// [`ANSWERED`]. The words are looked at first, then the pattern, then the start. The runs that
-/// were found are written before a refusal: it is then the fault of the iterator over them, or the
-/// limit of a search where there is none. A failed write to standard output is [`REFUSED`] too, one
-/// to standard error changes no status.
-pub fn run<O: Write, E: Write>(alloc: Global, words: &[String], out: &mut O, err: &mut E) -> u8
+/// [`REFUSED`] with the error's text as a line there where the pattern is refused, the zone's clock
+/// never shows DATETIME or doesn't reach it, fewer than COUNT runs are found, memory is lacking, or
+/// standard output does not take the answer; else [`ANSWERED`]. The words are looked at first, then
+/// the pattern, then the start. The runs that were found before a refusal stand on standard output:
+/// the refusal is then the fault of the iterator over them, the limit of a search where there is
+/// none, or want of room for a further line. A failed write to standard error changes no status.
+pub fn run<O: Output, E: Output>(alloc: Global, words: &[String], out: &mut O, err: &mut E) -> u8
     ensures known { result ≤ 2 }
     ensures call { IsCall (map string_bytes words.now) → result ≤ 1 }
-    ensures answered { result ≡ 0 → AnswersWords (map string_bytes words.now) (O.contents out.old) (O.contents out.new) }
-    ensures quiet { result ≡ 0 → Keeps (E.contents err.old) (E.contents err.new) }
-    ensures stopped { result ≡ 1 → StopsWords (map string_bytes words.now) (O.contents out.old) (O.contents out.new) }
-    ensures opened { result ≤ 1 → OpensWords (map string_bytes words.now) (O.contents out.old) (O.contents out.new) }
+    ensures concluded { result ≤ 1 → IsConcluded (map string_bytes words.now)
+        (Delivers O.contents O.writes O.flushes out.old) out.new
+        (λ stop. IsTold E.contents E.writes err.old stop err.new) result }
     ensures misused { ¬ (IsCall (map string_bytes words.now)) → result ≡ 2 }
-    ensures silent { result ≡ 2 → Keeps (O.contents out.old) (O.contents out.new) }
+    ensures silent { result ≡ 2 → out.new ≡ out.old }
+    ensures usage { result ≡ 2 → IsGiven E.contents E.writes err.old (Some (USAGE.now ++ 10 ∷ [])) err.new }
 {
     let Some(request) = Request::read(words) else {
         return misused(err);
     };
-    let answered = answer::answer(alloc, request, out);
-    // What was found before a refusal is written too.
-    let flushed = out.flush();
-    match answered.and(flushed.map_err(Stop::Unwritten)) {
-        Ok(()) => ANSWERED,
-        Err(stop) => {
-            let _ = writeln!(err, "{stop}");
+    conclude(answer_to(alloc, request), out, err)
+}
+
+// Writes an answer, and the reason where it stops, and gives the status.
+fn conclude<O: Output, E: Output>(answer: Answer, out: &mut O, err: &mut E) -> u8
+    ensures known { result ≤ 1 }
+    ensures ended { IsEnded (string_bytes answer.text) answer.refusal
+        (Delivers O.contents O.writes O.flushes out.old) out.new
+        (λ stop. IsTold E.contents E.writes err.old stop err.new) result }
+{
+    let delivered = deliver(answer.text.as_str(), out);
+    report(stop_of(answer.refusal, delivered), err)
+}
+
+// Writes why a call stops, if it does, and gives its status.
+fn report<E: Output>(stop: Option<Stop>, err: &mut E) -> u8
+    ensures status { result ≡ status_of stop }
+    ensures told { IsTold E.contents E.writes err.old stop err.new }
+{
+    match stop {
+        None => ANSWERED,
+        Some(stop) => {
+            let _ = err.write_line(stop);
             REFUSED
         }
     }
 }
 
 /// Writes the usage line, and gives the status of words that are no call.
-pub fn misused<E: Write>(err: &mut E) -> u8
-    ensures { result ≡ 2 }
+pub fn misused<E: Output>(err: &mut E) -> u8
+    ensures status { result ≡ 2 }
+    ensures usage { IsGiven E.contents E.writes err.old (Some (USAGE.now ++ 10 ∷ [])) err.new }
 {
-    let _ = writeln!(err, "{USAGE}");
+    let _ = err.write_line(USAGE);
     MISUSED
 }

@@ -1,50 +1,56 @@
 //! Listing the runs of a pattern.
-ghost use Rattle.std.specs.Prelude.{◌≡◌, ◌⊎◌, Ok, Some, false, is_some, option_map, IsTrue, IfOk, IfErr, OnOk};
-ghost use Rattle.std.specs.Io.KnownBytes.{Keeps};
+ghost use Rattle.std.specs.Prelude.{◌≡◌, ◌++◌, ◌∷◌, [], Some, false, is_some, option_map, IsTrue, IfOk, IfErr, OnOk, OnErr, string_bytes};
 ghost use Rattle.croner_base.specs.Zone.{at_instant};
 ghost use Rattle.croner.specs.iterator.Faults.{is_kept};
 ghost use Rattle.croner.specs.parser.Grammar.{outcome};
 ghost use Rattle.croner.specs.iterator.Listing.{standing_of};
 ghost use Rattle.croner.specs.parser.Settings.{default_settings};
-ghost use Rattle.cronrun_command.specs.Answer.{Answers, IsOpened, zone_of};
+ghost use Rattle.cronrun_command.specs.Answer.{IsListed, Lists, zone_of};
+ghost use Rattle.cronrun_command.specs.Ended.{Ends};
+ghost use Rattle.cronrun_command.specs.Line.{line_text};
 ghost use Rattle.cronrun_command.specs.Start.{start_instant};
 ghost use Rattle.cronrun_command.specs.Refused.{IsUnopened};
 ghost use Rattle.cronrun_command.specs.Opened.{StandsAtStart};
 ghost use Rattle.cronrun_command.specs.Reason.{reason_of};
-ghost use Rattle.cronrun_command.specs.Stopped.{StopsList, StopsNext};
-ghost use Rattle.cronrun_command.specs.Written.{WritesNext};
-ghost use Rattle.cronrun_command.specs.declared.request.Request.TheVariants.{List};
+ghost use Rattle.cronrun_command.specs.Written.{AddsNext};
 
+use crate::answer::Answer;
 use crate::line::{Line, Listed};
 use crate::request::Listing;
 use crate::start::start_at;
-use crate::stop::Stop;
 use croner::errors::CronError;
 use croner::time::CronDateTime;
 use croner::{Cron, CronIterator, Direction};
 use std::alloc::Global;
-use std::io::Write;
 
-/// Writes the runs of a listing, one a line, the nearest first. `clock` is any value of the clock
-/// that they are listed on.
-pub fn list<T: Listed, W: Write>(
-    alloc: Global,
-    listing: &Listing<'_>,
-    clock: &T,
-    out: &mut W,
-) -> Result<(), Stop>
-    ensures answers { (T.moment clock.now).zone ≡ zone_of listing.now.zone → T.in_zone ≡ is_some listing.now.zone →
-        OnOk result (Answers (List listing.now) (W.contents out.old) (W.contents out.new)) }
-    ensures opened { (T.moment clock.now).zone ≡ zone_of listing.now.zone →
-        IsOpened (List listing.now) ⊎ Keeps (W.contents out.old) (W.contents out.new) }
-    ensures stops { (T.moment clock.now).zone ≡ zone_of listing.now.zone → T.in_zone ≡ is_some listing.now.zone →
-        IfErr result (StopsList T.can_lack_memory listing.now (W.contents out.old) (W.contents out.new)) }
+/// The runs of a listing, one a line, the nearest first. `clock` is any value of the clock that they are listed on.
+pub fn list<T: Listed>(alloc: Global, listing: &Listing<'_>, clock: &T) -> Answer
+    ensures { (T.moment clock.now).zone ≡ zone_of listing.now.zone → T.in_zone ≡ is_some listing.now.zone →
+        IsListed T.can_lack_memory listing.now (string_bytes result.text) result.refusal }
 {
-    let mut runs = runs_from(alloc, listing, clock)?;
-    for _run in 0..listing.count {
-        write_next(&mut runs, out)?;
+    match runs_from(alloc, listing, clock) {
+        Ok(runs) => lines(alloc, runs, listing.count),
+        Err(refusal) => Answer::of(alloc, Err(refusal)),
     }
-    Ok(())
+}
+
+// The lines of so many runs, or of those that came before a refusal.
+fn lines<T: Listed>(alloc: Global, mut runs: CronIterator<T>, count: u32) -> Answer
+    ensures { Lists T.can_lack_memory T.in_zone (standing_of T.moment runs) count (string_bytes result.text) result.refusal }
+{
+    let mut text = String::new(alloc);
+    for _run in 0..count {
+        if let Err(refusal) = add_next(alloc, &mut runs, &mut text) {
+            return Answer {
+                text,
+                refusal: Some(refusal),
+            };
+        }
+    }
+    Answer {
+        text,
+        refusal: None,
+    }
 }
 
 // The runs of a listing, from its start on. The pattern is read before the start is looked for.
@@ -66,21 +72,33 @@ fn runs_from<T: CronDateTime>(
     }
 }
 
-// Writes the line of the next run, or gives the reason why there is none.
-fn write_next<T: Listed, W: Write>(runs: &mut CronIterator<T>, out: &mut W) -> Result<(), Stop>
-    ensures writes { OnOk result (WritesNext T.in_zone (standing_of T.moment runs.old) (standing_of T.moment runs.new)
-        (W.contents out.old) (W.contents out.new)) }
-    ensures stops { IfErr result (StopsNext T.can_lack_memory (standing_of T.moment runs.old) (standing_of T.moment runs.new)
-        (W.contents out.old) (W.contents out.new)) }
+// Puts the line of the next run behind the text, or gives the reason why there is none.
+fn add_next<T: Listed>(
+    alloc: Global,
+    runs: &mut CronIterator<T>,
+    text: &mut String,
+) -> Result<(), CronError>
+    ensures adds { OnOk result (AddsNext T.in_zone (standing_of T.moment runs.old) (standing_of T.moment runs.new)
+        (string_bytes text.old) (string_bytes text.new)) }
+    ensures kept { OnErr result (string_bytes text.new ≡ string_bytes text.old) }
+    ensures ends { IfErr result (Ends T.can_lack_memory (standing_of T.moment runs.old)) }
 {
     match runs.next() {
-        Some(run) => {
-            let line = Line::of(&run);
-            writeln!(out, "{line}")?;
-            Ok(())
-        }
-        None => Err(Stop::Refused(reason(runs.fault()))),
+        Some(run) => add_line(alloc, &Line::of(&run), text),
+        None => Err(reason(runs.fault())),
     }
+}
+
+// Puts a line behind the text. The text stays as it was where room is wanting.
+fn add_line(alloc: Global, line: &Line, text: &mut String) -> Result<(), CronError>
+    ensures adds { OnOk result
+        (string_bytes text.new ≡ string_bytes text.old ++ (line_text line.now.civil line.now.second ++ 10 ∷ [])) }
+    ensures kept { OnErr result (string_bytes text.new ≡ string_bytes text.old) }
+    ensures err { IfErr result (λ e. e ≡ CronError.OutOfMemory) }
+{
+    let line = format!(in alloc; "{line}\n")?;
+    text.push_str(line.as_str())?;
+    Ok(())
 }
 
 // Why a listing ends early: the fault of its iterator, or the limit where there is none. The faults that iterators keep have no

@@ -1,9 +1,11 @@
-//! Why a call stops before its answer is whole.
+//! Why a call stops: its answer is not whole, or was not taken.
+ghost use Rattle.std.specs.Prelude.{◌≡◌};
+ghost use Rattle.cronrun_command.specs.Stop.{stop_of};
 
 use croner::errors::CronError;
 use std::{fmt, io};
 
-/// Why a call stops before its answer is whole.
+/// Why a call stops.
 #[derive(Debug, Drop)]
 pub enum Stop {
     /// The pattern, the start or the search is refused.
@@ -13,6 +15,10 @@ pub enum Stop {
 }
 
 impl fmt::Display for Stop {
+    ghost use Rattle.cronrun_command.specs.Stop.{stop_text};
+
+    ghost output = { stop_text };
+
     fn fmt<W: fmt::Write>(&self, f: &mut fmt::Formatter<W>) -> fmt::Result {
         match self {
             Stop::Refused(error) => write!(f, "{error}"),
@@ -21,24 +27,13 @@ impl fmt::Display for Stop {
     }
 }
 
-impl From<CronError> for Stop {
-    ghost use Rattle.std.specs.Prelude.{◌≡◌};
-    ghost use Rattle.cronrun_command.specs.declared.stop.Stop.TheVariants.{Refused};
-
-    ghost from_gives = { λ error stop. stop ≡ Refused error };
-
-    fn from(error: CronError) -> Stop {
-        Stop::Refused(error)
-    }
-}
-
-impl From<io::Error> for Stop {
-    ghost use Rattle.std.specs.Prelude.{◌≡◌};
-    ghost use Rattle.cronrun_command.specs.declared.stop.Stop.TheVariants.{Unwritten};
-
-    ghost from_gives = { λ error stop. stop ≡ Unwritten error };
-
-    fn from(error: io::Error) -> Stop {
-        Stop::Unwritten(error)
+/// Why a call stops, if it does: the refusal that ended its answer, else the error of the writer that did not take it.
+pub fn stop_of(refusal: Option<CronError>, delivered: io::Result<()>) -> Option<Stop>
+    ensures { result ≡ stop_of refusal delivered }
+{
+    match (refusal, delivered) {
+        (Some(refusal), _) => Some(Stop::Refused(refusal)),
+        (None, Err(error)) => Some(Stop::Unwritten(error)),
+        (None, Ok(())) => None,
     }
 }

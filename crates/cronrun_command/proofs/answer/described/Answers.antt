@@ -11,13 +11,13 @@ use Rattle.cronrun_command.proofs.answer.described.Goals as goal
 pub returns-in_err-job-clause-err : goal.returns-in_err-job-clause-err
 returns-in_err-job-clause-err c =
     refused_unread c.from_residual.result c.in_err-job.field-0.0 (outcome default_settings c.args.pattern.now) c.from_residual.ensures.1
-    c.in_err-job.ensures.meaning
+    c.in_err-job.ensures
 
 pub returns-clause-value : goal.returns-clause-value
 returns-clause-value c =
-    MatchResult-weaker c.describe.result c.describe.ensures (λ text is. (job_of c.in_ok-job.job, c.in_ok-job.ensures.meaning, is)) (λ e lacks. tt)
+    MatchResult-weaker c.describe.result c.describe.ensures (λ text is. (job_of c.in_ok-job.job, c.in_ok-job.ensures, is)) (λ e lacks. tt)
 
 pub returns-clause-err : goal.returns-clause-err
 returns-clause-err c =
     MatchResult-weaker c.describe.result c.describe.ensures (λ text is. tt)
-    (λ e lacks. let P : Result Meaning Refusal → Type 0 = λ o. IsUnread o e in subst P (sym c.in_ok-job.ensures.meaning) lacks)
+    (λ e lacks. let P : Result Meaning Refusal → Type 0 = λ o. IsUnread o e in subst P (sym c.in_ok-job.ensures) lacks)
