@@ -1,9 +1,5 @@
 //! Jobs that were read from patterns.
 
-ghost use Rattle.std.specs.Prelude.{◌≡◌, true};
-ghost use Rattle.croner_pattern.specs.Shapes.{has_field_shapes};
-ghost use Rattle.croner.specs.Views.{job_of};
-
 use croner::Cron;
 use croner::errors::CronError;
 use std::alloc::Global;
@@ -11,7 +7,6 @@ use std::alloc::Global;
 /// A job as the default parser reads it.
 pub struct Job {
     pub cron: Cron,
-    ghost shaped: { has_field_shapes (job_of cron) ≡ true },
 }
 
 // By hand, so that a function that lets a job go calls this one: its proof doesn't go through the fields at each exit.

@@ -1,8 +1,4 @@
 //! The jobs of rows: a parser's settings and a text, and searches and iterators of a job.
-ghost use Rattle.std.specs.Prelude.{◌≡◌, true};
-ghost use Rattle.croner_pattern.specs.Shapes.{has_field_shapes};
-ghost use Rattle.croner.specs.Views.{job_of};
-
 use crate::fault::Fault;
 use croner::parser::{CronParser, CronParserBuilder, Seconds, Year};
 use croner::time::{CronDateTime, Direction};
@@ -13,7 +9,6 @@ use std::alloc::Global;
 /// A job that was read from a text.
 pub struct Job {
     pub cron: Cron,
-    ghost shaped: { has_field_shapes (job_of cron) ≡ true },
 }
 
 // By hand, so that a function that lets a job go calls this one: its proof doesn't go through the fields at each exit.
@@ -43,9 +38,7 @@ impl Job {
     }
 
     /// The job itself.
-    pub fn into_cron(self) -> Cron
-        ensures { has_field_shapes (job_of result) ≡ true }
-    {
+    pub fn into_cron(self) -> Cron {
         let Job { cron } = self;
         cron
     }

@@ -12,6 +12,8 @@ mod clock;
 #[cfg(test)]
 mod command_line;
 #[cfg(test)]
+mod command_writers;
+#[cfg(test)]
 mod crontable;
 #[cfg(test)]
 mod debug;
@@ -43,6 +45,8 @@ mod messages;
 mod narrow;
 #[cfg(test)]
 mod table;
+#[cfg(test)]
+mod tables_that_change;
 #[cfg(test)]
 mod values;
 #[cfg(test)]

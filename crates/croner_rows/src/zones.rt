@@ -1,13 +1,13 @@
-//! Starts in the time zone of Paris: whether one is named, and searches from one with a fraction of a second.
+//! Starts with a fraction of a second in a time zone: what is read there, whether it is named, and searches from it.
 
 use crate::fault::Fault;
 use crate::job::Job;
-use crate::table::{Question, differing};
+use crate::table::{Question, add_differing};
 use crate::words::number;
 use croner::time::CronDateTime;
 use jiff::tz::TimeZone;
 use jiff::{Timestamp, Zoned};
-use std::alloc::Global;
+use std::alloc::{AllocError, Global};
 use std::test::Fail;
 
 const PARIS_RULE: &str = "CET-1CEST,M3.5.0,M10.5.0/3";
@@ -61,8 +61,39 @@ const ROWS: &str = "
     30 9 * * * | after | 1719819000.5 | 2024-07-02T09:30:00 1719905400000000000
 ";
 
+/// A rule, a second and the nanoseconds behind it: what the clock reads there.
+struct Reading;
+
+impl Question for Reading {
+    fn answer(&self, alloc: Global, cells: &[&str]) -> Result<String, Fault> {
+        let [rule, second, nanosecond] = cells else {
+            return Err(Fault::Malformed);
+        };
+        let Ok(zone) = TimeZone::posix(rule) else {
+            return Err(Fault::Malformed);
+        };
+        match Timestamp::new(number(second)?, number(nanosecond)?) {
+            Ok(instant) => Ok(Zoned::new(instant, zone).to_civil().to_string(alloc)?),
+            Err(_) => Err(Fault::Malformed),
+        }
+    }
+}
+
+// A nanosecond before the year 2025 in UTC.
+const READINGS: &str = "
+    AAA5BBB,J365/23,J100/0 | 1735689599 | 999999999 | 2024-12-31T18:59:59
+";
+
+// The rows that differ, of both tables here.
+fn differing_rows(alloc: Global) -> Result<String, AllocError> {
+    let mut rows = String::new(alloc);
+    add_differing(alloc, &InParis, ROWS, &mut rows)?;
+    add_differing(alloc, &Reading, READINGS, &mut rows)?;
+    Ok(rows)
+}
+
 #[test]
 fn starts_in_a_time_zone(rt: HostRuntime) -> Result<(), Fail> {
-    assert_eq!(rt; differing(rt.alloc(), &InParis, ROWS)?.as_str(), "");
+    assert_eq!(rt; differing_rows(rt.alloc())?.as_str(), "");
     Ok(())
 }

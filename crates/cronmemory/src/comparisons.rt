@@ -1,8 +1,4 @@
 //! Equality, order and hash of jobs and of iterators, which make no request.
-ghost use Rattle.std.specs.Prelude.{◌≡◌, true};
-ghost use Rattle.croner_pattern.specs.Shapes.{has_field_shapes};
-ghost use Rattle.croner.specs.Views.{job_of};
-
 use crate::case::Outcome;
 use crate::fault::Fault;
 use crate::iterators::{How, how_made, made};
@@ -100,9 +96,7 @@ fn read_made(cell: &str) -> Result<Made, Fault> {
     Ok(Made { how, is_asked })
 }
 
-fn runs(cron: &Cron, start: DateTime, way: Made) -> Result<CronIterator<DateTime>, Fault>
-    requires { has_field_shapes (job_of cron.now) ≡ true }
-{
+fn runs(cron: &Cron, start: DateTime, way: Made) -> Result<CronIterator<DateTime>, Fault> {
     let mut iterator = made(cron, start, way.how)?;
     if way.is_asked {
         let _ = iterator.next();
@@ -129,9 +123,7 @@ fn both_compared(
     start: DateTime,
     one: Made,
     other: Made,
-) -> Result<Verdict, Fault>
-    requires { has_field_shapes (job_of cron.now) ≡ true }
-{
+) -> Result<Verdict, Fault> {
     let one = runs(cron, start, one)?;
     let verdict = compared_with_runs(rt, &one, cron, start, other);
     drop(one);
@@ -144,9 +136,7 @@ fn compared_with_runs(
     cron: &Cron,
     start: DateTime,
     other: Made,
-) -> Result<Verdict, Fault>
-    requires { has_field_shapes (job_of cron.now) ≡ true }
-{
+) -> Result<Verdict, Fault> {
     let other = runs(cron, start, other)?;
     let verdict = iterators_compared(rt, one, &other);
     drop(other);

@@ -1,8 +1,4 @@
 //! Iterators: their makers and their items.
-ghost use Rattle.std.specs.Prelude.{◌≡◌, true};
-ghost use Rattle.croner_pattern.specs.Shapes.{has_field_shapes};
-ghost use Rattle.croner.specs.Views.{job_of};
-
 use crate::case::Outcome;
 use crate::cells::number;
 use crate::fault::Fault;
@@ -35,9 +31,7 @@ pub fn how_made(word: &str) -> Result<How, Fault> {
 }
 
 /// An iterator over the runs of a job.
-pub fn made<T: Shown>(cron: &Cron, start: T, how: How) -> Result<CronIterator<T>, CronError>
-    requires { has_field_shapes (job_of cron.now) ≡ true }
-{
+pub fn made<T: Shown>(cron: &Cron, start: T, how: How) -> Result<CronIterator<T>, CronError> {
     match how {
         How::From(direction) => cron.iter_from(start, direction),
         How::After => cron.iter_after(start),
@@ -112,9 +106,7 @@ fn made_at_last<T: Shown>(
     cron: &Cron,
     again: T,
     how: How,
-) -> Result<CronIterator<T>, Fault>
-    requires { has_field_shapes (job_of cron.now) ≡ true }
-{
+) -> Result<CronIterator<T>, Fault> {
     match first {
         Ok(iterator) => Ok(iterator),
         Err(_error) => Ok(made(cron, again, how)?),
@@ -155,9 +147,7 @@ fn listed_from<T: Shown>(
     start: T,
     again: T,
     asked: Asked<'_>,
-) -> Result<Outcome, Fault>
-    requires { has_field_shapes (job_of cron.now) ≡ true }
-{
+) -> Result<Outcome, Fault> {
     begin(rt);
     let first = made(cron, start, asked.how);
     end(rt);

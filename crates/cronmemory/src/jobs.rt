@@ -1,17 +1,11 @@
 //! The jobs of cases: a parser's settings and a text.
-ghost use Rattle.std.specs.Prelude.{◌≡◌, true, IfOk};
-ghost use Rattle.croner_pattern.specs.Shapes.{has_field_shapes};
-ghost use Rattle.croner.specs.Views.{job_of};
-
 use crate::fault::Fault;
 use croner::Cron;
 use croner::parser::{CronParser, CronParserBuilder, Seconds, Year};
 use std::alloc::Global;
 
 /// The job of a text, read by the default parser.
-pub fn job(alloc: Global, text: &str) -> Result<Cron, Fault>
-    ensures { IfOk result (λ job. has_field_shapes (job_of job) ≡ true) }
-{
+pub fn job(alloc: Global, text: &str) -> Result<Cron, Fault> {
     Ok(Cron::from_str(alloc, text)?)
 }
 

@@ -8,7 +8,7 @@ use crate::marks::{begin, end};
 use crate::shown;
 use croner::errors::CronError;
 use croner::time::{Direction, TimeComponent, Weekday};
-use croner::{CronComponent, CronPattern};
+use croner::{Cron, CronComponent, CronPattern};
 use std::alloc::Global;
 
 // A call of a pattern, with what it is given.
@@ -200,10 +200,10 @@ pub fn call_of_pattern(rt: &HostRuntime, given: &[&str]) -> Result<Outcome, Faul
         return Err(Fault::Malformed);
     };
     let call = read_call(rt.alloc(), cell)?;
-    let mut cron = job(rt.alloc(), text)?;
-    empty_field(rt.alloc(), &mut cron.pattern, place);
-    let outcome = made(rt, &cron.pattern, call);
-    drop(cron);
+    let Cron { mut pattern } = job(rt.alloc(), text)?;
+    empty_field(rt.alloc(), &mut pattern, place);
+    let outcome = made(rt, &pattern, call);
+    drop(pattern);
     outcome
 }
 

@@ -1,8 +1,4 @@
 //! Texts that are read, and questions of what was read.
-ghost use Rattle.std.specs.Prelude.{◌≡◌, true};
-ghost use Rattle.croner_pattern.specs.Shapes.{has_field_shapes};
-ghost use Rattle.croner.specs.Views.{job_of};
-
 use crate::case::Outcome;
 use crate::comparisons::are_alike;
 use crate::fault::Fault;
@@ -90,9 +86,7 @@ fn flags(pattern: &CronPattern) -> (bool, bool, bool) {
     (day, weekday, pattern.matches_dom_and_dow())
 }
 
-fn told(cron: &Cron, at: &DateTime) -> Answers
-    requires { has_field_shapes (job_of cron.now) ≡ true }
-{
+fn told(cron: &Cron, at: &DateTime) -> Answers {
     let matching = cron.is_time_matching(at);
     Answers {
         is_matching: is_true(&matching),
@@ -108,9 +102,7 @@ fn is_true(answer: &Result<bool, CronError>) -> bool {
 }
 
 // What the questions answer, between the marks; then both day fields must match.
-fn asked(rt: &HostRuntime, cron: &mut Cron, at: &DateTime) -> Answers
-    requires { has_field_shapes (job_of cron.old) ≡ true }
-{
+fn asked(rt: &HostRuntime, cron: &mut Cron, at: &DateTime) -> Answers {
     begin(rt);
     let answers = told(cron, at);
     cron.pattern.set_flags(false, false, true);

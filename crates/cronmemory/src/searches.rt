@@ -1,8 +1,4 @@
 //! Searches for one run, and whether a time is named.
-ghost use Rattle.std.specs.Prelude.{◌≡◌, true};
-ghost use Rattle.croner_pattern.specs.Shapes.{has_field_shapes};
-ghost use Rattle.croner.specs.Views.{job_of};
-
 use crate::case::Outcome;
 use crate::fault::Fault;
 use crate::jobs::job;
@@ -33,9 +29,7 @@ pub fn read_way(word: &str) -> Result<Way, Fault> {
     }
 }
 
-fn run_found<T: Shown>(cron: &Cron, way: Way, start: &T) -> Result<T, CronError>
-    requires { has_field_shapes (job_of cron.now) ≡ true }
-{
+fn run_found<T: Shown>(cron: &Cron, way: Way, start: &T) -> Result<T, CronError> {
     match way {
         Way::After => cron.find_next_occurrence(start, false),
         Way::From => cron.find_next_occurrence(start, true),

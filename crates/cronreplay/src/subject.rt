@@ -117,13 +117,13 @@ pub enum How {
 }
 
 /// An iterator over the runs of a job or of a table.
-pub enum Runs<'j, T> {
+pub enum Runs<'j, T: Shown> {
     OfJob(CronIterator<T>),
     OfTable(CronTableIterator<'j, T>),
 }
 
 // By hand, as that of `Job`.
-impl<T: Drop> Drop for Runs<'_, T> {
+impl<T: Shown> Drop for Runs<'_, T> {
     fn drop(self) {
         match self {
             Runs::OfJob(_) => {}

@@ -1,5 +1,5 @@
 //! What the clocks of the two backends keep of their tables.
-ghost use Rattle.std.specs.Prelude.{◌≡◌, ◌↔◌, ℤ, IsSome};
+ghost use Rattle.std.specs.Prelude.{◌↔◌, IsSome};
 ghost use Rattle.croner_base.specs.declared.time.civil.CivilDateTime.{CivilDateTime};
 ghost use Rattle.croner_base.specs.Civil.{wall_second};
 ghost use Rattle.croner_base.specs.TableZone.{table_zone};

@@ -3,7 +3,6 @@ ghost use Rattle.std.specs.Prelude.{◌≡◌, true, false, IfOk, IfErr};
 ghost use Rattle.croner_base.specs.Calm.{IsStart};
 ghost use Rattle.croner_base.specs.TableZone.{table_zone};
 ghost use Rattle.croner_base.specs.Zone.{reading};
-ghost use Rattle.croner_pattern.specs.Shapes.{has_field_shapes};
 ghost use Rattle.croner.specs.search.Limit.{NoneInSpan};
 ghost use Rattle.croner.specs.search.PatternJob.{pattern_job};
 ghost use Rattle.croner.specs.search.Premises.{IsSearchable};
@@ -27,7 +26,6 @@ pub fn nearest_boxed_run<'t>(
     inclusive: bool,
     direction: Direction,
 ) -> Result<BoxedTime<'t>, CronError>
-    requires { has_field_shapes (job_of job.now) ≡ true }
     ensures nearest { IfOk result (λ t. Nearest direction inclusive
         (pattern_job (job_of job.now) (table_zone start.now.time.value.table.now)) start.now.time.value.second t.time.value.second) }
     ensures same_zone { IfOk result (λ t. (boxed_moment t).zone ≡ (boxed_moment start.now).zone) }
@@ -48,7 +46,6 @@ pub fn nearest_narrow_run<'t>(
     inclusive: bool,
     direction: Direction,
 ) -> Result<NarrowTime<'t>, CronError>
-    requires { has_field_shapes (job_of job.now) ≡ true }
     ensures nearest { IfOk result (λ t. Nearest direction inclusive
         (pattern_job (job_of job.now) (table_zone start.now.time.table.now)) start.now.time.second t.time.second) }
     ensures same_zone { IfOk result (λ t. (narrow_moment t).zone ≡ (narrow_moment start.now).zone) }
