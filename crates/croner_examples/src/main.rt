@@ -1,0 +1,57 @@
+//! Programs over `croner` that a reader can copy: a scheduler's job in a struct of its own, jobs of patterns that no parser made,
+//! and a job on the clock of a real zone.
+#![tactic(auto)]
+
+mod own_pattern;
+mod scheduler;
+mod zones;
+
+use croner::{Cron, CronPattern};
+use jiff::Timestamp;
+use jiff::civil::DateTime;
+use jiff::tz::TimeZone;
+use scheduler::Job;
+
+// The next run of a job in a struct of its own.
+fn show_report(rt: &HostRuntime, now: &DateTime) -> anyhow::Result<()> {
+    let report = Job::read(rt.alloc(), "report", "0 9 1 * MON")?;
+    let next = report.next_after(now)?;
+    println!(rt; "{}: {next}", report.name())?; // report: 2024-07-01T09:00:00
+    Ok(())
+}
+
+// A parsed job, of which both day fields must match, and which runs in one hour more.
+fn show_changed(rt: &HostRuntime, now: &DateTime) -> anyhow::Result<()> {
+    let mut cron = Cron::from_str(rt.alloc(), "0 9 1 * MON")?;
+    own_pattern::match_both_days(&mut cron);
+    own_pattern::add_hours(&mut cron, "17")?;
+    let run = cron.find_next_occurrence(now, false)?;
+    println!(rt; "both days, also at 17: {run}")?; // both days, also at 17: 2024-07-01T09:00:00
+    Ok(())
+}
+
+// Whether a pattern that no parser made has the fields of a job.
+fn show_own(rt: &HostRuntime) -> anyhow::Result<()> {
+    let pattern = CronPattern::new(rt.alloc(), "by hand")?;
+    let is_job = own_pattern::job_of(pattern).is_some();
+    println!(rt; "by hand: {is_job}")?; // by hand: true
+    Ok(())
+}
+
+// The next run on the clock of a zone, where that clock goes back from 3 to 2.
+fn show_in_zone(rt: &HostRuntime) -> anyhow::Result<()> {
+    let paris = TimeZone::posix("CET-1CEST,M3.5.0,M10.5.0/3")?;
+    let cron = Cron::from_str(rt.alloc(), "30 2 * * *")?;
+    let now = Timestamp::new(1_729_980_000, 0)?; // 2024-10-27T00:00:00 there
+    let run = zones::next_in_zone(rt.alloc(), &cron, &paris, now)?;
+    println!(rt; "in Paris: {run}")?; // in Paris: 2024-10-27T00:30:00Z
+    Ok(())
+}
+
+fn main(rt: HostRuntime) -> anyhow::Result<()> {
+    let now = DateTime::new(2024, 6, 28, 12, 0, 0, 0)?; // a Friday
+    show_report(&rt, &now)?;
+    show_changed(&rt, &now)?;
+    show_own(&rt)?;
+    show_in_zone(&rt)
+}

@@ -1,0 +1,19 @@
+//! Jobs on the clocks of real zones.
+use croner::Cron;
+use croner::errors::CronError;
+use croner::time::table::{ClockTable, TableTime};
+use jiff::Timestamp;
+use jiff::tz::TimeZone;
+use std::alloc::Global;
+
+/// The next run of a job on the clock of a zone, as that zone is from 1970 to the end of 2099.
+pub fn next_in_zone(
+    alloc: Global,
+    cron: &Cron,
+    zone: &TimeZone<'_>,
+    now: Timestamp,
+) -> Result<Timestamp, CronError> {
+    let table = ClockTable::of_zone(alloc, zone, 0, 4_102_444_799)?;
+    let start = TableTime::of_timestamp(&table, now);
+    cron.find_next_occurrence(&start, false)?.timestamp()
+}
