@@ -5,12 +5,13 @@ It makes up searches at the edges of clocks, answers them, and prints them as li
 
     tools/model.py edges  SEED COUNT [LONGEST]     searches and iterators of one pattern
     tools/model.py tables SEED COUNT [LONGEST]     searches and iterators of tables of patterns
+    tools/model.py ends   SEED COUNT [LONGEST]     the same about the first and the last of the searched years
 
     tools/model.py edges 1 20000 >FILE
     crates/cronreplay/out/cronreplay <FILE
 
 LONGEST is the longest gap in seconds: 7200 where it is left out, and at most 86400. The same words give the same
-lines. The last line, on standard error, says how many searches were made up, printed, and passed over as open.
+lines. The last line, on standard error, says how many were printed, and how many of these met a run outside the span.
 
 How an answer comes about. The clock of a table shows at an instant i the second i + offset, and nothing else is known
 of it. Whether a job runs at i is decided for i by itself (`runs_at`): what is shown is scheduled, and where the job
@@ -24,8 +25,12 @@ passes. In a table of patterns each place is decided by itself, at each instant 
 
 How the limit comes about. The search goes on to the end of the years 1 to 5000. Where it meets no run, the limit is
 wanted. Where the run that it meets lies outside the span (`is_in_span`: in year 5000 or behind an instant that shows
-it; backward in year 1 or before an instant that shows it), the definitions allow both that run and the limit, and the
-search is passed over as open. Patterns name dates around an edge and mostly its year, so that few days are looked at.
+it; backward in year 1 or before an instant that shows it), the definitions allow that run and the limit, and no third
+answer. Which of the two comes is a matter of the rule on steps (`comes_to`: none leads on in year 5000, backward in
+year 1), so there, and only there, each pattern is walked along the wall clock (`walked`), over both halves of a
+repeated range (`searched`). A table gives the run where no pattern's walk comes to the limit, and else the limit: an
+unseen run might be nearer. Each of these answers has to be one of the two (`Untrue`). Patterns name dates around an
+edge and mostly its year, so that few days are looked at.
 
 What is drawn. A clock has one to four changes, forward or back by 1, 60, 1799, 3600, 7199 and 7200 seconds, and where
 LONGEST allows it forward by 7201, 43200, 86399 and 86400. A gap or a repeated range begins at an edge, ends at it, or
@@ -52,8 +57,8 @@ FORWARD, BACKWARD = 1, -1
 LIMIT = "TimeSearchLimitExceeded"
 
 
-class Open(Exception):
-    """The definitions allow more than one answer."""
+class Untrue(Exception):
+    """A walk came to neither of the two answers that the definitions allow."""
 
 
 # ---- the calendar: that of Python, whose 400 years are repeated on both sides
@@ -400,24 +405,128 @@ def is_in_span(clock, instant, direction):
     return year_of(clock.lowest_from(instant)) > FIRST_YEAR
 
 
+# ---- outside the span: which of the two allowed answers comes
+
+
+def is_within(second, direction):
+    return year_of(second) < LAST_YEAR if direction == FORWARD else year_of(second) > FIRST_YEAR
+
+
+def next_scheduled(job, second, direction):
+    """The nearest scheduled wall second from one on, or nothing where no searched year is left."""
+    while True:
+        second = next_to_look_at(job, CIVIL_TIME, second, direction)
+        if second is None or job.is_scheduled(second):
+            return second
+        second += direction
+
+
+def comes_to(job, second, direction):
+    """The same where a walk comes to it. From a year of the span it steps on to the first day of the year behind. From
+    that year on it makes no step over a day, an hour or a minute: a named hour stays, and in it a named minute."""
+    due = next_scheduled(job, second, direction)
+    if due is None:
+        return None
+    if is_within(second, direction):
+        edge = day_number(LAST_YEAR, 1, 1) if direction == FORWARD else day_number(FIRST_YEAR, 12, 31)
+        return due if (due // DAY - edge) * direction <= 0 else None
+    if due // DAY != second // DAY:
+        return None
+    (hour, minute), (to_hour, to_minute) = parts(second)[3:5], parts(due)[3:5]
+    if to_hour != hour:
+        return None if hour in job.hours.plain else due
+    return None if to_minute != minute and minute in job.minutes.plain else due
+
+
+def shown_on(clock, second, direction):
+    """The nearest wall second that the clock shows."""
+    while not clock.showing(second):
+        second += direction
+    return second
+
+
+def met_at(job, clock, start, second, direction, inclusive):
+    """What a walk meets at a scheduled second: a run, or nothing and the second from which it goes on."""
+    showing = sorted(clock.showing(second))
+    if not showing and job.is_fixed:
+        end = shown_on(clock, second, FORWARD)
+        carried = min(clock.showing(end))
+        if job.matches_date(end // DAY) and (carried - start) * direction >= (0 if inclusive else 1):
+            return carried, None
+        return None, shown_on(clock, second, direction)
+    runs = showing[:1] if job.is_fixed else showing[::direction]
+    ahead = [run for run in runs if (run - start) * direction >= 0]
+    return (ahead[0], None) if ahead else (None, second + direction)
+
+
+def walked(job, clock, start, direction, inclusive):
+    """The run that a walk along the wall clock meets, one scheduled second after another, or nothing."""
+    second = clock.reads(start) + (0 if inclusive else direction)
+    while (second := comes_to(job, second, direction)) is not None:
+        run, second = met_at(job, clock, start, second, direction, inclusive)
+        if run is not None:
+            return run
+    return None
+
+
+def other_half(clock, start, direction):
+    """From a start on the half of a repeated range that comes first: the first instant of the other half."""
+    twins = [instant for instant in clock.showing(clock.reads(start)) if (instant - start) * direction > 0]
+    if not twins:
+        return None
+    if direction == FORWARD:
+        return next(instant for instant in clock.instants if instant > start)
+    return next(instant for instant in reversed(clock.instants) if instant <= start) - 1
+
+
+def searched(job, clock, start, direction, inclusive):
+    """What the search of one pattern comes to: the run, or nothing for the limit. The other half is walked too."""
+    first = walked(job, clock, start, direction, inclusive)
+    edge = other_half(clock, start, direction)
+    if edge is None or job.is_fixed and direction == FORWARD:
+        return first
+    if first is None:
+        ends = [clock.reads(start), clock.reads(edge - direction)]
+        return walked(job, clock, edge, direction, True) if all(is_within(end, direction) for end in ends) else None
+    if (first - edge) * direction < 0:
+        return first
+    second = walked(job, clock, edge, direction, True)
+    return None if second is None else min(first, second, key=lambda run: run * direction)
+
+
+def is_met(run, jobs, clock, start, direction, inclusive):
+    """Whether a run outside the span is given: where no pattern's search comes to the limit."""
+    met = [searched(job, clock, start, direction, inclusive) for job in jobs]
+    if None in met:
+        return False
+    first = min(met, key=lambda other: other * direction)
+    if run != (first, [place for place, other in enumerate(met) if other == first]):
+        raise Untrue(run, met)
+    return True
+
+
+# ---- answers
+
+
 def answer(jobs, clock, start, direction, inclusive):
-    """The nearest run with its places, or nothing where the limit is the answer."""
+    """The nearest run with its places, or nothing where the limit is the answer; and whether a run was met outside."""
     found = nearest(jobs, clock, start, direction, inclusive)
-    if found is not None and not is_in_span(clock, found[0], direction):
-        raise Open
-    return found
+    if found is None or is_in_span(clock, found[0], direction):
+        return found, False
+    return (found if is_met(found, jobs, clock, start, direction, inclusive) else None), True
 
 
 def answers(jobs, clock, start, direction, inclusive, count):
-    """At most so many runs one after another, and nothing behind them where fewer are left."""
-    found = []
+    """At most so many runs one after another, and nothing behind them where fewer are left; whether one was outside."""
+    found, outside = [], False
     while len(found) < count:
-        run = answer(jobs, clock, start, direction, inclusive)
+        run, is_outside = answer(jobs, clock, start, direction, inclusive)
         found.append(run)
+        outside |= is_outside
         if run is None:
             break
         start, inclusive = run[0], False
-    return found
+    return found, outside
 
 
 # ---- what is asked
@@ -430,8 +539,8 @@ COMMON_YEARS = [1969, 1970, 1999, 2000, 2023, 2024, 2024, 2100, 1600, 400, 3999]
 EDGE_YEARS = [1, 2, 3, 4998, 4999, 5000]
 
 
-def drawn_date(draw):
-    year = draw.choice(EDGE_YEARS if draw.random() < 0.12 else COMMON_YEARS)
+def drawn_date(draw, ends):
+    year = draw.choice(EDGE_YEARS if draw.random() < ends else COMMON_YEARS)
     kind = draw.randrange(4)
     if kind == 0:
         return year, 1, 1
@@ -442,10 +551,10 @@ def drawn_date(draw):
     return year, draw.randint(1, 12), draw.randint(1, 28)
 
 
-def drawn_edge(draw):
-    """A wall second at which something ends."""
+def drawn_edge(draw, ends):
+    """A wall second at which something ends; about the ends of the searched years so often."""
     times = [(0, 0, 0)] * 5 + [(2, 0, 0), (2, 0, 0), (3, 0, 0), (1, 30, 0), (23, 0, 0), (12, 0, 0), (0, 0, 1)]
-    return wall(*drawn_date(draw), *draw.choice(times))
+    return wall(*drawn_date(draw, ends), *draw.choice(times))
 
 
 def drawn_shift(draw, offset, longest):
@@ -456,11 +565,11 @@ def drawn_shift(draw, offset, longest):
     return draw.choice(draw.choice([side for side in (gaps, backs, long_gaps, long_gaps) if side]))
 
 
-def drawn_clock(draw, longest):
+def drawn_clock(draw, longest, ends=0.12):
     first = offset = draw.choice(OFFSETS)
     shift = drawn_shift(draw, offset, longest)
     about = draw.choice([0, 0, shift, shift, shift // 2])
-    instant = drawn_edge(draw) - about - offset
+    instant = drawn_edge(draw, ends) - about - offset
     changes = []
     for _ in range(draw.choice([1, 1, 2, 2, 3, 4])):
         offset += shift
@@ -553,20 +662,19 @@ def wanted(question, found, shown):
 
 
 def asked(question, jobs, clock, start, way, shown):
-    """The question with its answers, each as it is shown."""
+    """The question with its answers, each as it is shown; and whether a run outside the span was met."""
     members, direction, inclusive = way
     question = {**question, **members}
-    found = answers(jobs, clock, start, direction, inclusive, question["count"])
-    return {**question, "want": wanted(question, found, shown)}
+    found, outside = answers(jobs, clock, start, direction, inclusive, question["count"])
+    return {**question, "want": wanted(question, found, shown)}, outside
 
 
 def zone_of(clock):
     return {"first": clock.first, "changes": [list(change) for change in clock.changes]}
 
 
-def edge_line(draw, longest):
+def edge_line(draw, clock):
     """A search of one pattern on a table of offsets."""
-    clock = drawn_clock(draw, longest)
     text, start = drawn_pattern(draw, drawn_second(draw, clock)), drawn_start(draw, clock)
     op, way = drawn_way(draw)
     question = {"op": op, "text": text, "zone": zone_of(clock), "start": start}
@@ -590,9 +698,8 @@ def civil_text(second):
     return f"{year:04}-{month:02}-{day:02}T{hour:02}:{minute:02}:{second:02}"
 
 
-def table_line(draw, longest):
+def table_line(draw, clock):
     """A search of a table of patterns, on a table of offsets or in civil time."""
-    clock = drawn_clock(draw, longest)
     texts, start = drawn_patterns(draw, clock), drawn_start(draw, clock)
     jobs = [Job(text) for text in texts]
     op, way = drawn_way(draw)
@@ -604,24 +711,27 @@ def table_line(draw, longest):
     return asked(question, jobs, clock, start, way, list)
 
 
-MODES = {"edges": edge_line, "tables": table_line}
+def end_line(draw, clock):
+    """The one or the other."""
+    return draw.choice([edge_line, table_line])(draw, clock)
+
+
+# What is drawn, and how often about the ends of the searched years.
+MODES = {"edges": (edge_line, 0.12), "tables": (table_line, 0.12), "ends": (end_line, 1)}
 
 
 def main(words):
     if len(words) not in (3, 4) or words[0] not in MODES:
         sys.exit(__doc__)
+    line, ends = MODES[words[0]]
     seed, count = int(words[1]), int(words[2])
     longest = int(words[3]) if len(words) == 4 else SIZES[-1]
-    draw, printed, open_ones = random.Random(seed), 0, 0
-    while printed < count:
-        try:
-            question = MODES[words[0]](draw, longest)
-        except Open:
-            open_ones += 1
-            continue
+    draw, outside = random.Random(seed), 0
+    for _ in range(count):
+        question, is_outside = line(draw, drawn_clock(draw, longest, ends))
         print(json.dumps(question, separators=(",", ":")))
-        printed += 1
-    print(f"{printed + open_ones} made up, {printed} printed, {open_ones} open", file=sys.stderr)
+        outside += is_outside
+    print(f"{count} printed, of which {outside} met a run outside the span", file=sys.stderr)
 
 
 if __name__ == "__main__":

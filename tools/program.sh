@@ -1,0 +1,134 @@
+# shellcheck shell=sh
+# What the scripts at the top share about a program of this repository: what it stands on, and whether it is proved and built.
+# They source this file with two names set: top, the folder of the repository, and program, the program's name.
+
+# shellcheck disable=SC2154
+built=$top/crates/$program/out/$program stamp=$top/crates/$program/out/build.stamp
+unset CDPATH
+
+# The lines of crates.txt of the program and of all crates that it stands on, lowest first: by what each names, in whatever
+# order the lines come, and without comments.
+lines_that_count() {
+    awk -v program="$program" '
+        function visit(name, uses, last, at) {
+            if (!(name in line) || name in seen) return
+            seen[name]
+            last = split(libraries[name], uses)
+            for (at = 1; at <= last; at++) visit(uses[at])
+            print line[name]
+        }
+        { sub(/#.*/, ""); gsub(/[ \t\r,]+/, " "); sub(/^ /, ""); sub(/ $/, "") }
+        /./ {
+            name = $1
+            sub(/:.*/, "", name)
+            line[name] = $0
+            if (sub(/^[^:]*:/, "")) libraries[name] = $0
+        }
+        END { visit(program) }' "$top/crates.txt"
+}
+
+# The crates of such lines.
+crates_of() {
+    while read -r line; do
+        printf '%s\n' "${line%%[ :]*}"
+    done
+}
+
+# Each source of the crates that are named, with its size and its time, so that one that was changed, added, removed or put back
+# shows. The folders take the place of the names.
+sources_of() (
+    cd "$top" || exit
+    for each in "$@"; do
+        for part in src specs proofs; do
+            [ ! -d "crates/$each/$part" ] || set -- "$@" "crates/$each/$part"
+        done
+        shift
+    done
+    [ $# = 0 ] || find "$@" ! -type d -printf '%p %s %T@\n' | LC_ALL=C sort
+)
+
+# The identity of the kit whose rt is in PATH, without a call of rt: it stands in a file of the kit. Where that isn't found, the
+# file rt itself is the identity. Fails where there is no rt.
+kit() {
+    rt=$(command -v rt) && rt=$(readlink -f -- "$rt") || return 1
+    if [ -f "${rt%/*/*}/KIT-ID" ]; then
+        cat "${rt%/*/*}/KIT-ID"
+    else
+        find "$rt" -printf '%p %s %T@\n'
+    fi
+}
+
+# All that the proved program depends on, where the kit is $1.
+state() {
+    lines=$(lines_that_count)
+    printf 'kit: %s\n%s\n' "$1" "$lines"
+    # shellcheck disable=SC2046
+    sources_of $(printf '%s\n' "$lines" | crates_of)
+}
+
+program_file() {
+    find "$built" -type f -perm -u+x -printf '%s %T@\n' 2>/dev/null
+}
+
+# Whether the program was built from what stands there now. Where no rt is in PATH, as in a job of cron, there is no other kit.
+is_current() {
+    [ -x "$built" ] && [ -f "$stamp" ] || return 1
+    used=$(kit) || used=$(sed -n 's/^kit: //p' "$stamp")
+    [ "$(state "$used"; program_file)" = "$(cat "$stamp")" ]
+}
+
+# Records that the program was built from the state $1.
+record() {
+    { printf '%s\n' "$1" && program_file; } >"$stamp.new" && mv -f -- "$stamp.new" "$stamp"
+}
+
+# ---- a folder for temporary files, and a command behind, both gone when the script ends, also by a signal
+
+room='' is_behind=no
+
+trap_signals() {
+    trap clean_up EXIT
+    trap 'exit 129' HUP
+    trap 'exit 130' INT
+    trap 'exit 131' QUIT
+    trap 'exit 141' PIPE
+    trap 'exit 143' TERM
+}
+
+make_room() {
+    trap_signals
+    room=$(mktemp -d 2>/dev/null) || return 1
+    case $room in
+        /*) ;;
+        *) room=$PWD/$room ;;
+    esac
+}
+
+# Runs a command behind the script, since no shell heeds a signal while a command runs in front; its status is kept. A shell has
+# words of its own for a command that was killed.
+run_behind() {
+    is_behind=yes
+    "$@" &
+    wait "$!" 2>/dev/null
+    status=$?
+    is_behind=no
+    return "$status"
+}
+
+# What a script does behind itself becomes the command: one that is told to end also when the script is killed.
+become() {
+    ! setpriv --pdeathsig TERM true 2>/dev/null || set -- setpriv --pdeathsig TERM "$@"
+    exec "$@"
+}
+
+# Told to end, rt ends what it started.
+stop_behind() {
+    [ $is_behind = no ] || { kill "$!" && wait "$!"; } 2>/dev/null
+}
+
+# A second signal would cut it short.
+clean_up() {
+    trap '' HUP INT QUIT PIPE TERM
+    stop_behind
+    [ -z "$room" ] || rm -rf -- "$room"
+}
