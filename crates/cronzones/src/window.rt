@@ -1,0 +1,37 @@
+//! Windows: from a first second to a last one.
+
+use crate::fault::Fault;
+use crate::member::{member, number};
+use serde_json::Value;
+
+/// So many seconds behind a window's first one no earlier reading of the zone comes again.
+const MARGIN_SECONDS: i64 = 180_000;
+
+/// A window, in seconds since 1970-01-01T00:00:00 UTC.
+#[derive(Clone, Copy)]
+pub struct Window {
+    pub first: i64,
+    pub last: i64,
+}
+
+impl Window {
+    /// The window of the members `first` and `last`.
+    pub fn read(line: &Value) -> Result<Window, Fault> {
+        let first = number(member(line, "first")?)?;
+        let last = number(member(line, "last")?)?;
+        Ok(Window { first, last })
+    }
+
+    /// Whether a second lies in the window, far enough behind its first one.
+    pub fn has_well_in(self, second: i64) -> bool {
+        second <= self.last && second.saturating_sub(MARGIN_SECONDS) >= self.first
+    }
+
+    /// The runs before the first that does not lie well in the window.
+    pub fn cut(self, runs: &[i64]) -> &[i64] {
+        match runs.iter().position(|run| !self.has_well_in(*run)) {
+            Some(count) => runs.get(..count).unwrap_or(runs),
+            None => runs,
+        }
+    }
+}
