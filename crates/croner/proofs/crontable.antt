@@ -1,4 +1,5 @@
 -- Tables of patterns: the nearest of several answers, what is kept of them, tables that change, and iterators call by call.
+pub mod DueOrder
 pub mod KeptRuns
 pub mod KnownRuns
 pub mod TableChanges
@@ -6,3 +7,4 @@ pub mod TableItems
 pub mod TableIterating
 pub mod TableRuns
 pub mod TableSearch
+pub mod TakenRuns

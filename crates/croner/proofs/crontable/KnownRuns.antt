@@ -1,6 +1,6 @@
 -- An answer of a search of which it is only known that it holds, and not how: what makes it a run can be told from the zone and
 -- the pattern.
-use Rattle.std.proofs.Common.{◌≡◌, ◌⊎◌, inl, inr, ◌+◌, ◌≤◌, ℤ, pos, ◌+ℤ◌, ◌-ℤ◌, ◌<ℤ◌, ◌≤ℤ◌, arith, sym, ap, subst, ◌∙◌, Bool, true, false, Result, Ok, Err, IfOk}
+use Rattle.std.proofs.Common.{◌≡◌, ◌⊎◌, inl, inr, ◌+◌, ◌≤◌, ℤ, pos, ◌+ℤ◌, ◌-ℤ◌, ◌<ℤ◌, ◌≤ℤ◌, arith, sym, ap, subst, ◌∙◌, Bool, true, false}
 use Rattle.std.proofs.Props.{props}
 use Rattle.std.proofs.Math.Logic.{∥∥₁_elim, ∥∥₁_map}
 use Rattle.std.proofs.lemmas.Bool.{false≢true}
@@ -14,23 +14,16 @@ use Rattle.croner_base.specs.declared.time.civil.CivilDateTime.{CivilDateTime}
 use Rattle.croner_base.specs.Calm.{IsCalm}
 use Rattle.croner_base.specs.Civil.{wall_second, seconds_of_time}
 use Rattle.croner_base.specs.Limits.{gap_limit}
-use Rattle.croner_base.specs.declared.errors.CronError.{CronError}
-use Rattle.croner_base.specs.declared.errors.CronError.TheVariants.{TimeSearchLimitExceeded}
-use Rattle.croner_base.specs.Zone.{Zone, Moment, reading, nanos_of}
+use Rattle.croner_base.specs.Zone.{Zone, Moment}
 use Rattle.croner_base.proofs.Chronology.{wall_second-injective}
 use Rattle.croner_base.proofs.JiffSeconds.{wall_second-parts}
 use Rattle.croner_pattern.specs.Meaning.{Meaning}
 use Rattle.croner_pattern.specs.Schedule.{is_plain, is_scheduled, is_date_matching, is_fixed_time, IsScheduled, DateMatches}
 use Rattle.croner_pattern.specs.Shapes.{has_field_shapes}
 use Rattle.croner.specs.Private.search.Halves.{Break}
-use Rattle.croner.specs.search.Limit.{IsWithin}
 use Rattle.croner.specs.search.PatternJob.{pattern_job, timetable_of}
-use Rattle.croner.specs.search.Searches.{IsFound, IsRefused}
-use Rattle.croner.proofs.crontable.KeptRuns.{still_found, still_limited}
+use Rattle.croner.specs.search.Searches.{IsFound}
 use Rattle.croner.specs.search.Runs.{Precedes, Reaches, OwnRun, CarriedRun, Run, StartCounts, Counts}
-use Rattle.croner.specs.declared.crontable.kept.Answer.{Answer}
-use Rattle.croner.specs.declared.crontable.kept.Answer.TheVariants.{Unasked, NoneLeft, Found}
-use Rattle.croner.specs.Private.crontable.Kept.{IsStillFound, IsKnown}
 use Rattle.croner.proofs.cursor.DateSearch.{and-split}
 use Rattle.croner.proofs.cursor.Singles.{single-value, single_time, second_bounds, minute_bounds, hour_bounds}
 use Rattle.croner.proofs.zone.Ahead.{either, not_both}
@@ -192,36 +185,15 @@ reaches_prop Forward a b = hlevel props
 reaches_prop Backward a b = hlevel props
 
 -- what is kept of a job
-module _ {T : Type 0} (moment : T → Moment) (direction : Direction) (inclusive : Bool) (m : Meaning) (start : Moment) (shapes : has_field_shapes m ≡ true) where
-  still_known : (found : Moment) → ∥ IsStillFound direction inclusive (timetable_of m) start found ∥₁ → IsStillFound direction inclusive (timetable_of m) start found
-  still_known found h = record {
-    nearest = λ starts ahead. record {
-      counts = counts_known m start.zone shapes starts.calm direction inclusive start.instant found.instant (∥∥₁_map h (λ f. (f.nearest starts ahead).counts));
-      nearest = λ j counted. ∥∥₁_elim h (reaches_prop direction found.instant j) (λ f. (f.nearest starts ahead).nearest j counted);
-    };
-    zone = ∥∥₁_elim h (zone_set found.zone start.zone) (λ f. f.zone);
-    whole = ∥∥₁_elim h (hlevel props) (λ f. f.whole);
-    shows = λ p. ∥∥₁_elim h (scheduled_prop m (start.zone.reads found.instant)) (λ f. f.shows p);
-  }
-
-  pub answer_known : (kept : Answer T) → ∥ IsKnown moment direction inclusive (timetable_of m) start kept ∥₁ → IsKnown moment direction inclusive (timetable_of m) start kept
-  answer_known Unasked h = tt
-  answer_known NoneLeft h = λ starts i span counted. ∥∥₁_elim h (λ a b. absurd a) (λ none. none starts i span counted)
-  answer_known (Found t) h = still_known (moment t) h
-
-module _ {T : Type 0} (moment : T → Moment) (lack : Bool) (direction : Direction) (inclusive : Bool) (m : Meaning) (start : Moment) (shapes : has_field_shapes m ≡ true) (kept : Answer T) where
-  abbrev Knows : Answer T → Type 0
-  Knows a = ∥ IsKnown moment direction inclusive (timetable_of m) start a ∥₁
-
-  -- as the code answers from what is kept
-  pub known_limited : kept ≡ NoneLeft → Knows kept → IsRefused lack direction inclusive (timetable_of m) start TimeSearchLimitExceeded
-  known_limited is known =
-      still_limited moment lack direction inclusive (timetable_of m) start
-      (answer_known moment direction inclusive m start shapes NoneLeft (subst Knows is known))
-
-  pub known_copied : (t : T) → kept ≡ Found t → Knows kept → IsWithin direction (reading start) → Precedes direction (nanos_of start) (nanos_of (moment t)) → (result : Result T CronError) → IfOk result (λ copy. moment copy ≡ moment t)
-      → IfOk result (λ copy. IsFound direction inclusive (timetable_of m) start (moment copy))
-  known_copied t is known within ahead (Ok copy) same =
-      let P : Moment → Type 0 = IsFound direction inclusive (timetable_of m) start in
-      subst P (sym same) (still_found moment lack direction inclusive (timetable_of m) start (moment t) within ahead (answer_known moment direction inclusive m start shapes (Found t) (subst Knows is known)))
-  known_copied t is known within ahead (Err e) same = tt
+pub found_known : (direction : Direction) (inclusive : Bool) (m : Meaning) (start found : Moment) → has_field_shapes m ≡ true → ∥ IsFound direction inclusive (timetable_of m) start found ∥₁
+    → IsFound direction inclusive (timetable_of m) start found
+found_known direction inclusive m start found shapes h = record {
+  nearest = λ starts. record {
+    counts = counts_known m start.zone shapes starts.calm direction inclusive start.instant found.instant (∥∥₁_map h (λ f. (f.nearest starts).counts));
+    nearest = λ j counted. ∥∥₁_elim h (reaches_prop direction found.instant j) (λ f. (f.nearest starts).nearest j counted);
+  };
+  zone = ∥∥₁_elim h (zone_set found.zone start.zone) (λ f. f.zone);
+  whole = ∥∥₁_elim h (hlevel props) (λ f. f.whole);
+  shows = λ p. ∥∥₁_elim h (scheduled_prop m (start.zone.reads found.instant)) (λ f. f.shows p);
+  left = λ past. ∥∥₁_elim h (λ a b. absurd a) (λ f. f.left past);
+}

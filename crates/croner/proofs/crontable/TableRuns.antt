@@ -99,6 +99,20 @@ room_refused direction inclusive patterns start = record {
   past = λ p. inr (refl, refl);
 }
 
+-- what refuses the search of one pattern, but for the limit, refuses the search
+pub place_refused : (lack : Bool) (direction : Direction) (inclusive : Bool) (patterns : List Meaning) (start : Moment) (k : ℕ) (m : Meaning) (e : CronError) → slice_get patterns k ≡ Some m
+    → IsRefused lack direction inclusive (timetable_of m) start e → ¬ (e ≡ TimeSearchLimitExceeded) → IsTableRefused direction inclusive patterns start e
+place_refused lack direction inclusive patterns start k m e stands why other = record {
+  limit = λ calm is. absurd (other is);
+  promised = λ p. or_memory lack e (why.promised p);
+  kind = with_memory lack e why.kind;
+  past = λ past.
+      let lt : k < length patterns = slice_get_within patterns k m stands in
+      let here : get_or patterns k m ≡ m = get_or_from_slice_get patterns k m m stands in
+      let P : Meaning → Type 0 = λ x. IsPast direction inclusive (timetable_of x).scheduled (reading start) in
+      inl (why.past (subst P here (past k m lt)));
+}
+
 module _ {T : Type 0} (moment : T → Moment) (direction : Direction) (inclusive : Bool) (patterns : List Meaning) (start : Moment) where
   abbrev pub At : ℕ → ℤ → Type 0
   At k i = CountsAt direction inclusive patterns start.zone start.instant k i

@@ -1,14 +1,16 @@
 //! Iterators over the runs of a table.
 ghost use Rattle.std.specs.Prelude.{◌≡◌, ◌&&◌, true, false, None, IsTrue};
+ghost use Rattle.std.specs.BinaryHeap.{heap_items};
 ghost use Rattle.croner_base.specs.declared.time.Direction.{Direction};
 ghost use Rattle.croner.specs.crontable.Tables.{patterns_of};
 ghost use Rattle.croner.specs.iterator.Faults.{is_kept};
-ghost use Rattle.croner.specs.Private.crontable.Kept.{AreKnown};
+ghost use Rattle.croner.specs.Private.crontable.Kept.{AreKept};
 
 use super::CronTable;
-use super::asked::{let_go, search, unasked};
-use super::kept::Answer;
+use super::asked::search;
+use super::kept::Kept;
 use crate::iterator::{copied, fault_of};
+use crate::search::wall::is_within;
 use croner_base::errors::CronError;
 use croner_base::time::{CronDateTime, Direction};
 use std::alloc::AllocError;
@@ -28,20 +30,22 @@ pub struct CronTableIterator<'t, T: CronDateTime> {
     is_first: bool,
     inclusive: bool,
     direction: Direction,
-    answers: Vec<Answer<T>>,
+    kept: Kept<T>,
     fault: Option<CronError>,
-    ghost kept: { IsTrue (is_kept fault) },
+    ghost kept_fault: { IsTrue (is_kept fault) },
     ghost whole: { is_first ≡ false → (T.moment position).fraction ≡ 0 },
-    ghost known: { AreKnown T.moment (patterns_of table.now) direction (is_first && inclusive) (T.moment position) answers.items },
+    ghost known: { kept.is_begun ≡ true
+        → AreKept T.moment (patterns_of table.now) direction (is_first && inclusive) (T.moment position) (heap_items kept.dues) kept.waiting.items kept.is_limited },
 }
 
 impl<'t, T: CronDateTime> CronTableIterator<'t, T> {
-    ghost use Rattle.std.specs.Prelude.{IfSome, IfNone, IfErr, Some, option_map};
+    ghost use Rattle.std.specs.Prelude.{IfOk, IfErr, IfSome, IfNone, Some, option_map};
+    ghost use Rattle.croner_base.specs.Zone.{reading};
+    ghost use Rattle.croner.specs.search.Limit.{IsWithin};
     ghost use Rattle.croner.specs.search.Refusal.{IsRefusal};
     ghost use Rattle.croner.specs.crontable.TableListing.{table_standing_of, new_table_standing, counts_table_position, table_moved, TableSettles};
     ghost use Rattle.croner.specs.crontable.Tables.{IsTableFound, IsTableRefused};
-    ghost use Rattle.croner.specs.Private.crontable.Kept.{LeadsTo};
-    ghost use Rattle.std.specs.Prelude.{IfOk};
+    ghost use Rattle.croner.specs.Private.crontable.Kept.{LeadsTo, LieAhead};
 
     // An iterator from a start: it counts the start where it is inclusive and some job runs there.
     pub(crate) fn new(
@@ -58,7 +62,7 @@ impl<'t, T: CronDateTime> CronTableIterator<'t, T> {
             is_first: true,
             inclusive,
             direction,
-            answers: Vec::new(table.alloc),
+            kept: Kept::new(table.alloc),
             fault: None,
         }
     }
@@ -85,27 +89,38 @@ impl<'t, T: CronDateTime> CronTableIterator<'t, T> {
             (patterns_of self.old.table.now) (T.moment self.old.position) (T.moment r.0) r.1.items) }
         ensures refused { IfErr result (IsTableRefused self.old.direction (counts_table_position (table_standing_of T.moment self.old))
             (patterns_of self.old.table.now) (T.moment self.old.position)) }
+        ensures ahead { IfOk result (λ r. LieAhead T.moment self.new.direction (T.moment r.0) (heap_items self.new.kept.dues)) }
     {
         if self.table.is_empty() {
             return Err(CronError::TimeSearchLimitExceeded);
         }
-        if self.answers.len() != self.table.len() {
-            self.answers = unasked(self.table.alloc, self.table.len())?;
+        match self.kept.begin(self.table.alloc, self.table.len()) {
+            Ok(()) => {}
+            Err(refused) => return Err(refused),
         }
         let inclusive = self.counts_position();
         search(
             self.table,
-            &mut self.answers,
+            &mut self.kept,
             &self.position,
             inclusive,
             self.direction,
         )
     }
 
-    // Stands at the run that was found from now on, and gives it with its places; or keeps the want of memory for its copy. From
-    // a start, which may have a fraction, nothing is kept.
+    // Whether what is kept is so from an item on: not behind a start, which may have a fraction, nor where the item lies outside
+    // the searched years.
+    fn keeps_over(&self, item: &T) -> bool
+        ensures moved { IsTrue result → self.now.is_first ≡ false }
+        ensures within { IsTrue result → IsWithin self.now.direction (reading (T.moment item.now)) }
+    {
+        !self.is_first && is_within(item.to_civil(), self.direction)
+    }
+
+    // Stands at the run that was found from now on, and gives it with its places; or keeps the want of memory for its copy.
     fn step_to(&mut self, found: T, places: Vec<usize>) -> Option<(T, Vec<usize>)>
-        requires { LeadsTo self.old.direction (T.moment self.old.position) (T.moment found) }
+        requires leads { LeadsTo self.old.direction (T.moment self.old.position) (T.moment found) }
+        requires ahead { LieAhead T.moment self.old.direction (T.moment found) (heap_items self.old.kept.dues) }
         ensures item { IfSome result (λ item. T.moment item.0 ≡ T.moment found) }
         ensures places { IfSome result (λ item. item.1 ≡ places) }
         ensures moved { IfSome result
@@ -116,7 +131,8 @@ impl<'t, T: CronDateTime> CronTableIterator<'t, T> {
     {
         match found.clone() {
             Ok(item) => {
-                let_go(&mut self.answers, self.is_first);
+                let keeps = self.keeps_over(&found);
+                self.kept.let_go_unless(keeps);
                 self.position = found;
                 self.is_first = false;
                 self.fault = None;
@@ -133,6 +149,7 @@ impl<'t, T: CronDateTime> CronTableIterator<'t, T> {
     fn settle(&mut self, answer: Result<(T, Vec<usize>), CronError>) -> Option<(T, Vec<usize>)>
         requires refusal { IfErr answer (IsRefusal true) }
         requires leads { IfOk answer (λ r. LeadsTo (table_standing_of T.moment self.old).direction (table_standing_of T.moment self.old).position (T.moment r.0)) }
+        requires ahead { IfOk answer (λ r. LieAhead T.moment self.old.direction (T.moment r.0) (heap_items self.old.kept.dues)) }
         ensures { TableSettles T.moment T.can_lack_memory (table_standing_of T.moment self.old) answer result (table_standing_of T.moment self.new) }
     {
         match answer {
@@ -159,7 +176,7 @@ impl<'t, T: CronDateTime> Clone for CronTableIterator<'t, T> {
             is_first: self.is_first,
             inclusive: self.inclusive,
             direction: self.direction,
-            answers: Vec::new(self.table.alloc),
+            kept: Kept::new(self.table.alloc),
             fault: copied(&self.fault),
         })
     }

@@ -3,6 +3,7 @@ ghost use Rattle.std.specs.Prelude.{◌≡◌, true};
 ghost use Rattle.croner.specs.Views.{job_of};
 
 mod asked;
+mod due;
 mod iterator;
 mod kept;
 mod nearest;

@@ -1,5 +1,5 @@
 //! The nearest of the answers that the searches of a table's jobs give, in the order of their places.
-ghost use Rattle.std.specs.Prelude.{◌≡◌, ◌<◌, ◌≤◌, ◌+◌, IfOk, IfErr, vec_len, vec_capacity};
+ghost use Rattle.std.specs.Prelude.{◌≡◌, Some, ◌<◌, ◌≤◌, ◌+◌, IfOk, IfErr, vec_len, vec_capacity};
 
 use crate::search::fold::is_in_span;
 use croner_base::errors::CronError;
@@ -32,6 +32,17 @@ impl<T> Met<T> {
                 is_limited: false,
             }),
             Err(_) => Err(CronError::OutOfMemory),
+        }
+    }
+
+    /// A run with all places that stand there.
+    pub(super) fn found(run: T, places: Vec<usize>, is_limited: bool) -> Met<T>
+        ensures { result ≡ record { nearest = Some run; places = places; is_limited = is_limited } }
+    {
+        Met {
+            nearest: Some(run),
+            places,
+            is_limited,
         }
     }
 }

@@ -1,82 +1,116 @@
-use Rattle.std.proofs.Common.{◌≡◌, length, refl, arith}
-use Rattle.std.proofs.lemmas.List.{length-map}
-use Rattle.croner.specs.crontable.Tables.{patterns_of}
+use Rattle.std.proofs.Common.{◌≡◌, length, refl, sym, ap, ◌∙◌, arith}
+use Rattle.std.specs.BinaryHeap.{heap_items, heap_len}
+use Rattle.std.specs.List.{each_same}
 use Rattle.croner.specs.Private.crontable.Met.{met_of}
-use Rattle.croner.specs.Views.{job_of}
-use Rattle.croner.proofs.crontable.KeptRuns.{set_known, kept_there}
-use Rattle.croner.proofs.crontable.TableRuns.{taken, refused_place, room_refused, refused_in_room}
-use Rattle.croner.proofs.crontable.TableSearch.{searched_first, searched_all, decided_found, decided_refused, answered_in_room}
+use Rattle.croner.specs.crontable.Tables.{patterns_of}
+use Rattle.croner.proofs.crontable.KeptRuns.{same_kept, turned_kept}
+use Rattle.croner.proofs.crontable.TableSearch.{decided_found, decided_refused, answered_in_room}
+use Rattle.croner.proofs.crontable.TakenRuns.{shaped_at, taken_first, taken_again, rest_ahead, lie_ahead, searched_met, nothing_found, ahead_decided}
 use Rattle.croner.proofs.crontable.asked.search.Goals as goal
 
-pub returns-in_default-clause-refused : goal.returns-in_default-clause-refused
-returns-in_default-clause-refused g c =
-    room_refused c.args.direction c.args.inclusive (patterns_of c.args.table.now) (g.T.CronDateTime.moment c.args.position.now)
-
-pub loop-place-init : goal.loop-place-init
-loop-place-init g c =
+pub returns-then-is_err-clause-kept : goal.returns-then-is_err-clause-kept
+returns-then-is_err-clause-kept g c =
     let moment = g.T.CronDateTime.moment in
-    let begun = rw c.in-Ok.is at c.new.ensures in
+    let all = c.ask_all.new.self in
+    same_kept moment (patterns_of c.args.table.now) c.args.direction c.args.inclusive (moment c.args.position.now) (heap_items all.dues) (heap_items all.dues) all.waiting.items c.reserve.new.self.items
+    all.is_limited all.is_limited refl c.reserve.ensures.items refl c.ask_all.ensures.kept
+
+pub returns-in-None-clause-kept : goal.returns-in-None-clause-kept
+returns-in-None-clause-kept g c =
+    let moment = g.T.CronDateTime.moment in
+    let all = c.ask_all.new.self in
+    let gone = c.pop.new.self in
+    same_kept moment (patterns_of c.args.table.now) c.args.direction c.args.inclusive (moment c.args.position.now) (heap_items all.dues) (heap_items gone.dues) all.waiting.items gone.waiting.items
+    all.is_limited gone.is_limited c.in-None.ensures.same.0 (ap (λ v. v.items) c.in-None.ensures.same.1 ∙ c.reserve.ensures.items) c.pop.ensures.limited c.ask_all.ensures.kept
+
+pub tied-init : goal.tied-init
+tied-init g c =
+    let moment = g.T.CronDateTime.moment in
+    let all = c.ask_all.new.self in
+    let one = c.pop.new.self in
+    let kept = same_kept moment (patterns_of c.args.table.now) c.args.direction c.args.inclusive (moment c.args.position.now) (heap_items all.dues) (heap_items all.dues) all.waiting.items c.reserve.new.self.items
+    all.is_limited one.is_limited refl c.reserve.ensures.items c.pop.ensures.limited c.ask_all.ensures.kept in
+    let none : length c.reserve.new.self.items ≡ 0 = ap length c.reserve.ensures.items ∙ omega (arith, c.in-Ok.ensures.none, all.waiting.ok.0) in
     record {
-      searched = searched_first moment g.T.CronDateTime.can_lack_memory c.args.direction c.args.inclusive (moment c.args.position.now) (patterns_of c.args.table.now) (met_of c.in-Ok.met) begun.ok;
-      filled = omega (arith, begun.empty);
-      room = omega (arith, begun.room, c.len.ensures);
-      all = c.requires.len;
-      known = c.requires.known;
+      taken = taken_first moment (patterns_of c.args.table.now) c.args.direction c.args.inclusive (moment c.args.position.now) (shaped_at c.args.table.now.jobs.items) (heap_items all.dues) (heap_items one.dues)
+          c.reserve.new.self.items one.waiting.items one.is_limited c.in-Some.run' kept c.in-Some.ensures.popped none;
+      room = c.pop.ensures.room;
+      begun = refl;
     }
 
-pub answer_of-answer-requires-clause-known : goal.answer_of-answer-requires-clause-known
-answer_of-answer-requires-clause-known g c =
-    let held = c.loop-place.invariant in
-    kept_there g.T.CronDateTime.moment (patterns_of c.args.table.now) c.args.direction c.args.inclusive (g.T.CronDateTime.moment c.args.position.now) c.loop-place.kept.items c.loop-place.place (job_of c.job_at-job.result.now) c.index_mut.result.now
-    (omega (arith, held.all, c.loop-place.kept.ok.0, c.args.table.now.jobs.ok.0, length-map c.args.table.now.jobs.items job_of)) c.index_mut.ensures.value c.job_at-job.ensures.stands held.known
-
-pub loop-place-preserved : goal.loop-place-preserved
-loop-place-preserved g c =
+pub returns-in-None-clause-refused : goal.returns-in-None-clause-refused
+returns-in-None-clause-refused g c =
     let moment = g.T.CronDateTime.moment in
-    let held = c.loop-place.invariant in
+    let all = c.ask_all.new.self in
+    nothing_found moment (patterns_of c.args.table.now) c.args.direction c.args.inclusive (moment c.args.position.now) (shaped_at c.args.table.now.jobs.items) (heap_items all.dues) all.waiting.items all.is_limited
+    c.ask_all.ensures.kept (omega (arith, c.in-None.ensures.none, all.dues.data.ok.0)) (omega (arith, c.in-Ok.ensures.none, all.waiting.ok.0))
+
+pub tied-preserved-in-tied : goal.tied-preserved-in-tied
+tied-preserved-in-tied g c =
+    let moment = g.T.CronDateTime.moment in
+    let old = c.tied.kept in
+    let more = c.pop-in-tied.new.self in
     record {
-      searched = taken moment c.args.direction c.args.inclusive (patterns_of c.args.table.now) (moment c.args.position.now) c.loop-place.place (met_of c.loop-place.met) held.searched
-          (job_of c.job_at-job.result.now) c.job_at-job.ensures.stands g.T.CronDateTime.can_lack_memory c.answer_of-answer.result (met_of c.take.new.self) c.take.result
-          c.answer_of-answer.ensures.found c.answer_of-answer.ensures.refused c.take.ensures.step _ c.in-Ok-take.is;
-      filled = omega (arith, c.take.ensures.longer, held.filled);
-      room = omega (arith, c.take.ensures.room, held.room);
-      all = held.all;
-      known = set_known moment (patterns_of c.args.table.now) c.args.direction c.args.inclusive (moment c.args.position.now) c.loop-place.kept.items c.loop-place.place (job_of c.job_at-job.result.now) c.answer_of-answer.new.kept
-          (omega (arith, held.all, c.loop-place.kept.ok.0, c.args.table.now.jobs.ok.0, length-map c.args.table.now.jobs.items job_of)) c.job_at-job.ensures.stands c.answer_of-answer.ensures.known held.known;
+      taken = taken_again moment (patterns_of c.args.table.now) c.args.direction c.args.inclusive (moment c.args.position.now) (shaped_at c.args.table.now.jobs.items) (heap_items old.dues) (heap_items more.dues)
+          old.waiting.items more.waiting.items old.is_limited more.is_limited c.in-Some.run' (heap_len old.dues) c.pop-in-tied.result c.pop-in-tied.ensures.limited c.pop-in-tied.ensures.popped
+          c.pop-in-tied.ensures.none (c.is_tied.ensures.some c.tied-test.true) c.tied.invariant.taken (c.is_tied.ensures.tied c.tied-test.true);
+      room = c.pop-in-tied.ensures.room;
+      begun = c.pop-in-tied.ensures.begun ∙ c.tied.invariant.begun;
     }
 
-pub returns-in-Err-clause-refused : goal.returns-in-Err-clause-refused
-returns-in-Err-clause-refused g c =
+pub returns-clause-kept : goal.returns-clause-kept
+returns-clause-kept g c =
     let moment = g.T.CronDateTime.moment in
-    let held = c.loop-place.invariant in
-    refused_in_room g.T.CronDateTime.can_lack_memory c.args.direction c.args.inclusive (patterns_of c.args.table.now) (moment c.args.position.now) c.in-Err.refused
-    (refused_place moment c.args.direction c.args.inclusive (patterns_of c.args.table.now) (moment c.args.position.now) c.loop-place.place (met_of c.loop-place.met) held.searched
-    (job_of c.job_at-job.result.now) c.job_at-job.ensures.stands g.T.CronDateTime.can_lack_memory c.answer_of-answer.result (met_of c.take.new.self) c.take.result c.in-Err.refused
-    c.answer_of-answer.ensures.refused c.take.ensures.step c.in-Err.is)
+    let last = c.tied.kept in
+    turned_kept moment (patterns_of c.args.table.now) c.args.direction c.args.inclusive (moment c.args.position.now) (heap_items last.dues) last.waiting.items c.reverse.new.self.items last.is_limited
+    c.tied.invariant.taken.kept c.reverse.ensures.permutation
 
-pub returns-in-Err-clause-known : goal.returns-in-Err-clause-known
-returns-in-Err-clause-known g c =
+pub returns-clause-ahead : goal.returns-clause-ahead
+returns-clause-ahead g c =
     let moment = g.T.CronDateTime.moment in
-    set_known moment (patterns_of c.args.table.now) c.args.direction c.args.inclusive (moment c.args.position.now) c.loop-place.kept.items c.loop-place.place (job_of c.job_at-job.result.now) c.answer_of-answer.new.kept
-    (omega (arith, c.loop-place.invariant.all, c.loop-place.kept.ok.0, c.args.table.now.jobs.ok.0, length-map c.args.table.now.jobs.items job_of)) c.job_at-job.ensures.stands c.answer_of-answer.ensures.known c.loop-place.invariant.known
+    let last = c.tied.kept in
+    let shapes = shaped_at c.args.table.now.jobs.items in
+    let patterns = patterns_of c.args.table.now in
+    let start = moment c.args.position.now in
+    let run = c.in-Some.run' in
+    let taken = c.tied.invariant.taken in
+    let apart = rest_ahead moment patterns c.args.direction c.args.inclusive start shapes run (heap_items last.dues) last.waiting.items last.is_limited taken
+    (λ some. c.is_tied.ensures.apart c.tied-test.false (omega (arith, some, last.dues.data.ok.0))) in
+    ahead_decided moment g.T.CronDateTime.can_lack_memory c.args.direction (met_of c.found.result) run (heap_items last.dues) c.found.result.places c.decide.result (ap (λ m. m.nearest) c.found.ensures)
+    (lie_ahead moment patterns c.args.direction c.args.inclusive start shapes run (heap_items last.dues) last.waiting.items last.is_limited taken apart) c.decide.ensures
 
 pub returns-clause-found : goal.returns-clause-found
 returns-clause-found g c =
     let moment = g.T.CronDateTime.moment in
-    let lack = g.T.CronDateTime.can_lack_memory in
-    let jobs = c.args.table.now.jobs.items in
-    let met = c.loop-place.met in
-    let all : c.loop-place.place ≡ length c.args.table.now.jobs.items = omega arith in
-    decided_found moment lack c.args.direction c.args.inclusive (moment c.args.position.now) (patterns_of c.args.table.now) (met_of met)
-    (searched_all moment lack c.args.direction c.args.inclusive (moment c.args.position.now) jobs c.loop-place.place (met_of met) all c.loop-place.invariant.searched) met.places c.decide.result refl c.decide.ensures
+    let last = c.tied.kept in
+    let shapes = shaped_at c.args.table.now.jobs.items in
+    let patterns = patterns_of c.args.table.now in
+    let start = moment c.args.position.now in
+    let run = c.in-Some.run' in
+    let taken = c.tied.invariant.taken in
+    let apart = rest_ahead moment patterns c.args.direction c.args.inclusive start shapes run (heap_items last.dues) last.waiting.items last.is_limited taken
+    (λ some. c.is_tied.ensures.apart c.tied-test.false (omega (arith, some, last.dues.data.ok.0))) in
+    let places = c.in-Ok-clone.places in
+    let same = each_same last.waiting.items places.items c.in-Ok-clone.ensures.cases.0 in
+    decided_found moment g.T.CronDateTime.can_lack_memory c.args.direction c.args.inclusive start patterns (met_of c.found.result)
+    (searched_met moment patterns c.args.direction c.args.inclusive start shapes run (heap_items last.dues) last.waiting.items last.is_limited taken apart c.found.result places c.found.ensures same)
+    c.found.result.places c.decide.result refl c.decide.ensures
 
 pub returns-clause-refused : goal.returns-clause-refused
 returns-clause-refused g c =
     let moment = g.T.CronDateTime.moment in
     let lack = g.T.CronDateTime.can_lack_memory in
-    let jobs = c.args.table.now.jobs.items in
-    let met = c.loop-place.met in
-    let all : c.loop-place.place ≡ length c.args.table.now.jobs.items = omega arith in
-    answered_in_room lack c.args.direction c.args.inclusive (patterns_of c.args.table.now) (moment c.args.position.now) c.decide.result
-    (decided_refused moment lack c.args.direction c.args.inclusive (moment c.args.position.now) (patterns_of c.args.table.now) (met_of met)
-    (searched_all moment lack c.args.direction c.args.inclusive (moment c.args.position.now) jobs c.loop-place.place (met_of met) all c.loop-place.invariant.searched) met.places c.decide.result c.decide.ensures)
+    let last = c.tied.kept in
+    let shapes = shaped_at c.args.table.now.jobs.items in
+    let patterns = patterns_of c.args.table.now in
+    let start = moment c.args.position.now in
+    let run = c.in-Some.run' in
+    let taken = c.tied.invariant.taken in
+    let apart = rest_ahead moment patterns c.args.direction c.args.inclusive start shapes run (heap_items last.dues) last.waiting.items last.is_limited taken
+    (λ some. c.is_tied.ensures.apart c.tied-test.false (omega (arith, some, last.dues.data.ok.0))) in
+    let places = c.in-Ok-clone.places in
+    let same = each_same last.waiting.items places.items c.in-Ok-clone.ensures.cases.0 in
+    answered_in_room lack c.args.direction c.args.inclusive patterns start c.decide.result
+    (decided_refused moment lack c.args.direction c.args.inclusive start patterns (met_of c.found.result)
+    (searched_met moment patterns c.args.direction c.args.inclusive start shapes run (heap_items last.dues) last.waiting.items last.is_limited taken apart c.found.result places c.found.ensures same)
+    c.found.result.places c.decide.result c.decide.ensures)

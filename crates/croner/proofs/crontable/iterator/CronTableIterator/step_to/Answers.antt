@@ -1,10 +1,10 @@
 use Rattle.croner.specs.crontable.Tables.{patterns_of}
-use Rattle.croner.proofs.crontable.KeptRuns.{all_after}
+use Rattle.croner.proofs.crontable.KeptRuns.{kept_after}
 use Rattle.croner.proofs.crontable.iterator.CronTableIterator.step_to.Goals as goal
 
 pub invariant_of-self-clause-known : goal.invariant_of-self-clause-known
 invariant_of-self-clause-known g c =
     let moment = g.T.CronDateTime.moment in
     let old = c.args.self.now in
-    all_after moment (patterns_of old.table.now) old.direction old.is_first old.inclusive (moment old.position) (moment c.args.found) old.answers.items c.let_go.new.kept.items
-    c.let_go.ensures.nothing c.let_go.ensures.same old.whole c.requires old.known
+    kept_after moment (patterns_of old.table.now) old.direction old.is_first old.inclusive (moment old.position) (moment c.args.found) old.kept c.let_go_unless.new.self c.keeps_over-keeps.result
+    c.let_go_unless.ensures.stays c.let_go_unless.ensures.nothing c.keeps_over-keeps.ensures.moved c.keeps_over-keeps.ensures.within old.whole c.requires.leads c.requires.ahead old.known
