@@ -6,6 +6,7 @@ pub mod FieldReads
 pub mod Names
 pub mod NoTexts
 pub mod OwnCuts
+pub mod Places
 pub mod ShapedTexts
 pub mod Starred
 pub mod Trimmed

@@ -4,3 +4,4 @@ pub mod Words
 pub mod Cut
 pub mod Grammar
 pub mod Gives
+pub mod Faults

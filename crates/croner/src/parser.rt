@@ -2,18 +2,24 @@
 
 ghost use Rattle.std.specs.Prelude.{◌≡◌, ◌||◌, true, false, Some, None, IfOk, MatchOption, map, string_bytes};
 
+mod escapes;
+mod explain;
+mod fault;
 mod fields;
+mod messages;
+mod part;
+mod place;
 mod read;
 mod refusals;
+mod second_reading;
 mod text;
 
 use crate::job::Cron;
 use croner_base::errors::CronError;
-use fields::{
-    FieldTexts, has_byte, has_plus, illegal_field, seven, starred, text_or, without_plus,
-};
+pub use fault::{Expected, FaultKind, Hint, PatternFault, PatternField, Suggestion, ValueNames};
+use fields::{FieldTexts, are_legal, has_byte, has_plus, seven, starred, text_or, without_plus};
 use read::{Mode, read_pattern};
-use refusals::{illegal_character, lost_letter, wrong_count};
+use refusals::{illegal_character, wrong_count};
 use std::alloc::{AllocError, Global};
 use std::marker::Model;
 use text::{nicknamed, replaced, words};
@@ -160,7 +166,10 @@ impl CronParser {
     pub fn parse(&self, alloc: Global, pattern: &str) -> Result<Cron, CronError>
         ensures { Gives job_of result (outcome self.now pattern.now) }
     {
-        self.parse_text(alloc, pattern)
+        match self.parse_text(alloc, pattern) {
+            Ok(job) => Ok(job),
+            Err(refused) => Err(self.told(alloc, pattern, refused)),
+        }
     }
 
     /// Raises and trims a text, and reads it.
@@ -217,9 +226,9 @@ impl CronParser {
     {
         let count = words(alloc, full)?.len();
         if self.accepts_count(count) {
-            Err(lost_letter(alloc, full))
+            Err(illegal_character(alloc))
         } else {
-            Err(wrong_count(alloc, count, self.seconds, self.year))
+            Err(wrong_count(alloc))
         }
     }
 
@@ -249,7 +258,7 @@ impl CronParser {
                 return self.parse_fields(alloc, text, given);
             }
         }
-        Err(wrong_count(alloc, count, self.seconds, self.year))
+        Err(wrong_count(alloc))
     }
 
     /// Reads a text of seven fields.
@@ -294,8 +303,8 @@ impl CronParser {
     ) -> Result<Cron, CronError>
         ensures { Gives job_of result (of_settled self.now text.now (texts_of fields.entry) and) }
     {
-        if let Some((field, legal)) = illegal_field(fields) {
-            return Err(illegal_character(alloc, field, legal));
+        if !are_legal(fields) {
+            return Err(illegal_character(alloc));
         }
         let mode = Mode {
             quartz: self.alternative_weekdays,

@@ -116,7 +116,7 @@ const DESCRIPTIONS: &str = r#"
     describe | , * * * *            | 0 "At minute  past every hour.\n" ""
     describe | 60 * * * *           | 1 "" Component error
     describe | 5/10 * * * *         | 1 "" Component error
-    describe | * * * *              | 1 "" "Invalid pattern: The pattern has 4 fields, but 5, 6 or 7 are expected.\n"
+    describe | * * * *              | 1 "" "Invalid pattern: At character 7: the pattern has 4 fields, but 5, 6 or 7 are expected. Found: '*'.\n"
     describe |                      | 1 "" "CronPattern cannot be an empty string.\n"
 
     describe | 2 "" usage

@@ -14,7 +14,7 @@ const WHITE_SPACE: &str =
     "\t\n\u{b}\u{c}\r \u{85}\u{a0}\u{1680}\u{2000}\u{2001}\u{2002}\u{2003}\u{2004}\u{2005}\u{2006}\u{2007}\u{2008}\u{2009}\u{200a}\u{2028}\u{2029}\u{202f}\u{205f}\u{3000}";
 
 /// The most bytes that the message of a refusal has.
-const LONGEST_MESSAGE: usize = 250;
+const LONGEST_MESSAGE: usize = 900;
 
 /// How many values are shown one by one.
 const SHOWN: usize = 10;
@@ -46,6 +46,7 @@ fn named(cell: &str) -> &str {
     match cell {
         "white space" => WHITE_SPACE,
         "NUL" => "\0",
+        "no width" => "\u{feff}",
         _ => cell,
     }
 }
@@ -138,6 +139,7 @@ const ROWS: &str = r##"
     ""              | @           | 1000000 | " * * * *"     | minutes  | IllegalCharacters
     ""              | NUL         | 1000000 | " * * * *"     | minutes  | IllegalCharacters
     ""              | NUL         | 1000000 | ""             | minutes  | InvalidPattern
+    "@"             | no width    | 300000  | ""             | minutes  | InvalidPattern
     "* * * * * "    | NUL         | 1       | ""             | years    | IllegalCharacters
 
     ""              | *           | 1000000 | " * * * *"     | minutes  | ComponentError

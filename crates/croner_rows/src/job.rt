@@ -115,6 +115,8 @@ fn with(builder: CronParserBuilder, setting: &str) -> Result<CronParserBuilder, 
         "seconds disallowed" => Ok(builder.seconds(Seconds::Disallowed)),
         "year required" => Ok(builder.year(Year::Required)),
         "year disallowed" => Ok(builder.year(Year::Disallowed)),
+        "quartz" => Ok(builder.alternative_weekdays(true)),
+        "sloppy" => Ok(builder.sloppy_ranges(true)),
         _ => Err(Fault::Malformed),
     }
 }

@@ -44,6 +44,8 @@ mod messages;
 #[cfg(test)]
 mod narrow;
 #[cfg(test)]
+mod refusals;
+#[cfg(test)]
 mod table;
 #[cfg(test)]
 mod tables_that_change;

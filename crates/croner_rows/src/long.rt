@@ -48,10 +48,11 @@ impl Question for Length {
 
 const MINUTES: &str = r#"
     , | 100000 | " * * * *"    | []
-    9 | 32     | " * * * *"    | Component error: In the field minutes: Invalid number '99999999999999999999999999999999' in the part '99999999999999999999999999999999': expected one from 0 to 65535.
-    9 | 33     | " * * * *"    | Component error: In the field minutes: Invalid number '99999999999999999999999999999999' (characters left out: 1) in the part '99999999999999999999999999999999' (characters left out: 1): expected one from 0 to 65535.
-    0 | 55     | " * * * Xé"   | Pattern contains illegal characters: The pattern '0000000000000000000000000000000000000000000000000000000 * * * Xé' has a letter that is neither L nor W, and in no name of a month or a weekday.
-    0 | 55     | " * * * Xéé"  | Pattern contains illegal characters: The pattern '0000000000000000000000000000000000000000000000000000000 * * * Xé' (characters left out: 1) has a letter that is neither L nor W, and in no name of a month or a weekday.
+    9 | 64     | " * * * *"    | Component error: In the field minutes, at character 1: expected a number from 0 to 59. Found: '9999999999999999999999999999999999999999999999999999999999999999'.
+    9 | 65     | " * * * *"    | Component error: In the field minutes, at character 1: expected a number from 0 to 59. Found: '9999999999999999999999999999999999999999999999999999999999999999' and more.
+    0 | 55     | " * * * éX"   | Pattern contains illegal characters: In the field weekday, at character 63: expected digits, names and * / , - ? # L, and one + in front. Found: 'é' in 'éX'.
+    0 | 55     | " * * * Xé"   | Pattern contains illegal characters: In the field weekday, at character 63: no name of a month or a weekday stands here, and the letter is neither L nor W. Found: 'X' in 'Xé'.
+    é | 33     | " * * * *"    | Pattern contains illegal characters: In the field minutes, at character 1: expected digits and * / , -. Found: 'é' in 'éééééééééééééééééééééééééééééééé' and more.
 "#;
 
 const LENGTHS: &str = r#"

@@ -1,4 +1,4 @@
-//! The messages of refusals: which field, which part of the text, and what was expected.
+//! The messages of refusals on direct calls: which part of the text, and what was expected.
 
 use crate::fault::Fault;
 use crate::job::Job;
@@ -54,51 +54,6 @@ const FIELDS: &str = "
     0 59 |     | 0 | mark  | 60        | Component error: The value 60 is out of bounds: expected one from 0 to 59.
 ";
 
-/// The settings, and a text.
-#[derive(Drop)]
-struct Pattern;
-
-impl Question for Pattern {
-    fn answer(&self, alloc: Global, cells: &[&str]) -> Result<String, Fault> {
-        let [settings, text] = cells else {
-            return Err(Fault::Malformed);
-        };
-        let _job = Job::read(alloc, settings, text)?;
-        Ok(String::from_str(alloc, "accepted")?)
-    }
-}
-
-const PATTERNS: &str = r#"
-    | ""    | CronPattern cannot be an empty string.
-
-                                        | * * *  | Invalid pattern: The pattern has 3 fields, but 5, 6 or 7 are expected.
-    year required                       | * * *  | Invalid pattern: The pattern has 3 fields, but 7 are expected.
-    year disallowed                     | * * *  | Invalid pattern: The pattern has 3 fields, but 5 or 6 are expected.
-    seconds required                    | @FOO   | Invalid pattern: The pattern has 2 fields, but 6 or 7 are expected.
-    seconds required, year required     | * * *  | Invalid pattern: The pattern has 3 fields, but 7 are expected.
-    seconds required, year disallowed   | * * *  | Invalid pattern: The pattern has 3 fields, but 6 are expected.
-    seconds disallowed                  | * * *  | Invalid pattern: The pattern has 3 fields, but 5 are expected.
-    seconds disallowed, year required   | @daily | Invalid pattern: The pattern has 6 fields, but no fields are expected.
-    seconds disallowed, year disallowed | * * *  | Invalid pattern: The pattern has 3 fields, but 5 are expected.
-
-    | 0 0 * * SUNDAY | Pattern contains illegal characters: The pattern '0 0 * * SUNDAY' has a letter that is neither L nor W, and in no name of a month or a weekday.
-    | ? * * * * *    | Pattern contains illegal characters: The field seconds may have digits and * / , -, and has another character.
-    | ? * * * *      | Pattern contains illegal characters: The field minutes may have digits and * / , -, and has another character.
-    | * ? * * *      | Pattern contains illegal characters: The field hours may have digits and * / , -, and has another character.
-    | * * # * *      | Pattern contains illegal characters: The field day of month may have digits and * / , - ? L W, and has another character.
-    | * * * ? *      | Pattern contains illegal characters: The field month may have digits, names and * / , -, and has another character.
-    | 0 0 * * 1,1+2  | Pattern contains illegal characters: The field weekday may have digits, names and * / , - ? # L, and one + in front, and has another character.
-    | * * * * * * ?  | Pattern contains illegal characters: The field year may have digits and * / , -, and has another character.
-
-    | 60 * * * * *     | Component error: In the field seconds: The number 60 in the part '60' is out of bounds: expected one from 0 to 59.
-    | 60 * * * *       | Component error: In the field minutes: The number 60 in the part '60' is out of bounds: expected one from 0 to 59.
-    | * 24 * * *       | Component error: In the field hours: The number 24 in the part '24' is out of bounds: expected one from 0 to 23.
-    | * * 32 * *       | Component error: In the field day of month: The number 32 in the part '32' is out of bounds: expected one from 1 to 31.
-    | * * * 13 *       | Component error: In the field month: The number 13 in the part '13' is out of bounds: expected one from 1 to 12.
-    | 0 0 * * 1-9      | Component error: In the field weekday: Invalid range 1 to 9 in the part '1-9': expected an ascending one from 0 to 7.
-    | * * * * * * 5001 | Component error: In the field year: The number 5001 in the part '5001' is out of bounds: expected one from 1 to 5000.
-"#;
-
 /// A value and a part of a date and time: the nearest value of that part in `* * * * *` from it on.
 #[derive(Drop)]
 struct Member;
@@ -132,7 +87,6 @@ const MEMBERS: &str = "
 fn differing_rows(alloc: Global) -> Result<String, AllocError> {
     let mut rows = String::new(alloc);
     add_differing(alloc, &Told { question: Field }, FIELDS, &mut rows)?;
-    add_differing(alloc, &Told { question: Pattern }, PATTERNS, &mut rows)?;
     add_differing(alloc, &Told { question: Member }, MEMBERS, &mut rows)?;
     Ok(rows)
 }

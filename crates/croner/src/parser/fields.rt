@@ -1,27 +1,16 @@
 //! The texts of the seven fields, before each is read.
 
-ghost use Rattle.std.specs.Prelude.{◌≡◌, ℕ, List, ◌==◌, if◌then◌else◌, map, string_bytes, option_map, is_none, IfOk, MatchOption};
+ghost use Rattle.std.specs.Prelude.{◌≡◌, ℕ, List, ◌==◌, if◌then◌else◌, map, string_bytes, option_map, IfOk, MatchOption};
 ghost use Rattle.std.specs.List.{list_all};
 ghost use Rattle.croner_base.specs.Part.{contains_byte};
 ghost use Rattle.croner.specs.parser.Grammar.{seven, starred, without_plus, has_plus, is_list_character, is_for_days, is_for_weekdays, are_legal};
 ghost use Rattle.croner.specs.Views.{texts_of};
 
+use super::fault::PatternField;
 use std::alloc::{AllocError, Global};
 
-// The names of the fields, as messages give them.
-pub const SECONDS: &str = "seconds";
-
-pub const MINUTES: &str = "minutes";
-
-pub const HOURS: &str = "hours";
-
-pub const DAY_OF_MONTH: &str = "day of month";
-
-pub const MONTH: &str = "month";
-
-pub const WEEKDAY: &str = "weekday";
-
-pub const YEAR: &str = "year";
+/// The characters of the weekday field, as messages give them.
+const WEEKDAY_CHARACTERS: &str = "digits, names and * / , - ? # L, and one + in front";
 
 /// The text of each field.
 #[derive(Clone, Copy)]
@@ -166,29 +155,30 @@ fn all_for_weekdays(text: &str) -> bool
     text.as_bytes().iter().all(|b| is_for_weekdays(*b))
 }
 
-/// The first field with a character that is not legal there: its name, and what is legal.
-pub fn illegal_field(texts: FieldTexts<'_>) -> Option<(&'static str, &'static str)>
-    ensures { is_none result ≡ are_legal (texts_of texts.entry) }
+/// Whether each character of each field is legal there.
+pub fn are_legal(texts: FieldTexts<'_>) -> bool
+    ensures { result ≡ are_legal (texts_of texts.entry) }
 {
-    let plain = "digits and * / , -";
-    if !all_plain(texts.seconds) {
-        Some((SECONDS, plain))
-    } else if !all_plain(texts.minutes) {
-        Some((MINUTES, plain))
-    } else if !all_plain(texts.hours) {
-        Some((HOURS, plain))
-    } else if !all_for_days(texts.days) {
-        Some((DAY_OF_MONTH, "digits and * / , - ? L W"))
-    } else if !all_plain(texts.months) {
-        Some((MONTH, "digits, names and * / , -"))
-    } else if !all_for_weekdays(texts.days_of_week) {
-        Some((
-            WEEKDAY,
-            "digits, names and * / , - ? # L, and one + in front",
-        ))
-    } else if !all_plain(texts.years) {
-        Some((YEAR, plain))
-    } else {
-        None
+    all_plain(texts.seconds)
+        && all_plain(texts.minutes)
+        && all_plain(texts.hours)
+        && all_for_days(texts.days)
+        && all_plain(texts.months)
+        && all_for_weekdays(texts.days_of_week)
+        && all_plain(texts.years)
+}
+
+/// What is legal in a field, where a character of its text is not.
+pub fn legal_character(c: char, is_first: bool, field: PatternField) -> Option<&'static str> {
+    let (signs, legal) = match field {
+        PatternField::DayOfMonth => ("*/,-?LW", "digits and * / , - ? L W"),
+        PatternField::Month => ("*/,-", "digits, names and * / , -"),
+        PatternField::Weekday if is_first => ("*/,-?#L+", WEEKDAY_CHARACTERS),
+        PatternField::Weekday => ("*/,-?#L", WEEKDAY_CHARACTERS),
+        _ => ("*/,-", "digits and * / , -"),
+    };
+    if c.is_ascii_digit() || signs.contains(c) {
+        return None;
     }
+    Some(legal)
 }

@@ -11,8 +11,7 @@ ghost use Rattle.croner.specs.Private.parser.Steps.{Starts, ReadsAll, TakesSunda
 ghost use Rattle.croner.specs.parser.Settings.{Settings};
 ghost use Rattle.croner.specs.Views.{texts_of};
 
-use super::fields::{DAY_OF_MONTH, FieldTexts, HOURS, MINUTES, MONTH, SECONDS, WEEKDAY, YEAR};
-use super::refusals::in_field;
+use super::fields::FieldTexts;
 use croner_base::component::{
     ALL_BIT, CronComponent, LAST_BIT, NTH_1ST_BIT, NTH_2ND_BIT, NTH_3RD_BIT, NTH_4TH_BIT,
     NTH_5TH_BIT, NTH_ALL,
@@ -32,23 +31,19 @@ pub struct Mode {
 /// The place that Sunday has as 7.
 const SUNDAY_AS_SEVEN: u16 = 7;
 
-/// What reads each field alike: the memory for messages, and whether a step may begin at a number or at nothing.
+/// What reads each field alike: whether a step may begin at a number or at nothing.
 #[derive(Clone, Copy)]
 struct FieldReader {
-    alloc: Global,
     sloppy: bool,
 }
 
 impl FieldReader {
-    /// Reads the text of a field into it. A refusal's message begins with the field's name.
-    fn read_field(self, name: &str, field: &mut CronComponent, text: &str) -> Result<(), CronError>
+    /// Reads the text of a field into it.
+    fn read_field(self, field: &mut CronComponent, text: &str) -> Result<(), CronError>
         ensures { Reads (field_of (with_sloppy field.old self.sloppy).shape text.now) (with_sloppy field.old self.sloppy) field.new result }
     {
         field.set_sloppy_ranges(self.sloppy);
-        match field.parse(text) {
-            Ok(()) => Ok(()),
-            Err(refused) => Err(in_field(self.alloc, name, refused)),
-        }
+        field.parse(text)
     }
 }
 
@@ -97,7 +92,6 @@ pub fn start_pattern(alloc: Global, text: &str, quartz: bool) -> Result<CronPatt
 
 /// Reads each field's text into the field, in order.
 pub fn read_fields(
-    alloc: Global,
     pattern: &mut CronPattern,
     fields: FieldTexts<'_>,
     sloppy: bool,
@@ -105,14 +99,14 @@ pub fn read_fields(
     ensures { (s : Settings) → s.sloppy ≡ sloppy → (text : List ℕ) → meaning_of pattern.old ≡ start_meaning s text
         → ReadsAll s text (texts_of fields.entry) (meaning_of pattern.new) result }
 {
-    let reader = FieldReader { alloc, sloppy };
-    reader.read_field(SECONDS, &mut pattern.seconds, fields.seconds)?;
-    reader.read_field(MINUTES, &mut pattern.minutes, fields.minutes)?;
-    reader.read_field(HOURS, &mut pattern.hours, fields.hours)?;
-    reader.read_field(DAY_OF_MONTH, &mut pattern.days, fields.days)?;
-    reader.read_field(MONTH, &mut pattern.months, fields.months)?;
-    reader.read_field(WEEKDAY, &mut pattern.days_of_week, fields.days_of_week)?;
-    reader.read_field(YEAR, &mut pattern.years, fields.years)?;
+    let reader = FieldReader { sloppy };
+    reader.read_field(&mut pattern.seconds, fields.seconds)?;
+    reader.read_field(&mut pattern.minutes, fields.minutes)?;
+    reader.read_field(&mut pattern.hours, fields.hours)?;
+    reader.read_field(&mut pattern.days, fields.days)?;
+    reader.read_field(&mut pattern.months, fields.months)?;
+    reader.read_field(&mut pattern.days_of_week, fields.days_of_week)?;
+    reader.read_field(&mut pattern.years, fields.years)?;
     Ok(())
 }
 
@@ -128,7 +122,7 @@ pub fn read_pattern(
         → Gives meaning_of result (of_legal s text.now (texts_of fields.entry) mode.and) }
 {
     let mut pattern = start_pattern(alloc, text, mode.quartz)?;
-    read_fields(alloc, &mut pattern, fields, mode.sloppy)?;
+    read_fields(&mut pattern, fields, mode.sloppy)?;
     settle_weekdays(&mut pattern.days_of_week, mode.quartz)?;
     pattern.set_flags(is_star(fields.days), is_star(fields.days_of_week), mode.and);
     Ok(pattern)

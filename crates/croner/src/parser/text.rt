@@ -121,7 +121,7 @@ fn push_number(text: &mut String, number: u8) -> Result<(), AllocError>
 }
 
 /// Whether a letter stands for nothing by itself.
-fn is_lost(c: char) -> bool
+pub fn is_lost(c: char) -> bool
     ensures { result ≡ is_lost c }
 {
     c.is_ascii_uppercase() && c != 'L' && c != 'W'
@@ -190,3 +190,15 @@ pub fn words(alloc: Global, text: &str) -> Result<Vec<&str>, AllocError>
     }
     Ok(words)
 }
+
+/// The name of a month or a weekday at a byte of a text in capitals.
+pub fn name_at(text: &str, at: usize) -> Option<&'static str> {
+    let name = text.get(at..at.saturating_add(NAME_LENGTH))?;
+    NAMES.iter().copied().find(|known| *known == name)
+}
+
+/// The names of months and weekdays.
+const NAMES: [&str; 19] = [
+    "JAN", "FEB", "MAR", "APR", "MAY", "JUN", "JUL", "AUG", "SEP", "OCT", "NOV", "DEC", "SUN",
+    "MON", "TUE", "WED", "THU", "FRI", "SAT",
+];

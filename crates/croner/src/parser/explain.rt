@@ -1,0 +1,110 @@
+//! Why a text is refused: the fault as data, and the message that is made of it.
+
+ghost use Rattle.std.specs.Prelude.{Result};
+ghost use Rattle.croner_pattern.specs.Meaning.{Meaning};
+ghost use Rattle.croner.specs.parser.Faults.{IsKindOf};
+ghost use Rattle.croner.specs.parser.Gives.{Fails};
+ghost use Rattle.croner.specs.parser.Grammar.{Refusal};
+
+use super::CronParser;
+use super::escapes::found_at;
+use super::fault::{FaultKind, PatternFault};
+use super::place::fault_at;
+use super::second_reading::find_fault;
+use croner_base::errors::CronError;
+use std::alloc::{AllocError, Global};
+
+impl CronParser {
+    ghost use Rattle.std.specs.Prelude.{◌≡◌, IfOk, Result};
+    ghost use Rattle.croner_base.specs.declared.errors.CronError.TheVariants.{OutOfMemory};
+    ghost use Rattle.croner_pattern.specs.Meaning.{Meaning};
+    ghost use Rattle.croner.specs.parser.Faults.{Explains, IsPlaced};
+    ghost use Rattle.croner.specs.parser.Gives.{Fails};
+    ghost use Rattle.croner.specs.parser.Grammar.{Refusal, outcome};
+
+    /// Why a text is refused; nothing where [`CronParser::parse`] accepts it.
+    ///
+    /// The fault has the kind of `parse`'s refusal and a place in the text as it is handed in, in bytes from 0 on bounds of
+    /// characters. Where it names a field, the place is a piece of that field. The only error is `OutOfMemory`.
+    ///
+    /// ```
+    /// let parser = CronParser::new();
+    /// let fault = parser.explain(alloc, "0 9 * * MONDAY")?; // the letter at byte 11, in the weekday
+    /// ```
+    pub fn explain(&self, alloc: Global, text: &str) -> Result<Option<PatternFault>, CronError>
+        ensures { Explains (outcome self.now text.now) text.now result }
+    {
+        let refused = match self.parse_text(alloc, text) {
+            Ok(_job) => return Ok(None),
+            Err(refused) => refused,
+        };
+        let Some(kind) = kind_of(&refused) else {
+            return Err(CronError::OutOfMemory);
+        };
+        let fault = self.fault_of(alloc, text, kind)?;
+        Ok(Some(fault))
+    }
+
+    /// The fault of a refused text, by the kind of its refusal.
+    fn fault_of(
+        &self,
+        alloc: Global,
+        text: &str,
+        kind: FaultKind,
+    ) -> Result<PatternFault, AllocError>
+        ensures kind { IfOk result (λ f. f.kind ≡ kind) }
+        ensures placed { IfOk result (λ f. IsPlaced text.now f) }
+    {
+        match find_fault(alloc, self, text, kind) {
+            Ok(found) => fault_at(alloc, text, kind, found),
+            Err(_) => Err(AllocError),
+        }
+    }
+
+    /// A refusal of a text with its message.
+    pub(super) fn told(&self, alloc: Global, text: &str, refused: CronError) -> CronError
+        ensures { (meaning : Result Meaning Refusal) → Fails refused meaning → Fails result meaning }
+    {
+        match refused {
+            CronError::InvalidPattern(_) => {
+                match self.message(alloc, text, FaultKind::InvalidPattern) {
+                    Ok(message) => CronError::InvalidPattern(message),
+                    Err(_) => CronError::OutOfMemory,
+                }
+            }
+            CronError::IllegalCharacters(_) => {
+                match self.message(alloc, text, FaultKind::IllegalCharacters) {
+                    Ok(message) => CronError::IllegalCharacters(message),
+                    Err(_) => CronError::OutOfMemory,
+                }
+            }
+            CronError::ComponentError(_) => {
+                match self.message(alloc, text, FaultKind::ComponentError) {
+                    Ok(message) => CronError::ComponentError(message),
+                    Err(_) => CronError::OutOfMemory,
+                }
+            }
+            other => other,
+        }
+    }
+
+    /// The message of a refused text: its fault, and what the text says there.
+    fn message(&self, alloc: Global, text: &str, kind: FaultKind) -> Result<String, AllocError> {
+        let fault = self.fault_of(alloc, text, kind)?;
+        let found = found_at(alloc, text, fault.start, fault.end)?;
+        format!(in alloc; "{fault} Found: {found}.")
+    }
+}
+
+/// The kind of a refusal of a text; nothing for want of memory, and what is no refusal of a text.
+fn kind_of(refused: &CronError) -> Option<FaultKind>
+    ensures { (meaning : Result Meaning Refusal) → Fails refused.now meaning → IsKindOf meaning result }
+{
+    match refused {
+        CronError::EmptyPattern => Some(FaultKind::EmptyPattern),
+        CronError::InvalidPattern(_) => Some(FaultKind::InvalidPattern),
+        CronError::IllegalCharacters(_) => Some(FaultKind::IllegalCharacters),
+        CronError::ComponentError(_) => Some(FaultKind::ComponentError),
+        _ => None,
+    }
+}

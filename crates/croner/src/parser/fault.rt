@@ -1,0 +1,217 @@
+//! What a message of a refusal is made of: the kind, the field, the place in the text, and what was expected there.
+
+use super::{Seconds, Year};
+
+/// The kind of a refusal: the variant of `CronError` that `parse` answers.
+#[derive(Debug, Clone, Copy, PartialEq, Eq)]
+pub enum FaultKind {
+    /// `CronError::EmptyPattern`: nothing but white space.
+    EmptyPattern,
+    /// `CronError::InvalidPattern`: a count of fields that the settings don't accept.
+    InvalidPattern,
+    /// `CronError::IllegalCharacters`: a character that is not legal in its field.
+    IllegalCharacters,
+    /// `CronError::ComponentError`: a field that can't be read.
+    ComponentError,
+}
+
+/// A field of a pattern.
+#[derive(Debug, Clone, Copy, PartialEq, Eq)]
+pub enum PatternField {
+    Seconds,
+    Minutes,
+    Hours,
+    DayOfMonth,
+    Month,
+    Weekday,
+    Year,
+}
+
+impl PatternField {
+    ghost use Rattle.std.specs.Prelude.{◌≡◌, ◌<◌};
+    ghost use Rattle.croner.specs.parser.Faults.{place_of_field};
+
+    /// The place of the field in a pattern of seven fields, 0 for the seconds.
+    pub fn place(self) -> usize
+        ensures place { result ≡ place_of_field self }
+        ensures small { result < 7 }
+    {
+        match self {
+            PatternField::Seconds => 0,
+            PatternField::Minutes => 1,
+            PatternField::Hours => 2,
+            PatternField::DayOfMonth => 3,
+            PatternField::Month => 4,
+            PatternField::Weekday => 5,
+            PatternField::Year => 6,
+        }
+    }
+
+    /// The field at a place of seven, 0 for the seconds. From 6 on it is the year.
+    pub(super) fn at(place: usize) -> PatternField {
+        match place {
+            0 => PatternField::Seconds,
+            1 => PatternField::Minutes,
+            2 => PatternField::Hours,
+            3 => PatternField::DayOfMonth,
+            4 => PatternField::Month,
+            5 => PatternField::Weekday,
+            _ => PatternField::Year,
+        }
+    }
+
+    /// The name of the field in messages.
+    pub(super) fn name(self) -> &'static str {
+        match self {
+            PatternField::Seconds => "seconds",
+            PatternField::Minutes => "minutes",
+            PatternField::Hours => "hours",
+            PatternField::DayOfMonth => "day of month",
+            PatternField::Month => "month",
+            PatternField::Weekday => "weekday",
+            PatternField::Year => "year",
+        }
+    }
+}
+
+/// Why the text at the place of a fault may not be as it is, beside what was expected.
+#[derive(Debug, Clone, Copy, PartialEq, Eq)]
+pub enum Hint {
+    /// There is nothing to add.
+    None,
+    /// Six fields begin with the seconds.
+    SixFields,
+    /// The list before it ends in a comma: a space begins a new field.
+    SpaceAfterComma,
+    /// Weekdays are counted as in Quartz, from 1 for Sunday.
+    QuartzWeekdays,
+    /// A pattern ends before the command of a crontab's line.
+    Command,
+}
+
+/// What to write in the place of a part that is refused, where there is something that says the same.
+#[derive(Debug, Clone, Copy, PartialEq, Eq)]
+pub enum Suggestion {
+    /// There is none.
+    None,
+    /// Every so many values from the field's least one on: `*/10`.
+    StarStep {
+        step: u16,
+    },
+    /// Every so many values of a range: `5-59/10`.
+    RangeStep {
+        first: u16,
+        last: u16,
+        step: u16,
+    },
+    /// A range that went past the field's greatest value, as one or two: `22-23,0-2`.
+    Around {
+        first: u16,
+        greatest: u16,
+        least: u16,
+        last: u16,
+        names: ValueNames,
+    },
+}
+
+/// How the values of a suggestion are written.
+#[derive(Debug, Clone, Copy, PartialEq, Eq)]
+pub enum ValueNames {
+    /// As numbers.
+    Numbers,
+    /// As names of months.
+    Months,
+    /// As names of weekdays, 0 and 7 for Sunday.
+    Weekdays,
+    /// As names of weekdays, 1 for Sunday.
+    QuartzWeekdays,
+}
+
+/// What was expected at the place of a fault.
+#[derive(Debug, Clone, Copy, PartialEq, Eq)]
+pub enum Expected {
+    /// A pattern, and not white space alone.
+    Pattern,
+    /// Another count of fields: these settings accept others.
+    Count {
+        found: usize,
+        seconds: Seconds,
+        year: Year,
+        hint: Hint,
+    },
+    /// Other settings: these accept no text.
+    Settings,
+    /// One of the six nicknames.
+    Nickname,
+    /// One of the six nicknames; `@reboot` names no time.
+    NicknameOfTime,
+    /// The pattern in fields: the nickname has too few for these settings.
+    NicknameInFields {
+        seconds: Seconds,
+        year: Year,
+    },
+    /// No such letter, or a name of three letters: the one that stands in front, where there is one.
+    Name {
+        name: Option<&'static str>,
+        hint: Hint,
+    },
+    /// A character that is legal in the field.
+    Legal {
+        legal: &'static str,
+        hint: Hint,
+    },
+    /// A number of the field.
+    Number {
+        least: u16,
+        greatest: u16,
+        hint: Hint,
+    },
+    /// A number of the field in front of a sign, or behind it.
+    NumberBeside {
+        sign: char,
+        behind: bool,
+        least: u16,
+        greatest: u16,
+    },
+    /// A range that goes up.
+    Ascending {
+        suggestion: Suggestion,
+    },
+    /// One such sign in a part.
+    OneSign {
+        sign: char,
+    },
+    /// The step, a number from 1 on.
+    Step,
+    /// A step that doesn't pass the greatest number.
+    ShorterStep,
+    /// A star or a range in front of the `/`.
+    RangeToStep {
+        suggestion: Suggestion,
+    },
+    /// A star alone in its field.
+    StarAlone,
+    /// A number from 1 to 5 or `L` behind the `#`.
+    Nth,
+    /// `L` alone, or `LW`, in the day of month.
+    LastAlone,
+}
+
+/// A fault of a text that [`CronParser::parse`](super::CronParser::parse) refuses: where it is, and what was expected there.
+///
+/// It holds no text. Written out it is the message of the refusal, without what the text says there.
+#[derive(Debug, Clone, Copy, PartialEq, Eq)]
+pub struct PatternFault {
+    /// The kind of the refusal.
+    pub kind: FaultKind,
+    /// The field in which it lies, where it lies in one.
+    pub field: Option<PatternField>,
+    /// The byte of the text at which it begins, from 0.
+    pub start: usize,
+    /// The byte behind its last one.
+    pub end: usize,
+    /// The place of its first character in the text, from 1.
+    pub character: usize,
+    /// What was expected there.
+    pub expected: Expected,
+}

@@ -1,0 +1,349 @@
+//! What is wrong in a refused part of a list, and where.
+
+use super::fault::{Expected, Hint, PatternField, Suggestion, ValueNames};
+use super::second_reading::Piece;
+
+/// How the parts of a field are read, and what a refused number of it may come from.
+#[derive(Clone, Copy)]
+pub struct Rules {
+    pub field: PatternField,
+    pub quartz: bool,
+    pub sloppy: bool,
+    pub hint: Hint,
+}
+
+impl Rules {
+    /// The least and the greatest number of the field.
+    fn bounds(self) -> (u16, u16) {
+        match self.field {
+            PatternField::Seconds | PatternField::Minutes => (0, 59),
+            PatternField::Hours => (0, 23),
+            PatternField::DayOfMonth => (1, 31),
+            PatternField::Month => (1, 12),
+            PatternField::Weekday if self.quartz => (1, 7),
+            PatternField::Weekday => (0, 7),
+            PatternField::Year => (1, 5000),
+        }
+    }
+
+    /// A number of the field was expected.
+    fn number(self) -> Expected {
+        let (least, greatest) = self.bounds();
+        let hint = match self.hint {
+            Hint::None if self.quartz && self.field == PatternField::Weekday => {
+                Hint::QuartzWeekdays
+            }
+            hint => hint,
+        };
+        Expected::Number {
+            least,
+            greatest,
+            hint,
+        }
+    }
+
+    fn has(self, number: u16) -> bool {
+        let (least, greatest) = self.bounds();
+        least <= number && number <= greatest
+    }
+}
+
+/// A piece of a part: as it is written, and as it is read.
+#[derive(Clone, Copy)]
+pub struct Part<'t> {
+    pub written: Piece<'t>,
+    pub read: &'t str,
+}
+
+/// What stands in front of a sign, the sign, and what stands behind it.
+#[derive(Clone, Copy)]
+struct Sides<'t> {
+    left: Part<'t>,
+    sign: Piece<'t>,
+    right: Part<'t>,
+}
+
+impl<'t> Part<'t> {
+    /// The two sides of the first such sign. A sign is read as it is written.
+    fn split(self, sign: char) -> Option<Sides<'t>> {
+        let (left, right) = self.read.split_once(sign)?;
+        let at = self.written.text.find(sign)?;
+        let start = self.written.start.saturating_add(at);
+        let sign_text = self.written.text.get(at..at.saturating_add(1))?;
+        Some(Sides {
+            left: Part {
+                written: Piece {
+                    text: self.written.text.get(..at)?,
+                    start: self.written.start,
+                },
+                read: left,
+            },
+            sign: Piece {
+                text: sign_text,
+                start,
+            },
+            right: Part {
+                written: Piece {
+                    text: self.written.text.get(at.saturating_add(1)..)?,
+                    start: start.saturating_add(1),
+                },
+                read: right,
+            },
+        })
+    }
+
+    fn number(self) -> Option<u16> {
+        self.read.parse::<u16>().ok()
+    }
+
+    fn is_empty(self) -> bool {
+        self.written.text.is_empty()
+    }
+}
+
+/// The place of the fault of a refused part, and what was expected there.
+pub fn fault_of_part(part: Part<'_>, rules: Rules) -> (Piece<'_>, Expected) {
+    let head = head_of(part);
+    let found = if part.read == "*" {
+        Some((part.written, Expected::StarAlone))
+    } else if let Some(sides) = head.split('/') {
+        fault_of_step(part, sides, rules)
+    } else if let Some(sides) = head.split('-') {
+        fault_of_range(part, sides, rules)
+    } else if let Some(sides) = head.split('W').or(head.split('w')) {
+        fault_of_nearest(sides, rules)
+    } else {
+        fault_of_number(part, head, rules)
+    };
+    match found.or(fault_of_nth(part)) {
+        Some(found) => found,
+        None => (part.written, rules.number()),
+    }
+}
+
+/// The part in front of its first `#`.
+fn head_of(part: Part<'_>) -> Part<'_> {
+    match part.split('#') {
+        Some(sides) => sides.left,
+        None => part,
+    }
+}
+
+/// The text behind a `#` that is neither `L` nor a number from 1 to 5.
+fn fault_of_nth(part: Part<'_>) -> Option<(Piece<'_>, Expected)> {
+    let sides = part.split('#')?;
+    if part.read.ends_with('L') {
+        return None;
+    }
+    match sides.right.number() {
+        Some(1..=5) => None,
+        _ if sides.right.is_empty() => Some((sides.sign, Expected::Nth)),
+        _ => Some((sides.right.written, Expected::Nth)),
+    }
+}
+
+/// A number of the field beside a sign: what is wrong with it.
+fn fault_of_side<'t>(
+    side: Part<'t>,
+    sign: Piece<'t>,
+    behind: bool,
+    rules: Rules,
+) -> Option<(Piece<'t>, Expected)> {
+    if side.is_empty() {
+        let (least, greatest) = rules.bounds();
+        let sign_char = if sign.text == "/" { '/' } else { '-' };
+        return Some((
+            sign,
+            Expected::NumberBeside {
+                sign: sign_char,
+                behind,
+                least,
+                greatest,
+            },
+        ));
+    }
+    match side.number() {
+        Some(number) if rules.has(number) => None,
+        _ => Some((side.written, rules.number())),
+    }
+}
+
+fn fault_of_range<'t>(
+    part: Part<'t>,
+    sides: Sides<'t>,
+    rules: Rules,
+) -> Option<(Piece<'t>, Expected)> {
+    if let Some(second) = sides.right.split('-') {
+        return Some((second.sign, Expected::OneSign { sign: '-' }));
+    }
+    let faulty = fault_of_side(sides.left, sides.sign, false, rules);
+    let faulty = faulty.or(fault_of_side(sides.right, sides.sign, true, rules));
+    if faulty.is_some() {
+        return faulty;
+    }
+    let (first, last) = (sides.left.number()?, sides.right.number()?);
+    if first <= last {
+        return None;
+    }
+    let suggestion = if part.read.len()
+        == sides
+            .left
+            .read
+            .len()
+            .saturating_add(sides.right.read.len())
+            .saturating_add(1)
+    {
+        around(sides.left, sides.right, rules)
+    } else {
+        Suggestion::None
+    };
+    Some((part.written, Expected::Ascending { suggestion }))
+}
+
+/// A range that went past the greatest value, as ranges that go up. Years don't begin anew.
+fn around(left: Part<'_>, right: Part<'_>, rules: Rules) -> Suggestion {
+    let (Some(first), Some(last)) = (left.number(), right.number()) else {
+        return Suggestion::None;
+    };
+    let (least, greatest) = rules.bounds();
+    let least = match rules.field {
+        PatternField::Year => return Suggestion::None,
+        PatternField::Weekday => 1,
+        _ => least,
+    };
+    Suggestion::Around {
+        first,
+        greatest,
+        least,
+        last,
+        names: names_of(left, right, rules),
+    }
+}
+
+fn names_of(left: Part<'_>, right: Part<'_>, rules: Rules) -> ValueNames {
+    if !is_name(left) || !is_name(right) {
+        return ValueNames::Numbers;
+    }
+    match rules.field {
+        PatternField::Month => ValueNames::Months,
+        PatternField::Weekday if rules.quartz => ValueNames::QuartzWeekdays,
+        PatternField::Weekday => ValueNames::Weekdays,
+        _ => ValueNames::Numbers,
+    }
+}
+
+fn is_name(part: Part<'_>) -> bool {
+    part.written.text.len() == 3
+        && part
+            .written
+            .text
+            .as_bytes()
+            .iter()
+            .all(|b| b.is_ascii_alphabetic())
+}
+
+fn fault_of_step<'t>(
+    part: Part<'t>,
+    sides: Sides<'t>,
+    rules: Rules,
+) -> Option<(Piece<'t>, Expected)> {
+    if let Some(second) = sides.right.split('/') {
+        return Some((second.sign, Expected::OneSign { sign: '/' }));
+    }
+    if sides.right.is_empty() {
+        return Some((sides.sign, Expected::Step));
+    }
+    let step = match sides.right.number() {
+        Some(step) if step > 0 => step,
+        _ => return Some((sides.right.written, Expected::Step)),
+    };
+    let range = sides.left.split('-');
+    let found = match range {
+        Some(range) => fault_of_range(sides.left, range, rules),
+        None => fault_of_start(part, sides.left, step, rules),
+    };
+    match found {
+        Some((place, Expected::Ascending { .. })) => Some((
+            place,
+            Expected::Ascending {
+                suggestion: Suggestion::None,
+            },
+        )),
+        Some(found) => Some(found),
+        None if fault_of_nth(part).is_some() => None,
+        None => Some((sides.right.written, Expected::ShorterStep)),
+    }
+}
+
+/// What stands in front of a `/` and is no range.
+fn fault_of_start<'t>(
+    part: Part<'t>,
+    left: Part<'t>,
+    step: u16,
+    rules: Rules,
+) -> Option<(Piece<'t>, Expected)> {
+    if left.read == "*" {
+        return None;
+    }
+    let number = left.number();
+    if !left.is_empty() && !number.is_some_and(|n| rules.has(n)) {
+        return Some((left.written, rules.number()));
+    }
+    if rules.sloppy {
+        return None;
+    }
+    let suggestion = if part.read.contains('#') {
+        Suggestion::None
+    } else {
+        stepped(number, step, rules)
+    };
+    Some((part.written, Expected::RangeToStep { suggestion }))
+}
+
+/// A step from a number on, or from nothing, as it may be written.
+fn stepped(number: Option<u16>, step: u16, rules: Rules) -> Suggestion {
+    let (least, last) = rules.bounds();
+    if step > u16::MAX.saturating_sub(last) {
+        return Suggestion::None;
+    }
+    match number {
+        Some(first) if first != least => Suggestion::RangeStep { first, last, step },
+        _ => Suggestion::StarStep { step },
+    }
+}
+
+fn fault_of_nearest<'t>(sides: Sides<'t>, rules: Rules) -> Option<(Piece<'t>, Expected)> {
+    let (least, greatest) = rules.bounds();
+    if sides.left.is_empty() {
+        return Some((
+            sides.sign,
+            Expected::NumberBeside {
+                sign: 'W',
+                behind: false,
+                least,
+                greatest,
+            },
+        ));
+    }
+    match sides.left.number() {
+        Some(number) if rules.has(number) => None,
+        _ => Some((sides.left.written, rules.number())),
+    }
+}
+
+fn fault_of_number<'t>(
+    part: Part<'t>,
+    head: Part<'t>,
+    rules: Rules,
+) -> Option<(Piece<'t>, Expected)> {
+    if rules.field == PatternField::DayOfMonth && part.read.contains('L') {
+        return Some((part.written, Expected::LastAlone));
+    }
+    if head.is_empty() {
+        return None;
+    }
+    match head.number() {
+        Some(number) if rules.has(number) => None,
+        _ => Some((head.written, rules.number())),
+    }
+}
