@@ -168,7 +168,7 @@ const SUGGESTIONS: &str = "
 const ROWS: &str = r##"
     | 0 5 * * 1 tar -c /home | 17..22 Invalid pattern: At character 18: the pattern has 8 fields, but 5, 6 or 7 are expected. If a command stands here: a pattern ends before the command of a crontab's line. Found: '/home'.
     | 30 9 * * * backup.sh | 11..12 Pattern contains illegal characters: In the field weekday, at character 12: no name of a month or a weekday stands here, and the letter is neither L nor W. If a command stands here: a pattern ends before the command of a crontab's line. Found: 'b' in 'backup.sh'.
-    | 0 0 * * * /usr/bin/true | 11..12 Pattern contains illegal characters: In the field weekday, at character 12: no name of a month or a weekday stands here, and the letter is neither L nor W. If a command stands here: a pattern ends before the command of a crontab's line. Found: 'u' in '/usr/bin/true'.
+    | 0 0 * * * ./backup | 10..11 Pattern contains illegal characters: In the field weekday, at character 11: expected digits, names and * / , - ? # L, and one + in front. If a command stands here: a pattern ends before the command of a crontab's line. Found: '.' in './backup'.
     | * * * * | 6..7 Invalid pattern: At character 7: the pattern has 4 fields, but 5, 6 or 7 are expected. Found: '*'.
     | * * * | 4..5 Invalid pattern: At character 5: the pattern has 3 fields, but 5, 6 or 7 are expected. Found: '*'.
     | a | 0..1 Invalid pattern: At character 1: the pattern has 1 field, but 5, 6 or 7 are expected. Found: 'a'.
@@ -297,7 +297,7 @@ const ROWS: &str = r##"
     | 0 0 0W * * | 4..5 Component error: In the field day of month, at character 5: expected a number from 1 to 31. Found: '0' in '0W'.
     | 0 0 1-5W * * | 6..8 Component error: In the field day of month, at character 7: expected a number from 1 to 31. Found: '5W' in '1-5W'.
     | 0 0 L/2 * * | 4..5 Component error: In the field day of month, at character 5: expected a number from 1 to 31. Found: 'L' in 'L/2'.
-    | 0 0 L3 * * | 4..6 Component error: In the field day of month, at character 5: the field takes L alone, and LW. Found: 'L3'.
+    | 0 0 l3 * * | 4..6 Component error: In the field day of month, at character 5: the field takes L alone, and LW. Found: 'l3'.
     | 0 0 15W-20 * * | 4..7 Component error: In the field day of month, at character 5: expected a number from 1 to 31. Found: '15W' in '15W-20'.
     | 0 0 15W/2 * * | 4..7 Component error: In the field day of month, at character 5: expected a number from 1 to 31. Found: '15W' in '15W/2'.
     | 0 0 * * 5# | 9..10 Component error: In the field weekday, at character 10: expected a number from 1 to 5 or L behind the '#'. Found: '#' in '5#'.
@@ -307,7 +307,7 @@ const ROWS: &str = r##"
     | 0 0 * * 9#2 | 8..9 Component error: In the field weekday, at character 9: expected a number from 0 to 7. Found: '9' in '9#2'.
     | 0 0 * * *#2 | 8..9 Component error: In the field weekday, at character 9: expected a number from 0 to 7. Found: '*' in '*#2'.
     | 0 0 * * 5#2#3 | 10..13 Component error: In the field weekday, at character 11: expected a number from 1 to 5 or L behind the '#'. Found: '2#3' in '5#2#3'.
-    | 0 0 * * L5 | 8..10 Component error: In the field weekday, at character 9: expected a number from 0 to 7. Found: 'L5'.
+    | 0 0 * * l5 | 8..10 Component error: In the field weekday, at character 9: expected a number from 0 to 7. Found: 'l5'.
     | 0 0 * * L5L | 8..11 Component error: In the field weekday, at character 9: expected a number from 0 to 7. Found: 'L5L'.
     | 0 0 * * 5L3 | 8..11 Component error: In the field weekday, at character 9: expected a number from 0 to 7. Found: '5L3'.
     | 0 0 * * */2L | 10..12 Component error: In the field weekday, at character 11: expected a step from 1 to 65535 behind the '/'. Found: '2L' in '*/2L'.
