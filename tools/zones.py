@@ -2,7 +2,7 @@
 """Holds the tables of the machine's time zones against Python's reading of them, and against the zones themselves.
 
     tools/zones.py [FIRST LAST]     the years of the window: 1970 2100 where they are left out
-    tools/zones.py whole            all seconds that the library has
+    tools/zones.py whole            from the first second that the library has to 2100
 
 Each name of the machine's database (its folders posix and right are left out) is read here by `zoneinfo`, which shares
 nothing with the library: where the zone's clock changes in the window, from the first second of FIRST to the first of
@@ -194,6 +194,9 @@ def answers(lines):
 def print_differences(place, asked, answer):
     """Prints the differences of a comparison, and answers how many there are, and the runs that were compared."""
     found = json.loads(answer)
+    if isinstance(found, str):
+        print(f"wrong: {place.names[0]}: {found}")
+        return 1, 0
     for at, forward, table, zone in found["differences"]:
         towards = "next" if forward else "previous"
         print(f"difference: {place.names[0]}: {asked[at]}, {towards}: table {table}, zone {zone}")
@@ -203,7 +206,7 @@ def print_differences(place, asked, answer):
 def window(words):
     """The first and the last second."""
     if words == ["whole"]:
-        return FIRST_SECOND, LAST_SECOND
+        return FIRST_SECOND, calendar.timegm((2100, 1, 1, 0, 0, 0))
     first, last = map(int, words or ("1970", "2100"))
     return calendar.timegm((first, 1, 1, 0, 0, 0)), calendar.timegm((last, 1, 1, 0, 0, 0))
 
