@@ -1,0 +1,10 @@
+//! The crontab checker `croncheck` as a function: what each line of a crontab is to cron.
+#![tactic(auto)]
+
+mod bytes;
+mod field;
+pub mod line;
+pub mod lines;
+mod list;
+pub mod parsed;
+mod setting;
