@@ -26,6 +26,43 @@ impl fmt::Display for PatternFault {
 impl fmt::Display for Expected {
     fn fmt<W: fmt::Write>(&self, f: &mut fmt::Formatter<W>) -> fmt::Result {
         match self {
+            Expected::Legal { legal, hint } => write!(f, "expected {legal}.{hint}"),
+            Expected::Number {
+                least,
+                greatest,
+                hint,
+            } => { write!(f, "expected a number from {least} to {greatest}.{hint}") }
+            Expected::Ascending { suggestion } => write!(f, "a range goes up{suggestion}."),
+            Expected::OneSign { sign } => write!(f, "expected one '{sign}' in a part."),
+            Expected::RangeToStep { suggestion } => write!(
+                f,
+                "expected '*' or a range before the '/'{suggestion}, or let the parser take sloppy ranges."
+            ),
+            Expected::Name { name, hint } => write_name(f, *name, *hint),
+            other => other.write_rest(f),
+        }
+    }
+}
+
+/// What was expected in the place of a letter.
+fn write_name<W: fmt::Write>(
+    f: &mut fmt::Formatter<W>,
+    name: Option<&'static str>,
+    hint: Hint,
+) -> fmt::Result {
+    match name {
+        Some(name) => write!(f, "a name has three letters: write {name}.{hint}"),
+        None => write!(
+            f,
+            "no name of a month or a weekday stands here, and the letter is neither L nor W.{hint}"
+        ),
+    }
+}
+
+impl Expected {
+    /// What was expected of a count or beside a sign, and the sentences to which no number belongs.
+    fn write_rest<W: fmt::Write>(&self, f: &mut fmt::Formatter<W>) -> fmt::Result {
+        match self {
             Expected::Count {
                 found,
                 seconds,
@@ -34,7 +71,6 @@ impl fmt::Display for Expected {
             } => {
                 let fields = if *found == 1 { "field" } else { "fields" };
                 let counts = expected_counts(*seconds, *year);
-                let hint = hint.words();
                 write!(
                     f,
                     "the pattern has {found} {fields}, but {counts} are expected.{hint}"
@@ -46,25 +82,6 @@ impl fmt::Display for Expected {
                     f,
                     "a nickname has no year and stands for 5 fields, but {counts} are expected: write the fields."
                 )
-            }
-            Expected::Name {
-                name: Some(name),
-                hint,
-            } => {
-                let hint = hint.words();
-                write!(f, "a name has three letters: write {name}.{hint}")
-            }
-            Expected::Legal { legal, hint } => {
-                let hint = hint.words();
-                write!(f, "expected {legal}.{hint}")
-            }
-            Expected::Number {
-                least,
-                greatest,
-                hint,
-            } => {
-                let hint = hint.words();
-                write!(f, "expected a number from {least} to {greatest}.{hint}")
             }
             Expected::NumberBeside {
                 sign,
@@ -78,23 +95,15 @@ impl fmt::Display for Expected {
                     "expected a number from {least} to {greatest} {side} the '{sign}'."
                 )
             }
-            Expected::Ascending { suggestion } => { write!(f, "a range goes up{suggestion}.") }
-            Expected::OneSign { sign } => write!(f, "expected one '{sign}' in a part."),
-            Expected::RangeToStep { suggestion } => {
-                write!(
-                    f,
-                    "expected '*' or a range before the '/'{suggestion}, or let the parser take sloppy ranges."
-                )
-            }
-            Expected::Name { name: None, hint } => {
-                let hint = hint.words();
-                write!(
-                    f,
-                    "no name of a month or a weekday stands here, and the letter is neither L nor W.{hint}"
-                )
-            }
             other => f.write_str(other.sentence()),
         }
+    }
+}
+
+/// The hint as a sentence behind another.
+impl fmt::Display for Hint {
+    fn fmt<W: fmt::Write>(&self, f: &mut fmt::Formatter<W>) -> fmt::Result {
+        f.write_str(self.words())
     }
 }
 
