@@ -1,4 +1,4 @@
-//! The calendar and tables of offsets, whose calls make no request.
+//! The calendar and tables of offsets, whose calls make no request, and tables of zones, which take room for their changes.
 
 use crate::case::Outcome;
 use crate::cells::{number, words};
@@ -13,6 +13,7 @@ use croner::time::{
     CivilDate, CivilDateTime, CivilTime, CronDateTime, Resolution, Weekday, day_of_year,
     days_in_month, days_in_year, is_leap_year,
 };
+use jiff::tz::TimeZone;
 use std::alloc::Global;
 
 const SECONDS_PER_DAY: i64 = 86_400;
@@ -202,9 +203,32 @@ pub fn clock_table(rt: &HostRuntime, given: &[&str]) -> Result<Outcome, Fault> {
     begin(rt);
     let table = ClockTable::new(first, changes);
     end(rt);
+    told_of_table(rt, table, second)
+}
+
+/// The table of a zone of a rule in a window, and calls of a second on its clock, as those of a table of offsets.
+pub fn zone_table(rt: &HostRuntime, given: &[&str]) -> Result<Outcome, Fault> {
+    let [rule, first, last, second] = given else {
+        return Err(Fault::Malformed);
+    };
+    let (first, last, second) = (number(first)?, number(last)?, number(second)?);
+    let Ok(zone) = TimeZone::posix(rule) else {
+        return Err(Fault::Malformed);
+    };
+    begin(rt);
+    let table = ClockTable::of_zone(rt.alloc(), &zone, first, last);
+    end(rt);
+    told_of_table(rt, table, second)
+}
+
+fn told_of_table(
+    rt: &HostRuntime,
+    table: Result<ClockTable, CronError>,
+    second: i64,
+) -> Result<Outcome, Fault> {
     let answer = match &table {
         Ok(table) => second_on(rt, table, second),
-        Err(_) => word(rt.alloc(), "InvalidTime"),
+        Err(error) => refused(rt.alloc(), error),
     };
     drop(table);
     Outcome::of_answer(rt.alloc(), answer)

@@ -1,6 +1,6 @@
 //! The kinds of cases by their names.
 
-use crate::calendar::{calendar, clock_face, clock_table, date_and_time, weekday};
+use crate::calendar::{calendar, clock_face, clock_table, date_and_time, weekday, zone_table};
 use crate::clones::{
     error_clone, field_clone, iterator_clone, job_clone, pattern_clone, resolution_clone,
     time_clone,
@@ -78,6 +78,7 @@ fn calls_with_times(rt: &HostRuntime, kind: &str, given: &[&str]) -> Result<Outc
         "clock face" => clock_face(rt, given),
         "date and time" => date_and_time(rt, given),
         "clock table" => clock_table(rt, given),
+        "table of a zone" => zone_table(rt, given),
         "reading" => reading(rt, given),
         "resolution" => resolution(rt, given),
         "sum" => sum(rt, given),
