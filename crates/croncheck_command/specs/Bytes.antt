@@ -1,6 +1,6 @@
 -- The bytes of a line of a crontab, and the cuts that cron(8) makes in it. Source: crontab(5) of Debian's cron 3.0pl1, and what that
 -- program does.
-use Rattle.std.specs.Prelude.{ℕ, Bool, false, not, ◌&&◌, ◌||◌, ◌==◌, nat_le, List, [], ◌∷◌, take, drop, Option, Some, None}
+use Rattle.std.specs.Prelude.{ℕ, Bool, false, not, ◌&&◌, ◌||◌, ◌==◌, nat_le, List, [], ◌∷◌, take, drop}
 use Rattle.std.specs.List.{prefix_len}
 use Rattle.croncheck_command.specs.declared.bytes.Kind.{Kind}
 use Rattle.croncheck_command.specs.declared.bytes.Kind.TheVariants as kinds

@@ -1,5 +1,5 @@
 -- What contracts see of an entry: the meaning of its line.
-use Rattle.std.specs.Prelude.{ℕ, List, Option, option_map, Result, Ok, Err, string_bytes}
+use Rattle.std.specs.Prelude.{option_map, Result, Ok, Err, string_bytes}
 use Rattle.croncheck_command.specs.declared.line.Fault.{Fault}
 use Rattle.croncheck_command.specs.declared.line.Times.{Times}
 use Rattle.croncheck_command.specs.declared.line.Times.TheVariants as times

@@ -1,4 +1,5 @@
 pub mod Bytes
+pub mod Checked
 pub mod Entries
 pub mod Field
 pub mod Line

@@ -1,5 +1,5 @@
 -- What a line of a crontab is to cron(8), and the pattern that says when its job runs. A line is its bytes without the line feed.
-use Rattle.std.specs.Prelude.{ℕ, Bool, true, false, not, ◌&&◌, ◌||◌, ◌==◌, nat_lt, List, [], ◌∷◌, ◌++◌, length, codes, Option, Some, None, option_map, Result, Ok, Err, if◌then◌else◌}
+use Rattle.std.specs.Prelude.{ℕ, Bool, false, ◌||◌, ◌==◌, nat_lt, List, ◌∷◌, ◌++◌, length, codes, Option, Some, None, option_map, Result, Ok, Err, if◌then◌else◌}
 use Rattle.std.specs.Str.{bytes_eq}
 use Rattle.croncheck_command.specs.declared.bytes.Kind.TheVariants as kinds
 use Rattle.croncheck_command.specs.declared.field.Names.TheVariants as names

@@ -2,6 +2,7 @@
 #![tactic(auto)]
 
 mod bytes;
+pub mod check;
 mod field;
 pub mod line;
 pub mod lines;
