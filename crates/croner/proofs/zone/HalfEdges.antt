@@ -1,6 +1,7 @@
 -- The edge between the two halves of a repeated range.
-use Rattle.std.proofs.Common.{◌≡◌, ℕ, ◌+◌, ◌≤◌, ◌<◌, ℤ, pos, ◌+ℤ◌, ◌-ℤ◌, ◌<ℤ◌, arith, refl, sym, ◌∙◌, inl, inr, ap, subst, Bool, true, false, IsTrue, ◌↔◌, Some, not}
+use Rattle.std.proofs.Common.{◌≡◌, ℕ, ◌+◌, ◌≤◌, ◌<◌, ℤ, pos, ◌+ℤ◌, ◌-ℤ◌, ◌<ℤ◌, arith, refl, sym, ◌∙◌, inl, inr, ap, subst, Bool, true, false, IsTrue, ◌↔◌, Some, Result, IfOk, not}
 use Rattle.std.proofs.lemmas.Int.{ints}
+use Rattle.croner_base.specs.declared.errors.CronError.{CronError}
 use Rattle.croner_base.specs.declared.time.Direction.{Direction}
 use Rattle.croner_base.specs.declared.time.Direction.TheVariants.{Forward, Backward}
 use Rattle.croner.proofs.zone.ZoneOrder.{cases_lt_z, put_back, put_back_once, before_break, after_break}
@@ -130,9 +131,11 @@ test_gap direction m c at is start =
     (λ f. absurd (never_true f), λ twin. absurd (no_twin_of_gap direction m.zone.reads m.instant (exactly_here m.zone m.instant c Gap start.calm at is) twin))
 
 -- a test at a moved moment, said of the start's own zone
-pub test_moved : (direction : Direction) (m there : Moment) (n : ℕ) (b : Bool) → there ≡ moment_from direction m n → (IsCalmStart there.zone there.fraction → IsTrue b ↔ HasTwin direction there.zone.reads there.instant) → IsCalmStart m.zone m.fraction → IsTrue b ↔ HasTwin direction m.zone.reads (offset_from direction m.instant n)
-test_moved direction m there n b same test =
-    subst (λ (x : Moment). IsCalmStart x.zone x.fraction → IsTrue b ↔ HasTwin direction x.zone.reads x.instant) same test
+pub test_moved : (direction : Direction) (m there : Moment) (n : ℕ) (test : Result Bool CronError) → there ≡ moment_from direction m n
+    → (IsCalmStart there.zone there.fraction → IfOk test (λ b. IsTrue b ↔ HasTwin direction there.zone.reads there.instant))
+    → IsCalmStart m.zone m.fraction → IfOk test (λ b. IsTrue b ↔ HasTwin direction m.zone.reads (offset_from direction m.instant n))
+test_moved direction m there n test same found =
+    subst (λ (x : Moment). IsCalmStart x.zone x.fraction → IfOk test (λ b. IsTrue b ↔ HasTwin direction x.zone.reads x.instant)) same found
 
 -- ---- what the backend holds near the start
 
@@ -184,15 +187,6 @@ module _ (direction : Direction) (m : Moment) (b : Bool) where
         margin = omega arith;
         within = λ start twin. subst (HasTwin direction m.zone.reads) (sym (zero_on direction m.instant)) twin;
         beyond = λ start. refuted (HasTwin direction m.zone.reads (offset_from direction m.instant edge_limit)) b e (test start);
-      }
-
-  pub bisect_in : (inside outside middle : ℕ) → Bisected direction m.zone m.instant m.fraction inside outside → middle < outside → b ≡ true → (IsCalmStart m.zone m.fraction → IsTrue b ↔ HasTwin direction m.zone.reads (offset_from direction m.instant middle)) → Bisected direction m.zone m.instant m.fraction middle outside
-  bisect_in inside outside middle so_far h e test =
-      record {
-        ordered = h;
-        margin = so_far.margin;
-        within = λ start twin. shown (HasTwin direction m.zone.reads (offset_from direction m.instant middle)) b e (test start);
-        beyond = so_far.beyond;
       }
 
   pub bisect_out : (inside outside middle : ℕ) → Bisected direction m.zone m.instant m.fraction inside outside → inside < middle → middle < outside → b ≡ false → (IsCalmStart m.zone m.fraction → IsTrue b ↔ HasTwin direction m.zone.reads (offset_from direction m.instant middle)) → Bisected direction m.zone m.instant m.fraction inside middle

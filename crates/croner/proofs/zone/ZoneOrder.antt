@@ -80,7 +80,6 @@ pub record Turned (reads : ℤ → ℤ) (i j p : ℤ) : Type 0 where
   pub earlier : reads i ≡ reads p -ℤ (p -ℤ i)
   pub later : reads j ≡ reads (p +ℤ pos 1) +ℤ (j -ℤ p -ℤ pos 1)
   pub near : j ≤ℤ (i +ℤ pos fold_limit)
-  pub not_above : reads j ≤ℤ reads i
 
 -- how far one step of the induction below goes: in a window with the longest step back
 abbrev stride : ℕ
@@ -162,7 +161,6 @@ module _ (reads : ℤ → ℤ) (calm : Calm reads) where
                   earlier = omega (arith, ints);
                   later = second;
                   near = near;
-                  not_above = le;
                 },
               )
             ]

@@ -69,10 +69,8 @@ pub(crate) fn other_edge<T: CronDateTime>(
             outside = middle;
         }
     }
-    match moved(alloc, start, outside, direction) {
-        Ok(edge) => Ok(Some(edge)),
-        Err(error) => Err(error),
-    }
+    let edge = moved(alloc, start, outside, direction)?;
+    Ok(Some(edge))
 }
 
 // Whether the instant so many seconds on from the start is on the half that the search meets first.
@@ -90,13 +88,8 @@ fn is_offset_on_first_half<T: CronDateTime>(
     ensures err { IfErr result (IsBackendError T.can_lack_memory
         (IsCalmStart (T.moment start.now).zone (T.moment start.now).fraction → ¬ (HoldsAround (T.moment start.now)))) }
 {
-    match moved(alloc, start, seconds, direction) {
-        Ok(there) => match is_on_first_half(alloc, &there, there.to_civil(), direction) {
-            Ok(is_on) => Ok(is_on),
-            Err(error) => Err(error),
-        },
-        Err(error) => Err(error),
-    }
+    let there = moved(alloc, start, seconds, direction)?;
+    is_on_first_half(alloc, &there, there.to_civil(), direction)
 }
 
 /// Whether a run lies in the span of a search in the direction: it reads a year before 5000 forward, after 1 backward, and on
@@ -116,14 +109,11 @@ pub(crate) fn is_in_span<T: CronDateTime>(
         return Ok(false);
     }
     let back = opposite(direction);
-    match is_on_first_half(alloc, run, shown, back) {
-        Ok(true) => {}
-        Ok(false) => return Ok(true),
-        Err(error) => return Err(error),
+    if !is_on_first_half(alloc, run, shown, back)? {
+        return Ok(true);
     }
-    match other_edge(alloc, run, back) {
-        Ok(Some(edge)) => Ok(is_within(edge.to_civil(), direction)),
-        Ok(None) => Ok(false),
-        Err(error) => Err(error),
-    }
+    let Some(edge) = other_edge(alloc, run, back)? else {
+        return Ok(false);
+    };
+    Ok(is_within(edge.to_civil(), direction))
 }

@@ -121,11 +121,10 @@ fn after_limit<T: CronDateTime, S: Schedule>(
         inclusive: true,
         direction,
     };
-    match walk(alloc, schedule, &across, edge.to_civil()) {
-        Ok(Some(second)) => Ok(second),
-        Ok(None) => Err(CronError::TimeSearchLimitExceeded),
-        Err(error) => Err(error),
-    }
+    let Some(run) = walk(alloc, schedule, &across, edge.to_civil())? else {
+        return Err(CronError::TimeSearchLimitExceeded);
+    };
+    Ok(run)
 }
 
 // The edge of the other half and the last instant of the start's own, where the start is on the half that comes first.
@@ -192,11 +191,8 @@ pub(crate) fn find_with_reading<T: CronDateTime, S: Schedule>(
         inclusive,
         direction,
     };
-    match walk(alloc, schedule, &origin, shown) {
-        Ok(Some(first)) => {
-            nearer_half(alloc, schedule, start, shown, first, inclusive, direction)
-        }
-        Ok(None) => after_limit(alloc, schedule, start, shown, inclusive, direction),
-        Err(refused) => Err(refused),
+    match walk(alloc, schedule, &origin, shown)? {
+        Some(first) => nearer_half(alloc, schedule, start, shown, first, inclusive, direction),
+        None => after_limit(alloc, schedule, start, shown, inclusive, direction),
     }
 }

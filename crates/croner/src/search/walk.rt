@@ -121,13 +121,12 @@ fn pass_two<T: CronDateTime, S: Schedule>(
         later,
         fixed_time,
         origin.direction,
-    ) {
-        Ok(Some(answer)) => Ok(Passed::Answer(answer)),
-        Ok(None) => match one_second_on(found, origin.direction) {
+    )? {
+        Some(answer) => Ok(Passed::Answer(answer)),
+        None => match one_second_on(found, origin.direction) {
             Some(next) => Ok(Passed::GoOn(next)),
             None => unreachable!(),
         },
-        Err(error) => Err(error),
     }
 }
 

@@ -1,4 +1,5 @@
 use Rattle.std.proofs.Common.{refl}
+use Rattle.croner.proofs.zone.ErrorsKept.{error_kept}
 use Rattle.croner.proofs.zone.HalfEdges.{is_so}
 use Rattle.croner.proofs.zone.SearchLimit.{limit_one_half, limit_alone, limit_late, second_found, limit_twice, second_error, refused_limit, refused_backend, none_outside, not_past, start_within, start_outside}
 use Rattle.croner.proofs.search.after_limit.Goals as goal
@@ -27,22 +28,22 @@ returns-then-not-is_within-2-clause-refused g c =
     let halves = rw (c.in-Ok-Some.is, c.in-Ok-Some.field-0-is) at c.edge_and_last.ensures in
     refused_limit _ _ _ _ _ (limit_late g.T.CronDateTime.moment c.args.direction c.args.inclusive (g.T.CronDateTime.moment c.args.start.now) (g.S.Schedule.timetable c.args.schedule.now) c.in-Ok-Some.found.0 c.in-Ok-Some.found.1 _ _ (is_so _ _ c.if-not-counts_both.false c.counts_both.ensures) halves.value c.if-not-is_within-2.true c.to_civil.ensures c.is_within-2.ensures c.requires.out)
 
-pub returns-in-Ok-Some-walk-clause-found : goal.returns-in-Ok-Some-walk-clause-found
-returns-in-Ok-Some-walk-clause-found g c =
+pub returns-clause-found : goal.returns-clause-found
+returns-clause-found g c =
     let halves = rw (c.in-Ok-Some.is, c.in-Ok-Some.field-0-is) at c.edge_and_last.ensures in
-    let there = rw (c.in-Ok-Some-walk.is, c.in-Ok-Some-walk.field-0-is) at c.walk.ensures in
+    let there = rw c.in-Some.is at c.in_ok-run.ensures.value in
     let within = start_within _ (g.T.CronDateTime.moment c.args.start.now) _ _ c.if-not-is_within.false c.requires.shown c.is_within.ensures in
-    second_found g.T.CronDateTime.moment c.args.direction c.args.inclusive (g.T.CronDateTime.moment c.args.start.now) (g.S.Schedule.timetable c.args.schedule.now) (not_past _ _ _ _ within) c.in-Ok-Some.found.0 c.in-Ok-Some.found.1 _ _ _ (is_so _ _ c.if-not-counts_both.false c.counts_both.ensures) halves.value c.if-not-is_within-2.false c.to_civil.ensures c.is_within-2.ensures c.requires.out there.value
+    second_found g.T.CronDateTime.moment c.args.direction c.args.inclusive (g.T.CronDateTime.moment c.args.start.now) (g.S.Schedule.timetable c.args.schedule.now) (not_past _ _ _ _ within) c.in-Ok-Some.found.0 c.in-Ok-Some.found.1 _ _ _ (is_so _ _ c.if-not-counts_both.false c.counts_both.ensures) halves.value c.if-not-is_within-2.false c.to_civil.ensures c.is_within-2.ensures c.requires.out there
 
-pub returns-in-Ok-None-walk-clause-refused : goal.returns-in-Ok-None-walk-clause-refused
-returns-in-Ok-None-walk-clause-refused g c =
+pub returns-in_default-clause-refused : goal.returns-in_default-clause-refused
+returns-in_default-clause-refused g c =
     let halves = rw (c.in-Ok-Some.is, c.in-Ok-Some.field-0-is) at c.edge_and_last.ensures in
-    let there = rw (c.in-Ok-None-walk.is, c.in-Ok-None-walk.field-0-is) at c.walk.ensures in
-    refused_limit _ _ _ _ _ (limit_twice g.T.CronDateTime.moment c.args.direction c.args.inclusive (g.T.CronDateTime.moment c.args.start.now) (g.S.Schedule.timetable c.args.schedule.now) c.in-Ok-Some.found.0 c.in-Ok-Some.found.1 (is_so _ _ c.if-not-counts_both.false c.counts_both.ensures) halves.value c.requires.out there.value)
+    let there = rw c.in_default.is at c.in_ok-run.ensures.value in
+    refused_limit _ _ _ _ _ (limit_twice g.T.CronDateTime.moment c.args.direction c.args.inclusive (g.T.CronDateTime.moment c.args.start.now) (g.S.Schedule.timetable c.args.schedule.now) c.in-Ok-Some.found.0 c.in-Ok-Some.found.1 (is_so _ _ c.if-not-counts_both.false c.counts_both.ensures) halves.value c.requires.out there)
 
-pub returns-clause-refused : goal.returns-clause-refused
-returns-clause-refused g c =
+pub returns-in_err-run-clause-refused : goal.returns-in_err-run-clause-refused
+returns-in_err-run-clause-refused g c =
     let halves = rw (c.in-Ok-Some.is, c.in-Ok-Some.field-0-is) at c.edge_and_last.ensures in
-    let error = rw c.in-Err-walk.is at c.walk.ensures in
     let within = start_within _ (g.T.CronDateTime.moment c.args.start.now) _ _ c.if-not-is_within.false c.requires.shown c.is_within.ensures in
-    refused_backend _ _ _ _ _ _ (not_past _ _ _ _ within) (second_error _ (g.T.CronDateTime.moment c.args.start.now) _ _ halves.value.0 error.err.error)
+    error_kept c.from_residual.result c.in_err-run.field-0.0 _ c.from_residual.ensures.1
+    (refused_backend _ _ _ _ _ _ (not_past _ _ _ _ within) (second_error _ (g.T.CronDateTime.moment c.args.start.now) _ _ halves.value.0 c.in_err-run.ensures.err.error))
