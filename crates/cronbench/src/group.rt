@@ -39,11 +39,16 @@ pub enum Group {
     NextOfEach,
     NextOfMany,
     IterateMany,
+    FirstOfMany,
+    IterateDaily,
+    IterateMore,
+    OverAnHour,
+    OverADay,
 }
 
 impl Group {
     /// Every group, in the order in which they are shown.
-    pub const ALL: [Group; 24] = [
+    pub const ALL: [Group; 29] = [
         Group::Parse,
         Group::MatchCivil,
         Group::NextCivil,
@@ -68,6 +73,11 @@ impl Group {
         Group::NextOfEach,
         Group::NextOfMany,
         Group::IterateMany,
+        Group::FirstOfMany,
+        Group::IterateDaily,
+        Group::IterateMore,
+        Group::OverAnHour,
+        Group::OverADay,
     ];
 
     /// Makes each call of the group once.
@@ -101,6 +111,11 @@ impl Group {
             Group::NextOfEach => many::next_each(jobs, times.civil.as_slice()),
             Group::NextOfMany => many::next(&subjects.table, times.civil.as_slice()),
             Group::IterateMany => many::iterate(&subjects.table, times.civil.as_slice()),
+            Group::FirstOfMany => many::first(&subjects.table, times.civil.as_slice()),
+            Group::IterateDaily => many::iterate(&subjects.daily_table, times.civil.as_slice()),
+            Group::IterateMore => many::iterate(&subjects.larger_table, times.civil.as_slice()),
+            Group::OverAnHour => next(subjects.each_second.as_slice(), times.before_an_hour.as_slice()),
+            Group::OverADay => next(subjects.each_second.as_slice(), times.before_a_day.as_slice()),
         }
     }
 }
@@ -132,6 +147,11 @@ impl fmt::Display for Group {
             Group::NextOfEach => "next run of 1,000 patterns, each by itself",
             Group::NextOfMany => "next run of a table of 1,000 patterns",
             Group::IterateMany => "64 runs of a table of 1,000 patterns",
+            Group::FirstOfMany => "first run of an iterator over that table",
+            Group::IterateDaily => "64 runs of a table of 1,000 patterns, one at a time",
+            Group::IterateMore => "64 runs of a table of 100,000 patterns",
+            Group::OverAnHour => "next run of * * * * * *, over a gap of an hour",
+            Group::OverADay => "next run of * * * * * *, over a gap of a day",
         };
         write!(f, "{name}")
     }

@@ -1,4 +1,4 @@
-//! A thousand patterns: each searched by itself, and all as a table.
+//! Many patterns: each searched by itself, and all as a table.
 
 use crate::answers::Answers;
 use crate::job::Job;
@@ -12,13 +12,47 @@ use std::alloc::Global;
 /// How often the table has each pattern, so that forty are a thousand.
 const TIMES: u32 = 25;
 
+/// How often the larger table has each pattern, so that forty are a hundred thousand.
+const LARGER_TIMES: u32 = 2_500;
+
 /// How many items the table's iterator is asked for.
 const ITEMS: u32 = 64;
 
-/// The table that has each pattern so often.
+/// How many jobs the table has of which one runs at a time: each runs once a day, some seconds after the one before it.
+const DAILY_JOBS: u32 = 1_000;
+
+const SECONDS_APART: u32 = 86;
+
+/// The table of a thousand patterns.
 pub fn table(alloc: Global, patterns: &[String]) -> Result<CronTable, CronError> {
+    table_of(alloc, patterns, TIMES)
+}
+
+/// The table of a hundred thousand patterns.
+pub fn larger_table(alloc: Global, patterns: &[String]) -> Result<CronTable, CronError> {
+    table_of(alloc, patterns, LARGER_TIMES)
+}
+
+/// The table of which one job runs at a time.
+pub fn daily_table(alloc: Global) -> Result<CronTable, CronError> {
     let mut table = CronTable::new(alloc);
-    for _ in 0..TIMES {
+    for job in 0..DAILY_JOBS {
+        table.push(daily(alloc, job * SECONDS_APART)?)?;
+    }
+    Ok(table)
+}
+
+// A job that runs at a second of the day.
+fn daily(alloc: Global, second: u32) -> Result<Cron, CronError> {
+    let (minute, hour) = (second / 60 % 60, second / 3600 % 24);
+    let text = format!(in alloc; "{} {minute} {hour} * * *", second % 60)?;
+    Cron::from_str(alloc, text.as_str())
+}
+
+// The table that has each pattern so often.
+fn table_of(alloc: Global, patterns: &[String], times: u32) -> Result<CronTable, CronError> {
+    let mut table = CronTable::new(alloc);
+    for _ in 0..times {
         for pattern in patterns {
             table.push(Cron::from_str(alloc, pattern.as_str())?)?;
         }
@@ -65,6 +99,16 @@ pub fn iterate(table: &CronTable, starts: &[DateTime]) -> Result<Answers, CronEr
         for _ in 0..ITEMS {
             add_run(&mut answers, &mut runs);
         }
+    }
+    Ok(answers)
+}
+
+/// Asks for the table's first run behind each start, by a new iterator. An answer is a run.
+pub fn first(table: &CronTable, starts: &[DateTime]) -> Result<Answers, CronError> {
+    let mut answers = Answers::default();
+    for start in starts {
+        let mut runs = table.iter_after(*start);
+        add_run(&mut answers, &mut runs);
     }
     Ok(answers)
 }

@@ -1,5 +1,6 @@
-//! The clock of Paris: as a table of its changes, and as a rule.
+//! The clocks: that of Paris, as a table of its changes and as a rule, and two with one gap.
 
+use crate::starts::FIRST_SECOND;
 use crate::stop::Stop;
 use croner::time::table::ClockTable;
 use jiff::Error;
@@ -22,7 +23,12 @@ const MARCH: i8 = 3;
 
 const OCTOBER: i8 = 10;
 
-/// The clock of Paris, in three forms.
+/// How long the gaps are, in seconds.
+const HOUR: i32 = 3_600;
+
+const DAY: i32 = 86_400;
+
+/// The clock of Paris, in three forms, and two clocks with one gap.
 #[derive(Drop)]
 pub struct Clocks {
     /// The changes of 2020 to 2059. Before the first it is winter time, and after the last too.
@@ -31,6 +37,10 @@ pub struct Clocks {
     pub long_table: ClockTable,
     /// The rule, in every year.
     pub zone: TimeZone<'static>,
+    /// A clock that is put on by an hour at the first second.
+    pub gap_of_an_hour: ClockTable,
+    /// A clock that is put on by a day there.
+    pub gap_of_a_day: ClockTable,
 }
 
 impl Clocks {
@@ -39,10 +49,14 @@ impl Clocks {
         let zone = TimeZone::posix(RULE)?;
         let table = table(alloc)?;
         let long_table = long_table(alloc)?;
+        let gap_of_an_hour = gap_of(alloc, HOUR)?;
+        let gap_of_a_day = gap_of(alloc, DAY)?;
         Ok(Clocks {
             table,
             long_table,
             zone,
+            gap_of_an_hour,
+            gap_of_a_day,
         })
     }
 }
@@ -51,6 +65,12 @@ fn table(alloc: Global) -> Result<ClockTable, Stop> {
     let mut changes = Vec::new(alloc);
     add_changes(&mut changes)?;
     Ok(ClockTable::new(WINTER_OFFSET, changes)?)
+}
+
+fn gap_of(alloc: Global, seconds: i32) -> Result<ClockTable, Stop> {
+    let mut changes = Vec::new(alloc);
+    changes.push((FIRST_SECOND, seconds))?;
+    Ok(ClockTable::new(0, changes)?)
 }
 
 fn add_changes(changes: &mut Vec<(i64, i32)>) -> Result<(), Stop> {

@@ -17,6 +17,9 @@ use std::alloc::Global;
 /// A pattern whose date is in 15 of 400 years.
 const LEAP_MONDAY: &str = "0 0 29 2 +MON";
 
+/// A pattern of every second.
+const EACH_SECOND: &str = "* * * * * *";
+
 /// A pattern whose date is in no year.
 const NO_DATE: &str = "0 0 31 2 *";
 
@@ -42,6 +45,12 @@ pub struct Subjects<'t> {
     pub jobs: Vec<Job>,
     /// The table of a thousand patterns.
     pub table: CronTable,
+    /// The table of a hundred thousand patterns.
+    pub larger_table: CronTable,
+    /// The table of which one job runs at a time.
+    pub daily_table: CronTable,
+    /// A job that runs in each second.
+    pub each_second: Vec<Job>,
     /// A job that runs in few years.
     pub rare: Vec<Job>,
     /// The jobs that never run.
@@ -61,7 +70,10 @@ impl<'t> Subjects<'t> {
     ) -> Result<Subjects<'t>, Stop> {
         let jobs = jobs(alloc, patterns.as_slice())?;
         let table = many::table(alloc, patterns.as_slice())?;
-        let rare = rare(alloc)?;
+        let larger_table = many::larger_table(alloc, patterns.as_slice())?;
+        let daily_table = many::daily_table(alloc)?;
+        let each_second = one(alloc, EACH_SECOND)?;
+        let rare = one(alloc, LEAP_MONDAY)?;
         let never = Never::new(alloc)?;
         let hostile = Hostile::new(alloc)?;
         let times = Times::new(alloc, clocks)?;
@@ -69,6 +81,9 @@ impl<'t> Subjects<'t> {
             patterns,
             jobs,
             table,
+            larger_table,
+            daily_table,
+            each_second,
             rare,
             never,
             times,
@@ -140,6 +155,10 @@ pub struct Times<'t> {
     pub long_table: Vec<TableTime<'t>>,
     /// Times on that table far from each other.
     pub far_on_long_table: Vec<TableTime<'t>>,
+    /// The last second before a gap of an hour.
+    pub before_an_hour: Vec<TableTime<'t>>,
+    /// The last second before a gap of a day.
+    pub before_a_day: Vec<TableTime<'t>>,
 }
 
 impl<'t> Times<'t> {
@@ -151,12 +170,16 @@ impl<'t> Times<'t> {
         let zoned = zoned_times(alloc, &clocks.zone, seconds.as_slice())?;
         let long_table = table_times(alloc, &clocks.long_table, seconds.as_slice())?;
         let far_on_long_table = far_times(alloc, &clocks.long_table)?;
+        let before_an_hour = table_times(alloc, &clocks.gap_of_an_hour, &[FIRST_SECOND - 1])?;
+        let before_a_day = table_times(alloc, &clocks.gap_of_a_day, &[FIRST_SECOND - 1])?;
         Ok(Times {
             civil,
             table,
             zoned,
             long_table,
             far_on_long_table,
+            before_an_hour,
+            before_a_day,
         })
     }
 }
@@ -206,8 +229,8 @@ fn jobs(alloc: Global, patterns: &[String]) -> Result<Vec<Job>, CronError> {
     Ok(jobs)
 }
 
-fn rare(alloc: Global) -> Result<Vec<Job>, CronError> {
-    let mut rare = Vec::new(alloc);
-    rare.push(Job::read(alloc, LEAP_MONDAY)?)?;
-    Ok(rare)
+fn one(alloc: Global, pattern: &str) -> Result<Vec<Job>, CronError> {
+    let mut jobs = Vec::new(alloc);
+    jobs.push(Job::read(alloc, pattern)?)?;
+    Ok(jobs)
 }
