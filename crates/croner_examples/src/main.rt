@@ -45,6 +45,8 @@ fn show_in_zone(rt: &HostRuntime) -> anyhow::Result<()> {
     let now = Timestamp::new(1_729_980_000, 0)?; // 2024-10-27T00:00:00 there
     let run = zones::next_in_zone(rt.alloc(), &cron, &paris, now)?;
     println!(rt; "in Paris: {run}")?; // in Paris: 2024-10-27T00:30:00Z
+    let run = zones::next_in_named_zone(rt, &cron, "UTC", now)?;
+    println!(rt; "in UTC: {run}")?; // in UTC: 2024-10-27T02:30:00Z
     Ok(())
 }
 
