@@ -1,5 +1,5 @@
 -- What the order of the runs that are kept says: none of them comes before the first, and at its instant none has a lower place.
-use Rattle.std.proofs.Common.{◌≡◌, ◌⊎◌, inl, inr, ℕ, ◌≤◌, ℤ, arith, sym, subst, ◌∙◌, refl, Bool, false, List, length, get_or}
+use Rattle.std.proofs.Common.{◌≡◌, ◌⊎◌, inl, inr, ℕ, ◌≤◌, ℤ, arith, sym, subst, ◌∙◌, refl, Bool, false, List, get_or}
 use Rattle.std.proofs.lemmas.Bool.{false≢true}
 use Rattle.std.proofs.lemmas.Cmp.{ranked, int_ranked}
 use Rattle.std.proofs.lemmas.Int.{ints}
@@ -11,7 +11,7 @@ use Rattle.std.specs.declared.cmp.Ordering.{Ordering}
 use Rattle.std.specs.declared.cmp.Ordering.TheVariants.{Less, Equal, Greater}
 use Rattle.croner_base.specs.declared.time.Direction.{Direction}
 use Rattle.croner_base.specs.declared.time.Direction.TheVariants.{Forward, Backward}
-use Rattle.croner_base.specs.Zone.{Moment, nanos_of}
+use Rattle.croner_base.specs.Zone.{Moment}
 use Rattle.croner.specs.declared.crontable.due.Due.{Due}
 use Rattle.croner.specs.Private.crontable.Dues.{rank, forward_nanos, backward_nanos, nanos_due, due_cmp}
 use Rattle.croner.specs.search.Runs.{Reaches}

@@ -1,6 +1,6 @@
 -- An answer of a search of which it is only known that it holds, and not how: what makes it a run can be told from the zone and
 -- the pattern.
-use Rattle.std.proofs.Common.{◌≡◌, ◌⊎◌, inl, inr, ◌+◌, ◌≤◌, ℤ, pos, ◌+ℤ◌, ◌-ℤ◌, ◌<ℤ◌, ◌≤ℤ◌, arith, sym, ap, subst, ◌∙◌, Bool, true, false}
+use Rattle.std.proofs.Common.{◌≡◌, inl, inr, ℤ, pos, ◌+ℤ◌, ◌-ℤ◌, ◌<ℤ◌, ◌≤ℤ◌, arith, sym, ap, subst, ◌∙◌, Bool, true, false}
 use Rattle.std.proofs.Props.{props}
 use Rattle.std.proofs.Math.Logic.{∥∥₁_elim, ∥∥₁_map}
 use Rattle.std.proofs.lemmas.Bool.{false≢true}
@@ -23,7 +23,7 @@ use Rattle.croner_pattern.specs.Shapes.{has_field_shapes}
 use Rattle.croner.specs.Private.search.Halves.{Break}
 use Rattle.croner.specs.search.PatternJob.{pattern_job, timetable_of}
 use Rattle.croner.specs.search.Searches.{IsFound}
-use Rattle.croner.specs.search.Runs.{Precedes, Reaches, OwnRun, CarriedRun, Run, StartCounts, Counts}
+use Rattle.croner.specs.search.Runs.{Reaches, OwnRun, CarriedRun, Run, StartCounts, Counts}
 use Rattle.croner.proofs.cursor.DateSearch.{and-split}
 use Rattle.croner.proofs.cursor.Singles.{single-value, single_time, second_bounds, minute_bounds, hour_bounds}
 use Rattle.croner.proofs.zone.Ahead.{either, not_both}

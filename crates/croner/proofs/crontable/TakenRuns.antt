@@ -1,5 +1,5 @@
 -- All that stand at the nearest instant, taken one after the other: what they come to together.
-use Rattle.std.proofs.Common.{◌≡◌, ◌⊎◌, inl, inr, ℕ, ◌+◌, ◌<◌, ◌≤◌, ℤ, arith, refl, sym, ap, subst, ◌∙◌, Bool, true, false, List, [], ◌∷◌, ◌++◌, length, map, get_or, Option, Some, None, Result, Ok, Err}
+use Rattle.std.proofs.Common.{◌≡◌, ◌⊎◌, inl, inr, ℕ, ◌<◌, ◌≤◌, ℤ, arith, refl, sym, ap, subst, ◌∙◌, Bool, true, List, [], ◌∷◌, ◌++◌, length, map, get_or, Option, Some, None, Result, Ok, Err}
 use Rattle.std.proofs.Math.Logic.{∥∥₁_elim}
 use Rattle.std.proofs.lemmas.Bool.{cases_lt}
 use Rattle.std.proofs.lemmas.Int.{ints}
@@ -8,14 +8,14 @@ use Rattle.std.proofs.lemmas.List.Elements.{All-nil, All-head, All-tail, All-pus
 use Rattle.std.proofs.lemmas.List.Quantifiers.{all_pairs_push}
 use Rattle.std.proofs.lemmas.List.Sorted.{All-permutation}
 use Rattle.std.proofs.lemmas.List.Sums.{sum_by-cons, sum_by_push, get_or-le-sum_by}
-use Rattle.std.proofs.lemmas.Option.{slice_get_cases, slice_get_within, slice_get-map, get_or_from_slice_get}
+use Rattle.std.proofs.lemmas.Option.{slice_get_cases, slice_get-map, get_or_from_slice_get}
 use Rattle.std.specs.Prelude.{slice_get, slice_index_or, option_map, IfOk, IfSome, IfNone}
 use Rattle.std.specs.List.{All, AllPairs, Contains, sum_by}
 use Rattle.std.specs.declared.alloc.Global.{Global}
 use Rattle.std.specs.declared.vec.Vec.{Vec}
 use Rattle.croner_base.specs.declared.errors.CronError.{CronError}
 use Rattle.croner_base.specs.declared.errors.CronError.TheVariants.{TimeSearchLimitExceeded}
-use Rattle.croner_base.specs.Zone.{Zone, Moment, reading, nanos_of}
+use Rattle.croner_base.specs.Zone.{Moment, reading, nanos_of}
 use Rattle.croner_base.specs.declared.time.Direction.{Direction}
 use Rattle.croner_pattern.specs.Meaning.{Meaning}
 use Rattle.croner_pattern.specs.Shapes.{has_field_shapes}
@@ -23,20 +23,20 @@ use Rattle.croner.specs.declared.crontable.due.Due.{Due}
 use Rattle.croner.specs.declared.crontable.nearest.Met.{Met}
 use Rattle.croner.specs.declared.job.Cron.{Cron}
 use Rattle.croner.specs.Views.{job_of}
-use Rattle.croner.specs.crontable.Tables.{CountsAt, ShowsAt, AllPast, IsTableRefused}
+use Rattle.croner.specs.crontable.Tables.{CountsAt, IsTableRefused}
 use Rattle.croner.specs.Private.crontable.Dues.{nanos_due}
 use Rattle.croner.specs.Private.crontable.Kept.{is_place, IsDue, AreKept, LieAhead, IsPopped, IsApart}
 use Rattle.croner.specs.Private.crontable.Met.{MetAnswers, met_of, Decides}
-use Rattle.croner.specs.search.Limit.{IsPast, NoneInSpan}
-use Rattle.croner.specs.search.PatternJob.{pattern_job, timetable_of}
+use Rattle.croner.specs.search.Limit.{IsPast}
+use Rattle.croner.specs.search.PatternJob.{timetable_of}
 use Rattle.croner.specs.search.Premises.{StartsCalm}
-use Rattle.croner.specs.search.Runs.{Precedes, Reaches, Counts}
+use Rattle.croner.specs.search.Runs.{Precedes, Reaches}
 use Rattle.croner.specs.search.Searches.{IsFound}
-use Rattle.croner.proofs.crontable.DueOrder.{ComesBehind, comes_behind, all_behind}
+use Rattle.croner.proofs.crontable.DueOrder.{ComesBehind, all_behind}
 use Rattle.croner.proofs.crontable.KeptRuns.{same_place, counted_once, counted_never, popped_kept}
 use Rattle.croner.proofs.crontable.KnownRuns.{found_known}
 use Rattle.croner.proofs.crontable.TableRuns.{IsBest, Span, Searched, order_nanos, none_met, refused_in_room}
-use Rattle.croner.proofs.zone.Ahead.{precedes-reaches, precedes-trans, reaches-trans, reaches-equal, same_or_ahead, not_both}
+use Rattle.croner.proofs.zone.Ahead.{precedes-reaches, precedes-trans, reaches-equal, same_or_ahead, not_both}
 
 same_some : {A : Type 0} (x y : A) → Some x ≡ Some y → x ≡ y
 same_some x y e = cc

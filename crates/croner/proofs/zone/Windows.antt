@@ -12,7 +12,6 @@ use Rattle.croner_base.specs.declared.time.Direction.{Direction}
 use Rattle.croner_base.specs.declared.time.Direction.TheVariants.{Forward, Backward}
 use Rattle.croner_base.specs.declared.time.table.ClockTable.{ClockTable}
 use Rattle.croner_base.specs.Table.{offset_limit}
-use Rattle.croner_base.specs.Table as Spec
 use Rattle.croner_base.specs.TableZone.{clock, table_zone}
 use Rattle.croner_base.specs.Zone.{Zone}
 use Rattle.croner_base.specs.ZonedZone.{zoned_zone, nearest_timestamp}
