@@ -1,5 +1,5 @@
 -- A listing, run by run.
-use Rattle.std.proofs.Common.{◌≡◌, ◌∙◌, ◌++◌, ◌∷◌, ◌+◌, ◌<◌, [], ℕ, Bool, List, length, refl, sym, subst, ap, arith}
+use Rattle.std.proofs.Common.{◌≡◌, ◌∙◌, ◌++◌, ◌∷◌, ◌+◌, ◌<◌, [], ℕ, Bool, List, refl, sym, subst, ap, arith}
 use Rattle.std.proofs.lemmas.List.{append_assoc, length_push}
 use Rattle.croner_base.specs.Zone.{Moment}
 use Rattle.croner_base.specs.declared.errors.CronError.{CronError}
