@@ -114,8 +114,14 @@ impl Group {
             Group::FirstOfMany => many::first(&subjects.table, times.civil.as_slice()),
             Group::IterateDaily => many::iterate(&subjects.daily_table, times.civil.as_slice()),
             Group::IterateMore => many::iterate(&subjects.larger_table, times.civil.as_slice()),
-            Group::OverAnHour => next(subjects.each_second.as_slice(), times.before_an_hour.as_slice()),
-            Group::OverADay => next(subjects.each_second.as_slice(), times.before_a_day.as_slice()),
+            Group::OverAnHour => next(
+                subjects.each_second.as_slice(),
+                times.before_an_hour.as_slice(),
+            ),
+            Group::OverADay => next(
+                subjects.each_second.as_slice(),
+                times.before_a_day.as_slice(),
+            ),
         }
     }
 }

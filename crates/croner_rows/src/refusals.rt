@@ -345,14 +345,26 @@ const ROWS: &str = r##"
 
 #[test]
 fn tells_where_and_what_to_write(rt: HostRuntime) -> Result<(), Fail> {
-    let rows = differing(rt.alloc(), &Told { question: Explained }, ROWS)?;
+    let rows = differing(
+        rt.alloc(),
+        &Told {
+            question: Explained,
+        },
+        ROWS,
+    )?;
     assert_eq!(rt; rows.as_str(), "");
     Ok(())
 }
 
 #[test]
 fn suggests_what_says_the_same(rt: HostRuntime) -> Result<(), Fail> {
-    let rows = differing(rt.alloc(), &Told { question: Suggested }, SUGGESTIONS)?;
+    let rows = differing(
+        rt.alloc(),
+        &Told {
+            question: Suggested,
+        },
+        SUGGESTIONS,
+    )?;
     assert_eq!(rt; rows.as_str(), "");
     Ok(())
 }
