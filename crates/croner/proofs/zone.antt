@@ -1,6 +1,7 @@
 -- The zone layer: the order of readings in a calm zone, gaps, the halves of a repeated range, and walks.
 pub mod Ahead
 pub mod CalmZone
+pub mod Covered
 pub mod ErrorsKept
 pub mod FirstInstants
 pub mod GapSides
@@ -8,6 +9,7 @@ pub mod HalfEdges
 pub mod HeldRuns
 pub mod RunsOfSeconds
 pub mod SearchLimit
+pub mod SearchedYears
 pub mod Span
 pub mod TwoHalves
 pub mod WalkArms

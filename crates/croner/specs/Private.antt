@@ -1,6 +1,4 @@
 -- Words of private calls. Private contracts alone cite these definitions.
-pub mod cursor
 pub mod parser
 pub mod search
 pub mod crontable
-pub mod Steps

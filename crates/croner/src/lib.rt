@@ -2,7 +2,6 @@
 #![tactic(auto)]
 
 pub mod crontable;
-mod cursor;
 mod description;
 mod iterator;
 mod job;

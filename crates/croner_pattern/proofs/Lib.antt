@@ -14,3 +14,4 @@ pub mod ListsWritten
 pub mod RunsWritten
 pub mod FieldWords
 pub mod Sentences
+pub mod civil

@@ -8,6 +8,9 @@ pub mod Meaning
 pub mod Shapes
 pub mod Days
 pub mod Schedule
+pub mod Directions
+pub mod NextSecond
+pub mod SearchedYears
 pub mod Questions
 pub mod Order
 pub mod Written

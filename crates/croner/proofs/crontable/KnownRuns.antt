@@ -24,8 +24,8 @@ use Rattle.croner.specs.Private.search.Halves.{Break}
 use Rattle.croner.specs.search.PatternJob.{pattern_job, timetable_of}
 use Rattle.croner.specs.search.Searches.{IsFound}
 use Rattle.croner.specs.search.Runs.{Reaches, OwnRun, CarriedRun, Run, StartCounts, Counts}
-use Rattle.croner.proofs.cursor.DateSearch.{and-split}
-use Rattle.croner.proofs.cursor.Singles.{single-value, single_time, second_bounds, minute_bounds, hour_bounds}
+use Rattle.croner_pattern.proofs.civil.DateSearch.{and-split}
+use Rattle.croner_pattern.proofs.civil.Singles.{single-value, single_time, second_bounds, minute_bounds, hour_bounds}
 use Rattle.croner.proofs.zone.Ahead.{either, not_both}
 use Rattle.croner.proofs.zone.CalmZone.{calm_of}
 use Rattle.croner.proofs.zone.RunsOfSeconds.{true_or_false, is_run}

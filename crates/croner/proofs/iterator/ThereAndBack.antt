@@ -22,7 +22,7 @@ use Rattle.croner.specs.search.Searches.{IsFound, IsRefused, IsReturnable}
 use Rattle.croner.proofs.zone.CalmZone.{calm_of}
 use Rattle.croner.proofs.zone.HeldRuns.{holds_from}
 use Rattle.croner.proofs.iterator.Listings.{is_run, there_and_back}
-use Rattle.croner.proofs.cursor.SearchedYears.{searched_run}
+use Rattle.croner.proofs.zone.SearchedYears.{searched_run}
 use Rattle.croner.proofs.zone.ZoneOrder.{cases_lt_z, gains, far}
 
 first_of_3 : day_number (pos 3) 1 1 ≡ neg_ℤ (pos 718_432)

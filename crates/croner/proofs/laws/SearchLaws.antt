@@ -12,7 +12,7 @@ use Rattle.croner.specs.search.Limit.{IsPast, IsOutside}
 use Rattle.croner.specs.search.PatternJob.{timetable_of}
 use Rattle.croner.specs.search.Refusal.{IsRefusal}
 use Rattle.croner.specs.search.Searches.{IsFound, IsRefused}
-use Rattle.croner.specs.Private.cursor.SearchedYears.{scheduled_searched}
+use Rattle.croner_pattern.specs.SearchedYears.{scheduled_searched}
 
 -- what the clock shows at a found moment is scheduled where the start's zone says so
 pub shown_scheduled : (m : Meaning) (start found : Moment) (w : ℤ) → w ≡ reading found → found.zone ≡ start.zone → IsScheduled m (start.zone.reads found.instant) → IsScheduled m w

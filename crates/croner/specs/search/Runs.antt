@@ -3,6 +3,7 @@ use Rattle.std.specs.Prelude.{◌≡◌, ℤ, pos, ◌-ℤ◌, ◌<ℤ◌, ◌�
 use Rattle.croner_base.specs.Zone.{Zone}
 use Rattle.croner_base.specs.declared.time.Direction.{Direction}
 use Rattle.croner_base.specs.declared.time.Direction.TheVariants.{Forward, Backward}
+pub use Rattle.croner_pattern.specs.Directions.{Precedes, Reaches}
 
 -- when a schedule asks for runs, in whatever zone: which wall seconds are scheduled, at which of them the date matches, and
 -- whether it is a fixed-time job's
@@ -36,16 +37,6 @@ CarriedRun job i =
 -- the job runs at i
 abbrev pub Run : Job → ℤ → Type 0
 Run job i = OwnRun job i ⊎ CarriedRun job i
-
--- a comes before b in the direction
-abbrev pub Precedes : Direction → ℤ → ℤ → Type 0
-Precedes Forward a b = a <ℤ b
-Precedes Backward a b = b <ℤ a
-
--- a comes no later than b in the direction
-abbrev pub Reaches : Direction → ℤ → ℤ → Type 0
-Reaches Forward a b = a ≤ℤ b
-Reaches Backward a b = b ≤ℤ a
 
 -- i lies ahead of s, or is it in an inclusive search
 abbrev pub Ahead : Direction → Bool → ℤ → ℤ → Type 0

@@ -3,6 +3,7 @@ mod distance;
 pub(crate) mod fold;
 mod gap;
 pub(crate) mod instant;
+mod pattern;
 mod schedule;
 mod walk;
 pub(crate) mod wall;

@@ -15,7 +15,7 @@ use Rattle.croner.specs.Private.search.Schedule.{NoneScheduled}
 use Rattle.croner.specs.search.Premises.{IsCalmStart, HasOneInstantEach, Shows}
 use Rattle.croner.specs.declared.search.walk.Passed.{Passed}
 use Rattle.croner.specs.declared.search.walk.Passed.TheVariants.{Answer, GoOn, Limit}
-pub use Rattle.croner.specs.Private.Steps.{one_on}
+pub use Rattle.croner_pattern.specs.Directions.{one_on}
 
 -- the most passes of a walk
 abbrev pub pass_limit : ℕ

@@ -1,8 +1,0 @@
-use Rattle.std.proofs.Common.{◌+◌, ◌/◌, ◌%◌}
-use Rattle.croner_pattern.specs.Meaning.{meaning_of}
-use Rattle.croner.specs.Private.cursor.Cursor.{HasOpenDay}
-use Rattle.croner.proofs.cursor.MonthKinds.{Collected}
-use Rattle.croner.proofs.cursor.kinds.month_kinds.Given as goal
-
-abbrev pub invariant-loop-kind : goal.invariant-loop-kind
-invariant-loop-kind l = Collected (λ k. HasOpenDay (meaning_of l.pattern) (28 + k / 7) (k % 7)) l.kind l.kinds

@@ -1,0 +1,182 @@
+-- The search for the nearest scheduled date and time.
+use Rattle.std.proofs.Common.{◌≡◌, ◌↔◌, ℕ, inl, inr, Bool, true, false, IsTrue, refl, sym, ap, subst, ◌∙◌}
+use Rattle.std.proofs.lemmas.Bool.{false≢true}
+use Rattle.croner_base.specs.declared.time.Direction.{Direction}
+use Rattle.croner_base.specs.declared.time.civil.CivilDate.{CivilDate}
+use Rattle.croner_base.specs.declared.time.civil.CivilTime.{CivilTime}
+use Rattle.croner_base.specs.declared.time.civil.CivilDateTime.{CivilDateTime}
+use Rattle.croner_base.specs.Civil.{wall_second, day_of_date}
+use Rattle.croner_pattern.specs.Meaning.{Meaning}
+use Rattle.croner_pattern.specs.Schedule.{is_date_matching, is_scheduled}
+use Rattle.croner_pattern.specs.Directions.{Precedes, Reaches}
+use Rattle.croner_pattern.specs.Private.Cursor.{has_room, last_day, place_in_day, IsMatchingTime, IsMove, IsOpenTime, IsFirstTime, HasDay, IsMonthDays, IsAfter, IsForemost, IsOpen, IsOnSchedule, IsNearest, NoneOn}
+use Rattle.croner_pattern.proofs.civil.Ahead.{reaches-trans, precedes-reaches, either, same_or_ahead, both_ways}
+use Rattle.croner_pattern.proofs.civil.CivilOrder.{same_date, reach-date, reach-time, wall-reach_date, wall-reach_time}
+use Rattle.croner_pattern.proofs.civil.DateSearch.{and-split, and-join, same_match, last_day-room, last_day-no_room, start-within}
+use Rattle.croner_pattern.proofs.civil.TimeSearch.{first-least, first-matches, move-between}
+
+-- what is scheduled has a matching time on a matching date
+pub record Parts (m : Meaning) (c : CivilDateTime) : Type 0 where
+  pub time : IsMatchingTime m c.time
+  pub date : is_date_matching m c.date ≡ true
+
+pub scheduled_parts : (m : Meaning) (c : CivilDateTime) → is_scheduled m c ≡ true → Parts m c
+scheduled_parts m c h =
+    let one = and-split _ _ h in
+    let two = and-split _ _ one.1 in
+    let three = and-split _ _ two.1 in
+    record { time = record { hour = three.0; minute = two.0; second = one.0 }; date = three.1 }
+
+pub parts_scheduled : (m : Meaning) (c : CivilDateTime) → Parts m c → is_scheduled m c ≡ true
+parts_scheduled m c p =
+    and-join _ _ p.time.second (and-join _ _ p.time.minute (and-join _ _ p.time.hour p.date))
+
+-- a date and time made of a date and a time
+pub parts_of : (m : Meaning) (c : CivilDateTime) (d : CivilDate) (t : CivilTime) → c.date ≡ d → c.time ≡ t → is_date_matching m d ≡ true → IsMatchingTime m t → Parts m c
+parts_of m c d t e f date time = record {
+  time = subst (IsMatchingTime m) (sym f) time;
+  date = ap (is_date_matching m) e ∙ date;
+}
+
+module _ (m : Meaning) (dir : Direction) (from : CivilDateTime) where
+  -- no field of the time may be empty
+  pub no_time : ((t : CivilTime) → IsMatchingTime m t → ⊥) → NoneOn wall_second (IsOpen m dir from) dir (wall_second from)
+  no_time none y r is = let p = scheduled_parts m y is.scheduled in none y.time p.time
+
+  -- what is open on the start's own day
+  open_time : (room : Bool) (y : CivilDateTime) → room ≡ has_room dir from.date.year → Reaches dir (wall_second from) (wall_second y) → day_of_date y.date ≡ day_of_date from.date → IsOpen m dir from y → IsOpenTime m dir room from.time y.time
+  open_time room y has r today is =
+      let p = scheduled_parts m y is.scheduled in
+      record { on = reach-time dir from y today r; matches = p.time; move = λ lacks. is.move (sym has ∙ lacks) }
+
+  -- ---- on the start's own day
+
+  pub today-reached : (room : Bool) (t : CivilTime) (c : CivilDateTime) → room ≡ has_room dir from.date.year → is_date_matching m from.date ≡ true → IsForemost place_in_day (IsOpenTime m dir room from.time) dir t → c.date ≡ from.date → c.time ≡ t → IsNearest wall_second (IsOpen m dir from) dir (wall_second from) c
+  today-reached room t c has date n e f =
+      let same : day_of_date c.date ≡ day_of_date from.date = ap day_of_date e in
+      record {
+        on = wall-reach_time dir from c same (subst (λ z. Reaches dir (place_in_day from.time) (place_in_day z)) (sym f) n.is.on);
+        is = record {
+          scheduled = parts_scheduled m c (parts_of m c from.date t e f date n.is.matches);
+          within = subst (λ z. Reaches dir z (last_day dir from.date)) (sym same) (start-within dir from.date);
+          move = λ lacks. subst (IsMove m from.time) (sym f) (n.is.move (has ∙ lacks));
+        };
+        first = λ y r is.
+            elim (same_or_ahead dir (day_of_date from.date) (day_of_date y.date) (reach-date dir from y r)) [
+              | inl today ↦
+                  wall-reach_time dir c y (sym today ∙ sym same)
+                  (subst (λ z. Reaches dir (place_in_day z) (place_in_day y.time)) (sym f) (n.first y.time (open_time room y has r (sym today) is)))
+              | inr later ↦
+                  wall-reach_date dir c y (subst (λ z. Precedes dir z (day_of_date y.date)) (sym same) later)
+            ];
+      }
+
+  -- what is scheduled before an answer is open, so the answer is the nearest of all
+  nearest_of_all : (c : CivilDateTime) → IsNearest wall_second (IsOpen m dir from) dir (wall_second from) c → ((y : CivilDateTime) → Reaches dir (wall_second from) (wall_second y) → Reaches dir (wall_second y) (wall_second c) → is_scheduled m y ≡ true → IsOpen m dir from y) → IsNearest wall_second (IsOnSchedule m) dir (wall_second from) c
+  nearest_of_all c n is_open = record {
+    on = n.on;
+    is = n.is.scheduled;
+    first = λ y r is.
+        elim (either dir (wall_second y) (wall_second c)) [
+          | inl before ↦ n.first y r (is_open y r (precedes-reaches dir (wall_second y) (wall_second c) before) is)
+          | inr on ↦ on
+        ];
+  }
+
+  pub today-nearest : (c : CivilDateTime) → c.date ≡ from.date → IsNearest wall_second (IsOpen m dir from) dir (wall_second from) c → IsNearest wall_second (IsOnSchedule m) dir (wall_second from) c
+  today-nearest c e n =
+      let same : day_of_date c.date ≡ day_of_date from.date = ap day_of_date e in
+      nearest_of_all c n (λ y r k is.
+      let p = scheduled_parts m y is in
+      let back : Reaches dir (day_of_date y.date) (day_of_date from.date) = subst (λ z. Reaches dir (day_of_date y.date) z) same (reach-date dir y c k) in
+      let today : day_of_date y.date ≡ day_of_date from.date = both_ways dir (day_of_date y.date) (day_of_date from.date) back (reach-date dir from y r) in
+      record {
+        scheduled = is;
+        within = subst (λ z. Reaches dir z (last_day dir from.date)) (sym today) (start-within dir from.date);
+        move = λ lacks. move-between m dir from.time y.time c.time (n.is.move lacks) p.time (reach-time dir from y today r) (reach-time dir y c (same ∙ sym today) k);
+      })
+
+  -- nothing is left of the day
+  pub record NoneToday : Type 0 where
+    pub none : (y : CivilDateTime) → Reaches dir (wall_second from) (wall_second y) → day_of_date y.date ≡ day_of_date from.date → IsOpen m dir from y → ⊥
+
+  pub today-no_time : (room : Bool) → room ≡ has_room dir from.date.year → ((t : CivilTime) → ¬ (IsOpenTime m dir room from.time t)) → NoneToday
+  today-no_time room has h = record { none = λ y r today is. h y.time (open_time room y has r today is) }
+
+  pub today-no_date : ¬ (is_date_matching m from.date ≡ true) → NoneToday
+  today-no_date h = record {
+    none = λ y r today is.
+        let p = scheduled_parts m y is.scheduled in
+        h (same_match m from.date y.date (same_date from.date y.date (sym today)) p.date);
+  }
+
+  -- whether the start's day is one of the days of its month
+  module _ (date : CivilDate) (days day : ℕ) (hit : Bool) (same : date ≡ from.date) (on : day ≡ date.day) (is : IsMonthDays m date.year date.month days) (bit : IsTrue hit ↔ HasDay days day) where
+    pub today-hit : hit ≡ true → is_date_matching m from.date ≡ true
+    today-hit h =
+        sym (ap (is_date_matching m) same) ∙ (is.dates date refl refl).1 (subst (HasDay days) on (bit.0 h))
+
+    pub today-missed : hit ≡ false → NoneToday
+    today-missed h =
+        today-no_date (λ matches. false≢true (sym h ∙ bit.1 (subst (HasDay days) (sym on) ((is.dates date refl refl).0 (ap (is_date_matching m) same ∙ matches)))))
+
+  -- there is no room for a step
+  pub stays : has_room dir from.date.year ≡ false → NoneToday → NoneOn wall_second (IsOpen m dir from) dir (wall_second from)
+  stays lacks t y r is =
+      let last : Reaches dir (day_of_date y.date) (day_of_date from.date) = subst (λ z. Reaches dir (day_of_date y.date) z) (last_day-no_room dir from.date lacks) is.within in
+      let today : day_of_date y.date ≡ day_of_date from.date = both_ways dir (day_of_date y.date) (day_of_date from.date) last (reach-date dir from y r) in
+      t.none y r today is
+
+  -- ---- after the start's day
+
+  module _ (has : has_room dir from.date.year ≡ true) where
+    -- what is open on a later day lies on a date after the start's
+    later_date : (y : CivilDateTime) → IsOpen m dir from y → Precedes dir (day_of_date from.date) (day_of_date y.date) → IsAfter m dir from.date y.date
+    later_date y is later =
+        let p = scheduled_parts m y is.scheduled in
+        record {
+          ahead = later;
+          within = subst (λ z. Reaches dir (day_of_date y.date) z) (last_day-room dir from.date has) is.within;
+          matches = p.date;
+        }
+
+    pub later-none : NoneToday → ((d : CivilDate) → ¬ (IsAfter m dir from.date d)) → NoneOn wall_second (IsOpen m dir from) dir (wall_second from)
+    later-none t none y r is =
+        elim (same_or_ahead dir (day_of_date from.date) (day_of_date y.date) (reach-date dir from y r)) [
+          | inl today ↦ t.none y r (sym today) is
+          | inr later ↦ none y.date (later_date y is later)
+        ]
+
+    pub later-reached : NoneToday → (d : CivilDate) (first : CivilTime) (c : CivilDateTime) → IsForemost day_of_date (IsAfter m dir from.date) dir d → IsFirstTime m dir first → c.date ≡ d → c.time ≡ first → IsNearest wall_second (IsOpen m dir from) dir (wall_second from) c
+    later-reached t d first c n f e g =
+        let same : day_of_date c.date ≡ day_of_date d = ap day_of_date e in
+        let ahead : Precedes dir (day_of_date from.date) (day_of_date c.date) = subst (λ z. Precedes dir (day_of_date from.date) z) (sym same) n.is.ahead in
+        record {
+          on = wall-reach_date dir from c ahead;
+          is = record {
+            scheduled = parts_scheduled m c (parts_of m c d first e g n.is.matches (first-matches m dir first f));
+            within = subst (λ z. Reaches dir z (last_day dir from.date)) (sym same) (subst (λ z. Reaches dir (day_of_date d) z) (sym (last_day-room dir from.date has)) n.is.within);
+            move = λ lacks. absurd (false≢true (sym lacks ∙ has));
+          };
+          first = λ y r is.
+              elim (same_or_ahead dir (day_of_date from.date) (day_of_date y.date) (reach-date dir from y r)) [
+                | inl today ↦ absurd (t.none y r (sym today) is)
+                | inr later ↦
+                    let p = scheduled_parts m y is.scheduled in
+                    let on : Reaches dir (day_of_date c.date) (day_of_date y.date) = subst (λ z. Reaches dir z (day_of_date y.date)) (sym same) (n.first y.date (later_date y is later)) in
+                    elim (same_or_ahead dir (day_of_date c.date) (day_of_date y.date) on) [
+                      | inl that_day ↦
+                          wall-reach_time dir c y (sym that_day)
+                          (subst (λ z. Reaches dir (place_in_day z) (place_in_day y.time)) (sym g) (first-least m dir first y.time f p.time))
+                      | inr after ↦ wall-reach_date dir c y after
+                    ]
+              ];
+        }
+
+    pub later-nearest : (c : CivilDateTime) → IsNearest wall_second (IsOpen m dir from) dir (wall_second from) c → IsNearest wall_second (IsOnSchedule m) dir (wall_second from) c
+    later-nearest c n =
+        nearest_of_all c n (λ y r k is. record {
+          scheduled = is;
+          within = reaches-trans dir (day_of_date y.date) (day_of_date c.date) (last_day dir from.date) (reach-date dir y c k) n.is.within;
+          move = λ lacks. absurd (false≢true (sym lacks ∙ has));
+        })

@@ -1,0 +1,20 @@
+-- The numbers that a search for a value of a field goes through.
+use Rattle.std.proofs.Common.{◌≡◌, ℕ, ◌+◌, ◌-◌, ◌≤◌, arith, pos, negsuc}
+use Rattle.jiff_core.proofs.SignedLemmas.{signed_arith}
+use Rattle.croner_base.specs.declared.time.Direction.{Direction}
+use Rattle.croner_base.specs.declared.time.Direction.TheVariants.{Forward, Backward}
+use Rattle.croner_pattern.specs.Directions.{Reaches}
+use Rattle.croner_pattern.specs.Private.Cursor.{one_on, IsOnTheWay}
+
+-- how many numbers are left from a value on
+abbrev pub steps_left : Direction → ℕ → ℕ → ℕ
+steps_left Forward max value = max + 1 - value
+steps_left Backward max value = value
+
+pub neighbour-way : (dir : Direction) (min max v n : ℕ) → min ≤ v → v ≤ max → pos n ≡ one_on dir (pos v) → IsOnTheWay dir min max n
+neighbour-way Forward min max v n low h e = (omega (arith, signed_arith), omega (arith, signed_arith))
+neighbour-way Backward min max v n low h e = omega (arith, signed_arith)
+
+pub past_zero : (dir : Direction) (v y : ℕ) → one_on dir (pos v) ≡ negsuc 0 → Reaches dir (one_on dir (pos v)) (pos y) → ⊥
+past_zero Forward v y e r = omega (arith, signed_arith)
+past_zero Backward v y e r = omega (arith, signed_arith)

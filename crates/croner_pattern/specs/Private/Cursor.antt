@@ -1,0 +1,177 @@
+-- How a search goes over the wall clock, before any zone: what it looks for, and how far it goes. The source is this
+-- crate's documentation.
+-- Private contracts alone cite these definitions.
+use Rattle.std.specs.Prelude.{◌≡◌, ◌↔◌, ℕ, ◌+◌, ◌-◌, ◌*◌, ◌<◌, ◌≤◌, Bool, true, false, ℤ, pos, int_lt, Option, MatchOption, if◌then◌else◌}
+use Rattle.std.specs.Int.{IsInRange, bit_at}
+use Rattle.croner_base.specs.declared.time.Direction.{Direction}
+use Rattle.croner_base.specs.declared.time.Direction.TheVariants.{Forward, Backward}
+use Rattle.croner_base.specs.declared.time.civil.CivilDate.{CivilDate}
+use Rattle.croner_base.specs.declared.time.civil.CivilTime.{CivilTime}
+use Rattle.croner_base.specs.declared.time.civil.CivilDateTime.{CivilDateTime}
+use Rattle.jiff_core.specs.Calendar.{is_leap_year, days_in_month}
+use Rattle.croner_base.specs.Calendar.{day_number}
+use Rattle.croner_base.specs.Civil.{day_of_date, seconds_of_time}
+use Rattle.croner_base.specs.Field.{Field, can_ask}
+use Rattle.croner_pattern.specs.Meaning.{Meaning}
+use Rattle.croner_pattern.specs.Schedule.{is_plain, is_day_matching, is_year_matching, is_date_matching, is_scheduled, first_weekday}
+use Rattle.croner_pattern.specs.Directions.{Precedes, Reaches}
+pub use Rattle.croner_pattern.specs.Directions.{one_on}
+pub use Rattle.croner_pattern.specs.NextSecond.{first_year, last_year, IsNearest, NoneOn, FindsNearest, has_room, edge_day, last_day, IsMove, IsOnSchedule, IsOpen}
+
+-- x is the first in the direction of those that are meant
+pub record IsForemost {X : Type 0} (place : X → ℤ) (Among : X → Type 0) (direction : Direction) (x : X) : Type 0 where
+  pub is : Among x
+  pub first : (y : X) → Among y → Reaches direction (place x) (place y)
+
+-- the first of them, or None where there is none
+abbrev pub FindsForemost : {X : Type 0} → (X → ℤ) → (X → Type 0) → Direction → Option X → Type 0
+FindsForemost {X} place Among direction result =
+    MatchOption result ((y : X) → ¬ (Among y)) (IsForemost place Among direction)
+
+-- a plain value of the field, between bounds
+pub record IsPlainWithin (field : Field) (min max value : ℕ) : Type 0 where
+  pub low : min ≤ value
+  pub high : value ≤ max
+  pub plain : is_plain field value ≡ true
+
+-- the field holds all values between bounds
+abbrev pub HoldsAll : Field → ℕ → ℕ → Type 0
+HoldsAll field min max = (value : ℕ) → min ≤ value → value ≤ max → can_ask field.shape value 1 ≡ true
+
+-- of the bits of a word those from a place on
+abbrev pub AreFrom : Direction → ℕ → ℕ → ℕ → Type 0
+AreFrom direction word from kept =
+    (place : ℕ) → (bit_at kept place ≡ 1) ↔ ((bit_at word place ≡ 1) × Reaches direction (pos from) (pos place))
+
+-- from the value on, the numbers of the direction go through the bounds and then leave them
+abbrev pub IsOnTheWay : Direction → ℕ → ℕ → ℕ → Type 0
+IsOnTheWay Forward min max value = (min ≤ value) × (value ≤ max + 1)
+IsOnTheWay Backward min max value = value ≤ max
+
+-- ---- days of a month as bits
+
+-- the day is one of the days: the lowest bit is that of the 1st
+pub record HasDay (days day : ℕ) : Type 0 where
+  pub low : 1 ≤ day
+  pub bit : bit_at days (day - 1) ≡ 1
+
+-- the days are those of the month that match
+pub record IsMonthDays (m : Meaning) (year : ℤ) (month days : ℕ) : Type 0 where
+  pub within : (day : ℕ) → HasDay days day → day ≤ days_in_month year month
+  pub dates : (d : CivilDate) → d.year ≡ year → d.month ≡ month → (is_date_matching m d ≡ true) ↔ HasDay days d.day
+
+-- a month of this length, whose first day has this weekday, has a day that fits
+pub record HasOpenDay (m : Meaning) (length first : ℕ) : Type 0 where
+  pub day : ℕ
+  pub low : 1 ≤ day
+  pub high : day ≤ length
+  pub fits : is_day_matching m length first day ≡ true
+
+-- the year has a named month with a day that fits
+pub record HasOpenMonth (m : Meaning) (year : ℤ) : Type 0 where
+  pub month : ℕ
+  pub low : 1 ≤ month
+  pub high : month ≤ 12
+  pub named : is_plain m.months month ≡ true
+  pub has_open : HasOpenDay m (days_in_month year month) (first_weekday year month)
+
+-- a length and the weekday of the first day are one of 28 kinds of month
+abbrev pub month_kind : ℕ → ℕ → ℕ
+month_kind length first = (length - 28) * 7 + first
+
+-- the weekday of the first day, and whether it is a leap year, are one of 14 kinds of year
+abbrev pub kind_of : Bool → ℕ → ℕ
+kind_of leap first = if leap then first + 7 else first
+
+abbrev pub year_kind : ℤ → ℕ
+year_kind year = kind_of (is_leap_year year) (first_weekday year 1)
+
+-- which kinds of month have a day that fits, one bit a kind
+abbrev pub AreMonthKinds : Meaning → ℕ → Type 0
+AreMonthKinds m kinds =
+    (length first : ℕ) → IsInRange 28 31 length → first < 7 → (bit_at kinds (month_kind length first) ≡ 1) ↔ HasOpenDay m length first
+
+-- which kinds of year have a named month with such a day
+abbrev pub AreYearKinds : Meaning → ℕ → Type 0
+AreYearKinds m kinds = (year : ℤ) → (bit_at kinds (year_kind year) ≡ 1) ↔ HasOpenMonth m year
+
+-- ---- dates
+
+-- the first year in the direction after a year, of those that a pattern can name
+pub record IsYearBeyond (direction : Direction) (year : ℤ) (beyond : ℕ) : Type 0 where
+  pub low : first_year ≤ beyond
+  pub high : beyond ≤ last_year
+  pub on : Reaches direction (one_on direction year) (pos beyond)
+  pub first : (y : ℕ) → first_year ≤ y → y ≤ last_year → Reaches direction (one_on direction year) (pos y) → Reaches direction (pos beyond) (pos y)
+
+-- a number of a year that the pattern names
+pub record IsNamedYear (m : Meaning) (year : ℤ) (number : ℕ) : Type 0 where
+  pub is : pos number ≡ year
+  pub named : is_year_matching m year ≡ true
+
+-- a date that matches, in a month
+pub record IsInMonth (m : Meaning) (year : ℤ) (month : ℕ) (d : CivilDate) : Type 0 where
+  pub same_year : d.year ≡ year
+  pub same_month : d.month ≡ month
+  pub matches : is_date_matching m d ≡ true
+
+-- a date that matches, in a year and there in the months from one on
+pub record IsInMonths (m : Meaning) (direction : Direction) (year : ℤ) (from : ℤ) (d : CivilDate) : Type 0 where
+  pub same_year : d.year ≡ year
+  pub on : Reaches direction from (pos d.month)
+  pub matches : is_date_matching m d ≡ true
+
+-- a date that matches and that a search comes to, in a year
+pub record IsInYear (m : Meaning) (direction : Direction) (year : ℤ) (d : CivilDate) : Type 0 where
+  pub same_year : d.year ≡ year
+  pub within : Reaches direction (day_of_date d) (edge_day direction)
+  pub matches : is_date_matching m d ≡ true
+
+-- the same, in the years from one on
+pub record IsInYears (m : Meaning) (direction : Direction) (from : ℤ) (d : CivilDate) : Type 0 where
+  pub on : Reaches direction from d.year
+  pub within : Reaches direction (day_of_date d) (edge_day direction)
+  pub matches : is_date_matching m d ≡ true
+
+-- the same, after a date
+pub record IsAfter (m : Meaning) (direction : Direction) (date d : CivilDate) : Type 0 where
+  pub ahead : Precedes direction (day_of_date date) (day_of_date d)
+  pub within : Reaches direction (day_of_date d) (edge_day direction)
+  pub matches : is_date_matching m d ≡ true
+
+-- ---- times of day
+
+-- the place of a time in its day
+abbrev pub place_in_day : CivilTime → ℤ
+place_in_day t = pos (seconds_of_time t)
+
+-- the hour, the minute and the second are plain values
+pub record IsMatchingTime (m : Meaning) (t : CivilTime) : Type 0 where
+  pub hour : is_plain m.hours t.hour ≡ true
+  pub minute : is_plain m.minutes t.minute ≡ true
+  pub second : is_plain m.seconds t.second ≡ true
+
+-- a time that matches, from a time on, and that needs no step where there is no room for one
+pub record IsOpenTime (m : Meaning) (direction : Direction) (room : Bool) (from t : CivilTime) : Type 0 where
+  pub on : Reaches direction (place_in_day from) (place_in_day t)
+  pub matches : IsMatchingTime m t
+  pub move : room ≡ false → IsMove m from t
+
+-- the same within an hour
+pub record IsOpenInHour (m : Meaning) (direction : Direction) (room : Bool) (from t : CivilTime) : Type 0 where
+  pub on : Reaches direction (place_in_day from) (place_in_day t)
+  pub same_hour : t.hour ≡ from.hour
+  pub minute : is_plain m.minutes t.minute ≡ true
+  pub second : is_plain m.seconds t.second ≡ true
+  pub stays : room ≡ false → is_plain m.minutes from.minute ≡ true → t.minute ≡ from.minute
+
+-- the first plain value of a field in the direction
+pub record IsFirstValue (field : Field) (direction : Direction) (max value : ℕ) : Type 0 where
+  pub plain : is_plain field value ≡ true
+  pub first : (v : ℕ) → v ≤ max → is_plain field v ≡ true → Reaches direction (pos value) (pos v)
+
+-- the first hour, the first minute and the first second in the direction
+pub record IsFirstTime (m : Meaning) (direction : Direction) (t : CivilTime) : Type 0 where
+  pub hour : IsFirstValue m.hours direction 23 t.hour
+  pub minute : IsFirstValue m.minutes direction 59 t.minute
+  pub second : IsFirstValue m.seconds direction 59 t.second

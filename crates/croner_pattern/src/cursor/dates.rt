@@ -1,0 +1,191 @@
+//! The nearest date that matches a pattern.
+ghost use Rattle.std.specs.Prelude.{◌≡◌, true, false, pos, MatchOption};
+ghost use Rattle.std.specs.Int.{IsInRange};
+ghost use Rattle.jiff_core.specs.Calendar.{days_in_month};
+ghost use Rattle.croner_base.specs.Civil.{day_of_date};
+ghost use Rattle.croner_pattern.specs.Meaning.{meaning_of};
+ghost use Rattle.croner_pattern.specs.Shapes.{has_field_shapes};
+ghost use Rattle.croner_pattern.specs.Schedule.{is_plain, is_year_matching, first_weekday, IsDayMask};
+ghost use Rattle.croner_pattern.specs.Private.Cursor.{one_on, has_room, FindsForemost, IsOnTheWay, IsNamedYear, IsMonthDays, IsInMonth, IsInMonths, IsInYear, IsInYears, IsAfter};
+
+use crate::cursor::calendar::{
+    FIRST_YEAR, LAST_YEAR, MONTHS, first_weekday, is_reached, year_beyond,
+};
+use crate::cursor::days::{days_after, first_day};
+use crate::cursor::kinds::{has_kind, year_kinds};
+use crate::cursor::values::{is_plain, nearest_value, nearest_year, neighbour};
+use crate::pattern::CronPattern;
+use croner_base::time::{CivilDate, Direction, days_in_month};
+
+// The number of a year that the pattern names.
+#[inline(always)]
+fn named_year(pattern: &CronPattern, year: i32) -> Option<u32>
+    requires { has_field_shapes (meaning_of pattern.now) ≡ true }
+    ensures { MatchOption result (is_year_matching (meaning_of pattern.now) year ≡ false)
+        (IsNamedYear (meaning_of pattern.now) year) }
+{
+    match pattern.year_match(year) {
+        Ok(true) => Some(year as u32),
+        _ => None,
+    }
+}
+
+// The days of a month that the day fields name.
+fn named_days(pattern: &CronPattern, year: u32, month: u32) -> u32
+    requires shapes { has_field_shapes (meaning_of pattern.now) ≡ true }
+    requires year_in { IsInRange FIRST_YEAR LAST_YEAR year }
+    requires month_in { IsInRange 1 MONTHS month }
+    ensures { IsDayMask (meaning_of pattern.now) (days_in_month (pos year) month) (first_weekday (pos year) month) result }
+{
+    pattern.days_of_month(
+        days_in_month(year as i32, month),
+        first_weekday(year, month),
+    )
+}
+
+// The days that match in the month of a date.
+#[tactic(auto, using(crate::proofs::civil::FieldBits::holds_months))]
+#[inline(always)]
+pub(crate) fn month_days(pattern: &CronPattern, date: CivilDate) -> u32
+    requires { has_field_shapes (meaning_of pattern.now) ≡ true }
+    ensures { IsMonthDays (meaning_of pattern.now) date.year date.month result }
+{
+    match named_year(pattern, date.year()) {
+        Some(year) if is_plain(&pattern.months, date.month()) => {
+            named_days(pattern, year, date.month())
+        }
+        _ => 0,
+    }
+}
+
+// The first date that matches in a named month of a named year.
+fn in_month(pattern: &CronPattern, year: u32, month: u32, direction: Direction) -> Option<CivilDate>
+    requires shapes { has_field_shapes (meaning_of pattern.now) ≡ true }
+    requires year_in { IsInRange FIRST_YEAR LAST_YEAR year }
+    requires month_in { IsInRange 1 MONTHS month }
+    ensures { is_year_matching (meaning_of pattern.now) (pos year) ≡ true → is_plain (meaning_of pattern.now).months month ≡ true
+        → FindsForemost day_of_date (IsInMonth (meaning_of pattern.now) (pos year) month) direction result }
+{
+    let day = first_day(named_days(pattern, year, month), direction)?;
+    Some(CivilDate::from_parts_unchecked(year as i32, month, day))
+}
+
+// The first date that matches in the months of a named year from a month on.
+#[tactic(auto, using(crate::proofs::civil::FieldBits::holds_months))]
+fn in_months(
+    pattern: &CronPattern,
+    year: u32,
+    month: u32,
+    direction: Direction,
+) -> Option<CivilDate>
+    requires shapes { has_field_shapes (meaning_of pattern.now) ≡ true }
+    requires year_in { IsInRange FIRST_YEAR LAST_YEAR year }
+    requires month_in { IsOnTheWay direction 1 MONTHS month }
+    ensures { is_year_matching (meaning_of pattern.now) (pos year) ≡ true
+        → FindsForemost day_of_date (IsInMonths (meaning_of pattern.now) direction (pos year) (pos month)) direction result }
+{
+    let mut from = month;
+    while let Some(month) = nearest_value(&pattern.months, 1, MONTHS, from, direction) {
+        if let Some(found) = in_month(pattern, year, month, direction) {
+            return Some(found);
+        }
+        from = neighbour(month, direction)?;
+    }
+    None
+}
+
+// The first date of a named year that matches and that a search comes to.
+fn in_year(pattern: &CronPattern, year: u32, direction: Direction) -> Option<CivilDate>
+    requires shapes { has_field_shapes (meaning_of pattern.now) ≡ true }
+    requires year_in { IsInRange FIRST_YEAR LAST_YEAR year }
+    ensures { is_year_matching (meaning_of pattern.now) (pos year) ≡ true
+        → FindsForemost day_of_date (IsInYear (meaning_of pattern.now) direction (pos year)) direction result }
+{
+    let month = match direction {
+        Direction::Forward => 1,
+        Direction::Backward => MONTHS,
+    };
+    let found = in_months(pattern, year, month, direction)?;
+    if is_reached(found, year, direction) {
+        Some(found)
+    } else {
+        None
+    }
+}
+
+// The first date that matches in the years from a year on, found by the kinds of the years.
+fn in_later_years(pattern: &CronPattern, year: u32, direction: Direction) -> Option<CivilDate>
+    requires shapes { has_field_shapes (meaning_of pattern.now) ≡ true }
+    requires year_in { IsOnTheWay direction FIRST_YEAR LAST_YEAR year }
+    ensures { FindsForemost day_of_date (IsInYears (meaning_of pattern.now) direction (pos year)) direction result }
+{
+    let kinds = year_kinds(pattern);
+    if kinds == 0 {
+        return None;
+    }
+    let mut from = year;
+    while let Some(year) = nearest_year(&pattern.years, from, direction) {
+        if has_kind(kinds, year) {
+            if let Some(found) = in_year(pattern, year, direction) {
+                return Some(found);
+            }
+        }
+        from = neighbour(year, direction)?;
+    }
+    None
+}
+
+// The first date that matches in the years from a year on: the first that is named is searched as it is, those after it by
+// their kinds.
+fn in_years(pattern: &CronPattern, year: u32, direction: Direction) -> Option<CivilDate>
+    requires shapes { has_field_shapes (meaning_of pattern.now) ≡ true }
+    requires year_in { IsOnTheWay direction FIRST_YEAR LAST_YEAR year }
+    ensures { FindsForemost day_of_date (IsInYears (meaning_of pattern.now) direction (pos year)) direction result }
+{
+    let year = nearest_year(&pattern.years, year, direction)?;
+    if let Some(found) = in_year(pattern, year, direction) {
+        return Some(found);
+    }
+    in_later_years(pattern, neighbour(year, direction)?, direction)
+}
+
+// The first date that matches in the year of a date, in the months after its own.
+fn in_rest_of_year(
+    pattern: &CronPattern,
+    date: CivilDate,
+    direction: Direction,
+) -> Option<CivilDate>
+    requires { has_field_shapes (meaning_of pattern.now) ≡ true }
+    ensures { FindsForemost day_of_date
+        (IsInMonths (meaning_of pattern.now) direction date.year (one_on direction (pos date.month))) direction result }
+{
+    let year = named_year(pattern, date.year())?;
+    in_months(
+        pattern,
+        year,
+        neighbour(date.month(), direction)?,
+        direction,
+    )
+}
+
+// The first date that matches after a date, up to the last day that a search comes to. `days` are those that match in the
+// month of the date.
+pub(crate) fn date_after(
+    pattern: &CronPattern,
+    date: CivilDate,
+    days: u32,
+    direction: Direction,
+) -> Option<CivilDate>
+    requires shapes { has_field_shapes (meaning_of pattern.now) ≡ true }
+    requires room { has_room direction date.year ≡ true }
+    requires days { IsMonthDays (meaning_of pattern.now) date.year date.month days }
+    ensures { FindsForemost day_of_date (IsAfter (meaning_of pattern.now) direction date) direction result }
+{
+    if let Some(day) = first_day(days_after(days, date.day(), direction), direction) {
+        return Some(CivilDate::from_parts_unchecked(date.year(), date.month(), day));
+    }
+    if let Some(found) = in_rest_of_year(pattern, date, direction) {
+        return Some(found);
+    }
+    in_years(pattern, year_beyond(date.year(), direction), direction)
+}

@@ -1,0 +1,61 @@
+//! The nearest scheduled date and time on the wall clock.
+ghost use Rattle.std.specs.Prelude.{◌≡◌, true, IfSome};
+ghost use Rattle.croner_base.specs.Civil.{wall_second};
+ghost use Rattle.croner_pattern.specs.Meaning.{meaning_of};
+ghost use Rattle.croner_pattern.specs.Shapes.{has_field_shapes};
+ghost use Rattle.croner_pattern.specs.NextSecond.{FindsNearest, IsNearest, IsOpen, IsOnSchedule};
+ghost use Rattle.croner_pattern.specs.Schedule.{is_date_matching};
+
+mod calendar;
+mod dates;
+mod days;
+mod kinds;
+mod times;
+mod values;
+
+use crate::cursor::calendar::has_room;
+use crate::cursor::dates::{date_after, month_days};
+use crate::cursor::days::has_day;
+use crate::cursor::times::{first_time, in_day};
+use crate::pattern::CronPattern;
+use croner_base::time::{CivilDate, CivilDateTime, Direction};
+
+/// The nearest scheduled date and time, from one on, itself included.
+///
+/// A search steps over a year, a month, a day, an hour or a minute forward only from a year before 5000, and backward
+/// only from a year after 1. A match in the day, the hour and the minute where it stands needs no step. It answers `None`
+/// where it would have to step and does not, or where nothing is left.
+pub fn next_scheduled(
+    pattern: &CronPattern,
+    from: CivilDateTime,
+    direction: Direction,
+) -> Option<CivilDateTime>
+    requires { has_field_shapes (meaning_of pattern.now) ≡ true }
+    ensures reached { FindsNearest wall_second (IsOpen (meaning_of pattern.now) direction from) direction
+        (wall_second from) result }
+    ensures nearest { IfSome result (IsNearest wall_second (IsOnSchedule (meaning_of pattern.now)) direction
+        (wall_second from)) }
+{
+    let date = from.date();
+    let days = month_days(pattern, date);
+    let room = has_room(date.year(), direction);
+    if has_day(days, date.day()) {
+        if let Some(time) = in_day(pattern, from.time(), direction, room) {
+            return Some(CivilDateTime::new(date, time));
+        }
+    }
+    if !room {
+        return None;
+    }
+    let first = first_time(pattern, direction)?;
+    let date = date_after(pattern, date, days, direction)?;
+    Some(CivilDateTime::new(date, first))
+}
+
+/// Whether a date matches.
+pub fn matches_date(pattern: &CronPattern, date: CivilDate) -> bool
+    requires { has_field_shapes (meaning_of pattern.now) ≡ true }
+    ensures { result ≡ is_date_matching (meaning_of pattern.now) date }
+{
+    has_day(month_days(pattern, date), date.day())
+}

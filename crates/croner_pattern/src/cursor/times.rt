@@ -1,0 +1,89 @@
+//! The nearest time of day that matches a pattern.
+ghost use Rattle.std.specs.Prelude.{◌≡◌, true, MatchOption};
+ghost use Rattle.croner_base.specs.declared.time.civil.CivilTime.{CivilTime};
+ghost use Rattle.croner_pattern.specs.Meaning.{meaning_of};
+ghost use Rattle.croner_pattern.specs.Shapes.{has_field_shapes};
+ghost use Rattle.croner_pattern.specs.Private.Cursor.{FindsForemost, place_in_day, IsMatchingTime, IsOpenTime, IsOpenInHour, IsFirstTime};
+
+use crate::cursor::values::{first_value, is_plain, nearest_beyond, nearest_value};
+use crate::pattern::CronPattern;
+use croner_base::time::{CivilTime, Direction};
+
+const LAST_HOUR: u32 = 23;
+
+const LAST_MINUTE: u32 = 59;
+
+const LAST_SECOND: u32 = 59;
+
+// The first time of day that matches, in the direction. None where a field names nothing.
+#[tactic(auto, using(crate::proofs::civil::FieldBits::holds_hours, crate::proofs::civil::FieldBits::holds_minutes, crate::proofs::civil::FieldBits::holds_seconds))]
+pub(crate) fn first_time(pattern: &CronPattern, direction: Direction) -> Option<CivilTime>
+    requires { has_field_shapes (meaning_of pattern.now) ≡ true }
+    ensures { MatchOption result
+        ((t : CivilTime) → ¬ (IsMatchingTime (meaning_of pattern.now) t))
+        (IsFirstTime (meaning_of pattern.now) direction) }
+{
+    let hour = first_value(&pattern.hours, LAST_HOUR, direction)?;
+    let minute = first_value(&pattern.minutes, LAST_MINUTE, direction)?;
+    let second = first_value(&pattern.seconds, LAST_SECOND, direction)?;
+    Some(CivilTime::from_parts_unchecked(hour, minute, second))
+}
+
+// The nearest time in the hour of a time, from it on, whose minute and second match. Where there is no room it goes over
+// no minute: a plain one stays.
+#[tactic(auto, using(crate::proofs::civil::FieldBits::holds_hours, crate::proofs::civil::FieldBits::holds_minutes, crate::proofs::civil::FieldBits::holds_seconds))]
+fn in_hour(
+    pattern: &CronPattern,
+    from: CivilTime,
+    direction: Direction,
+    room: bool,
+) -> Option<CivilTime>
+    requires { has_field_shapes (meaning_of pattern.now) ≡ true }
+    ensures { FindsForemost place_in_day (IsOpenInHour (meaning_of pattern.now) direction room from) direction result }
+{
+    let (hour, minute) = (from.hour(), from.minute());
+    if is_plain(&pattern.minutes, minute) {
+        if let Some(second) = nearest_value(
+            &pattern.seconds,
+            0,
+            LAST_SECOND,
+            from.second(),
+            direction,
+        ) {
+            return Some(CivilTime::from_parts_unchecked(hour, minute, second));
+        }
+        if !room {
+            return None;
+        }
+    }
+    let minute = nearest_beyond(&pattern.minutes, LAST_MINUTE, minute, direction)?;
+    let second = first_value(&pattern.seconds, LAST_SECOND, direction)?;
+    Some(CivilTime::from_parts_unchecked(hour, minute, second))
+}
+
+// The nearest time of the day that matches, from a time on, itself included. Where there is no room it goes over no hour
+// and no minute: a plain value that stands stays.
+#[tactic(auto, using(crate::proofs::civil::FieldBits::holds_hours, crate::proofs::civil::FieldBits::holds_minutes, crate::proofs::civil::FieldBits::holds_seconds))]
+pub(crate) fn in_day(
+    pattern: &CronPattern,
+    from: CivilTime,
+    direction: Direction,
+    room: bool,
+) -> Option<CivilTime>
+    requires { has_field_shapes (meaning_of pattern.now) ≡ true }
+    ensures { FindsForemost place_in_day (IsOpenTime (meaning_of pattern.now) direction room from) direction result }
+{
+    let hour = from.hour();
+    if is_plain(&pattern.hours, hour) {
+        if let Some(time) = in_hour(pattern, from, direction, room) {
+            return Some(time);
+        }
+        if !room {
+            return None;
+        }
+    }
+    let hour = nearest_beyond(&pattern.hours, LAST_HOUR, hour, direction)?;
+    let minute = first_value(&pattern.minutes, LAST_MINUTE, direction)?;
+    let second = first_value(&pattern.seconds, LAST_SECOND, direction)?;
+    Some(CivilTime::from_parts_unchecked(hour, minute, second))
+}

@@ -1,0 +1,133 @@
+//! The nearest value that a field names.
+ghost use Rattle.std.specs.Prelude.{◌≡◌, ◌<◌, ◌≤◌, ℕ, true, pos, negsuc, MatchOption};
+ghost use Rattle.std.specs.Int.{bit_at};
+ghost use Rattle.croner_base.specs.declared.time.Direction.{Direction};
+ghost use Rattle.croner_base.specs.Field.{can_ask};
+ghost use Rattle.croner_pattern.specs.Schedule.{is_plain};
+ghost use Rattle.croner_pattern.specs.Private.Cursor.{one_on, FindsNearest, FindsForemost, AreFrom, HoldsAll, IsPlainWithin, IsOnTheWay, IsFirstValue};
+
+use crate::cursor::calendar::{FIRST_YEAR, LAST_YEAR};
+use crate::pattern::nearest_member;
+use croner_base::component::{ALL_BIT, CronComponent};
+use croner_base::time::Direction;
+
+// The places of a word.
+const WORD_BITS: u32 = 64;
+
+// Whether the field names the value by itself, which is one of those that it holds.
+#[inline(always)]
+pub(crate) fn is_plain(field: &CronComponent, value: u32) -> bool
+    requires small { value < 64 }
+    requires held { can_ask field.now.shape value 1 ≡ true }
+    ensures { result ≡ is_plain field.now value }
+{
+    field.low_word(ALL_BIT) >> value & 1 == 1
+}
+
+// The next number in the direction.
+pub(crate) fn neighbour(value: u32, direction: Direction) -> Option<u32>
+    requires { value < u32.MAX }
+    ensures { MatchOption result
+        (one_on direction (pos value) ≡ negsuc 0)
+        (λ n. pos n ≡ one_on direction (pos value)) }
+{
+    match direction {
+        Direction::Forward => Some(value + 1),
+        Direction::Backward => value.checked_sub(1),
+    }
+}
+
+// The bits of a word from a place on, the place itself included.
+#[inline(always)]
+fn bits_from(word: u64, from: u32, direction: Direction) -> u64
+    requires { from < 64 }
+    ensures { AreFrom direction word from result }
+{
+    match direction {
+        Direction::Forward => word & (u64::MAX << from),
+        Direction::Backward => word & (u64::MAX >> (WORD_BITS - 1 - from)),
+    }
+}
+
+// The place of the first bit of a word.
+#[inline(always)]
+fn first_bit(word: u64, direction: Direction) -> Option<u32>
+    ensures { FindsForemost pos (λ place. bit_at word place ≡ 1) direction result }
+{
+    if word == 0 {
+        return None;
+    }
+    match direction {
+        Direction::Forward => Some(word.trailing_zeros()),
+        Direction::Backward => Some(WORD_BITS - 1 - word.leading_zeros()),
+    }
+}
+
+// The nearest plain value between `min` and `max`, from a value on, itself included, of a field that holds all of these.
+#[inline(always)]
+pub(crate) fn nearest_value(
+    field: &CronComponent,
+    min: u32,
+    max: u32,
+    from: u32,
+    direction: Direction,
+) -> Option<u32>
+    requires small { max < 63 }
+    requires held { HoldsAll field.now min max }
+    requires from_in { IsOnTheWay direction min max from }
+    ensures { FindsNearest pos (IsPlainWithin field.now min max) direction (pos from) result }
+{
+    let ahead = bits_from(field.low_word(ALL_BIT), from, direction);
+    let found = first_bit(ahead, direction)?;
+    if found >= min && found <= max {
+        Some(found)
+    } else {
+        None
+    }
+}
+
+// The nearest plain year, from a year on, itself included.
+pub(crate) fn nearest_year(years: &CronComponent, from: u32, direction: Direction) -> Option<u32>
+    requires { IsOnTheWay direction FIRST_YEAR LAST_YEAR from }
+    ensures { FindsNearest pos (IsPlainWithin years.now FIRST_YEAR LAST_YEAR) direction (pos from) result }
+{
+    let found = u32::from(nearest_member(years, from as u16, direction)?);
+    if found >= FIRST_YEAR && found <= LAST_YEAR {
+        Some(found)
+    } else {
+        None
+    }
+}
+
+// The nearest plain value after a value, of a field of values from 0.
+#[inline(always)]
+pub(crate) fn nearest_beyond(
+    field: &CronComponent,
+    max: u32,
+    value: u32,
+    direction: Direction,
+) -> Option<u32>
+    requires small { max < 63 }
+    requires held { HoldsAll field.now 0 max }
+    requires within { value ≤ max }
+    ensures { FindsNearest pos (IsPlainWithin field.now 0 max) direction (one_on direction (pos value)) result }
+{
+    let next = neighbour(value, direction)?;
+    nearest_value(field, 0, max, next, direction)
+}
+
+// The first plain value in the direction, of a field of values from 0.
+#[inline(always)]
+pub(crate) fn first_value(field: &CronComponent, max: u32, direction: Direction) -> Option<u32>
+    requires small { max < 63 }
+    requires held { HoldsAll field.now 0 max }
+    ensures { MatchOption result
+        ((v : ℕ) → v ≤ max → ¬ (is_plain field.now v ≡ true))
+        (IsFirstValue field.now direction max) }
+{
+    let from = match direction {
+        Direction::Forward => 0,
+        Direction::Backward => max,
+    };
+    nearest_value(field, 0, max, from, direction)
+}
