@@ -1,22 +1,21 @@
 -- The search for the first date that matches after a date.
-use Rattle.std.proofs.Common.{◌≡◌, ◌↔◌, ℕ, ◌+◌, ◌-◌, ◌<◌, ◌≤◌, ◌⊎◌, inl, inr, Bool, true, false, ◌&&◌, nat_lt, if◌then◌else◌, refl, sym, ap, subst, ◌∙◌, arith, ℤ, pos, negsuc, ◌≤ℤ◌, int_le, unsigned_abs}
+use Rattle.std.proofs.Common.{◌≡◌, ℕ, ◌+◌, ◌-◌, ◌<◌, ◌≤◌, ◌⊎◌, inl, inr, Bool, true, false, ◌&&◌, nat_lt, if◌then◌else◌, refl, sym, ap, subst, ◌∙◌, arith, ℤ, pos, negsuc, ◌≤ℤ◌, int_le, unsigned_abs}
+use Rattle.std.specs.Int.{IsInRange}
 use Rattle.std.proofs.lemmas.Int.{ints}
 use Rattle.std.proofs.lemmas.Bool.{false≢true}
 use Rattle.std.proofs.lemmas.Bool.Decides.{nat_tests}
 use Rattle.jiff_core.specs.Calendar.{days_in_month}
 use Rattle.jiff_core.proofs.SignedLemmas.{signed_arith}
 use Rattle.croner_base.specs.declared.time.Direction.{Direction}
-use Rattle.croner_base.specs.declared.time.Direction.TheVariants.{Forward, Backward}
 use Rattle.croner_base.specs.declared.time.civil.CivilDate.{CivilDate}
 use Rattle.croner_base.specs.Civil.{HasYmd, day_of_date}
 use Rattle.croner_pattern.specs.Meaning.{Meaning}
 use Rattle.croner_pattern.specs.Schedule.{is_plain, is_day_matching, is_year_matching, is_date_matching, first_weekday, IsDayMask}
 use Rattle.croner_pattern.specs.Directions.{Precedes, Reaches}
-use Rattle.croner_pattern.specs.Private.Cursor.{one_on, first_year, last_year, has_room, edge_day, last_day, IsYearBeyond, IsPlainWithin, IsNearest, NoneOn, IsForemost, HasDay, HasOpenMonth, IsMonthDays, IsInMonth, IsInMonths, IsInYear, IsInYears, IsAfter}
-use Rattle.croner_pattern.proofs.civil.Ahead.{reaches-trans, precedes-reaches, precedes-trans, not_both, same_or_ahead, reaches-same, reaches-equal, one_on-ahead, one_on-next}
+use Rattle.croner_pattern.specs.Private.Cursor.{one_on, first_year, last_year, has_room, edge_day, last_day, IsYearBeyond, IsPlainWithin, IsForemost, HasDay, HasDayAfter, HasOpenMonth, IsMonthDays, IsMatchingIn, IsInMonth, IsInMonths, IsReached, IsInYear, IsInYears, IsAfter}
+use Rattle.croner_pattern.proofs.civil.Ahead.{reaches-trans, precedes-reaches, not_both, same_or_ahead, reaches-same, reaches-equal, one_on-next}
 use Rattle.croner_pattern.proofs.civil.CivilOrder.{SameDate, reach-year, reach-month, reach-day, day-reach, year-ahead, month-ahead, day-ahead, room-before}
-use Rattle.croner_pattern.proofs.civil.ValueSearch.{past_zero}
-use Rattle.croner_pattern.proofs.civil.Foremost.{Split, Same, in_first, passed, same_again, same_first}
+use Rattle.croner_pattern.proofs.civil.Foremost.{Split, Leads, Ladder, same_number, alike, beyond}
 
 pub bool_cases : (b : Bool) → (b ≡ true) ⊎ (b ≡ false)
 bool_cases true = inl refl
@@ -143,89 +142,19 @@ named-days m y mo days year month mask = record {
 pub month-first : (m : Meaning) (dir : Direction) (y : ℤ) (mo days day : ℕ) (d : CivilDate) → IsMonthDays m y mo days → IsForemost pos (HasDay days) dir day → HasYmd y mo day d → IsForemost day_of_date (IsInMonth m y mo) dir d
 month-first m dir y mo days day d is f h = record {
   is = record {
-    same_year = h.year_is;
-    same_month = h.month_is;
-    matches = (is.dates d h.year_is h.month_is).1 (subst (HasDay days) (sym h.day_is) f.is);
+    among = record { same_year = h.year_is; matches = (is.dates d h.year_is h.month_is).1 (subst (HasDay days) (sym h.day_is) f.is) };
+    here = ap pos h.month_is;
   };
   first = λ c in_it.
-      let on = f.first c.day ((is.dates c in_it.same_year in_it.same_month).0 in_it.matches) in
-      day-reach dir d c (in_it.same_year ∙ sym h.year_is) (in_it.same_month ∙ sym h.month_is)
+      let month = same_number c.month mo in_it.here in
+      let on = f.first c.day ((is.dates c in_it.among.same_year month).0 in_it.among.matches) in
+      day-reach dir d c (in_it.among.same_year ∙ sym h.year_is) (month ∙ sym h.month_is)
       (subst (λ n. Reaches dir (pos n) (pos c.day)) (sym h.day_is) on);
 }
 
 pub month-none : (m : Meaning) (y : ℤ) (mo days : ℕ) → IsMonthDays m y mo days → ((day : ℕ) → ¬ (HasDay days day)) → (d : CivilDate) → ¬ (IsInMonth m y mo d)
-month-none m y mo days is none d in_it = none d.day ((is.dates d in_it.same_year in_it.same_month).0 in_it.matches)
-
-beyond : (dir : Direction) (a b : ℤ) → Reaches dir (one_on dir a) b → Precedes dir a b
-beyond dir a b r = precedes-trans dir a (one_on dir a) b (one_on-ahead dir a) r
-
--- ---- the months of a year
-
--- the first plain month, and those after it
-pub months-split : (m : Meaning) (dir : Direction) (y from : ℤ) (mo : ℕ) → IsNearest pos (IsPlainWithin m.months 1 12) dir from mo → Split day_of_date dir (IsInMonths m dir y from) (IsInMonth m y mo) (IsInMonths m dir y (one_on dir (pos mo)))
-months-split m dir y from mo n = record {
-  parts = λ d h.
-      elim (same_or_ahead dir (pos mo) (pos d.month) (n.first d.month h.on (month_plain m d h.matches))) [
-        | inl same ↦ inl (record { same_year = h.same_year; same_month = omega (arith, signed_arith, same); matches = h.matches })
-        | inr later ↦ inr (record { same_year = h.same_year; on = one_on-next dir (pos mo) (pos d.month) later; matches = h.matches })
-      ];
-  first = λ d h. record {
-    same_year = h.same_year;
-    on = subst (λ k. Reaches dir from (pos k)) (sym h.same_month) n.on;
-    matches = h.matches;
-  };
-  second = λ d h. record {
-    same_year = h.same_year;
-    on = reaches-trans dir from (pos mo) (pos d.month) n.on (precedes-reaches dir (pos mo) (pos d.month) (beyond dir (pos mo) (pos d.month) h.on));
-    matches = h.matches;
-  };
-  order = λ a b h k.
-      precedes-reaches dir (day_of_date a) (day_of_date b)
-      (month-ahead dir a b (k.same_year ∙ sym h.same_year) (subst (λ z. Precedes dir (pos z) (pos b.month)) (sym h.same_month) (beyond dir (pos mo) (pos b.month) k.on)));
-}
-
-pub months-none : (m : Meaning) (dir : Direction) (y from : ℤ) → NoneOn pos (IsPlainWithin m.months 1 12) dir from → (d : CivilDate) → ¬ (IsInMonths m dir y from d)
-months-none m dir y from none d h = none d.month h.on (month_plain m d h.matches)
-
--- nothing in the month: what is meant lies in those after it
-pub months-on : (m : Meaning) (dir : Direction) (y from : ℤ) (mo : ℕ) (All : CivilDate → Type 0) → IsNearest pos (IsPlainWithin m.months 1 12) dir from mo → Same All (IsInMonths m dir y from) → ((d : CivilDate) → ¬ (IsInMonth m y mo d)) → Same All (IsInMonths m dir y (one_on dir (pos mo)))
-months-on m dir y from mo All n same none =
-    same_again All (IsInMonths m dir y from) (IsInMonths m dir y (one_on dir (pos mo))) same
-    (passed day_of_date dir (IsInMonths m dir y from) (IsInMonth m y mo) (IsInMonths m dir y (one_on dir (pos mo))) (months-split m dir y from mo n) none)
-
--- something in it: that is the first
-pub months-found : (m : Meaning) (dir : Direction) (y from : ℤ) (mo : ℕ) (All : CivilDate → Type 0) (d : CivilDate) → IsNearest pos (IsPlainWithin m.months 1 12) dir from mo → Same All (IsInMonths m dir y from) → IsForemost day_of_date (IsInMonth m y mo) dir d → IsForemost day_of_date All dir d
-months-found m dir y from mo All d n same f =
-    same_first day_of_date dir All (IsInMonths m dir y from) d same
-    (in_first day_of_date dir (IsInMonths m dir y from) (IsInMonth m y mo) (IsInMonths m dir y (one_on dir (pos mo))) d (months-split m dir y from mo n) f)
-
--- ---- the years
-
--- from the first month in the direction on lie all months
-pub forward-start : (dir : Direction) (from : ℕ) → dir ≡ Forward → from ≡ 1 → (d : CivilDate) → Reaches dir (pos from) (pos d.month)
-forward-start Forward from is e d = let low = d.real.0.0 in omega (arith, signed_arith)
-forward-start Backward from is e d = absurd cc
-
-pub backward-start : (dir : Direction) (from : ℕ) → dir ≡ Backward → from ≡ 12 → (d : CivilDate) → Reaches dir (pos from) (pos d.month)
-backward-start Backward from is e d = let high = d.real.0.1 in omega (arith, signed_arith)
-backward-start Forward from is e d = absurd cc
-
--- a year from its first month on
-pub whole-year : (m : Meaning) (dir : Direction) (y : ℤ) (from : ℕ) (found : CivilDate) → ((d : CivilDate) → Reaches dir (pos from) (pos d.month)) → Reaches dir (day_of_date found) (edge_day dir) → IsForemost day_of_date (IsInMonths m dir y (pos from)) dir found → IsForemost day_of_date (IsInYear m dir y) dir found
-whole-year m dir y from found start within n = record {
-  is = record { same_year = n.is.same_year; within = within; matches = n.is.matches };
-  first = λ d h. n.first d (record { same_year = h.same_year; on = start d; matches = h.matches });
-}
-
-pub year-past : (m : Meaning) (dir : Direction) (y : ℤ) (from : ℕ) (found : CivilDate) → ((d : CivilDate) → Reaches dir (pos from) (pos d.month)) → (Reaches dir (day_of_date found) (edge_day dir) → ⊥) → IsForemost day_of_date (IsInMonths m dir y (pos from)) dir found → (d : CivilDate) → ¬ (IsInYear m dir y d)
-year-past m dir y from found start past n d h =
-    past
-    (reaches-trans dir (day_of_date found) (day_of_date d) (edge_day dir)
-    (n.first d (record { same_year = h.same_year; on = start d; matches = h.matches })) h.within)
-
-pub year-none : (m : Meaning) (dir : Direction) (y : ℤ) (from : ℕ) → ((d : CivilDate) → Reaches dir (pos from) (pos d.month)) → ((d : CivilDate) → ¬ (IsInMonths m dir y (pos from) d)) → (d : CivilDate) → ¬ (IsInYear m dir y d)
-year-none m dir y from start none d h =
-    none d (record { same_year = h.same_year; on = start d; matches = h.matches })
+month-none m y mo days is none d in_it =
+    none d.day ((is.dates d in_it.among.same_year (same_number d.month mo in_it.here)).0 in_it.among.matches)
 
 -- the number of a year that matches
 year_number : (m : Meaning) (d : CivilDate) → is_date_matching m d ≡ true → d.year ≡ pos (unsigned_abs d.year)
@@ -234,44 +163,41 @@ year_number m d h = (year_parts m d.year (match_parts m d h).year).number
 year_within : (m : Meaning) (d : CivilDate) → is_date_matching m d ≡ true → IsPlainWithin m.years first_year last_year (unsigned_abs d.year)
 year_within m d h = year_plain m d.year (match_parts m d h).year
 
--- the first plain year, and those after it
-pub years-split : (m : Meaning) (dir : Direction) (from : ℤ) (y : ℕ) → IsNearest pos (IsPlainWithin m.years first_year last_year) dir from y → Split day_of_date dir (IsInYears m dir from) (IsInYear m dir (pos y)) (IsInYears m dir (one_on dir (pos y)))
-years-split m dir from y n = record {
-  parts = λ d h.
-      let number = year_number m d h.matches in
-      let on : Reaches dir (pos y) d.year = subst (λ z. Reaches dir (pos y) z) (sym number) (n.first (unsigned_abs d.year) (subst (λ z. Reaches dir from z) number h.on) (year_within m d h.matches)) in
-      elim (same_or_ahead dir (pos y) d.year on) [
-        | inl same ↦ inl (record { same_year = sym same; within = h.within; matches = h.matches })
-        | inr later ↦ inr (record { on = one_on-next dir (pos y) d.year later; within = h.within; matches = h.matches })
-      ];
-  first = λ d h. record {
-    on = subst (λ z. Reaches dir from z) (sym h.same_year) n.on;
-    within = h.within;
-    matches = h.matches;
-  };
-  second = λ d h. record {
-    on = reaches-trans dir from (pos y) d.year n.on (precedes-reaches dir (pos y) d.year (beyond dir (pos y) d.year h.on));
-    within = h.within;
-    matches = h.matches;
-  };
-  order = λ a b h k.
-      precedes-reaches dir (day_of_date a) (day_of_date b)
-      (year-ahead dir a b (subst (λ z. Precedes dir z b.year) (sym h.same_year) (beyond dir (pos y) b.year k.on)));
+-- ---- the months of a year, and the years
+
+pub months : (m : Meaning) (dir : Direction) (y : ℤ) → Ladder day_of_date dir (IsMatchingIn m y) (λ d. pos d.month) (IsPlainWithin m.months 1 12)
+months m dir y = record {
+  number = λ d. d.month;
+  shown = λ d h. refl;
+  named = λ d h. month_plain m d h.matches;
+  apart = λ a b h k later. precedes-reaches dir (day_of_date a) (day_of_date b) (month-ahead dir a b (k.same_year ∙ sym h.same_year) later);
 }
 
-pub years-none : (m : Meaning) (dir : Direction) (from : ℤ) → NoneOn pos (IsPlainWithin m.years first_year last_year) dir from → (d : CivilDate) → ¬ (IsInYears m dir from d)
-years-none m dir from none d h =
-    none (unsigned_abs d.year) (subst (λ z. Reaches dir from z) (year_number m d h.matches) h.on) (year_within m d h.matches)
+pub years : (m : Meaning) (dir : Direction) → Ladder day_of_date dir (IsReached m dir) (λ d. d.year) (IsPlainWithin m.years first_year last_year)
+years m dir = record {
+  number = λ d. unsigned_abs d.year;
+  shown = λ d h. year_number m d h.matches;
+  named = λ d h. year_within m d h.matches;
+  apart = λ a b h k later. precedes-reaches dir (day_of_date a) (day_of_date b) (year-ahead dir a b later);
+}
 
-pub years-on : (m : Meaning) (dir : Direction) (from : ℤ) (y : ℕ) (All : CivilDate → Type 0) → IsNearest pos (IsPlainWithin m.years first_year last_year) dir from y → Same All (IsInYears m dir from) → ((d : CivilDate) → ¬ (IsInYear m dir (pos y) d)) → Same All (IsInYears m dir (one_on dir (pos y)))
-years-on m dir from y All n same none =
-    same_again All (IsInYears m dir from) (IsInYears m dir (one_on dir (pos y))) same
-    (passed day_of_date dir (IsInYears m dir from) (IsInYear m dir (pos y)) (IsInYears m dir (one_on dir (pos y))) (years-split m dir from y n) none)
+-- a year from its first month on
+module _ (m : Meaning) (dir : Direction) (y : ℤ) (from : ℕ) (start : (month : ℕ) → IsInRange 1 12 month → Reaches dir (pos from) (pos month)) where
+  all_months : (d : CivilDate) → IsInYear m dir y d → IsInMonths m dir y (pos from) d
+  all_months d h = record { among = record { same_year = h.here; matches = h.among.matches }; on = start d.month d.real.0 }
 
-pub years-found : (m : Meaning) (dir : Direction) (from : ℤ) (y : ℕ) (All : CivilDate → Type 0) (d : CivilDate) → IsNearest pos (IsPlainWithin m.years first_year last_year) dir from y → Same All (IsInYears m dir from) → IsForemost day_of_date (IsInYear m dir (pos y)) dir d → IsForemost day_of_date All dir d
-years-found m dir from y All d n same f =
-    same_first day_of_date dir All (IsInYears m dir from) d same
-    (in_first day_of_date dir (IsInYears m dir from) (IsInYear m dir (pos y)) (IsInYears m dir (one_on dir (pos y))) d (years-split m dir from y n) f)
+  pub whole-year : (found : CivilDate) → Reaches dir (day_of_date found) (edge_day dir) → IsForemost day_of_date (IsInMonths m dir y (pos from)) dir found → IsForemost day_of_date (IsInYear m dir y) dir found
+  whole-year found within n = record {
+    is = record { among = record { within = within; matches = n.is.among.matches }; here = n.is.among.same_year };
+    first = λ d h. n.first d (all_months d h);
+  }
+
+  pub year-past : (found : CivilDate) → (Reaches dir (day_of_date found) (edge_day dir) → ⊥) → IsForemost day_of_date (IsInMonths m dir y (pos from)) dir found → (d : CivilDate) → ¬ (IsInYear m dir y d)
+  year-past found past n d h =
+      past (reaches-trans dir (day_of_date found) (day_of_date d) (edge_day dir) (n.first d (all_months d h)) h.among.within)
+
+  pub year-none : ((d : CivilDate) → ¬ (IsInMonths m dir y (pos from) d)) → (d : CivilDate) → ¬ (IsInYear m dir y d)
+  year-none none d h = none d (all_months d h)
 
 -- a date that matches shows that its year has a named month with a day that fits
 pub has_month : (m : Meaning) (d : CivilDate) → is_date_matching m d ≡ true → HasOpenMonth m d.year
@@ -287,29 +213,20 @@ has_month m d h =
 
 -- a year of a kind without such a day has no date
 pub year-closed : (m : Meaning) (dir : Direction) (y : ℤ) → (HasOpenMonth m y → ⊥) → (d : CivilDate) → ¬ (IsInYear m dir y d)
-year-closed m dir y none d h = none (subst (HasOpenMonth m) h.same_year (has_month m d h.matches))
-
--- nothing lies before the first number
-pub no_months : (m : Meaning) (dir : Direction) (y : ℤ) (mo : ℕ) → one_on dir (pos mo) ≡ negsuc 0 → (d : CivilDate) → ¬ (IsInMonths m dir y (one_on dir (pos mo)) d)
-no_months m dir y mo e d h = past_zero dir mo d.month e h.on
-
-pub no_years : (m : Meaning) (dir : Direction) (y : ℕ) → one_on dir (pos y) ≡ negsuc 0 → (d : CivilDate) → ¬ (IsInYears m dir (one_on dir (pos y)) d)
-no_years m dir y e d h =
-    past_zero dir y (unsigned_abs d.year) e (subst (λ z. Reaches dir (one_on dir (pos y)) z) (year_number m d h.matches) h.on)
+year-closed m dir y none d h = none (subst (HasOpenMonth m) h.here (has_month m d h.among.matches))
 
 -- the first year that can be looked at lies in the years that are meant
-pub years-beyond : (m : Meaning) (dir : Direction) (year : ℤ) (k : ℕ) → IsYearBeyond dir year k → Same (IsInYears m dir (one_on dir year)) (IsInYears m dir (pos k))
-years-beyond m dir year k b = record {
-  on = λ d h.
-      let number = year_number m d h.matches in
-      let p = year_within m d h.matches in
-      record {
-        on = subst (λ z. Reaches dir (pos k) z) (sym number) (b.first (unsigned_abs d.year) p.low p.high (subst (λ z. Reaches dir (one_on dir year) z) number h.on));
-        within = h.within;
-        matches = h.matches;
-      };
-  back = λ d h. record { on = reaches-trans dir (one_on dir year) (pos k) d.year b.on h.on; within = h.within; matches = h.matches };
-}
+pub years-beyond : (m : Meaning) (dir : Direction) (year : ℤ) (k : ℕ) → IsYearBeyond dir year k → Leads day_of_date dir (IsInYears m dir (one_on dir year)) (IsInYears m dir (pos k))
+years-beyond m dir year k b =
+    alike day_of_date dir (IsInYears m dir (one_on dir year)) (IsInYears m dir (pos k))
+    (λ d h.
+    let number = year_number m d h.among.matches in
+    let p = year_within m d h.among.matches in
+    record {
+      among = h.among;
+      on = subst (λ z. Reaches dir (pos k) z) (sym number) (b.first (unsigned_abs d.year) p.low p.high (subst (λ z. Reaches dir (one_on dir year) z) number h.on));
+    })
+    (λ d h. record { among = h.among; on = reaches-trans dir (one_on dir year) (pos k) d.year b.on h.on })
 
 -- ---- after a date
 
@@ -328,19 +245,15 @@ in_room : (dir : Direction) (date d : CivilDate) → has_room dir date.year ≡ 
 in_room dir date d room same =
     precedes-reaches dir (day_of_date d) (edge_day dir) (room-before dir d (ap (has_room dir) same ∙ room))
 
-later-ahead : (m : Meaning) (dir : Direction) (date d : CivilDate) → Later m dir date d → Precedes dir (day_of_date date) (day_of_date d)
-later-ahead m dir date d (inl h) = month-ahead dir date d h.same_year (beyond dir (pos date.month) (pos d.month) h.on)
-later-ahead m dir date d (inr h) = year-ahead dir date d (beyond dir date.year d.year h.on)
-
 later-order : (m : Meaning) (dir : Direction) (date a b : CivilDate) → a.year ≡ date.year → a.month ≡ date.month → Later m dir date b → Precedes dir (day_of_date a) (day_of_date b)
 later-order m dir date a b e f (inl h) =
-    month-ahead dir a b (h.same_year ∙ sym e) (subst (λ z. Precedes dir (pos z) (pos b.month)) (sym f) (beyond dir (pos date.month) (pos b.month) h.on))
+    month-ahead dir a b (h.among.same_year ∙ sym e) (subst (λ z. Precedes dir (pos z) (pos b.month)) (sym f) (beyond dir (pos date.month) (pos b.month) h.on))
 later-order m dir date a b e f (inr h) =
     year-ahead dir a b (subst (λ z. Precedes dir z b.year) (sym e) (beyond dir date.year b.year h.on))
 
 later-after : (m : Meaning) (dir : Direction) (date d : CivilDate) → has_room dir date.year ≡ true → Later m dir date d → IsAfter m dir date d
-later-after m dir date d room (inl h) = record { ahead = later-ahead m dir date d (inl h); within = in_room dir date d room h.same_year; matches = h.matches }
-later-after m dir date d room (inr h) = record { ahead = later-ahead m dir date d (inr h); within = h.within; matches = h.matches }
+later-after m dir date d room (inl h) = record { ahead = later-order m dir date date d refl refl (inl h); within = in_room dir date d room h.among.same_year; matches = h.among.matches }
+later-after m dir date d room (inr h) = record { ahead = later-order m dir date date d refl refl (inr h); within = h.among.within; matches = h.among.matches }
 
 not_itself : (dir : Direction) (date d : CivilDate) → Precedes dir (day_of_date date) (day_of_date d) → d.year ≡ date.year → d.month ≡ date.month → Precedes dir (pos date.day) (pos d.day)
 not_itself dir date d h e f =
@@ -354,9 +267,9 @@ after-split m dir date room = record {
   parts = λ d h.
       let on = precedes-reaches dir (day_of_date date) (day_of_date d) h.ahead in
       elim (same_or_ahead dir date.year d.year (reach-year dir date d on)) [
-        | inr later ↦ inr (inr (record { on = one_on-next dir date.year d.year later; within = h.within; matches = h.matches }))
+        | inr later ↦ inr (inr (record { among = record { within = h.within; matches = h.matches }; on = one_on-next dir date.year d.year later }))
         | inl same ↦ elim (same_or_ahead dir (pos date.month) (pos d.month) (reach-month dir date d (sym same) on)) [
-          | inr later ↦ inr (inl (record { same_year = sym same; on = one_on-next dir (pos date.month) (pos d.month) later; matches = h.matches }))
+          | inr later ↦ inr (inl (record { among = record { same_year = sym same; matches = h.matches }; on = one_on-next dir (pos date.month) (pos d.month) later }))
           | inl here ↦
               let month : d.month ≡ date.month = omega (arith, signed_arith, here) in
               inl (record { same_year = sym same; same_month = month; ahead = not_itself dir date d h.ahead (sym same) month; matches = h.matches })
@@ -374,29 +287,27 @@ later-split m dir date = record {
   second = λ d h. inr h;
   order = λ a b h k.
       precedes-reaches dir (day_of_date a) (day_of_date b)
-      (year-ahead dir a b (subst (λ z. Precedes dir z b.year) (sym h.same_year) (beyond dir date.year b.year k.on)));
+      (year-ahead dir a b (subst (λ z. Precedes dir z b.year) (sym h.among.same_year) (beyond dir date.year b.year k.on)));
 }
 
 -- the first of the days that are left in the month
-pub after-first : (m : Meaning) (dir : Direction) (date d : CivilDate) (days rest day : ℕ) → IsMonthDays m date.year date.month days → ((later : ℕ) → HasDay rest later ↔ (HasDay days later × Precedes dir (pos date.day) (pos later))) → IsForemost pos (HasDay rest) dir day → HasYmd date.year date.month day d → IsForemost day_of_date (InMonthAfter m dir date) dir d
-after-first m dir date d days rest day is left f h =
-    let here = (left day).0 f.is in
-    record {
-      is = record {
-        same_year = h.year_is;
-        same_month = h.month_is;
-        ahead = subst (λ n. Precedes dir (pos date.day) (pos n)) (sym h.day_is) here.1;
-        matches = (is.dates d h.year_is h.month_is).1 (subst (HasDay days) (sym h.day_is) here.0);
-      };
-      first = λ c in_it.
-          let on = f.first c.day ((left c.day).1 ((is.dates c in_it.same_year in_it.same_month).0 in_it.matches, in_it.ahead)) in
-          day-reach dir d c (in_it.same_year ∙ sym h.year_is) (in_it.same_month ∙ sym h.month_is)
-          (subst (λ n. Reaches dir (pos n) (pos c.day)) (sym h.day_is) on);
-    }
+pub after-first : (m : Meaning) (dir : Direction) (date d : CivilDate) (days day : ℕ) → IsMonthDays m date.year date.month days → IsForemost pos (HasDayAfter dir days date.day) dir day → HasYmd date.year date.month day d → IsForemost day_of_date (InMonthAfter m dir date) dir d
+after-first m dir date d days day is f h = record {
+  is = record {
+    same_year = h.year_is;
+    same_month = h.month_is;
+    ahead = subst (λ n. Precedes dir (pos date.day) (pos n)) (sym h.day_is) f.is.ahead;
+    matches = (is.dates d h.year_is h.month_is).1 (subst (HasDay days) (sym h.day_is) f.is.day_is);
+  };
+  first = λ c in_it.
+      let on = f.first c.day (record { day_is = (is.dates c in_it.same_year in_it.same_month).0 in_it.matches; ahead = in_it.ahead }) in
+      day-reach dir d c (in_it.same_year ∙ sym h.year_is) (in_it.same_month ∙ sym h.month_is)
+      (subst (λ n. Reaches dir (pos n) (pos c.day)) (sym h.day_is) on);
+}
 
-pub after-none : (m : Meaning) (dir : Direction) (date : CivilDate) (days rest : ℕ) → IsMonthDays m date.year date.month days → ((later : ℕ) → HasDay rest later ↔ (HasDay days later × Precedes dir (pos date.day) (pos later))) → ((day : ℕ) → ¬ (HasDay rest day)) → (d : CivilDate) → ¬ (InMonthAfter m dir date d)
-after-none m dir date days rest is left none d h =
-    none d.day ((left d.day).1 ((is.dates d h.same_year h.same_month).0 h.matches, h.ahead))
+pub after-none : (m : Meaning) (dir : Direction) (date : CivilDate) (days : ℕ) → IsMonthDays m date.year date.month days → ((day : ℕ) → ¬ (HasDayAfter dir days date.day day)) → (d : CivilDate) → ¬ (InMonthAfter m dir date d)
+after-none m dir date days is none d h =
+    none d.day (record { day_is = (is.dates d h.same_year h.same_month).0 h.matches; ahead = h.ahead })
 
 -- ---- the last day
 

@@ -121,8 +121,7 @@ nearest-ahead f dir min max from word ahead found small held shows bits h low hi
 
 -- what is found from a value on the way lies beside the others
 beside : (dir : Direction) (min max from found y : ℕ) → IsOnTheWay dir min max from → Reaches dir (pos from) (pos found) → Reaches dir (pos found) (pos y) → min ≤ y → y ≤ max → (min ≤ found) × (found ≤ max)
-beside Forward min max from found y way on first low high = (omega (arith, signed_arith, way.0), omega (arith, signed_arith))
-beside Backward min max from found y way on first low high = (omega (arith, signed_arith), omega (arith, signed_arith))
+beside dir min max from found y way on first low high = grind (arith, signed_arith)
 
 pub outside-ahead : (f : Field) (dir : Direction) (min max from word ahead found : ℕ) → max < 63 → HoldsAll f min max → ShowsPlain f word → AreFrom dir word from ahead → IsForemost pos (λ b. bit_at ahead b ≡ 1) dir found → IsOnTheWay dir min max from → (min ≤ found → found ≤ max → ⊥) → NoneOn pos (IsPlainWithin f min max) dir (pos from)
 outside-ahead f dir min max from word ahead found small held shows bits h way out y on p =

@@ -1,12 +1,20 @@
--- The nearest in a pair of a greater and a smaller unit: what lies in the first greater unit comes before the rest. `in_first`, and
--- `passed` where nothing lies there, serve months after years, days after months, and, by numbers of the greater unit, minutes
--- after hours and seconds after minutes.
-use Rattle.std.proofs.Common.{◌≡◌, ◌⊎◌, inl, inr, ℕ, Option, Some, None, sym, subst, arith, ℤ, pos}
+-- The first of those that are meant, part by part: what lies in the first greater unit comes before the rest. Years, months, hours and
+-- minutes are one step: a `Ladder` says that each has a number of such a unit, and that a later number lies later.
+use Rattle.std.proofs.Common.{◌≡◌, ◌⊎◌, inl, inr, ℕ, Option, Some, None, sym, subst, arith, ℤ, pos, negsuc}
 use Rattle.jiff_core.proofs.SignedLemmas.{signed_arith}
 use Rattle.croner_base.specs.declared.time.Direction.{Direction}
 use Rattle.croner_pattern.specs.Directions.{Precedes, Reaches}
-use Rattle.croner_pattern.specs.Private.Cursor.{one_on, IsNearest, NoneOn, IsForemost, FindsForemost}
-use Rattle.croner_pattern.proofs.civil.Ahead.{same_or_ahead, one_on-next}
+use Rattle.croner_pattern.specs.Private.Cursor.{one_on, IsNearest, NoneOn, IsForemost, FindsForemost, IsFrom, IsAt}
+use Rattle.croner_pattern.proofs.civil.Ahead.{reaches-equal, reaches-trans, precedes-reaches, precedes-trans, same_or_ahead, one_on-ahead, one_on-next}
+use Rattle.croner_pattern.proofs.civil.ValueSearch.{past_zero}
+
+-- what is found among these is found among those
+abbrev pub Leads : {X : Type 0} → (X → ℤ) → Direction → (X → Type 0) → (X → Type 0) → Type 0
+Leads {X} place dir All Now = (r : Option X) → FindsForemost place Now dir r → FindsForemost place All dir r
+
+pub alike : {X : Type 0} (place : X → ℤ) (dir : Direction) (All Now : X → Type 0) → ((y : X) → All y → Now y) → ((y : X) → Now y → All y) → Leads place dir All Now
+alike place dir All Now on back None f = λ y a. f y (on y a)
+alike place dir All Now on back (Some x) f = record { is = back x f.is; first = λ y a. f.first y (on y a) }
 
 -- all of them are the first part and the second, and no one of the second comes before one of the first
 pub record Split {X : Type 0} (place : X → ℤ) (dir : Direction) (All First Second : X → Type 0) : Type 0 where
@@ -22,77 +30,79 @@ in_first place dir All First Second x s f = record {
   first = λ y a. elim (s.parts y a) [ inl h ↦ f.first y h | inr h ↦ s.order x y f.is h ];
 }
 
--- the same ones
-pub record Same {X : Type 0} (All Now : X → Type 0) : Type 0 where
-  pub on : (y : X) → All y → Now y
-  pub back : (y : X) → Now y → All y
-
-pub same_all : {X : Type 0} (All : X → Type 0) → Same All All
-same_all All = record { on = λ y a. a; back = λ y a. a }
-
-pub same_again : {X : Type 0} (All Now Next : X → Type 0) → Same All Now → Same Now Next → Same All Next
-same_again All Now Next s t = record { on = λ y a. t.on y (s.on y a); back = λ y b. s.back y (t.back y b) }
-
 -- where the first part is empty, the second is all
-pub passed : {X : Type 0} (place : X → ℤ) (dir : Direction) (All First Second : X → Type 0) → Split place dir All First Second → ((y : X) → ¬ (First y)) → Same All Second
-passed place dir All First Second s none = record {
-  on = λ y a. elim (s.parts y a) [ inl h ↦ absurd (none y h) | inr h ↦ h ];
-  back = s.second;
-}
+pub passed : {X : Type 0} (place : X → ℤ) (dir : Direction) (All First Second : X → Type 0) → Split place dir All First Second → ((y : X) → ¬ (First y)) → Leads place dir All Second
+passed place dir All First Second s none =
+    alike place dir All Second (λ y a. elim (s.parts y a) [ inl h ↦ absurd (none y h) | inr h ↦ h ]) s.second
 
-pub same_none : {X : Type 0} (All Now : X → Type 0) → Same All Now → ((y : X) → ¬ (Now y)) → (y : X) → ¬ (All y)
-same_none All Now s none y a = none y (s.on y a)
+-- each has a number of a unit, which is one of those that are named, and lies before one with a later number
+pub record Ladder {X : Type 0} (place : X → ℤ) (dir : Direction) (All : X → Type 0) (key : X → ℤ) (Named : ℕ → Type 0) : Type 0 where
+  pub number : X → ℕ
+  pub shown : (x : X) → All x → key x ≡ pos (number x)
+  pub named : (x : X) → All x → Named (number x)
+  pub apart : (a b : X) → All a → All b → Precedes dir (key a) (key b) → Reaches dir (place a) (place b)
 
-pub same_first : {X : Type 0} (place : X → ℤ) (dir : Direction) (All Now : X → Type 0) (x : X) → Same All Now → IsForemost place Now dir x → IsForemost place All dir x
-same_first place dir All Now x s f = record { is = s.back x f.is; first = λ y a. f.first y (s.on y a) }
-
-pub same_finds : {X : Type 0} (place : X → ℤ) (dir : Direction) (All Now : X → Type 0) (result : Option X) → Same All Now → FindsForemost place Now dir result → FindsForemost place All dir result
-same_finds place dir All Now None s none = same_none All Now s none
-same_finds place dir All Now (Some x) s f = same_first place dir All Now x s f
-
-same_number : (a b : ℕ) → pos a ≡ pos b → a ≡ b
+pub same_number : (a b : ℕ) → pos a ≡ pos b → a ≡ b
 same_number a b e = omega (arith, signed_arith)
 
--- each has a number of the greater unit, from one on, which is one of those that are named, and comes before one with a
--- later number
-pub record Keyed {X : Type 0} (place : X → ℤ) (dir : Direction) (All : X → Type 0) (key : X → ℕ) (Named : ℕ → Type 0) (from : ℕ) : Type 0 where
-  pub plain : (y : X) → All y → Named (key y)
-  pub on : (y : X) → All y → Reaches dir (pos from) (pos (key y))
-  pub apart : (a b : X) → All a → All b → Precedes dir (pos (key a)) (pos (key b)) → Reaches dir (place a) (place b)
+pub beyond : (dir : Direction) (a b : ℤ) → Reaches dir (one_on dir a) b → Precedes dir a b
+beyond dir a b r = precedes-trans dir a (one_on dir a) b (one_on-ahead dir a) r
 
--- those with the number where it begins, and those with a later one
-split_here : {X : Type 0} (place : X → ℤ) (dir : Direction) (All : X → Type 0) (key : X → ℕ) (Named : ℕ → Type 0) (from : ℕ) → Keyed place dir All key Named from → Split place dir All (λ y. All y × (key y ≡ from)) (λ y. All y × Precedes dir (pos from) (pos (key y)))
-split_here place dir All key Named from k = record {
-  parts = λ y a. elim (same_or_ahead dir (pos from) (pos (key y)) (k.on y a)) [
-    | inl e ↦ inl (a, sym (same_number from (key y) e))
-    | inr later ↦ inr (a, later)
-  ];
-  first = λ y h. h.0;
-  second = λ y h. h.0;
-  order = λ a b h l. k.apart a b h.0 l.0 (subst (λ (n : ℕ). Precedes dir (pos n) (pos (key b))) (sym h.1) l.1);
-}
+module _ {X : Type 0} {place : X → ℤ} {dir : Direction} {All : X → Type 0} {key : X → ℤ} {Named : ℕ → Type 0} (l : Ladder place dir All key Named) where
+  -- those with a number, and those with a later one
+  split : (k : ℤ) → Split place dir (IsFrom All key dir k) (IsAt All key k) (IsFrom All key dir (one_on dir k))
+  split k = record {
+    parts = λ x h. elim (same_or_ahead dir k (key x) h.on) [
+      | inl same ↦ inl (record { among = h.among; here = sym same })
+      | inr later ↦ inr (record { among = h.among; on = one_on-next dir k (key x) later })
+    ];
+    first = λ x h. record { among = h.among; on = reaches-equal dir k (key x) (sym h.here) };
+    second = λ x h. record { among = h.among; on = precedes-reaches dir k (key x) (beyond dir k (key x) h.on) };
+    order = λ a b h r. l.apart a b h.among r.among (subst (λ z. Precedes dir z (key b)) (sym h.here) (beyond dir k (key b) r.on));
+  }
 
--- the first of those with the number where it begins
-pub unit-here : {X : Type 0} (place : X → ℤ) (dir : Direction) (All : X → Type 0) (key : X → ℕ) (Named : ℕ → Type 0) (from : ℕ) → Keyed place dir All key Named from → (x : X) → All x → key x ≡ from → ((y : X) → All y → key y ≡ from → Reaches dir (place x) (place y)) → IsForemost place All dir x
-unit-here place dir All key Named from k x is same least =
-    in_first place dir All _ _ x (split_here place dir All key Named from k)
-    (record { is = (is, same); first = λ y h. least y h.0 h.1 })
+  -- the first with the number is the first from it on, and where none has it, the search goes on beyond it
+  pub hit : (k : ℤ) (x : X) → IsForemost place (IsAt All key k) dir x → IsForemost place (IsFrom All key dir k) dir x
+  hit k x f = in_first place dir (IsFrom All key dir k) (IsAt All key k) (IsFrom All key dir (one_on dir k)) x (split k) f
 
--- where there is none, the others have a later number
-later_unit : {X : Type 0} (place : X → ℤ) (dir : Direction) (All : X → Type 0) (key : X → ℕ) (Named : ℕ → Type 0) (from : ℕ) → Keyed place dir All key Named from → ((y : X) → All y → key y ≡ from → ⊥) → (y : X) → All y → Reaches dir (one_on dir (pos from)) (pos (key y))
-later_unit place dir All key Named from k none y a =
-    let all = passed place dir All _ _ (split_here place dir All key Named from k) (λ z h. none z h.0 h.1) in
-    one_on-next dir (pos from) (pos (key y)) (all.on y a).1
+  pub miss : (k : ℤ) → ((x : X) → ¬ (IsAt All key k x)) → Leads place dir (IsFrom All key dir k) (IsFrom All key dir (one_on dir k))
+  miss k none = passed place dir (IsFrom All key dir k) (IsAt All key k) (IsFrom All key dir (one_on dir k)) (split k) none
 
--- then the first of those with the nearest later number, where it begins again
-pub unit-later : {X : Type 0} (place : X → ℤ) (dir : Direction) (All : X → Type 0) (key : X → ℕ) (Named : ℕ → Type 0) (from : ℕ) → Keyed place dir All key Named from → ((y : X) → All y → key y ≡ from → ⊥) → (n : ℕ) → IsNearest pos Named dir (one_on dir (pos from)) n → (x : X) → All x → key x ≡ n → ((y : X) → All y → key y ≡ n → Reaches dir (place x) (place y)) → IsForemost place All dir x
-unit-later place dir All key Named from k none n near =
-    unit-here place dir All key Named n (record {
-      plain = k.plain;
-      on = λ y a. near.first (key y) (later_unit place dir All key Named from k none y a) (k.plain y a);
-      apart = k.apart;
-    })
+  -- where a number is the nearest that is named, the search may begin there
+  pub skip : (from : ℤ) (k : ℕ) → IsNearest pos Named dir from k → Leads place dir (IsFrom All key dir from) (IsFrom All key dir (pos k))
+  skip from k n =
+      alike place dir (IsFrom All key dir from) (IsFrom All key dir (pos k))
+      (λ x h. record {
+        among = h.among;
+        on = subst (λ z. Reaches dir (pos k) z) (sym (l.shown x h.among)) (n.first (l.number x) (subst (λ z. Reaches dir from z) (l.shown x h.among) h.on) (l.named x h.among));
+      })
+      (λ x h. record { among = h.among; on = reaches-trans dir from (pos k) (key x) n.on h.on })
 
-pub unit-none : {X : Type 0} (place : X → ℤ) (dir : Direction) (All : X → Type 0) (key : X → ℕ) (Named : ℕ → Type 0) (from : ℕ) → Keyed place dir All key Named from → ((y : X) → All y → key y ≡ from → ⊥) → NoneOn pos Named dir (one_on dir (pos from)) → (y : X) → ¬ (All y)
-unit-none place dir All key Named from k none later y a =
-    later (key y) (later_unit place dir All key Named from k none y a) (k.plain y a)
+  -- nothing is left where no number is, nor before the first
+  pub ended : (from : ℤ) → NoneOn pos Named dir from → (x : X) → ¬ (IsFrom All key dir from x)
+  ended from none x h =
+      none (l.number x) (subst (λ z. Reaches dir from z) (l.shown x h.among) h.on) (l.named x h.among)
+
+  pub last : (k : ℕ) → one_on dir (pos k) ≡ negsuc 0 → (x : X) → ¬ (IsFrom All key dir (one_on dir (pos k)) x)
+  last k e = ended (one_on dir (pos k)) (λ n on is. past_zero dir k n e on)
+
+  -- the same where all have a number from one on
+  pub start : (from : ℤ) → ((x : X) → All x → Reaches dir from (key x)) → Leads place dir All (IsFrom All key dir from)
+  start from on = alike place dir All (IsFrom All key dir from) (λ x a. record { among = a; on = on x a }) (λ x h. h.among)
+
+  -- the first of those with the number where all begin
+  pub at_start : (from : ℤ) → ((x : X) → All x → Reaches dir from (key x)) → (x : X) → All x → key x ≡ from → ((y : X) → All y → key y ≡ from → Reaches dir (place x) (place y)) → IsForemost place All dir x
+  at_start from on x is here least =
+      start from on (Some x) (hit from x (record { is = record { among = is; here = here }; first = λ y h. least y h.among h.here }))
+
+  -- where there is none, the first of those with the nearest later number
+  pub after_start : (from : ℤ) → ((x : X) → All x → Reaches dir from (key x)) → ((y : X) → All y → key y ≡ from → ⊥) → (n : ℕ) → IsNearest pos Named dir (one_on dir from) n → (x : X) → All x → key x ≡ pos n → ((y : X) → All y → key y ≡ pos n → Reaches dir (place x) (place y)) → IsForemost place All dir x
+  after_start from on none n near x is here least =
+      start from on (Some x)
+      (miss from (λ y h. none y h.among h.here) (Some x)
+      (skip (one_on dir from) n near (Some x)
+      (hit (pos n) x (record { is = record { among = is; here = here }; first = λ y h. least y h.among h.here }))))
+
+  pub none_left : (from : ℤ) → ((x : X) → All x → Reaches dir from (key x)) → ((y : X) → All y → key y ≡ from → ⊥) → NoneOn pos Named dir (one_on dir from) → (y : X) → ¬ (All y)
+  none_left from on none later =
+      start from on None (miss from (λ y h. none y h.among h.here) None (ended (one_on dir from) later))

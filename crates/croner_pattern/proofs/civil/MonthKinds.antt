@@ -3,13 +3,12 @@ use Rattle.std.proofs.Common.{◌≡◌, ◌↔◌, ℕ, ◌+◌, ◌-◌, ◌*�
 use Rattle.std.specs.Int.{IsInRange, bit_at, trailing_zeros}
 use Rattle.std.proofs.lemmas.Bool.{cases_eq, eqb-true}
 use Rattle.std.proofs.lemmas.Nat.{shr-shr}
-use Rattle.std.proofs.lemmas.Nat.Bits.{bit_at-lt, bit_at_and, bit_at_or, bit_at_ones, bit_at_above, bit_at_cat_low, bit_at_cat_high, bit_at-zero, bit_at_set_same, bit_at_set_other}
-use Rattle.croner_base.specs.declared.time.Direction.TheVariants.{Forward}
+use Rattle.std.proofs.lemmas.Nat.Bits.{bit_at-lt, bit_at-trailing_zeros, bit_at_and, bit_at_or, bit_at_ones, bit_at_above, bit_at_cat_low, bit_at_cat_high, bit_at-zero, bit_at_set_same, bit_at_set_other}
 use Rattle.croner_pattern.specs.Meaning.{Meaning}
 use Rattle.croner_pattern.specs.Schedule.{IsDayMask}
 use Rattle.croner_pattern.proofs.DayTable.{all_from, all_from-at}
 use Rattle.croner_pattern.specs.Private.Cursor.{month_kind, kind_of, HasOpenDay, AreMonthKinds}
-use Rattle.croner_pattern.proofs.civil.DayBits.{first_forward, no_day}
+use Rattle.croner_pattern.proofs.civil.DayBits.{no_day}
 use Rattle.croner_pattern.proofs.civil.DateSearch.{mask-day, day-mask}
 
 -- the kinds up to a number of them: each has its bit where it is meant, and no other bit is set
@@ -44,8 +43,9 @@ collect-miss Meant done bits none h = record {
 -- a month has a day that fits where its mask is not 0
 pub day_of_mask : (m : Meaning) (len first days : ℕ) → IsDayMask m len first days → 0 < days → days < 2 ^ 32 → HasOpenDay m len first
 day_of_mask m len first days mask some fits =
-    let f = first_forward Forward days refl some fits in
-    let d = mask-day m len first days (trailing_zeros w32 days + 1) mask f.is in
+    let one = (bit_at-trailing_zeros w32 days some fits).1 in
+    let e : trailing_zeros w32 days + 1 - 1 ≡ trailing_zeros w32 days = omega arith in
+    let d = mask-day m len first days (trailing_zeros w32 days + 1) mask (record { low = omega arith; bit = rw e one }) in
     record { day = trailing_zeros w32 days + 1; low = omega arith; high = d.0; fits = d.1 }
 
 pub no_day_of_mask : (m : Meaning) (len first days : ℕ) → IsDayMask m len first days → days ≡ 0 → ¬ (HasOpenDay m len first)

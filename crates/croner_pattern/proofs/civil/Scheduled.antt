@@ -1,5 +1,5 @@
 -- The search for the nearest scheduled date and time.
-use Rattle.std.proofs.Common.{◌≡◌, ◌↔◌, ℕ, inl, inr, Bool, true, false, IsTrue, refl, sym, ap, subst, ◌∙◌}
+use Rattle.std.proofs.Common.{◌≡◌, inl, inr, true, false, sym, ap, subst, ◌∙◌}
 use Rattle.std.proofs.lemmas.Bool.{false≢true}
 use Rattle.croner_base.specs.declared.time.Direction.{Direction}
 use Rattle.croner_base.specs.declared.time.civil.CivilDate.{CivilDate}
@@ -9,7 +9,7 @@ use Rattle.croner_base.specs.Civil.{wall_second, day_of_date}
 use Rattle.croner_pattern.specs.Meaning.{Meaning}
 use Rattle.croner_pattern.specs.Schedule.{is_date_matching, is_scheduled}
 use Rattle.croner_pattern.specs.Directions.{Precedes, Reaches}
-use Rattle.croner_pattern.specs.Private.Cursor.{has_room, last_day, place_in_day, IsMatchingTime, IsMove, IsOpenTime, IsFirstTime, HasDay, IsMonthDays, IsAfter, IsForemost, IsOpen, IsOnSchedule, IsNearest, NoneOn}
+use Rattle.croner_pattern.specs.Private.Cursor.{has_room, last_day, place_in_day, IsMatchingTime, IsMove, IsTimeFrom, IsOpenTime, IsFirstTime, IsAfter, IsForemost, IsOpen, IsOnSchedule, IsNearest, NoneOn}
 use Rattle.croner_pattern.proofs.civil.Ahead.{reaches-trans, precedes-reaches, either, same_or_ahead, both_ways}
 use Rattle.croner_pattern.proofs.civil.CivilOrder.{same_date, reach-date, reach-time, wall-reach_date, wall-reach_time}
 use Rattle.croner_pattern.proofs.civil.DateSearch.{and-split, and-join, same_match, last_day-room, last_day-no_room, start-within}
@@ -44,28 +44,44 @@ module _ (m : Meaning) (dir : Direction) (from : CivilDateTime) where
   no_time none y r is = let p = scheduled_parts m y is.scheduled in none y.time p.time
 
   -- what is open on the start's own day
-  open_time : (room : Bool) (y : CivilDateTime) → room ≡ has_room dir from.date.year → Reaches dir (wall_second from) (wall_second y) → day_of_date y.date ≡ day_of_date from.date → IsOpen m dir from y → IsOpenTime m dir room from.time y.time
-  open_time room y has r today is =
+  open_time : (y : CivilDateTime) → Reaches dir (wall_second from) (wall_second y) → day_of_date y.date ≡ day_of_date from.date → IsOpen m dir from y → IsOpenTime m dir from y.time
+  open_time y r today is =
       let p = scheduled_parts m y is.scheduled in
-      record { on = reach-time dir from y today r; matches = p.time; move = λ lacks. is.move (sym has ∙ lacks) }
+      record {
+        date = same_match m from.date y.date (same_date from.date y.date (sym today)) p.date;
+        on = reach-time dir from y today r;
+        matches = p.time;
+        move = is.move;
+      }
 
   -- ---- on the start's own day
 
-  pub today-reached : (room : Bool) (t : CivilTime) (c : CivilDateTime) → room ≡ has_room dir from.date.year → is_date_matching m from.date ≡ true → IsForemost place_in_day (IsOpenTime m dir room from.time) dir t → c.date ≡ from.date → c.time ≡ t → IsNearest wall_second (IsOpen m dir from) dir (wall_second from) c
-  today-reached room t c has date n e f =
+  pub own-first : (t : CivilTime) → is_date_matching m from.date ≡ true → IsForemost place_in_day (IsTimeFrom m dir from.time) dir t → (has_room dir from.date.year ≡ false → IsMove m from.time t) → IsForemost place_in_day (IsOpenTime m dir from) dir t
+  own-first t date n move = record {
+    is = record { date = date; on = n.is.on; matches = n.is.matches; move = move };
+    first = λ y is. n.first y (record { on = is.on; matches = is.matches });
+  }
+
+  -- a step to the first time that matches is one to each later time
+  pub own-none : (t : CivilTime) → IsForemost place_in_day (IsTimeFrom m dir from.time) dir t → has_room dir from.date.year ≡ false → (IsMove m from.time t → ⊥) → (y : CivilTime) → ¬ (IsOpenTime m dir from y)
+  own-none t n lacks no_move y is =
+      no_move (move-between m dir from.time t y (is.move lacks) n.is.matches n.is.on (n.first y (record { on = is.on; matches = is.matches })))
+
+  pub today-reached : (t : CivilTime) (c : CivilDateTime) → IsForemost place_in_day (IsOpenTime m dir from) dir t → c.date ≡ from.date → c.time ≡ t → IsNearest wall_second (IsOpen m dir from) dir (wall_second from) c
+  today-reached t c n e f =
       let same : day_of_date c.date ≡ day_of_date from.date = ap day_of_date e in
       record {
         on = wall-reach_time dir from c same (subst (λ z. Reaches dir (place_in_day from.time) (place_in_day z)) (sym f) n.is.on);
         is = record {
-          scheduled = parts_scheduled m c (parts_of m c from.date t e f date n.is.matches);
+          scheduled = parts_scheduled m c (parts_of m c from.date t e f n.is.date n.is.matches);
           within = subst (λ z. Reaches dir z (last_day dir from.date)) (sym same) (start-within dir from.date);
-          move = λ lacks. subst (IsMove m from.time) (sym f) (n.is.move (has ∙ lacks));
+          move = λ lacks. subst (IsMove m from.time) (sym f) (n.is.move lacks);
         };
         first = λ y r is.
             elim (same_or_ahead dir (day_of_date from.date) (day_of_date y.date) (reach-date dir from y r)) [
               | inl today ↦
                   wall-reach_time dir c y (sym today ∙ sym same)
-                  (subst (λ z. Reaches dir (place_in_day z) (place_in_day y.time)) (sym f) (n.first y.time (open_time room y has r (sym today) is)))
+                  (subst (λ z. Reaches dir (place_in_day z) (place_in_day y.time)) (sym f) (n.first y.time (open_time y r (sym today) is)))
               | inr later ↦
                   wall-reach_date dir c y (subst (λ z. Precedes dir z (day_of_date y.date)) (sym same) later)
             ];
@@ -97,35 +113,15 @@ module _ (m : Meaning) (dir : Direction) (from : CivilDateTime) where
       })
 
   -- nothing is left of the day
-  pub record NoneToday : Type 0 where
-    pub none : (y : CivilDateTime) → Reaches dir (wall_second from) (wall_second y) → day_of_date y.date ≡ day_of_date from.date → IsOpen m dir from y → ⊥
-
-  pub today-no_time : (room : Bool) → room ≡ has_room dir from.date.year → ((t : CivilTime) → ¬ (IsOpenTime m dir room from.time t)) → NoneToday
-  today-no_time room has h = record { none = λ y r today is. h y.time (open_time room y has r today is) }
-
-  pub today-no_date : ¬ (is_date_matching m from.date ≡ true) → NoneToday
-  today-no_date h = record {
-    none = λ y r today is.
-        let p = scheduled_parts m y is.scheduled in
-        h (same_match m from.date y.date (same_date from.date y.date (sym today)) p.date);
-  }
-
-  -- whether the start's day is one of the days of its month
-  module _ (date : CivilDate) (days day : ℕ) (hit : Bool) (same : date ≡ from.date) (on : day ≡ date.day) (is : IsMonthDays m date.year date.month days) (bit : IsTrue hit ↔ HasDay days day) where
-    pub today-hit : hit ≡ true → is_date_matching m from.date ≡ true
-    today-hit h =
-        sym (ap (is_date_matching m) same) ∙ (is.dates date refl refl).1 (subst (HasDay days) on (bit.0 h))
-
-    pub today-missed : hit ≡ false → NoneToday
-    today-missed h =
-        today-no_date (λ matches. false≢true (sym h ∙ bit.1 (subst (HasDay days) (sym on) ((is.dates date refl refl).0 (ap (is_date_matching m) same ∙ matches)))))
+  abbrev pub NoneToday : Type 0
+  NoneToday = (t : CivilTime) → ¬ (IsOpenTime m dir from t)
 
   -- there is no room for a step
   pub stays : has_room dir from.date.year ≡ false → NoneToday → NoneOn wall_second (IsOpen m dir from) dir (wall_second from)
   stays lacks t y r is =
       let last : Reaches dir (day_of_date y.date) (day_of_date from.date) = subst (λ z. Reaches dir (day_of_date y.date) z) (last_day-no_room dir from.date lacks) is.within in
       let today : day_of_date y.date ≡ day_of_date from.date = both_ways dir (day_of_date y.date) (day_of_date from.date) last (reach-date dir from y r) in
-      t.none y r today is
+      t y.time (open_time y r today is)
 
   -- ---- after the start's day
 
@@ -143,7 +139,7 @@ module _ (m : Meaning) (dir : Direction) (from : CivilDateTime) where
     pub later-none : NoneToday → ((d : CivilDate) → ¬ (IsAfter m dir from.date d)) → NoneOn wall_second (IsOpen m dir from) dir (wall_second from)
     later-none t none y r is =
         elim (same_or_ahead dir (day_of_date from.date) (day_of_date y.date) (reach-date dir from y r)) [
-          | inl today ↦ t.none y r (sym today) is
+          | inl today ↦ t y.time (open_time y r (sym today) is)
           | inr later ↦ none y.date (later_date y is later)
         ]
 
@@ -160,7 +156,7 @@ module _ (m : Meaning) (dir : Direction) (from : CivilDateTime) where
           };
           first = λ y r is.
               elim (same_or_ahead dir (day_of_date from.date) (day_of_date y.date) (reach-date dir from y r)) [
-                | inl today ↦ absurd (t.none y r (sym today) is)
+                | inl today ↦ absurd (t y.time (open_time y r (sym today) is))
                 | inr later ↦
                     let p = scheduled_parts m y is.scheduled in
                     let on : Reaches dir (day_of_date c.date) (day_of_date y.date) = subst (λ z. Reaches dir z (day_of_date y.date)) (sym same) (n.first y.date (later_date y is later)) in

@@ -12,9 +12,7 @@ steps_left Forward max value = max + 1 - value
 steps_left Backward max value = value
 
 pub neighbour-way : (dir : Direction) (min max v n : ℕ) → min ≤ v → v ≤ max → pos n ≡ one_on dir (pos v) → IsOnTheWay dir min max n
-neighbour-way Forward min max v n low h e = (omega (arith, signed_arith), omega (arith, signed_arith))
-neighbour-way Backward min max v n low h e = omega (arith, signed_arith)
+neighbour-way dir min max v n low h e = grind (arith, signed_arith)
 
 pub past_zero : (dir : Direction) (v y : ℕ) → one_on dir (pos v) ≡ negsuc 0 → Reaches dir (one_on dir (pos v)) (pos y) → ⊥
-past_zero Forward v y e r = omega (arith, signed_arith)
-past_zero Backward v y e r = omega (arith, signed_arith)
+past_zero dir v y e r = grind (arith, signed_arith)

@@ -1,7 +1,7 @@
 -- How a search goes over the wall clock, before any zone: what it looks for, and how far it goes. The source is this
 -- crate's documentation.
 -- Private contracts alone cite these definitions.
-use Rattle.std.specs.Prelude.{◌≡◌, ◌↔◌, ℕ, ◌+◌, ◌-◌, ◌*◌, ◌<◌, ◌≤◌, Bool, true, false, ℤ, pos, int_lt, Option, MatchOption, if◌then◌else◌}
+use Rattle.std.specs.Prelude.{◌≡◌, ◌↔◌, ℕ, ◌+◌, ◌-◌, ◌*◌, ◌<◌, ◌≤◌, Bool, true, false, ℤ, pos, Option, MatchOption, if◌then◌else◌}
 use Rattle.std.specs.Int.{IsInRange, bit_at}
 use Rattle.croner_base.specs.declared.time.Direction.{Direction}
 use Rattle.croner_base.specs.declared.time.Direction.TheVariants.{Forward, Backward}
@@ -9,11 +9,10 @@ use Rattle.croner_base.specs.declared.time.civil.CivilDate.{CivilDate}
 use Rattle.croner_base.specs.declared.time.civil.CivilTime.{CivilTime}
 use Rattle.croner_base.specs.declared.time.civil.CivilDateTime.{CivilDateTime}
 use Rattle.jiff_core.specs.Calendar.{is_leap_year, days_in_month}
-use Rattle.croner_base.specs.Calendar.{day_number}
 use Rattle.croner_base.specs.Civil.{day_of_date, seconds_of_time}
 use Rattle.croner_base.specs.Field.{Field, can_ask}
 use Rattle.croner_pattern.specs.Meaning.{Meaning}
-use Rattle.croner_pattern.specs.Schedule.{is_plain, is_day_matching, is_year_matching, is_date_matching, is_scheduled, first_weekday}
+use Rattle.croner_pattern.specs.Schedule.{is_plain, is_day_matching, is_year_matching, is_date_matching, first_weekday}
 use Rattle.croner_pattern.specs.Directions.{Precedes, Reaches}
 pub use Rattle.croner_pattern.specs.Directions.{one_on}
 pub use Rattle.croner_pattern.specs.NextSecond.{first_year, last_year, IsNearest, NoneOn, FindsNearest, has_room, edge_day, last_day, IsMove, IsOnSchedule, IsOpen}
@@ -27,6 +26,16 @@ pub record IsForemost {X : Type 0} (place : X → ℤ) (Among : X → Type 0) (d
 abbrev pub FindsForemost : {X : Type 0} → (X → ℤ) → (X → Type 0) → Direction → Option X → Type 0
 FindsForemost {X} place Among direction result =
     MatchOption result ((y : X) → ¬ (Among y)) (IsForemost place Among direction)
+
+-- one of those that are meant, with this number of a unit
+pub record IsAt {X : Type 0} (All : X → Type 0) (key : X → ℤ) (number : ℤ) (x : X) : Type 0 where
+  pub among : All x
+  pub here : key x ≡ number
+
+-- with this number or a later one
+pub record IsFrom {X : Type 0} (All : X → Type 0) (key : X → ℤ) (direction : Direction) (from : ℤ) (x : X) : Type 0 where
+  pub among : All x
+  pub on : Reaches direction from (key x)
 
 -- a plain value of the field, between bounds
 pub record IsPlainWithin (field : Field) (min max value : ℕ) : Type 0 where
@@ -54,6 +63,11 @@ IsOnTheWay Backward min max value = value ≤ max
 pub record HasDay (days day : ℕ) : Type 0 where
   pub low : 1 ≤ day
   pub bit : bit_at days (day - 1) ≡ 1
+
+-- and it lies after a day
+pub record HasDayAfter (direction : Direction) (days day later : ℕ) : Type 0 where
+  pub day_is : HasDay days later
+  pub ahead : Precedes direction (pos day) (pos later)
 
 -- the days are those of the month that match
 pub record IsMonthDays (m : Meaning) (year : ℤ) (month days : ℕ) : Type 0 where
@@ -109,31 +123,31 @@ pub record IsNamedYear (m : Meaning) (year : ℤ) (number : ℕ) : Type 0 where
   pub is : pos number ≡ year
   pub named : is_year_matching m year ≡ true
 
--- a date that matches, in a month
-pub record IsInMonth (m : Meaning) (year : ℤ) (month : ℕ) (d : CivilDate) : Type 0 where
+-- a date that matches, in a year
+pub record IsMatchingIn (m : Meaning) (year : ℤ) (d : CivilDate) : Type 0 where
   pub same_year : d.year ≡ year
-  pub same_month : d.month ≡ month
   pub matches : is_date_matching m d ≡ true
 
--- a date that matches, in a year and there in the months from one on
-pub record IsInMonths (m : Meaning) (direction : Direction) (year : ℤ) (from : ℤ) (d : CivilDate) : Type 0 where
-  pub same_year : d.year ≡ year
-  pub on : Reaches direction from (pos d.month)
-  pub matches : is_date_matching m d ≡ true
+-- there in a month, and in the months from one on
+abbrev pub IsInMonth : Meaning → ℤ → ℕ → CivilDate → Type 0
+IsInMonth m year month = IsAt (IsMatchingIn m year) (λ d. pos d.month) (pos month)
 
--- a date that matches and that a search comes to, in a year
-pub record IsInYear (m : Meaning) (direction : Direction) (year : ℤ) (d : CivilDate) : Type 0 where
-  pub same_year : d.year ≡ year
+abbrev pub IsInMonths : Meaning → Direction → ℤ → ℤ → CivilDate → Type 0
+IsInMonths m direction year from = IsFrom (IsMatchingIn m year) (λ d. pos d.month) direction from
+
+-- a date that matches and that a search comes to
+pub record IsReached (m : Meaning) (direction : Direction) (d : CivilDate) : Type 0 where
   pub within : Reaches direction (day_of_date d) (edge_day direction)
   pub matches : is_date_matching m d ≡ true
 
--- the same, in the years from one on
-pub record IsInYears (m : Meaning) (direction : Direction) (from : ℤ) (d : CivilDate) : Type 0 where
-  pub on : Reaches direction from d.year
-  pub within : Reaches direction (day_of_date d) (edge_day direction)
-  pub matches : is_date_matching m d ≡ true
+-- in a year, and in the years from one on
+abbrev pub IsInYear : Meaning → Direction → ℤ → CivilDate → Type 0
+IsInYear m direction year = IsAt (IsReached m direction) (λ d. d.year) year
 
--- the same, after a date
+abbrev pub IsInYears : Meaning → Direction → ℤ → CivilDate → Type 0
+IsInYears m direction from = IsFrom (IsReached m direction) (λ d. d.year) direction from
+
+-- such a date after a date
 pub record IsAfter (m : Meaning) (direction : Direction) (date d : CivilDate) : Type 0 where
   pub ahead : Precedes direction (day_of_date date) (day_of_date d)
   pub within : Reaches direction (day_of_date d) (edge_day direction)
@@ -151,19 +165,24 @@ pub record IsMatchingTime (m : Meaning) (t : CivilTime) : Type 0 where
   pub minute : is_plain m.minutes t.minute ≡ true
   pub second : is_plain m.seconds t.second ≡ true
 
--- a time that matches, from a time on, and that needs no step where there is no room for one
-pub record IsOpenTime (m : Meaning) (direction : Direction) (room : Bool) (from t : CivilTime) : Type 0 where
+-- a time that matches, from a time on
+pub record IsTimeFrom (m : Meaning) (direction : Direction) (from t : CivilTime) : Type 0 where
   pub on : Reaches direction (place_in_day from) (place_in_day t)
   pub matches : IsMatchingTime m t
-  pub move : room ≡ false → IsMove m from t
 
--- the same within an hour
-pub record IsOpenInHour (m : Meaning) (direction : Direction) (room : Bool) (from t : CivilTime) : Type 0 where
+-- in the hour of a time, from it on, one whose minute and second match
+pub record IsInHourFrom (m : Meaning) (direction : Direction) (from t : CivilTime) : Type 0 where
   pub on : Reaches direction (place_in_day from) (place_in_day t)
   pub same_hour : t.hour ≡ from.hour
   pub minute : is_plain m.minutes t.minute ≡ true
   pub second : is_plain m.seconds t.second ≡ true
-  pub stays : room ≡ false → is_plain m.minutes from.minute ≡ true → t.minute ≡ from.minute
+
+-- a time that matches on a date that matches, from its time on, and that needs no step where there is no room for one
+pub record IsOpenTime (m : Meaning) (direction : Direction) (from : CivilDateTime) (t : CivilTime) : Type 0 where
+  pub date : is_date_matching m from.date ≡ true
+  pub on : Reaches direction (place_in_day from.time) (place_in_day t)
+  pub matches : IsMatchingTime m t
+  pub move : has_room direction from.date.year ≡ false → IsMove m from.time t
 
 -- the first plain value of a field in the direction
 pub record IsFirstValue (field : Field) (direction : Direction) (max value : ℕ) : Type 0 where

@@ -1,8 +1,9 @@
 //! The nearest date that matches a pattern.
-ghost use Rattle.std.specs.Prelude.{◌≡◌, true, false, pos, MatchOption};
+ghost use Rattle.std.specs.Prelude.{◌≡◌, ℕ, true, false, pos, MatchOption};
 ghost use Rattle.std.specs.Int.{IsInRange};
 ghost use Rattle.jiff_core.specs.Calendar.{days_in_month};
 ghost use Rattle.croner_base.specs.Civil.{day_of_date};
+ghost use Rattle.croner_pattern.specs.Directions.{Reaches};
 ghost use Rattle.croner_pattern.specs.Meaning.{meaning_of};
 ghost use Rattle.croner_pattern.specs.Shapes.{has_field_shapes};
 ghost use Rattle.croner_pattern.specs.Schedule.{is_plain, is_year_matching, first_weekday, IsDayMask};
@@ -11,7 +12,7 @@ ghost use Rattle.croner_pattern.specs.Private.Cursor.{one_on, has_room, FindsFor
 use crate::cursor::calendar::{
     FIRST_YEAR, LAST_YEAR, MONTHS, first_weekday, is_reached, year_beyond,
 };
-use crate::cursor::days::{days_after, first_day};
+use crate::cursor::days::{day_after, first_day};
 use crate::cursor::kinds::{has_kind, year_kinds};
 use crate::cursor::values::{is_plain, nearest_value, nearest_year, neighbour};
 use crate::pattern::CronPattern;
@@ -94,6 +95,17 @@ fn in_months(
     None
 }
 
+// The month with which a year begins in the direction.
+fn first_month(direction: Direction) -> u32
+    ensures way { IsOnTheWay direction 1 MONTHS result }
+    ensures first { (month : ℕ) → IsInRange 1 12 month → Reaches direction (pos result) (pos month) }
+{
+    match direction {
+        Direction::Forward => 1,
+        Direction::Backward => MONTHS,
+    }
+}
+
 // The first date of a named year that matches and that a search comes to.
 fn in_year(pattern: &CronPattern, year: u32, direction: Direction) -> Option<CivilDate>
     requires shapes { has_field_shapes (meaning_of pattern.now) ≡ true }
@@ -101,11 +113,7 @@ fn in_year(pattern: &CronPattern, year: u32, direction: Direction) -> Option<Civ
     ensures { is_year_matching (meaning_of pattern.now) (pos year) ≡ true
         → FindsForemost day_of_date (IsInYear (meaning_of pattern.now) direction (pos year)) direction result }
 {
-    let month = match direction {
-        Direction::Forward => 1,
-        Direction::Backward => MONTHS,
-    };
-    let found = in_months(pattern, year, month, direction)?;
+    let found = in_months(pattern, year, first_month(direction), direction)?;
     if is_reached(found, year, direction) {
         Some(found)
     } else {
@@ -181,7 +189,7 @@ pub(crate) fn date_after(
     requires days { IsMonthDays (meaning_of pattern.now) date.year date.month days }
     ensures { FindsForemost day_of_date (IsAfter (meaning_of pattern.now) direction date) direction result }
 {
-    if let Some(day) = first_day(days_after(days, date.day(), direction), direction) {
+    if let Some(day) = day_after(days, date.day(), direction) {
         return Some(CivilDate::from_parts_unchecked(date.year(), date.month(), day));
     }
     if let Some(found) = in_rest_of_year(pattern, date, direction) {

@@ -4,6 +4,7 @@ ghost use Rattle.croner_base.specs.Civil.{wall_second};
 ghost use Rattle.croner_pattern.specs.Meaning.{meaning_of};
 ghost use Rattle.croner_pattern.specs.Shapes.{has_field_shapes};
 ghost use Rattle.croner_pattern.specs.NextSecond.{FindsNearest, IsNearest, IsOpen, IsOnSchedule};
+ghost use Rattle.croner_pattern.specs.Private.Cursor.{has_room, place_in_day, FindsForemost, IsMonthDays, IsOpenTime};
 ghost use Rattle.croner_pattern.specs.Schedule.{is_date_matching};
 
 mod calendar;
@@ -16,9 +17,9 @@ mod values;
 use crate::cursor::calendar::has_room;
 use crate::cursor::dates::{date_after, month_days};
 use crate::cursor::days::has_day;
-use crate::cursor::times::{first_time, in_day};
+use crate::cursor::times::{first_time, in_day, is_move};
 use crate::pattern::CronPattern;
-use croner_base::time::{CivilDate, CivilDateTime, Direction};
+use croner_base::time::{CivilDate, CivilDateTime, CivilTime, Direction};
 
 /// The nearest scheduled date and time, from one on, itself included.
 ///
@@ -39,10 +40,8 @@ pub fn next_scheduled(
     let date = from.date();
     let days = month_days(pattern, date);
     let room = has_room(date.year(), direction);
-    if has_day(days, date.day()) {
-        if let Some(time) = in_day(pattern, from.time(), direction, room) {
-            return Some(CivilDateTime::new(date, time));
-        }
+    if let Some(time) = in_own_day(pattern, from, days, room, direction) {
+        return Some(CivilDateTime::new(date, time));
     }
     if !room {
         return None;
@@ -50,6 +49,36 @@ pub fn next_scheduled(
     let first = first_time(pattern, direction)?;
     let date = date_after(pattern, date, days, direction)?;
     Some(CivilDateTime::new(date, first))
+}
+
+// The nearest time that is scheduled on the day of a date and time, from it on, itself included. `days` are those that match
+// in the month. Where there is no room it goes over no hour and no minute.
+#[inline(always)]
+fn in_own_day(
+    pattern: &CronPattern,
+    from: CivilDateTime,
+    days: u32,
+    room: bool,
+    direction: Direction,
+) -> Option<CivilTime>
+    requires shapes { has_field_shapes (meaning_of pattern.now) ≡ true }
+    requires days { IsMonthDays (meaning_of pattern.now) from.date.year from.date.month days }
+    requires room { room ≡ has_room direction from.date.year }
+    ensures { FindsForemost place_in_day (IsOpenTime (meaning_of pattern.now) direction from) direction result }
+{
+    if !has_day(days, from.date().day()) {
+        return None;
+    }
+    let start = from.time();
+    let time = in_day(pattern, start, direction)?;
+    if room {
+        return Some(time);
+    }
+    if is_move(pattern, start, time) {
+        Some(time)
+    } else {
+        None
+    }
 }
 
 /// Whether a date matches.

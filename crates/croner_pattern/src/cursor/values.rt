@@ -39,7 +39,7 @@ pub(crate) fn neighbour(value: u32, direction: Direction) -> Option<u32>
 
 // The bits of a word from a place on, the place itself included.
 #[inline(always)]
-fn bits_from(word: u64, from: u32, direction: Direction) -> u64
+pub(crate) fn bits_from(word: u64, from: u32, direction: Direction) -> u64
     requires { from < 64 }
     ensures { AreFrom direction word from result }
 {
@@ -51,7 +51,7 @@ fn bits_from(word: u64, from: u32, direction: Direction) -> u64
 
 // The place of the first bit of a word.
 #[inline(always)]
-fn first_bit(word: u64, direction: Direction) -> Option<u32>
+pub(crate) fn first_bit(word: u64, direction: Direction) -> Option<u32>
     ensures { FindsForemost pos (λ place. bit_at word place ≡ 1) direction result }
 {
     if word == 0 {

@@ -1,11 +1,10 @@
-use Rattle.std.proofs.Common.{◌↔◌, ℕ, ℤ, pos, ◌∙◌, subst, rules, FitsSigned, w32}
+use Rattle.std.proofs.Common.{ℕ, ℤ, Some, pos, ◌∙◌, subst, rules, FitsSigned, w32}
 use Rattle.std.proofs.lemmas.Int.{to_z-of_z}
 use Rattle.croner_base.specs.Civil.{HasYmd, day_of_date}
 use Rattle.croner_pattern.specs.Meaning.{meaning_of}
-use Rattle.croner_pattern.specs.Directions.{Precedes}
-use Rattle.croner_pattern.specs.Private.Cursor.{one_on, HasDay, IsYearBeyond, IsInMonths, IsInYears, IsAfter}
+use Rattle.croner_pattern.specs.Private.Cursor.{one_on, HasDayAfter, IsForemost, IsYearBeyond, IsInMonths, IsInYears, IsAfter}
 use Rattle.croner_pattern.proofs.civil.DateSearch.{InMonthAfter, Later, after-split, later-split, after-first, after-none, years-beyond}
-use Rattle.croner_pattern.proofs.civil.Foremost.{in_first, passed, same_first, same_again, same_finds}
+use Rattle.croner_pattern.proofs.civil.Foremost.{in_first, passed}
 use Rattle.croner_pattern.proofs.cursor.dates.date_after.Goals as goal
 
 pub returns-in-Some : goal.returns-in-Some
@@ -14,7 +13,7 @@ returns-in-Some c =
     let dir = c.args.direction in
     let date = c.args.date in
     let f : FitsSigned w32 c.year.result = search rules in
-    let left = subst (λ (n : ℕ). (later : ℕ) → HasDay c.days_after.result later ↔ (HasDay c.args.days later × Precedes dir (pos n) (pos later))) c.day.ensures c.days_after.ensures in
+    let first = subst (λ (n : ℕ). IsForemost pos (HasDayAfter dir c.args.days n) dir c.in-Some.day) c.day.ensures c.in-Some.ensures in
     let h = simp to_z-of_z at c.from_parts_unchecked.ensures in
     let ymd : HasYmd date.year date.month c.in-Some.day c.from_parts_unchecked.result = record {
       year_is = h.year_is ∙ c.year.ensures;
@@ -22,17 +21,15 @@ returns-in-Some c =
       day_is = h.day_is;
     } in
     in_first day_of_date dir (IsAfter m dir date) (InMonthAfter m dir date) (Later m dir date) c.from_parts_unchecked.result (after-split m dir date c.requires.room)
-    (after-first m dir date c.from_parts_unchecked.result c.args.days c.days_after.result c.in-Some.day c.requires.days left c.in-Some.ensures ymd)
+    (after-first m dir date c.from_parts_unchecked.result c.args.days c.in-Some.day c.requires.days first ymd)
 
 pub returns-in-Some-in_rest_of_year : goal.returns-in-Some-in_rest_of_year
 returns-in-Some-in_rest_of_year c =
     let m = meaning_of c.args.pattern.now in
     let dir = c.args.direction in
     let date = c.args.date in
-    let left = subst (λ (n : ℕ). (later : ℕ) → HasDay c.days_after.result later ↔ (HasDay c.args.days later × Precedes dir (pos n) (pos later))) c.day.ensures c.days_after.ensures in
-    let rest = passed day_of_date dir (IsAfter m dir date) (InMonthAfter m dir date) (Later m dir date) (after-split m dir date c.requires.room)
-    (after-none m dir date c.args.days c.days_after.result c.requires.days left c.in_default.ensures) in
-    same_first day_of_date dir (IsAfter m dir date) (Later m dir date) c.in-Some-in_rest_of_year.found rest
+    let none = subst (λ (n : ℕ). (day : ℕ) → ¬ (HasDayAfter dir c.args.days n day)) c.day.ensures c.in_default.ensures in
+    passed day_of_date dir (IsAfter m dir date) (InMonthAfter m dir date) (Later m dir date) (after-split m dir date c.requires.room) (after-none m dir date c.args.days c.requires.days none) (Some c.in-Some-in_rest_of_year.found)
     (in_first day_of_date dir (Later m dir date) (IsInMonths m dir date.year (one_on dir (pos date.month))) (IsInYears m dir (one_on dir date.year)) c.in-Some-in_rest_of_year.found (later-split m dir date) c.in-Some-in_rest_of_year.ensures)
 
 pub returns : goal.returns
@@ -41,13 +38,9 @@ returns c =
     let dir = c.args.direction in
     let date = c.args.date in
     let f : FitsSigned w32 c.year-2.result = search rules in
-    let left = subst (λ (n : ℕ). (later : ℕ) → HasDay c.days_after.result later ↔ (HasDay c.args.days later × Precedes dir (pos n) (pos later))) c.day.ensures c.days_after.ensures in
-    let rest = passed day_of_date dir (IsAfter m dir date) (InMonthAfter m dir date) (Later m dir date) (after-split m dir date c.requires.room)
-    (after-none m dir date c.args.days c.days_after.result c.requires.days left c.in_default.ensures) in
-    let years = passed day_of_date dir (Later m dir date) (IsInMonths m dir date.year (one_on dir (pos date.month))) (IsInYears m dir (one_on dir date.year)) (later-split m dir date) c.in_default-in_rest_of_year.ensures in
+    let none = subst (λ (n : ℕ). (day : ℕ) → ¬ (HasDayAfter dir c.args.days n day)) c.day.ensures c.in_default.ensures in
     let b = simp to_z-of_z at c.year_beyond.ensures in
-    let beyond = years-beyond m dir date.year c.year_beyond.result (subst (λ (z : ℤ). IsYearBeyond dir z c.year_beyond.result) c.year-2.ensures b) in
-    same_finds day_of_date dir (IsAfter m dir date) (IsInYears m dir (pos c.year_beyond.result)) c.in_years.result
-    (same_again (IsAfter m dir date) (Later m dir date) (IsInYears m dir (pos c.year_beyond.result)) rest
-    (same_again (Later m dir date) (IsInYears m dir (one_on dir date.year)) (IsInYears m dir (pos c.year_beyond.result)) years beyond))
-    c.in_years.ensures
+    let r = c.in_years.result in
+    passed day_of_date dir (IsAfter m dir date) (InMonthAfter m dir date) (Later m dir date) (after-split m dir date c.requires.room) (after-none m dir date c.args.days c.requires.days none) r
+    (passed day_of_date dir (Later m dir date) (IsInMonths m dir date.year (one_on dir (pos date.month))) (IsInYears m dir (one_on dir date.year)) (later-split m dir date) c.in_default-in_rest_of_year.ensures r
+    (years-beyond m dir date.year c.year_beyond.result (subst (λ (z : ℤ). IsYearBeyond dir z c.year_beyond.result) c.year-2.ensures b) r c.in_years.ensures))

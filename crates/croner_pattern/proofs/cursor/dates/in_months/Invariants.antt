@@ -1,15 +1,16 @@
 use Rattle.std.proofs.Common.{◌≡◌, true, pos}
+use Rattle.croner_base.specs.Civil.{day_of_date}
 use Rattle.croner_pattern.specs.Meaning.{meaning_of}
 use Rattle.croner_pattern.specs.Schedule.{is_year_matching}
 use Rattle.croner_pattern.specs.Private.Cursor.{IsOnTheWay, IsInMonths}
-use Rattle.croner_pattern.proofs.civil.Foremost.{Same}
+use Rattle.croner_pattern.proofs.civil.Foremost.{Leads}
 use Rattle.croner_pattern.proofs.civil.ValueSearch.{steps_left}
 use Rattle.croner_pattern.proofs.cursor.dates.in_months.Given as goal
 
 abbrev pub invariant-loop-month : goal.invariant-loop-month
 invariant-loop-month l = record {
   way : IsOnTheWay l.direction 1 12 l.from;
-  same : is_year_matching (meaning_of l.pattern) (pos l.year) ≡ true → Same (IsInMonths (meaning_of l.pattern) l.direction (pos l.year) (pos l.fn.month)) (IsInMonths (meaning_of l.pattern) l.direction (pos l.year) (pos l.from));
+  leads : is_year_matching (meaning_of l.pattern) (pos l.year) ≡ true → Leads day_of_date l.direction (IsInMonths (meaning_of l.pattern) l.direction (pos l.year) (pos l.fn.month)) (IsInMonths (meaning_of l.pattern) l.direction (pos l.year) (pos l.from));
 }
 
 abbrev pub decreases-loop-month : goal.decreases-loop-month

@@ -1,9 +1,10 @@
-use Rattle.std.proofs.Common.{arith}
-use Rattle.croner_pattern.proofs.civil.DayBits.{first_forward, first_backward}
+use Rattle.std.proofs.Common.{◌≡◌, pos}
+use Rattle.std.specs.Int.{bit_at}
+use Rattle.croner_pattern.specs.Private.Cursor.{HasDay}
+use Rattle.croner_pattern.proofs.civil.Foremost.{alike}
 use Rattle.croner_pattern.proofs.cursor.days.first_day.Goals as goal
 
-pub returns-in-Forward : goal.returns-in-Forward
-returns-in-Forward c = first_forward c.args.direction c.args.days c.in-Forward.is (omega arith) (omega arith)
-
-pub returns-in-Backward : goal.returns-in-Backward
-returns-in-Backward c = first_backward c.args.direction c.args.days c.in-Backward.is (omega arith) (omega arith)
+pub returns : goal.returns
+returns c =
+    alike pos c.args.direction (HasDay c.args.days) (λ b. bit_at c.places.result b ≡ 1)
+    (λ d h. (c.places.ensures d).1 h) (λ d b. (c.places.ensures d).0 b) c.first_bit.result c.first_bit.ensures
