@@ -19,3 +19,4 @@ pub mod WalkSteps
 pub mod WallSeconds
 pub mod ZoneOrder
 pub mod Windows
+pub mod WindowListings

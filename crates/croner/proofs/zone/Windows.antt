@@ -28,7 +28,7 @@ pub record Alike (first last : ℤ) (z t : Zone) : Type 0 where
   pub same : (i : ℤ) → first ≤ℤ i → i ≤ℤ last → z.reads i ≡ t.reads i
   pub below : (i k : ℤ) → i <ℤ first → IsWellIn first last k → (z.reads i <ℤ z.reads k) × (t.reads i <ℤ t.reads k)
 
-alike_back : (first last : ℤ) (z t : Zone) → Alike first last z t → Alike first last t z
+pub alike_back : (first last : ℤ) (z t : Zone) → Alike first last z t → Alike first last t z
 alike_back first last z t h = record {
   same = λ i low high. sym (h.same i low high);
   below = λ i k early inside. let b = h.below i k early inside in (b.1, b.0);
@@ -57,12 +57,12 @@ start_counts : (direction : Direction) (first last : ℤ) (z t : Zone) (timetabl
 start_counts Forward first last z t timetable i a inside h = own_run first last z t timetable i a inside h
 start_counts Backward first last z t timetable i a inside h = run first last z t timetable i a inside h
 
-counts : (direction : Direction) (inclusive : Bool) (first last : ℤ) (z t : Zone) (timetable : Timetable) (s i : ℤ) → Alike first last z t → IsWellIn first last s → IsWellIn first last i → Counts direction inclusive (job_in t timetable) s i → Counts direction inclusive (job_in z timetable) s i
+pub counts : (direction : Direction) (inclusive : Bool) (first last : ℤ) (z t : Zone) (timetable : Timetable) (s i : ℤ) → Alike first last z t → IsWellIn first last s → IsWellIn first last i → Counts direction inclusive (job_in t timetable) s i → Counts direction inclusive (job_in z timetable) s i
 counts direction inclusive first last z t timetable s i a hs hi (inl h) = inl (h.0, run first last z t timetable i a hi h.1)
 counts direction inclusive first last z t timetable s i a hs hi (inr h) = inr (h.0, h.1, start_counts direction first last z t timetable s a hs h.2)
 
 -- what counts lies ahead of the start, or is it
-onward : (direction : Direction) (inclusive : Bool) (z : Zone) (timetable : Timetable) (s i : ℤ) → Counts direction inclusive (job_in z timetable) s i → Reaches direction s i
+pub onward : (direction : Direction) (inclusive : Bool) (z : Zone) (timetable : Timetable) (s i : ℤ) → Counts direction inclusive (job_in z timetable) s i → Reaches direction s i
 onward Forward inclusive z timetable s i (inl h) = omega (arith, signed_arith, h.0)
 onward Forward inclusive z timetable s i (inr h) = omega (arith, signed_arith, h.1)
 onward Backward inclusive z timetable s i (inl h) = omega (arith, signed_arith, h.0)
@@ -89,7 +89,7 @@ pub record GoesOn (first last : ℤ) (t : Zone) : Type 0 where
   pub before : (i : ℤ) → i <ℤ first → t.reads i ≤ℤ t.reads first
   pub behind : (i : ℤ) → last <ℤ i → t.reads last ≤ℤ t.reads i
 
-span : (direction : Direction) (first last : ℤ) (z t : Zone) (i : ℤ) → Alike first last z t → GoesOn first last t → first ≤ℤ i → i ≤ℤ last → InSpan direction z.reads i → InSpan direction t.reads i
+pub span : (direction : Direction) (first last : ℤ) (z t : Zone) (i : ℤ) → Alike first last z t → GoesOn first last t → first ≤ℤ i → i ≤ℤ last → InSpan direction z.reads i → InSpan direction t.reads i
 span Forward first last z t i a g low high h = λ j le. by_lt_z j first
     (λ early. let f = h first low in let s = a.same first (omega (arith, signed_arith)) (omega (arith, signed_arith, low, high)) in omega (arith, signed_arith, f, s, g.before j early))
     (λ from. let s = a.same j from (omega (arith, signed_arith, le, high)) in let w = h j le in omega (arith, signed_arith, s, w))

@@ -1,8 +1,10 @@
 -- Clocks of tables that show what a zone shows in a window: which of their runs are runs of the zone.
 use Rattle.std.specs.Prelude.{◌≡◌, ℕ, ℤ, pos, ◌+ℤ◌, ◌≤ℤ◌}
 use Rattle.jiff_tz.specs.declared.timezone.TimeZone.{TimeZone}
-use Rattle.croner_base.specs.Zone.{Zone}
+use Rattle.croner_base.specs.Zone.{Zone, Moment}
 use Rattle.croner_base.specs.ZoneTable.{IsWindow, ahead_at, nearest_in}
+use Rattle.croner.specs.crontable.TableListing.{TableStanding}
+use Rattle.croner.specs.iterator.Listing.{Standing}
 
 -- so many seconds behind a window's first one no earlier reading of the zone comes again: two offsets differ by less
 abbrev pub margin : ℕ
@@ -16,3 +18,17 @@ IsWellIn first last i = ((first +ℤ pos margin) ≤ℤ i) × (i ≤ℤ last)
 pub record IsClockOf (tz : TimeZone) (first last : ℤ) (z : Zone) : Type 0 where
   pub window : IsWindow first last
   pub shows : (i : ℤ) → z.reads i ≡ i +ℤ ahead_at tz (nearest_in first last i)
+
+-- a moment on such a clock, well in the window
+pub record IsOnClockOf (tz : TimeZone) (first last : ℤ) (z : Zone) (m : Moment) : Type 0 where
+  pub clock : IsClockOf tz first last z
+  pub zone_is : m.zone ≡ z
+  pub well_in : IsWellIn first last m.instant
+
+-- where an iterator stands, at the same instant of another zone
+abbrev pub in_zone : Zone → Standing → Standing
+in_zone z s = record s { position = record s.position { zone = z } }
+
+-- the same of an iterator over a table of patterns
+abbrev pub table_in_zone : Zone → TableStanding → TableStanding
+table_in_zone z s = record s { position = record s.position { zone = z } }

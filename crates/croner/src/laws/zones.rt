@@ -1,16 +1,20 @@
-//! Laws of tables of zones: what a search over the table of a window says of the zone itself, which need not be calm
-//! outside the window.
+//! Laws of tables of zones: what searches and listings over the table of a window say of the zone itself, which need not
+//! be calm outside the window.
 //!
 //! [`ClockTable::of_zone`](crate::time::table::ClockTable::of_zone) makes such a table, where there is one. The seconds well
 //! in a window are those from 180,000 seconds behind its first second to its last.
-ghost use Rattle.std.specs.Prelude.{ℤ, Bool};
+ghost use Rattle.std.specs.Prelude.{ℕ, ℤ, Bool, List, ◌++◌, ◌↔◌};
+ghost use Rattle.std.specs.List.{All, Contains};
 ghost use Rattle.jiff_tz.specs.declared.timezone.TimeZone.{TimeZone};
 ghost use Rattle.croner_base.specs.declared.time.Direction.{Direction};
 ghost use Rattle.croner_base.specs.TableZone.{table_zone};
 ghost use Rattle.croner_base.specs.ZonedZone.{zoned_zone};
-ghost use Rattle.croner.specs.laws.Zones.{IsClockOf, IsWellIn};
+ghost use Rattle.croner.specs.crontable.TableItems.{BeginsTableRest, GaveAllTable, item_instants};
+ghost use Rattle.croner.specs.crontable.TableListing.{TableStanding, IsLeftAt, IsTableLeft};
+ghost use Rattle.croner.specs.iterator.Listing.{Standing, IsLeft, BeginsRest, GaveAll};
+ghost use Rattle.croner.specs.laws.Zones.{IsClockOf, IsOnClockOf, IsWellIn, in_zone, table_in_zone};
 ghost use Rattle.croner.specs.search.Limit.{InSpan, NoneInSpan};
-ghost use Rattle.croner.specs.search.Runs.{job_in, Counts, Nearest};
+ghost use Rattle.croner.specs.search.Runs.{job_in, Counts, Nearest, Reaches};
 ghost use Rattle.croner.specs.search.PatternJob.{timetable_of};
 ghost use Rattle.croner.specs.Views.{job_of};
 
@@ -29,4 +33,44 @@ pub fn runs_of_a_window(cron: &Cron, table: &ClockTable)
         (direction : Direction) (inclusive : Bool) (start i : ℤ) → IsWellIn first last start → IsWellIn first last i →
         NoneInSpan direction inclusive (job_in (table_zone table.now) (timetable_of (job_of cron.now))) start → InSpan direction (zoned_zone zone).reads i →
         ¬ (Counts direction inclusive (job_in (zoned_zone zone) (timetable_of (job_of cron.now))) start i) }
+{}
+
+/// A listing over the table of a window is the zone's own listing, as far as its items lie well in the window.
+///
+/// From wherever an iterator over the table stands well in the window, with the same pattern and in the same direction:
+///
+/// - the instants well in the window that it has yet to give are those that an iterator in the zone has yet to give;
+/// - items that begin the listing over the table begin that of the zone, up to the first that does not lie well in the
+///   window;
+/// - each run of the zone well in the window that comes no later than some item over the table is among the items. So an item
+///   past the window, or before the seconds well in it, says that none is left out;
+/// - where the items are all that is left over the table in the span that is searched, each run of the zone is among them
+///   that lies well in the window and in the zone's span.
+pub fn listing_of_a_window(table: &ClockTable)
+    ensures left { (zone : TimeZone) (first last : ℤ) (s : Standing) → IsOnClockOf zone first last (table_zone table.now) s.position →
+        (i : ℤ) → IsWellIn first last i → IsLeft s i ↔ IsLeft (in_zone (zoned_zone zone) s) i }
+    ensures begins { (zone : TimeZone) (first last : ℤ) (s : Standing) → IsOnClockOf zone first last (table_zone table.now) s.position →
+        (items more : List ℤ) → BeginsRest s (items ++ more) → All (IsWellIn first last) items →
+        BeginsRest (in_zone (zoned_zone zone) s) items }
+    ensures passed { (zone : TimeZone) (first last : ℤ) (s : Standing) → IsOnClockOf zone first last (table_zone table.now) s.position →
+        (items : List ℤ) (i item : ℤ) → BeginsRest s items → IsWellIn first last i → IsLeft (in_zone (zoned_zone zone) s) i →
+        Contains items item → Reaches s.direction i item → Contains items i }
+    ensures all { (zone : TimeZone) (first last : ℤ) (s : Standing) → IsOnClockOf zone first last (table_zone table.now) s.position →
+        (items : List ℤ) (i : ℤ) → GaveAll s items → IsWellIn first last i → IsLeft (in_zone (zoned_zone zone) s) i →
+        InSpan s.direction (zoned_zone zone).reads i → Contains items i }
+{}
+
+/// The same of a listing of a table of patterns over the table of a window: its items with their places.
+pub fn table_listing_of_a_window(table: &ClockTable)
+    ensures left { (zone : TimeZone) (first last : ℤ) (s : TableStanding) → IsOnClockOf zone first last (table_zone table.now) s.position →
+        (i : ℤ) → IsWellIn first last i → (k : ℕ) → IsLeftAt s k i ↔ IsLeftAt (table_in_zone (zoned_zone zone) s) k i }
+    ensures begins { (zone : TimeZone) (first last : ℤ) (s : TableStanding) → IsOnClockOf zone first last (table_zone table.now) s.position →
+        (items more : List (ℤ × List ℕ)) → BeginsTableRest s (items ++ more) → All (IsWellIn first last) (item_instants items) →
+        BeginsTableRest (table_in_zone (zoned_zone zone) s) items }
+    ensures passed { (zone : TimeZone) (first last : ℤ) (s : TableStanding) → IsOnClockOf zone first last (table_zone table.now) s.position →
+        (items : List (ℤ × List ℕ)) (i item : ℤ) → BeginsTableRest s items → IsWellIn first last i → IsTableLeft (table_in_zone (zoned_zone zone) s) i →
+        Contains (item_instants items) item → Reaches s.direction i item → Contains (item_instants items) i }
+    ensures all { (zone : TimeZone) (first last : ℤ) (s : TableStanding) → IsOnClockOf zone first last (table_zone table.now) s.position →
+        (items : List (ℤ × List ℕ)) (i : ℤ) → GaveAllTable s items → IsWellIn first last i → IsTableLeft (table_in_zone (zoned_zone zone) s) i →
+        InSpan s.direction (zoned_zone zone).reads i → Contains (item_instants items) i }
 {}
