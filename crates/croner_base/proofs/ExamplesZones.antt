@@ -1,5 +1,5 @@
 -- Changes of an offset in small windows, computed from the definitions.
-use Rattle.std.proofs.Common.{◌≡◌, refl, ℤ, pos, int_le, if◌then◌else◌, List, [], ◌∷◌}
+use Rattle.std.proofs.Common.{◌≡◌, refl, ℤ, pos, int_le, if◌then◌else◌, [], ◌∷◌}
 use Rattle.croner_base.specs.Table.{offset_at}
 use Rattle.croner_base.specs.ZoneTable.{changes_after, nearest_in}
 

@@ -22,6 +22,8 @@ pub mod TableCalm
 pub mod ZoneYears
 pub mod ZoneStays
 pub mod ZoneChanges
+pub mod ZonePeriods
+pub mod ZoneRepeats
 pub mod Filling
 pub mod MarkSets
 pub mod Parts

@@ -14,11 +14,11 @@ use Rattle.croner_base.proofs.ZonedMoments.{zone_reads-held}
 use Rattle.croner_base.proofs.ZoneYears.{nonneg_abs}
 use Rattle.croner_base.proofs.TableOffsets.{int_le-true, int_le-false}
 
-changes_zero : (f : ℤ → ℤ) (first : ℤ) → changes_after f first 0 ≡ []
+pub changes_zero : (f : ℤ → ℤ) (first : ℤ) → changes_after f first 0 ≡ []
 unfolding changes_after
 changes_zero f first = refl
 
-changes_more : (f : ℤ → ℤ) (first : ℤ) (n : ℕ) → changes_after f first (suc n) ≡ changes_after f first n ++ change_at f (first +ℤ pos (suc n))
+pub changes_more : (f : ℤ → ℤ) (first : ℤ) (n : ℕ) → changes_after f first (suc n) ≡ changes_after f first n ++ change_at f (first +ℤ pos (suc n))
 unfolding changes_after
 changes_more f first n = refl
 
@@ -167,27 +167,24 @@ no_changes f first i e =
     ap (λ m. changes_after f first m) none ∙ changes_zero f first
 
 -- the changes stay where the offset at the next question is the same
-pub changes_kept : (tz : TimeZone) (first last a c x y : ℤ) (items : List (ℤ × ℤ)) → first ≤ℤ a → IsNextQuestion tz a last c → x ≡ ahead_at tz a → y ≡ ahead_at tz c → y ≡ x
-    → items ≡ changes_after (ahead_at tz) first (unsigned_abs (a -ℤ first)) → items ≡ changes_after (ahead_at tz) first (unsigned_abs (c -ℤ first))
-changes_kept tz first last a c x y items low q ex ey e h =
+pub changes_kept : (tz : TimeZone) (first last a c x y : ℤ) → first ≤ℤ a → IsNextQuestion tz a last c → x ≡ ahead_at tz a → y ≡ ahead_at tz c → y ≡ x → window_changes tz first a ≡ window_changes tz first c
+changes_kept tz first last a c x y low q ex ey e =
     let f = ahead_at tz in
-    let all : List (ℤ × ℤ) = changes_after f first (unsigned_abs (a -ℤ first)) in
+    let all : List (ℤ × ℤ) = window_changes tz first a in
     let test : int_eq (f c) (f a) ≡ true = same_test (f c) (f a) (sym ey ∙ e ∙ ex) in
     let none : cond (int_eq (f c) (f a)) [] ((c, f c) ∷ []) ≡ [] = rw test refl in
     let next = next_changes tz first last a c low q in
     let same : all ++ cond (int_eq (f c) (f a)) [] ((c, f c) ∷ []) ≡ all = ap (λ l. all ++ l) none ∙ append-nil all in
-    h ∙ sym (next ∙ same)
+    sym (next ∙ same)
 
 -- and are one more where it is not
-pub changes_added : (tz : TimeZone) (first last a c x y : ℤ) (items more : List (ℤ × ℤ)) → first ≤ℤ a → IsNextQuestion tz a last c → x ≡ ahead_at tz a → y ≡ ahead_at tz c → (y ≡ x → ⊥)
-    → items ≡ changes_after (ahead_at tz) first (unsigned_abs (a -ℤ first)) → more ≡ items ++ (c, y) ∷ [] → more ≡ changes_after (ahead_at tz) first (unsigned_abs (c -ℤ first))
-changes_added tz first last a c x y items more low q ex ey ne h m =
+pub changes_added : (tz : TimeZone) (first last a c x y : ℤ) → first ≤ℤ a → IsNextQuestion tz a last c → x ≡ ahead_at tz a → y ≡ ahead_at tz c → (y ≡ x → ⊥) → window_changes tz first c ≡ window_changes tz first a ++ (c, y) ∷ []
+changes_added tz first last a c x y low q ex ey ne =
     let f = ahead_at tz in
-    let all : List (ℤ × ℤ) = changes_after f first (unsigned_abs (a -ℤ first)) in
+    let all : List (ℤ × ℤ) = window_changes tz first a in
     let test : int_eq (f c) (f a) ≡ false = eq_false (f c) (f a) (λ e. ne (ey ∙ e ∙ sym ex)) in
     let one : cond (int_eq (f c) (f a)) [] ((c, f c) ∷ []) ≡ (c, f c) ∷ [] = rw test refl in
     let next = next_changes tz first last a c low q in
     let same : all ++ cond (int_eq (f c) (f a)) [] ((c, f c) ∷ []) ≡ all ++ (c, f c) ∷ [] = ap (λ l. all ++ l) one in
-    let left : items ++ (c, y) ∷ [] ≡ all ++ (c, y) ∷ [] = ap (λ l. l ++ (c, y) ∷ []) h in
-    let right : all ++ (c, y) ∷ [] ≡ all ++ (c, f c) ∷ [] = ap (λ v. all ++ (c, v) ∷ []) ey in
-    m ∙ left ∙ right ∙ sym (next ∙ same)
+    let value : all ++ (c, f c) ∷ [] ≡ all ++ (c, y) ∷ [] = ap (λ v. all ++ (c, v) ∷ []) (sym ey) in
+    next ∙ same ∙ value

@@ -1,8 +1,9 @@
 //! The table of what a time zone of `jiff` shows in a window.
-ghost use Rattle.std.specs.Prelude.{◌≡◌, IsOk, IfOk, IfErr, ℤ, ◌+ℤ◌, ◌<ℤ◌, ◌≤ℤ◌};
+ghost use Rattle.std.specs.Prelude.{◌≡◌, ◌-◌, ◌≤◌, ◌++◌, IsOk, IfOk, IfErr, ℤ, pos, ◌+ℤ◌, ◌<ℤ◌, ◌≤ℤ◌, map, drop, vec_len};
+ghost use Rattle.std.specs.List.{All};
 ghost use Rattle.jiff.specs.ZoneView.{plain_zone};
 ghost use Rattle.jiff_core.specs.Timestamp.{nanos_of_seconds};
-ghost use Rattle.croner_base.specs.Private.ZoneSteps.{IsHeld, IsShown, IsFirstSecond, IsYearEnd, IsNextQuestion};
+ghost use Rattle.croner_base.specs.Private.ZoneSteps.{IsHeld, IsShown, IsFirstSecond, IsYearEnd, IsNextQuestion, Repeats, again, period, repeated_until};
 ghost use Rattle.croner_base.specs.TableZone.{HasParts, table_zone};
 ghost use Rattle.croner_base.specs.ZoneTable.{IsWindow, IsCalmWindow, IsNoTable, ahead_at, window_changes, nearest_in};
 ghost use Rattle.croner_base.specs.ZonedZone.{zone_reads, first_timestamp, last_timestamp};
@@ -13,7 +14,7 @@ use crate::time::table::civil::SECONDS_PER_DAY;
 use jiff::tz::TimeZone;
 use jiff_core::civil::{self, Date};
 use jiff_core::{Offset, Timestamp};
-use std::alloc::Global;
+use std::alloc::{AllocError, Global};
 
 /// The first second that `jiff` has as an instant.
 const FIRST_SECOND: i64 = -377_705_023_201;
@@ -22,6 +23,16 @@ const FIRST_SECOND: i64 = -377_705_023_201;
 const LAST_SECOND: i64 = 253_402_207_200;
 
 const NANOS_PER_SECOND: i128 = 1_000_000_000;
+
+/// The seconds of 400 years, after which a rule names the same days of the week again.
+const PERIOD_SECONDS: i64 = 12_622_780_800;
+
+/// -9998-01-01T00:00:00 UTC: from here to the second below no offset leads out of the years that `jiff` has, so that a
+/// rule is read alike in each period.
+const FIRST_REPEATED: i64 = -377_673_580_800;
+
+/// 9998-12-31T23:59:59 UTC.
+const LAST_REPEATED: i64 = 253_370_764_799;
 
 impl ClockTable {
     /// The clock of a time zone in a window, from its first second to its last, in seconds since
@@ -85,6 +96,21 @@ fn changes_in(
     ensures err { IfErr result (λ e. e ≡ CronError.OutOfMemory) }
 {
     let mut changes = Vec::new(alloc);
+    let repeated = add_ruled(&mut changes, zone, first, last)?;
+    add_asked(&mut changes, zone, repeated, last)?;
+    Ok(changes)
+}
+
+// Adds the changes after a second, up to another, and asks the zone for each.
+fn add_asked(
+    changes: &mut Vec<(i64, i32)>,
+    zone: jiff_tz::TimeZone<'_>,
+    first: i64,
+    last: i64,
+) -> Result<(), AllocError>
+    requires { IsWindow first last }
+    ensures { IfOk result (λ u. changes.new.items ≡ changes.old.items ++ window_changes zone.entry first last) }
+{
     let mut shown = shown_at(zone, first);
     while shown.second < last {
         let next = shown_at(zone, next_question(zone, shown.second, last));
@@ -93,7 +119,81 @@ fn changes_in(
         }
         shown = next;
     }
-    Ok(changes)
+    Ok(())
+}
+
+// Where the zone goes by its rule for a period or more, adds the changes up to the end of the last whole one, which is
+// answered; else none.
+fn add_ruled(
+    changes: &mut Vec<(i64, i32)>,
+    zone: jiff_tz::TimeZone<'_>,
+    first: i64,
+    last: i64,
+) -> Result<i64, AllocError>
+    requires { IsWindow first last }
+    ensures order { IfOk result (λ r. (first ≤ℤ r) × (r ≤ℤ last)) }
+    ensures items { IfOk result (λ r. changes.new.items ≡ changes.old.items ++ window_changes zone.entry first r) }
+{
+    let ruled = ruled_from(zone).max(first);
+    let end = last.min(LAST_REPEATED);
+    if end - ruled < PERIOD_SECONDS {
+        return Ok(first);
+    }
+    add_asked(changes, zone, first, ruled)?;
+    add_periods(changes, zone, ruled, end)
+}
+
+// From what second on the zone goes by its rule alone, if it has one, in the years that are repeated.
+fn ruled_from(zone: jiff_tz::TimeZone<'_>) -> i64
+    ensures held { IsHeld result }
+    ensures repeats { Repeats zone.entry result }
+{
+    match zone {
+        jiff_tz::TimeZone::Tzif(table) => match table.transitions().last() {
+            Some(row) => row.second.max(FIRST_REPEATED),
+            None => FIRST_REPEATED,
+        },
+        _ => FIRST_REPEATED,
+    }
+}
+
+// Adds the changes of one period, which it asks for, and of the whole periods behind it; answers where the last one ends.
+fn add_periods(
+    changes: &mut Vec<(i64, i32)>,
+    zone: jiff_tz::TimeZone<'_>,
+    first: i64,
+    last: i64,
+) -> Result<i64, AllocError>
+    requires window { IsWindow first last }
+    requires one { (first +ℤ pos period) ≤ℤ last }
+    requires until { last <ℤ repeated_until }
+    requires repeats { Repeats zone first }
+    ensures order { IfOk result (λ r. (first ≤ℤ r) × (r ≤ℤ last)) }
+    ensures items { IfOk result (λ r. changes.new.items ≡ changes.old.items ++ window_changes zone.entry first r) }
+{
+    let before = changes.len();
+    let mut end = first + PERIOD_SECONDS;
+    add_asked(changes, zone, first, end)?;
+    let count = changes.len() - before;
+    while last - end >= PERIOD_SECONDS {
+        add_again(changes, count)?;
+        end += PERIOD_SECONDS;
+    }
+    Ok(end)
+}
+
+// Adds the last so many changes again, a period later.
+fn add_again(changes: &mut Vec<(i64, i32)>, count: usize) -> Result<(), AllocError>
+    requires some { count ≤ vec_len changes.old }
+    requires held { All (λ c. c.0 ≤ℤ last_timestamp) (drop (vec_len changes.old - count) changes.old.items) }
+    ensures { IfOk result (λ u. changes.new.items ≡ changes.old.items ++ map again (drop (vec_len changes.old - count) changes.old.items)) }
+{
+    let first = changes.len() - count;
+    for place in first..first + count {
+        let (second, ahead) = changes[place];
+        changes.push((second + PERIOD_SECONDS, ahead))?;
+    }
+    Ok(())
 }
 
 // The first second after another at which the zone may show another offset, and at most the last of the window: the

@@ -1,12 +1,20 @@
-use Rattle.std.proofs.Common.{◌≡◌, ◌∙◌, sym, refl, arith, rules, FitsSigned, w64, w32, to_z, to_z-of_z, of_z, ap, ℤ}
+use Rattle.std.proofs.Common.{◌≡◌, ◌∙◌, sym, refl, arith, rules, FitsSigned, w64, w32, to_z, to_z-of_z, of_z, ap, ℤ, List, [], ◌∷◌, ◌++◌, append_assoc, append-nil}
 use Rattle.std.proofs.lemmas.Int.{ints}
 use Rattle.jiff_core.proofs.SignedLemmas.{signed_arith}
 use Rattle.croner_base.specs.Private.ZoneSteps.{IsShown, IsNextQuestion}
-use Rattle.croner_base.specs.ZoneTable.{ahead_at}
+use Rattle.croner_base.specs.ZoneTable.{ahead_at, window_changes}
 use Rattle.croner_base.specs.declared.time.table.of_zone.Shown.{Shown}
 use Rattle.jiff_tz.specs.declared.timezone.TimeZone.{TimeZone}
 use Rattle.croner_base.proofs.ZoneChanges.{no_changes, changes_kept, changes_added}
-use Rattle.croner_base.proofs.time.table.of_zone.changes_in.Goals as goal
+use Rattle.croner_base.proofs.time.table.of_zone.add_asked.Goals as goal
+
+-- nothing is added yet
+none_added : (items none : List (ℤ × ℤ)) → none ≡ [] → items ≡ items ++ none
+none_added items none e = sym (ap (λ l. items ++ l) e ∙ append-nil items)
+
+-- one change more behind those that were there
+added_behind : (old items all more : List (ℤ × ℤ)) (change : ℤ × ℤ) → items ≡ old ++ all → more ≡ all ++ change ∷ [] → items ++ change ∷ [] ≡ old ++ more
+added_behind old items all more change h m = ap (λ l. l ++ change ∷ []) h ∙ append_assoc old all (change ∷ []) ∙ ap (λ l. old ++ l) (sym m)
 
 -- what is shown at a second is shown at its own
 own_second : (tz : TimeZone) (i : ℤ) (s : Shown) → IsShown tz i s → IsShown tz s.second s
@@ -25,7 +33,7 @@ loop-shown-init c =
       shown = own_second c.args.zone c.args.first c.shown_at-shown.result is;
       from = omega (arith, signed_arith, is.second_is);
       until = omega (arith, signed_arith, is.second_is, order);
-      items = c.new-changes.ensures.items ∙ sym (no_changes (ahead_at c.args.zone) c.args.first c.shown_at-shown.result.second is.second_is);
+      items = none_added c.args.changes.now.items (window_changes c.args.zone c.args.first c.shown_at-shown.result.second) (no_changes (ahead_at c.args.zone) c.args.first c.shown_at-shown.result.second is.second_is);
     })
 
 pub loop-shown-preserved-in_ok-push : goal.loop-shown-preserved-in_ok-push
@@ -51,7 +59,7 @@ loop-shown-preserved-in_ok-push c =
       shown = own;
       from = omega (arith, signed_arith, i.from, on.later);
       until = on.within;
-      items = changes_added tz first last now.second next.second now.ahead next.ahead c.loop-shown.changes.items c.push.new.self.items i.from on i.shown.ahead_is own.ahead_is (λ e. c.if-next-shown.true (ap (λ z. of_z w32 z) e)) i.items items;
+      items = items ∙ added_behind c.args.changes.now.items c.loop-shown.changes.items (window_changes tz first now.second) (window_changes tz first next.second) (next.second, next.ahead) i.items (changes_added tz first last now.second next.second now.ahead next.ahead i.from on i.shown.ahead_is own.ahead_is (λ e. c.if-next-shown.true (ap (λ z. of_z w32 z) e)));
     })
 
 pub loop-shown-preserved : goal.loop-shown-preserved
@@ -77,5 +85,5 @@ loop-shown-preserved c =
       shown = own;
       from = omega (arith, signed_arith, i.from, on.later);
       until = on.within;
-      items = changes_kept tz first last now.second next.second now.ahead next.ahead c.loop-shown.changes.items i.from on i.shown.ahead_is own.ahead_is same i.items;
+      items = i.items ∙ ap (λ l. c.args.changes.now.items ++ l) (changes_kept tz first last now.second next.second now.ahead next.ahead i.from on i.shown.ahead_is own.ahead_is same);
     })

@@ -1,4 +1,4 @@
-use Rattle.std.proofs.Common.{◌≡◌, ◌∙◌, arith, ℤ, pos, ◌+ℤ◌, ◌*ℤ◌, ℕ, FitsSigned, refl, to_z, of_z, to_z-of_z, w16, w32, w64}
+use Rattle.std.proofs.Common.{◌≡◌, ◌∙◌, arith, pos, ◌+ℤ◌, ◌*ℤ◌, ℕ, FitsSigned, refl, to_z, of_z, to_z-of_z, w16, w32, w64}
 use Rattle.std.proofs.lemmas.Int.{ints, to_z_pos}
 use Rattle.jiff_core.specs.Calendar.{days_from_civil}
 use Rattle.jiff_core.specs.Date.{epoch_day}
