@@ -165,6 +165,42 @@ def window_rows():
     beyond(paris, spring + 1, autumn + 1, "changes one second before the first and before the last")
 
 
+def shown_at(source, first, last, seconds, note):
+    """The readings at some seconds of a window that is too long for each change."""
+    row(source, first, last, note, readings=seconds, want=[zones.shown(source[0], second) for second in seconds])
+
+
+def about_changes(source, years):
+    """The seconds about the changes in the years."""
+    seconds = []
+    for year in years:
+        first, last = zones.window([year, year + 1])
+        seconds += [change.second + step for change in changes(source, first, last) for step in (-1, 0)]
+    return seconds
+
+
+def period_rows():
+    """The rows of windows of 400 years and more, whose changes are copies from the second 400 years of a rule on."""
+    paris, york = of_file("Europe_Paris"), of_file("America_New_York")
+    rule, south = of_rule("CET-1CEST,M3.5.0,M10.5.0/3"), of_rule("AEST-10AEDT,M10.1.0,M4.1.0/3")
+    first, last = zones.window([1970, 2771])
+    shown_at(rule, first, last, [first, *about_changes(rule, (1970, 2369, 2370, 2769, 2770)), last], "two periods of a rule, and a year")
+    first, last = zones.window([1970, 2770])
+    shown_at(rule, first, last, [first, *about_changes(rule, (2369, 2370, 2769)), last], "two periods of a rule")
+    shown_at(rule, first, last - 1, [first, *about_changes(rule, (2369, 2370, 2769)), last - 1], "two periods of a rule, less a second")
+    first, last = zones.window([1911, 2900])
+    shown_at(paris, first, last, about_changes(paris, (1940, 1945, 2037, 2038, 2340, 2345, 2440, 2740, 2840, 2899)),
+             "Paris: what its table has before its rule is not repeated")
+    first, last = zones.window([1883, 2900])
+    shown_at(york, first, last, about_changes(york, (1918, 1942, 2007, 2037, 2318, 2342, 2407, 2437, 2742, 2899)),
+             "New York: what its table has before its rule is not repeated")
+    seconds = about_changes(south, (2, 399, 400, 401, 2000, 2400, 9599, 9997, 9998))
+    shown_at(south, zones.FIRST_SECOND, zones.LAST_SECOND, seconds, "a rule over all that is held")
+    late = of_rule("AAA-6BBB,M1.1.1/0,M4.5.0/0")
+    shown_at(late, zones.FIRST_SECOND, zones.LAST_SECOND, about_changes(late, (3, 2018, 2024, 2418, 2424, 9624, 9997)),
+             "a rule that is read six hours late where the year begins with a Monday, over all that is held")
+
+
 def search_rows():
     """The rows of runs over tables."""
     whole_window = FIRST, LAST
@@ -190,4 +226,5 @@ if __name__ == "__main__":
     zone_rows()
     rule_rows()
     window_rows()
+    period_rows()
     search_rows()
