@@ -1,5 +1,5 @@
 -- The changes of a zone whose clock shows the same after 400 years: those of one such period are those of each.
-use Rattle.std.proofs.Common.{◌≡◌, ℕ, zero, suc, ◌+◌, ◌-◌, ◌≤◌, ◌<◌, ◌==◌, true, false, cond, refl, sym, ap, ◌∙◌, arith, ℤ, pos, ◌+ℤ◌, ◌-ℤ◌, ◌≤ℤ◌, ◌<ℤ◌, int_eq, List, [], ◌∷◌, ◌++◌, map, append_assoc, append-nil, length, get_or, take, drop, subst, Bor, unsigned_abs, vec_len, Option, Some, None}
+use Rattle.std.proofs.Common.{◌≡◌, ℕ, zero, suc, ◌+◌, ◌-◌, ◌≤◌, ◌<◌, ◌==◌, true, false, cond, refl, sym, ap, ◌∙◌, arith, ℤ, pos, neg_ℤ, ◌+ℤ◌, ◌-ℤ◌, ◌≤ℤ◌, ◌<ℤ◌, int_eq, List, [], ◌∷◌, ◌++◌, map, append_assoc, append-nil, length, get_or, take, drop, subst, Bor, unsigned_abs, vec_len, Option, Some, None}
 use Rattle.std.proofs.lemmas.Bool.Decides.{nat_tests}
 use Rattle.std.proofs.lemmas.List.Elements.{All-append, All-nil, All-cons, All-weaker}
 use Rattle.std.proofs.lemmas.List.{length-map, map-append, get_or-map, get_or_append_left, get_or-drop, length-append, length-drop, map_more, drop_at}
@@ -19,13 +19,17 @@ use Rattle.jiff_tz.specs.declared.tzif.Tzif.{Tzif}
 use Rattle.jiff_tz.specs.TzifText.{TransitionText, transition_text}
 use Rattle.jiff_tz.specs.declared.tzif.transition.Transition.{Transition}
 use Rattle.jiff_tz.proofs.ZoneTheorems.{count_is}
-use Rattle.croner_base.specs.Private.ZoneSteps.{period, first_repeated, repeated_until, Repeats, again}
+use Rattle.croner_base.specs.Private.ZoneSteps.{period, repeated_until, Repeats, again}
 use Rattle.croner_base.specs.ZoneTable.{ahead_at, change_at, changes_after, window_changes}
 use Rattle.croner_base.proofs.ZoneChanges.{changes_zero, changes_more}
 use Rattle.croner_base.proofs.ZonePeriods.{IsRepeated, rule_again}
 use Rattle.croner_base.proofs.ZoneYears.{nonneg_abs}
 
 -- ---- zones
+
+-- the first second of the year -9998 in UTC
+abbrev pub first_repeated : ℤ
+first_repeated = neg_ℤ (pos 377_673_580_800)
 
 -- each row of a zone's table is passed at a second
 abbrev pub PassesRows : TimeZone → ℤ → Type 0

@@ -1,6 +1,6 @@
 -- The steps by which a window of a zone is gone through, from one question to the next.
 -- Private contracts alone cite these definitions.
-use Rattle.std.specs.Prelude.{◌≡◌, ℕ, ℤ, pos, neg_ℤ, ◌+ℤ◌, ◌-ℤ◌, ◌<ℤ◌, ◌≤ℤ◌}
+use Rattle.std.specs.Prelude.{◌≡◌, ℕ, ℤ, pos, ◌+ℤ◌, ◌-ℤ◌, ◌<ℤ◌, ◌≤ℤ◌}
 use Rattle.jiff_core.specs.Timestamp.{nanos_of_seconds}
 use Rattle.jiff_tz.specs.Year.{year_of_nanos}
 use Rattle.jiff_tz.specs.declared.timezone.TimeZone.{TimeZone}
@@ -38,14 +38,11 @@ pub record IsNextQuestion (tz : TimeZone) (second last i : ℤ) : Type 0 where
 abbrev pub period : ℕ
 period = 12_622_780_800
 
--- the first second of the year -9998 in UTC, and that of the year 9999
-abbrev pub first_repeated : ℤ
-first_repeated = neg_ℤ (pos 377_673_580_800)
-
+-- the first second of the year 9999 in UTC
 abbrev pub repeated_until : ℤ
 repeated_until = pos 253_370_764_800
 
--- from a second on a zone shows in these years what it shows 400 years later
+-- from a second on a zone shows what it shows 400 years later, before that year
 abbrev pub Repeats : TimeZone → ℤ → Type 0
 Repeats tz from = (i : ℤ) → from ≤ℤ i → (i +ℤ pos period) <ℤ repeated_until → ahead_at tz (i +ℤ pos period) ≡ ahead_at tz i
 
