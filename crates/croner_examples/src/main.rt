@@ -2,6 +2,7 @@
 //! and a job on the clock of a real zone.
 #![tactic(auto)]
 
+mod many_jobs;
 mod own_pattern;
 mod scheduler;
 mod zones;
@@ -10,6 +11,7 @@ use croner::{Cron, CronPattern};
 use jiff::Timestamp;
 use jiff::civil::DateTime;
 use jiff::tz::TimeZone;
+use many_jobs::{Change, Scheduler};
 use scheduler::Job;
 
 // The next run of a job in a struct of its own.
@@ -50,10 +52,33 @@ fn show_in_zone(rt: &HostRuntime) -> anyhow::Result<()> {
     Ok(())
 }
 
+// A change of a scheduler by which a job comes.
+fn added(rt: &HostRuntime, name: &str, pattern: &str) -> anyhow::Result<Change> {
+    let cron = Cron::from_str(rt.alloc(), pattern)?;
+    let name = String::from_str(rt.alloc(), name)?;
+    Ok(Change::Add { name, cron })
+}
+
+// A scheduler whose jobs come and go.
+fn show_many(rt: &HostRuntime) -> anyhow::Result<()> {
+    let saturday = DateTime::new(2024, 6, 29, 12, 0, 0, 0)?;
+    let mut changes = Vec::new(rt.alloc());
+    changes.push((saturday, added(rt, "backup", "0 0 * * *")?))?;
+    changes.push((saturday, added(rt, "report", "0 0 * * MON")?))?;
+    let monday = DateTime::new(2024, 7, 1, 12, 0, 0, 0)?;
+    changes.push((monday, Change::Remove { place: 0 }))?;
+    changes.push((
+        DateTime::new(2024, 7, 10, 12, 0, 0, 0)?,
+        added(rt, "rent", "0 9 1 * *")?,
+    ))?;
+    Scheduler::new(rt.alloc(), saturday).run(rt, changes)
+}
+
 fn main(rt: HostRuntime) -> anyhow::Result<()> {
     let now = DateTime::new(2024, 6, 28, 12, 0, 0, 0)?; // a Friday
     show_report(&rt, &now)?;
     show_changed(&rt, &now)?;
     show_own(&rt)?;
-    show_in_zone(&rt)
+    show_in_zone(&rt)?;
+    show_many(&rt)
 }
