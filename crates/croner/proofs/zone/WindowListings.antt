@@ -20,58 +20,58 @@ use Rattle.croner.specs.search.Limit.{InSpan}
 use Rattle.croner.specs.search.PatternJob.{timetable_of}
 use Rattle.croner.specs.search.Runs.{Precedes, Reaches}
 use Rattle.croner.proofs.zone.Ahead.{not_both}
-use Rattle.croner.proofs.zone.Windows.{Alike, GoesOn, alike, alike_back, goes_on, counts, onward, span}
+use Rattle.croner.proofs.zone.Windows.{Alike, GoesOn, alike, alike_back, behind_first, goes_on, counts, later_well, onward, span}
 
 -- ---- what is left
 
 -- well in a window the same instants count, and from the start on
-pub record SameWell (direction : Direction) (first last s : ℤ) (own other : ℤ → Type 0) : Type 0 where
-  pub start : IsWellIn first last s
-  pub to : (i : ℤ) → IsWellIn first last i → own i → other i
-  pub back : (i : ℤ) → IsWellIn first last i → other i → own i
+pub record SameWell (direction : Direction) (tz : TimeZone) (first last s : ℤ) (own other : ℤ → Type 0) : Type 0 where
+  pub start : IsWellIn tz first last s
+  pub to : (i : ℤ) → IsWellIn tz first last i → own i → other i
+  pub back : (i : ℤ) → IsWellIn tz first last i → other i → own i
   pub from : (i : ℤ) → other i → Reaches direction s i
 
 -- the clock that a moment lies on and its zone show the same
-pub on_clock : (tz : TimeZone) (first last : ℤ) (table : ClockTable) (m : Moment) → IsOnClockOf tz first last (table_zone table) m → Alike first last (zoned_zone tz) m.zone
-on_clock tz first last table m h = subst (λ (z : Zone). Alike first last (zoned_zone tz) z) (sym h.zone_is) (alike tz first last table h.clock)
+pub on_clock : (tz : TimeZone) (first last : ℤ) (table : ClockTable) (m : Moment) → IsOnClockOf tz first last (table_zone table) m → Alike tz first last (zoned_zone tz) m.zone
+on_clock tz first last table m h = subst (λ (z : Zone). Alike tz first last (zoned_zone tz) z) (sym h.zone_is) (alike tz first last table h.clock)
 
 pub goes_on_clock : (tz : TimeZone) (first last : ℤ) (table : ClockTable) (m : Moment) → IsOnClockOf tz first last (table_zone table) m → GoesOn first last m.zone
 goes_on_clock tz first last table m h = subst (λ (z : Zone). GoesOn first last z) (sym h.zone_is) (goes_on tz first last (table_zone table) h.clock)
 
-pub same_left : (tz : TimeZone) (first last : ℤ) (table : ClockTable) (s : Standing) → IsOnClockOf tz first last (table_zone table) s.position → SameWell s.direction first last s.position.instant (IsLeft s) (IsLeft (in_zone (zoned_zone tz) s))
+pub same_left : (tz : TimeZone) (first last : ℤ) (table : ClockTable) (s : Standing) → IsOnClockOf tz first last (table_zone table) s.position → SameWell s.direction tz first last s.position.instant (IsLeft s) (IsLeft (in_zone (zoned_zone tz) s))
 same_left tz first last table s h =
     let a = on_clock tz first last table s.position h in
-    let b = alike_back first last (zoned_zone tz) s.position.zone a in
+    let b = alike_back tz first last (zoned_zone tz) s.position.zone a in
     record {
       start = h.well_in;
-      to = λ i hi c. counts s.direction (counts_position s) first last (zoned_zone tz) s.position.zone (timetable_of s.pattern) s.position.instant i a h.well_in hi c;
-      back = λ i hi c. counts s.direction (counts_position s) first last s.position.zone (zoned_zone tz) (timetable_of s.pattern) s.position.instant i b h.well_in hi c;
+      to = λ i hi c. counts s.direction (counts_position s) tz first last (zoned_zone tz) s.position.zone (timetable_of s.pattern) s.position.instant i a h.well_in hi c;
+      back = λ i hi c. counts s.direction (counts_position s) tz first last s.position.zone (zoned_zone tz) (timetable_of s.pattern) s.position.instant i b h.well_in hi c;
       from = λ i c. onward s.direction (counts_position s) (zoned_zone tz) (timetable_of s.pattern) s.position.instant i c;
     }
 
 -- at each place of a table of patterns
 pub same_left_at : (tz : TimeZone) (first last : ℤ) (table : ClockTable) (s : TableStanding) (k : ℕ) → IsOnClockOf tz first last (table_zone table) s.position
-    → SameWell s.direction first last s.position.instant (IsLeftAt s k) (IsLeftAt (table_in_zone (zoned_zone tz) s) k)
+    → SameWell s.direction tz first last s.position.instant (IsLeftAt s k) (IsLeftAt (table_in_zone (zoned_zone tz) s) k)
 same_left_at tz first last table s k h =
     let a = on_clock tz first last table s.position h in
-    let b = alike_back first last (zoned_zone tz) s.position.zone a in
+    let b = alike_back tz first last (zoned_zone tz) s.position.zone a in
     record {
       start = h.well_in;
       to = λ i hi c. record {
         pattern = c.pattern;
         stands = c.stands;
-        counts = counts s.direction (counts_table_position s) first last (zoned_zone tz) s.position.zone (timetable_of c.pattern) s.position.instant i a h.well_in hi c.counts;
+        counts = counts s.direction (counts_table_position s) tz first last (zoned_zone tz) s.position.zone (timetable_of c.pattern) s.position.instant i a h.well_in hi c.counts;
       };
       back = λ i hi c. record {
         pattern = c.pattern;
         stands = c.stands;
-        counts = counts s.direction (counts_table_position s) first last s.position.zone (zoned_zone tz) (timetable_of c.pattern) s.position.instant i b h.well_in hi c.counts;
+        counts = counts s.direction (counts_table_position s) tz first last s.position.zone (zoned_zone tz) (timetable_of c.pattern) s.position.instant i b h.well_in hi c.counts;
       };
       from = λ i c. onward s.direction (counts_table_position s) (zoned_zone tz) (timetable_of c.pattern) s.position.instant i c.counts;
     }
 
 pub same_table_left : (tz : TimeZone) (first last : ℤ) (table : ClockTable) (s : TableStanding) → IsOnClockOf tz first last (table_zone table) s.position
-    → SameWell s.direction first last s.position.instant (IsTableLeft s) (IsTableLeft (table_in_zone (zoned_zone tz) s))
+    → SameWell s.direction tz first last s.position.instant (IsTableLeft s) (IsTableLeft (table_in_zone (zoned_zone tz) s))
 same_table_left tz first last table s h = record {
   start = h.well_in;
   to = λ i hi c. (c.0, (same_left_at tz first last table s c.0 h).to i hi c.1);
@@ -103,16 +103,16 @@ first_all P [] more h = All-nil P
 first_all P (x ∷ xs) more h = All-cons P x xs (All-head P x (xs ++ more) h) (first_all P xs more (All-tail P x (xs ++ more) h))
 
 -- an instant between the start and one well in the window is well in it
-between : (direction : Direction) (first last s i item : ℤ) → IsWellIn first last s → IsWellIn first last item → Reaches direction s i → Reaches direction i item → IsWellIn first last i
-between Forward first last s i item hs hx from to = (omega (arith, signed_arith, hs, from), omega (arith, signed_arith, hx, to))
-between Backward first last s i item hs hx from to = (omega (arith, signed_arith, hx, to), omega (arith, signed_arith, hs, from))
+between : (direction : Direction) (tz : TimeZone) (first last s i item : ℤ) → IsWellIn tz first last s → IsWellIn tz first last item → Reaches direction s i → Reaches direction i item → IsWellIn tz first last i
+between Forward tz first last s i item hs hx from to = later_well tz first last s i hs from (omega (arith, signed_arith, hx.1, to))
+between Backward tz first last s i item hs hx from to = later_well tz first last item i hx to (omega (arith, signed_arith, hs.1, from))
 
-pub begins_well : (direction : Direction) (first last s : ℤ) (own other : ℤ → Type 0) (items more : List ℤ) → SameWell direction first last s own other → BeginsWhere direction own (items ++ more) → All (IsWellIn first last) items → BeginsWhere direction other items
-begins_well direction first last s own other items more h n well = record {
+pub begins_well : (direction : Direction) (tz : TimeZone) (first last s : ℤ) (own other : ℤ → Type 0) (items more : List ℤ) → SameWell direction tz first last s own other → BeginsWhere direction own (items ++ more) → All (IsWellIn tz first last) items → BeginsWhere direction other items
+begins_well direction tz first last s own other items more h n well = record {
   ordered = first_pairs (Precedes direction) items more n.ordered;
   counts = λ k d within. h.to (get_or items k d) (well k d within) (first_all own items more n.counts k d within);
   complete = λ i item o has reaches.
-      let inside = between direction first last s i item h.start (All-contains (IsWellIn first last) items item well has) (h.from i o) reaches in
+      let inside = between direction tz first last s i item h.start (All-contains (IsWellIn tz first last) items item well has) (h.from i o) reaches in
       elim (Contains-append_cases items more i (n.complete i item (h.back i inside o) (Contains-append_left items more item has) reaches)) [
         | inl had ↦ had
         | inr later ↦ absurd (not_both direction item i (before_more (Precedes direction) items more item i n.ordered has later) reaches)
@@ -120,13 +120,13 @@ begins_well direction first last s own other items more h n well = record {
 }
 
 -- a run of the zone well in the window that comes no later than an item is an item
-pub passed_well : (direction : Direction) (first last s : ℤ) (own other : ℤ → Type 0) (items : List ℤ) (i item : ℤ) → SameWell direction first last s own other → BeginsWhere direction own items → IsWellIn first last i → other i → Contains items item → Reaches direction i item → Contains items i
-passed_well direction first last s own other items i item h n hi o has reaches = n.complete i item (h.back i hi o) has reaches
+pub passed_well : (direction : Direction) (tz : TimeZone) (first last s : ℤ) (own other : ℤ → Type 0) (items : List ℤ) (i item : ℤ) → SameWell direction tz first last s own other → BeginsWhere direction own items → IsWellIn tz first last i → other i → Contains items item → Reaches direction i item → Contains items i
+passed_well direction tz first last s own other items i item h n hi o has reaches = n.complete i item (h.back i hi o) has reaches
 
 -- the span of the zone well in the window is the clock's
-pub span_well : (tz : TimeZone) (first last : ℤ) (table : ClockTable) (m : Moment) (direction : Direction) (i : ℤ) → IsOnClockOf tz first last (table_zone table) m → IsWellIn first last i → InSpan direction (zoned_zone tz).reads i → InSpan direction m.zone.reads i
+pub span_well : (tz : TimeZone) (first last : ℤ) (table : ClockTable) (m : Moment) (direction : Direction) (i : ℤ) → IsOnClockOf tz first last (table_zone table) m → IsWellIn tz first last i → InSpan direction (zoned_zone tz).reads i → InSpan direction m.zone.reads i
 span_well tz first last table m direction i h hi inside =
-    span direction first last (zoned_zone tz) m.zone i (on_clock tz first last table m h) (goes_on_clock tz first last table m h) (omega (arith, signed_arith, hi)) hi.1 inside
+    span direction tz first last (zoned_zone tz) m.zone i (on_clock tz first last table m h) (goes_on_clock tz first last table m h) (behind_first tz first last i hi) hi.1 inside
 
 -- ---- places
 
@@ -140,19 +140,19 @@ places_well own other places to back h = record {
 instants_more : (items more : List (ℤ × List ℕ)) → item_instants (items ++ more) ≡ item_instants items ++ item_instants more
 instants_more items more = map-append (λ (item : ℤ × List ℕ). item.0) items more
 
-pub begins_table_well : (tz : TimeZone) (first last : ℤ) (table : ClockTable) (s : TableStanding) (items more : List (ℤ × List ℕ)) → IsOnClockOf tz first last (table_zone table) s.position → BeginsTableRest s (items ++ more) → All (IsWellIn first last) (item_instants items)
+pub begins_table_well : (tz : TimeZone) (first last : ℤ) (table : ClockTable) (s : TableStanding) (items more : List (ℤ × List ℕ)) → IsOnClockOf tz first last (table_zone table) s.position → BeginsTableRest s (items ++ more) → All (IsWellIn tz first last) (item_instants items)
     → BeginsTableRest (table_in_zone (zoned_zone tz) s) items
 begins_table_well tz first last table s items more h n well =
     let z = zoned_zone tz in
     record {
-      runs = begins_well s.direction first last s.position.instant (IsTableLeft s) (IsTableLeft (table_in_zone z s)) (item_instants items) (item_instants more)
+      runs = begins_well s.direction tz first last s.position.instant (IsTableLeft s) (IsTableLeft (table_in_zone z s)) (item_instants items) (item_instants more)
           (same_table_left tz first last table s h) (subst (BeginsWhere s.direction (IsTableLeft s)) (instants_more items more) n.runs) well;
       places = λ k d within.
           let item = get_or items k d in
           let instants = item_instants items in
           let same : length instants ≡ length items = length-map items (λ (x : ℤ × List ℕ). x.0) in
           let at = get_or-map (λ (x : ℤ × List ℕ). x.0) items k d item.0 within in
-          let inside = subst (IsWellIn first last) at (well k item.0 (omega (arith, within, same))) in
+          let inside = subst (IsWellIn tz first last) at (well k item.0 (omega (arith, within, same))) in
           places_well (λ p. IsLeftAt s p item.0) (λ p. IsLeftAt (table_in_zone z s) p item.0) item.1
           (λ p c. (same_left_at tz first last table s p h).to item.0 inside c)
           (λ p c. (same_left_at tz first last table s p h).back item.0 inside c)

@@ -19,47 +19,62 @@ use Rattle.croner_base.specs.ZoneTable.{ahead_at, nearest_in}
 use Rattle.croner_base.proofs.TableOffsets.{offset_within}
 use Rattle.croner_base.proofs.TableReadings.{calm_offsets}
 use Rattle.croner_base.proofs.ZonedMoments.{zone_reads-held}
-use Rattle.croner.specs.laws.Zones.{margin, IsWellIn, IsClockOf}
+use Rattle.croner.specs.laws.Zones.{day_margin, IsAtMostADayAhead, IsWellIn, IsClockOf}
 use Rattle.croner.specs.search.Limit.{InSpan, NoneInSpan}
 use Rattle.croner.specs.search.Runs.{Timetable, job_in, OwnRun, CarriedRun, Run, Reaches, StartCounts, Counts, Nearest}
 
--- two clocks that show the same in a window, and before it less than well in it
-pub record Alike (first last : ℤ) (z t : Zone) : Type 0 where
-  pub same : (i : ℤ) → first ≤ℤ i → i ≤ℤ last → z.reads i ≡ t.reads i
-  pub below : (i k : ℤ) → i <ℤ first → IsWellIn first last k → (z.reads i <ℤ z.reads k) × (t.reads i <ℤ t.reads k)
+-- well in a window is two days behind its first second, or more
+two_days_in : (tz : TimeZone) (first last i : ℤ) → IsWellIn tz first last i → (first +ℤ pos day_margin) ≤ℤ i
+two_days_in tz first last i (inl far, high) = omega (arith, signed_arith, far)
+two_days_in tz first last i (inr far, high) = far.1
 
-pub alike_back : (first last : ℤ) (z t : Zone) → Alike first last z t → Alike first last t z
-alike_back first last z t h = record {
+-- and so is what comes behind it in the window
+pub later_well : (tz : TimeZone) (first last i j : ℤ) → IsWellIn tz first last i → i ≤ℤ j → j ≤ℤ last → IsWellIn tz first last j
+later_well tz first last i j (inl far, high) order within = (inl (omega (arith, signed_arith, far, order)), within)
+later_well tz first last i j (inr far, high) order within = (inr (far.0, omega (arith, signed_arith, far.1, order)), within)
+
+pub behind_first : (tz : TimeZone) (first last i : ℤ) → IsWellIn tz first last i → first ≤ℤ i
+behind_first tz first last i inside = let far = two_days_in tz first last i inside in omega (arith, signed_arith, far)
+
+-- two clocks that show the same in a window, and before it less than well in it
+pub record Alike (tz : TimeZone) (first last : ℤ) (z t : Zone) : Type 0 where
+  pub same : (i : ℤ) → first ≤ℤ i → i ≤ℤ last → z.reads i ≡ t.reads i
+  pub below : (i k : ℤ) → i <ℤ first → IsWellIn tz first last k → (z.reads i <ℤ z.reads k) × (t.reads i <ℤ t.reads k)
+
+pub alike_back : (tz : TimeZone) (first last : ℤ) (z t : Zone) → Alike tz first last z t → Alike tz first last t z
+alike_back tz first last z t h = record {
   same = λ i low high. sym (h.same i low high);
   below = λ i k early inside. let b = h.below i k early inside in (b.1, b.0);
 }
 
-own_run : (first last : ℤ) (z t : Zone) (timetable : Timetable) (i : ℤ) → Alike first last z t → IsWellIn first last i → OwnRun (job_in t timetable) i → OwnRun (job_in z timetable) i
-own_run first last z t timetable i a inside h =
-    let here = a.same i (omega (arith, signed_arith, inside)) inside.1 in (
+own_run : (tz : TimeZone) (first last : ℤ) (z t : Zone) (timetable : Timetable) (i : ℤ) → Alike tz first last z t → IsWellIn tz first last i → OwnRun (job_in t timetable) i → OwnRun (job_in z timetable) i
+own_run tz first last z t timetable i a inside h =
+    let low = behind_first tz first last i inside in
+    let here = a.same i low inside.1 in (
       subst timetable.scheduled (sym here) h.0,
       λ fixed j lt e. by_lt_z j first
           (λ early. let b = a.below j i early inside in absurd (omega (arith, signed_arith, b.0, e)))
-          (λ from. h.1 fixed j lt (sym (a.same j from (omega (arith, signed_arith, lt, inside))) ∙ e ∙ here)),
+          (λ from. h.1 fixed j lt (sym (a.same j from (omega (arith, signed_arith, lt, inside.1))) ∙ e ∙ here)),
     )
 
-carried_run : (first last : ℤ) (z t : Zone) (timetable : Timetable) (i : ℤ) → Alike first last z t → IsWellIn first last i → CarriedRun (job_in t timetable) i → CarriedRun (job_in z timetable) i
-carried_run first last z t timetable i a inside h =
-    let here = a.same i (omega (arith, signed_arith, inside)) inside.1 in
-    let before = a.same (i -ℤ pos 1) (omega (arith, signed_arith, inside)) (omega (arith, signed_arith, inside)) in
+carried_run : (tz : TimeZone) (first last : ℤ) (z t : Zone) (timetable : Timetable) (i : ℤ) → Alike tz first last z t → IsWellIn tz first last i → CarriedRun (job_in t timetable) i → CarriedRun (job_in z timetable) i
+carried_run tz first last z t timetable i a inside h =
+    let far = two_days_in tz first last i inside in
+    let here = a.same i (omega (arith, signed_arith, far)) inside.1 in
+    let before = a.same (i -ℤ pos 1) (omega (arith, signed_arith, far)) (omega (arith, signed_arith, inside.1)) in
     rw (here, before) h
 
-run : (first last : ℤ) (z t : Zone) (timetable : Timetable) (i : ℤ) → Alike first last z t → IsWellIn first last i → Run (job_in t timetable) i → Run (job_in z timetable) i
-run first last z t timetable i a inside (inl h) = inl (own_run first last z t timetable i a inside h)
-run first last z t timetable i a inside (inr h) = inr (carried_run first last z t timetable i a inside h)
+run : (tz : TimeZone) (first last : ℤ) (z t : Zone) (timetable : Timetable) (i : ℤ) → Alike tz first last z t → IsWellIn tz first last i → Run (job_in t timetable) i → Run (job_in z timetable) i
+run tz first last z t timetable i a inside (inl h) = inl (own_run tz first last z t timetable i a inside h)
+run tz first last z t timetable i a inside (inr h) = inr (carried_run tz first last z t timetable i a inside h)
 
-start_counts : (direction : Direction) (first last : ℤ) (z t : Zone) (timetable : Timetable) (i : ℤ) → Alike first last z t → IsWellIn first last i → StartCounts direction (job_in t timetable) i → StartCounts direction (job_in z timetable) i
-start_counts Forward first last z t timetable i a inside h = own_run first last z t timetable i a inside h
-start_counts Backward first last z t timetable i a inside h = run first last z t timetable i a inside h
+start_counts : (direction : Direction) (tz : TimeZone) (first last : ℤ) (z t : Zone) (timetable : Timetable) (i : ℤ) → Alike tz first last z t → IsWellIn tz first last i → StartCounts direction (job_in t timetable) i → StartCounts direction (job_in z timetable) i
+start_counts Forward tz first last z t timetable i a inside h = own_run tz first last z t timetable i a inside h
+start_counts Backward tz first last z t timetable i a inside h = run tz first last z t timetable i a inside h
 
-pub counts : (direction : Direction) (inclusive : Bool) (first last : ℤ) (z t : Zone) (timetable : Timetable) (s i : ℤ) → Alike first last z t → IsWellIn first last s → IsWellIn first last i → Counts direction inclusive (job_in t timetable) s i → Counts direction inclusive (job_in z timetable) s i
-counts direction inclusive first last z t timetable s i a hs hi (inl h) = inl (h.0, run first last z t timetable i a hi h.1)
-counts direction inclusive first last z t timetable s i a hs hi (inr h) = inr (h.0, h.1, start_counts direction first last z t timetable s a hs h.2)
+pub counts : (direction : Direction) (inclusive : Bool) (tz : TimeZone) (first last : ℤ) (z t : Zone) (timetable : Timetable) (s i : ℤ) → Alike tz first last z t → IsWellIn tz first last s → IsWellIn tz first last i → Counts direction inclusive (job_in t timetable) s i → Counts direction inclusive (job_in z timetable) s i
+counts direction inclusive tz first last z t timetable s i a hs hi (inl h) = inl (h.0, run tz first last z t timetable i a hi h.1)
+counts direction inclusive tz first last z t timetable s i a hs hi (inr h) = inr (h.0, h.1, start_counts direction tz first last z t timetable s a hs h.2)
 
 -- what counts lies ahead of the start, or is it
 pub onward : (direction : Direction) (inclusive : Bool) (z : Zone) (timetable : Timetable) (s i : ℤ) → Counts direction inclusive (job_in z timetable) s i → Reaches direction s i
@@ -68,20 +83,20 @@ onward Forward inclusive z timetable s i (inr h) = omega (arith, signed_arith, h
 onward Backward inclusive z timetable s i (inl h) = omega (arith, signed_arith, h.0)
 onward Backward inclusive z timetable s i (inr h) = omega (arith, signed_arith, h.1)
 
-pub nearest : (direction : Direction) (inclusive : Bool) (first last : ℤ) (z t : Zone) (timetable : Timetable) (s r : ℤ) → Alike first last z t → IsWellIn first last s → IsWellIn first last r → Nearest direction inclusive (job_in t timetable) s r → Nearest direction inclusive (job_in z timetable) s r
-nearest Forward inclusive first last z t timetable s r a hs hr n = record {
-  counts = counts Forward inclusive first last z t timetable s r a hs hr n.counts;
+pub nearest : (direction : Direction) (inclusive : Bool) (tz : TimeZone) (first last : ℤ) (z t : Zone) (timetable : Timetable) (s r : ℤ) → Alike tz first last z t → IsWellIn tz first last s → IsWellIn tz first last r → Nearest direction inclusive (job_in t timetable) s r → Nearest direction inclusive (job_in z timetable) s r
+nearest Forward inclusive tz first last z t timetable s r a hs hr n = record {
+  counts = counts Forward inclusive tz first last z t timetable s r a hs hr n.counts;
   nearest = λ j c. let from = onward Forward inclusive z timetable s j c in by_lt_z last j
-      (λ past. omega (arith, signed_arith, hr, past))
-      (λ within. let inside : IsWellIn first last j = (omega (arith, signed_arith, hs, from), within) in
-      n.nearest j (counts Forward inclusive first last t z timetable s j (alike_back first last z t a) hs inside c));
+      (λ past. omega (arith, signed_arith, hr.1, past))
+      (λ within. let inside = later_well tz first last s j hs from within in
+      n.nearest j (counts Forward inclusive tz first last t z timetable s j (alike_back tz first last z t a) hs inside c));
 }
-nearest Backward inclusive first last z t timetable s r a hs hr n = record {
-  counts = counts Backward inclusive first last z t timetable s r a hs hr n.counts;
-  nearest = λ j c. let to = onward Backward inclusive z timetable s j c in by_lt_z j (first +ℤ pos margin)
-      (λ early. omega (arith, signed_arith, hr, early))
-      (λ from. let inside : IsWellIn first last j = (from, omega (arith, signed_arith, hs, to)) in
-      n.nearest j (counts Backward inclusive first last t z timetable s j (alike_back first last z t a) hs inside c));
+nearest Backward inclusive tz first last z t timetable s r a hs hr n = record {
+  counts = counts Backward inclusive tz first last z t timetable s r a hs hr n.counts;
+  nearest = λ j c. let to = onward Backward inclusive z timetable s j c in by_lt_z j r
+      (λ early. omega (arith, signed_arith, early))
+      (λ from. let inside = later_well tz first last r j hr from (omega (arith, signed_arith, hs.1, to)) in
+      n.nearest j (counts Backward inclusive tz first last t z timetable s j (alike_back tz first last z t a) hs inside c));
 }
 
 -- outside the window the clock of a table goes on from what it shows at the ends
@@ -89,17 +104,17 @@ pub record GoesOn (first last : ℤ) (t : Zone) : Type 0 where
   pub before : (i : ℤ) → i <ℤ first → t.reads i ≤ℤ t.reads first
   pub behind : (i : ℤ) → last <ℤ i → t.reads last ≤ℤ t.reads i
 
-pub span : (direction : Direction) (first last : ℤ) (z t : Zone) (i : ℤ) → Alike first last z t → GoesOn first last t → first ≤ℤ i → i ≤ℤ last → InSpan direction z.reads i → InSpan direction t.reads i
-span Forward first last z t i a g low high h = λ j le. by_lt_z j first
+pub span : (direction : Direction) (tz : TimeZone) (first last : ℤ) (z t : Zone) (i : ℤ) → Alike tz first last z t → GoesOn first last t → first ≤ℤ i → i ≤ℤ last → InSpan direction z.reads i → InSpan direction t.reads i
+span Forward tz first last z t i a g low high h = λ j le. by_lt_z j first
     (λ early. let f = h first low in let s = a.same first (omega (arith, signed_arith)) (omega (arith, signed_arith, low, high)) in omega (arith, signed_arith, f, s, g.before j early))
     (λ from. let s = a.same j from (omega (arith, signed_arith, le, high)) in let w = h j le in omega (arith, signed_arith, s, w))
-span Backward first last z t i a g low high h = λ j le. by_lt_z last j
+span Backward tz first last z t i a g low high h = λ j le. by_lt_z last j
     (λ late. let f = h last high in let s = a.same last (omega (arith, signed_arith, low, high)) (omega (arith, signed_arith)) in omega (arith, signed_arith, f, s, g.behind j late))
     (λ to. let s = a.same j (omega (arith, signed_arith, le, low)) to in let w = h j le in omega (arith, signed_arith, s, w))
 
-pub none_counts : (direction : Direction) (inclusive : Bool) (first last : ℤ) (z t : Zone) (timetable : Timetable) (s i : ℤ) → Alike first last z t → GoesOn first last t → IsWellIn first last s → NoneInSpan direction inclusive (job_in t timetable) s → IsWellIn first last i → InSpan direction z.reads i → Counts direction inclusive (job_in z timetable) s i → ⊥
-none_counts direction inclusive first last z t timetable s i a g hs none hi h c =
-    none i (span direction first last z t i a g (omega (arith, signed_arith, hi)) hi.1 h) (counts direction inclusive first last t z timetable s i (alike_back first last z t a) hs hi c)
+pub none_counts : (direction : Direction) (inclusive : Bool) (tz : TimeZone) (first last : ℤ) (z t : Zone) (timetable : Timetable) (s i : ℤ) → Alike tz first last z t → GoesOn first last t → IsWellIn tz first last s → NoneInSpan direction inclusive (job_in t timetable) s → IsWellIn tz first last i → InSpan direction z.reads i → Counts direction inclusive (job_in z timetable) s i → ⊥
+none_counts direction inclusive tz first last z t timetable s i a g hs none hi h c =
+    none i (span direction tz first last z t i a g (behind_first tz first last i hi) hi.1 h) (counts direction inclusive tz first last t z timetable s i (alike_back tz first last z t a) hs hi c)
 
 -- every offset of jiff is less than 26 hours
 offset_bound : (tz : TimeZone) (n : ℤ) → IsOffsetSeconds (offset_at tz n)
@@ -135,6 +150,17 @@ zone_bound tz i =
     let o = offset_bound tz (nanos_of_seconds (nearest_timestamp i)) in
     omega (arith, signed_arith, o)
 
+day_bound : (tz : TimeZone) (i : ℤ) → IsAtMostADayAhead tz → (zoned_zone tz).reads i ≤ℤ (i +ℤ pos 86_400)
+unfolding zoned_zone
+day_bound tz i day =
+    let o : offset_at tz (nanos_of_seconds (nearest_timestamp i)) ≤ℤ pos 86_400 = day (nearest_timestamp i) in
+    omega (arith, signed_arith, o)
+
+-- before a window the zone shows less than a day before what is well in it
+earlier_reading : (tz : TimeZone) (first last i k : ℤ) → i <ℤ first → IsWellIn tz first last k → (zoned_zone tz).reads i <ℤ (k -ℤ pos offset_limit)
+earlier_reading tz first last i k early (inl far, high) = let b = zone_bound tz i in omega (arith, signed_arith, b, early, far)
+earlier_reading tz first last i k early (inr far, high) = let b = day_bound tz i far.0 in omega (arith, signed_arith, b, early, far.1)
+
 zone_reading : (tz : TimeZone) (first last i : ℤ) (t : Zone) → IsClockOf tz first last t → first ≤ℤ i → i ≤ℤ last → (zoned_zone tz).reads i ≡ t.reads i
 unfolding zoned_zone
 zone_reading tz first last i t c low high =
@@ -143,15 +169,16 @@ zone_reading tz first last i t c low high =
     held ∙ sym (c.shows i ∙ ap (λ (j : ℤ). i +ℤ ahead_at tz j) own)
 
 -- the clock of a window and its zone
-pub alike : (tz : TimeZone) (first last : ℤ) (table : ClockTable) → IsClockOf tz first last (table_zone table) → Alike first last (zoned_zone tz) (table_zone table)
+pub alike : (tz : TimeZone) (first last : ℤ) (table : ClockTable) → IsClockOf tz first last (table_zone table) → Alike tz first last (zoned_zone tz) (table_zone table)
 alike tz first last table c = record {
   same = λ i low high. zone_reading tz first last i (table_zone table) c low high;
   below = λ i k early inside.
-      let here = zone_reading tz first last k (table_zone table) c (omega (arith, signed_arith, inside)) inside.1 in
+      let here = zone_reading tz first last k (table_zone table) c (behind_first tz first last k inside) inside.1 in
       let low = table_bound table k in
       let high = table_bound table i in
-      let other = zone_bound tz i in
-      (omega (arith, signed_arith, here, low, other, early, inside), omega (arith, signed_arith, low, high, early, inside));
+      let other = earlier_reading tz first last i k early inside in
+      let far = two_days_in tz first last k inside in
+      (omega (arith, signed_arith, here, low, other), omega (arith, signed_arith, low, high, early, far));
 }
 
 pub goes_on : (tz : TimeZone) (first last : ℤ) (t : Zone) → IsClockOf tz first last t → GoesOn first last t

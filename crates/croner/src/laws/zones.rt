@@ -2,7 +2,9 @@
 //! be calm outside the window.
 //!
 //! [`ClockTable::of_zone`](crate::time::table::ClockTable::of_zone) makes such a table, where there is one. The seconds well
-//! in a window are those from 180,000 seconds behind its first second to its last.
+//! in a window are those from 180,000 seconds behind its first second to its last; of a zone that is never more than a day
+//! ahead of UTC, those from two days behind its first second. Before these the table lacks an earlier second of the zone
+//! that showed the same, and a fixed-time run is one only where no earlier second did.
 ghost use Rattle.std.specs.Prelude.{ℕ, ℤ, Bool, List, ◌++◌, ◌↔◌};
 ghost use Rattle.std.specs.List.{All, Contains};
 ghost use Rattle.jiff_tz.specs.declared.timezone.TimeZone.{TimeZone};
@@ -22,15 +24,16 @@ use crate::Cron;
 use croner_base::time::table::ClockTable;
 
 /// The nearest run over the table of a window is the nearest run in the zone, where start and run lie well in the window.
-/// Where no run over the table counts in the span that is searched, none of the zone does that lies well in the window
-/// and in the zone's span.
+/// Forward a run does where the start does and the run is no later than the window's last second; backward, where the run
+/// lies far enough behind its first. Where no run over the table counts in the span that is searched, none of the zone does
+/// that lies well in the window and in the zone's span.
 pub fn runs_of_a_window(cron: &Cron, table: &ClockTable)
     ensures nearest { (zone : TimeZone) (first last : ℤ) → IsClockOf zone first last (table_zone table.now) →
-        (direction : Direction) (inclusive : Bool) (start run : ℤ) → IsWellIn first last start → IsWellIn first last run →
+        (direction : Direction) (inclusive : Bool) (start run : ℤ) → IsWellIn zone first last start → IsWellIn zone first last run →
         Nearest direction inclusive (job_in (table_zone table.now) (timetable_of (job_of cron.now))) start run →
         Nearest direction inclusive (job_in (zoned_zone zone) (timetable_of (job_of cron.now))) start run }
     ensures limit { (zone : TimeZone) (first last : ℤ) → IsClockOf zone first last (table_zone table.now) →
-        (direction : Direction) (inclusive : Bool) (start i : ℤ) → IsWellIn first last start → IsWellIn first last i →
+        (direction : Direction) (inclusive : Bool) (start i : ℤ) → IsWellIn zone first last start → IsWellIn zone first last i →
         NoneInSpan direction inclusive (job_in (table_zone table.now) (timetable_of (job_of cron.now))) start → InSpan direction (zoned_zone zone).reads i →
         ¬ (Counts direction inclusive (job_in (zoned_zone zone) (timetable_of (job_of cron.now))) start i) }
 {}
@@ -48,29 +51,29 @@ pub fn runs_of_a_window(cron: &Cron, table: &ClockTable)
 ///   that lies well in the window and in the zone's span.
 pub fn listing_of_a_window(table: &ClockTable)
     ensures left { (zone : TimeZone) (first last : ℤ) (s : Standing) → IsOnClockOf zone first last (table_zone table.now) s.position →
-        (i : ℤ) → IsWellIn first last i → IsLeft s i ↔ IsLeft (in_zone (zoned_zone zone) s) i }
+        (i : ℤ) → IsWellIn zone first last i → IsLeft s i ↔ IsLeft (in_zone (zoned_zone zone) s) i }
     ensures begins { (zone : TimeZone) (first last : ℤ) (s : Standing) → IsOnClockOf zone first last (table_zone table.now) s.position →
-        (items more : List ℤ) → BeginsRest s (items ++ more) → All (IsWellIn first last) items →
+        (items more : List ℤ) → BeginsRest s (items ++ more) → All (IsWellIn zone first last) items →
         BeginsRest (in_zone (zoned_zone zone) s) items }
     ensures passed { (zone : TimeZone) (first last : ℤ) (s : Standing) → IsOnClockOf zone first last (table_zone table.now) s.position →
-        (items : List ℤ) (i item : ℤ) → BeginsRest s items → IsWellIn first last i → IsLeft (in_zone (zoned_zone zone) s) i →
+        (items : List ℤ) (i item : ℤ) → BeginsRest s items → IsWellIn zone first last i → IsLeft (in_zone (zoned_zone zone) s) i →
         Contains items item → Reaches s.direction i item → Contains items i }
     ensures all { (zone : TimeZone) (first last : ℤ) (s : Standing) → IsOnClockOf zone first last (table_zone table.now) s.position →
-        (items : List ℤ) (i : ℤ) → GaveAll s items → IsWellIn first last i → IsLeft (in_zone (zoned_zone zone) s) i →
+        (items : List ℤ) (i : ℤ) → GaveAll s items → IsWellIn zone first last i → IsLeft (in_zone (zoned_zone zone) s) i →
         InSpan s.direction (zoned_zone zone).reads i → Contains items i }
 {}
 
 /// The same of a listing of a table of patterns over the table of a window: its items with their places.
 pub fn table_listing_of_a_window(table: &ClockTable)
     ensures left { (zone : TimeZone) (first last : ℤ) (s : TableStanding) → IsOnClockOf zone first last (table_zone table.now) s.position →
-        (i : ℤ) → IsWellIn first last i → (k : ℕ) → IsLeftAt s k i ↔ IsLeftAt (table_in_zone (zoned_zone zone) s) k i }
+        (i : ℤ) → IsWellIn zone first last i → (k : ℕ) → IsLeftAt s k i ↔ IsLeftAt (table_in_zone (zoned_zone zone) s) k i }
     ensures begins { (zone : TimeZone) (first last : ℤ) (s : TableStanding) → IsOnClockOf zone first last (table_zone table.now) s.position →
-        (items more : List (ℤ × List ℕ)) → BeginsTableRest s (items ++ more) → All (IsWellIn first last) (item_instants items) →
+        (items more : List (ℤ × List ℕ)) → BeginsTableRest s (items ++ more) → All (IsWellIn zone first last) (item_instants items) →
         BeginsTableRest (table_in_zone (zoned_zone zone) s) items }
     ensures passed { (zone : TimeZone) (first last : ℤ) (s : TableStanding) → IsOnClockOf zone first last (table_zone table.now) s.position →
-        (items : List (ℤ × List ℕ)) (i item : ℤ) → BeginsTableRest s items → IsWellIn first last i → IsTableLeft (table_in_zone (zoned_zone zone) s) i →
+        (items : List (ℤ × List ℕ)) (i item : ℤ) → BeginsTableRest s items → IsWellIn zone first last i → IsTableLeft (table_in_zone (zoned_zone zone) s) i →
         Contains (item_instants items) item → Reaches s.direction i item → Contains (item_instants items) i }
     ensures all { (zone : TimeZone) (first last : ℤ) (s : TableStanding) → IsOnClockOf zone first last (table_zone table.now) s.position →
-        (items : List (ℤ × List ℕ)) (i : ℤ) → GaveAllTable s items → IsWellIn first last i → IsTableLeft (table_in_zone (zoned_zone zone) s) i →
+        (items : List (ℤ × List ℕ)) (i : ℤ) → GaveAllTable s items → IsWellIn zone first last i → IsTableLeft (table_in_zone (zoned_zone zone) s) i →
         InSpan s.direction (zoned_zone zone).reads i → Contains (item_instants items) i }
 {}

@@ -7,8 +7,8 @@ use Rattle.croner.proofs.laws.zones.runs_of_a_window.Goals as goal
 
 pub returns-clause-nearest : goal.returns-clause-nearest
 returns-clause-nearest c = λ zone first last is direction inclusive start run hs hr n.
-    nearest direction inclusive first last (zoned_zone zone) (table_zone c.args.table.now) (timetable_of (job_of c.args.cron.now)) start run (alike zone first last c.args.table.now is) hs hr n
+    nearest direction inclusive zone first last (zoned_zone zone) (table_zone c.args.table.now) (timetable_of (job_of c.args.cron.now)) start run (alike zone first last c.args.table.now is) hs hr n
 
 pub returns-clause-limit : goal.returns-clause-limit
 returns-clause-limit c = λ zone first last is direction inclusive start i hs hi none h counted.
-    none_counts direction inclusive first last (zoned_zone zone) (table_zone c.args.table.now) (timetable_of (job_of c.args.cron.now)) start i (alike zone first last c.args.table.now is) (goes_on zone first last (table_zone c.args.table.now) is) hs none hi h counted
+    none_counts direction inclusive zone first last (zoned_zone zone) (table_zone c.args.table.now) (timetable_of (job_of c.args.cron.now)) start i (alike zone first last c.args.table.now is) (goes_on zone first last (table_zone c.args.table.now) is) hs none hi h counted

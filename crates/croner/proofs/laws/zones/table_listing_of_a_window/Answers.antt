@@ -16,7 +16,7 @@ returns-clause-begins c = λ zone first last s h items more n well.
 
 pub returns-clause-passed : goal.returns-clause-passed
 returns-clause-passed c = λ zone first last s h items i item n hi left has reaches.
-    passed_well s.direction first last s.position.instant (IsTableLeft s) (IsTableLeft (table_in_zone (zoned_zone zone) s)) (item_instants items) i item (same_table_left zone first last c.args.table.now s h) n.runs hi left has reaches
+    passed_well s.direction zone first last s.position.instant (IsTableLeft s) (IsTableLeft (table_in_zone (zoned_zone zone) s)) (item_instants items) i item (same_table_left zone first last c.args.table.now s h) n.runs hi left has reaches
 
 pub returns-clause-all : goal.returns-clause-all
 returns-clause-all c = λ zone first last s h items i all hi left inside.
