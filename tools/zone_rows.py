@@ -132,6 +132,9 @@ def zone_rows():
     whole(of_file("Pacific_Apia"), "Apia over December 2011, which lacks the 30th", 1_322_697_600, 1_328_054_400)
     readings(of_file("Antarctica_Casey"), FIRST, LAST, "Casey: back by three hours in 2010")
     whole(of_file("Antarctica_Casey"), "Casey from 2024, a window without a change", 1_704_067_200)
+    second, same, last = 1_000_000_000, 1_050_000_000, 1_100_000_000
+    shown_at(of_file("Two_rows_at_one_second"), 900_000_000, 1_200_000_000, [at + step for at in (second, same, last) for step in (-1, 0)],
+             "two rows of a table at one second, and later one without a change")
 
 
 def rule_rows():

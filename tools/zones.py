@@ -3,6 +3,7 @@
 
     tools/zones.py [FIRST LAST]     the years of the window: 1970 2100 where they are left out
     tools/zones.py whole            from the first second that the library has to 2100
+    tools/zones.py rules            one name of each rule that changes the clock, 2300 to 3110, where half a table is a copy
 
 Each name of the machine's database (its folders posix and right are left out) is read here by `zoneinfo`, which shares
 nothing with the library: where the zone's clock changes in the window, from the first second of FIRST to the first of
@@ -29,7 +30,7 @@ import zoneinfo
 DAY = 86_400
 FIRST_SECOND, LAST_SECOND = -377_705_023_201, 253_402_207_200
 EARLIEST = calendar.timegm((2, 1, 1, 0, 0, 0))  # the first that Python is asked for, and the last
-LATEST = calendar.timegm((2101, 1, 1, 0, 0, 0))
+LATEST = calendar.timegm((9999, 1, 1, 0, 0, 0))
 MARGIN = 180_000
 APART, FORWARD, BACK = 2 * DAY, DAY, 7_200
 SEARCHES, LISTINGS, ITEMS = 200, 20, 12
@@ -110,12 +111,27 @@ def fault_of(changes):
     return None
 
 
-def places(first, last):
-    """The zones of the database, each file once, with all its names."""
+def files():
+    """The files of the database, each once, with all its names."""
     names = collections.defaultdict(list)
     for name in sorted(zoneinfo.available_timezones() - {"localtime"}):
         file = next(folder / name for folder in FOLDERS if (folder / name).is_file())
         names[file.read_bytes()].append((name, file))
+    return names
+
+
+def of_each_rule(names):
+    """Of these files the first of each rule that changes the clock. A rule is a file's last line."""
+    found = {}
+    for data, named in names.items():
+        rule = data.rstrip(b"\n").rpartition(b"\n")[2]
+        if b"," in rule:
+            found.setdefault(rule, (data, named))
+    return dict(found.values())
+
+
+def places(names, first, last):
+    """The zones of the files."""
     start, end = max(first, EARLIEST), min(last, LATEST)
     for data, named in names.items():
         zone = zoneinfo.ZoneInfo(named[0][0])
@@ -207,14 +223,15 @@ def window(words):
     """The first and the last second."""
     if words == ["whole"]:
         return FIRST_SECOND, calendar.timegm((2100, 1, 1, 0, 0, 0))
-    first, last = map(int, words or ("1970", "2100"))
+    first, last = (2300, 3110) if words == ["rules"] else map(int, words or ("1970", "2100"))
     return calendar.timegm((first, 1, 1, 0, 0, 0)), calendar.timegm((last, 1, 1, 0, 0, 0))
 
 
 def main(words):
     """Asks all, and prints what came."""
     lines, asked, names = [], {}, {}
-    for place, zone in places(*window(words)):
+    names_of = of_each_rule(files()) if words == ["rules"] else files()
+    for place, zone in places(names_of, *window(words)):
         lines.append(readings(place, zone))
         names[len(lines)] = place
         if place.fault is None:
