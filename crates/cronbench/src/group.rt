@@ -41,14 +41,17 @@ pub enum Group {
     IterateMany,
     FirstOfMany,
     IterateDaily,
+    IterateDailyLong,
     IterateMore,
     OverAnHour,
     OverADay,
+    HourlyOverAnHour,
+    OftenOverAnHour,
 }
 
 impl Group {
     /// Every group, in the order in which they are shown.
-    pub const ALL: [Group; 29] = [
+    pub const ALL: [Group; 32] = [
         Group::Parse,
         Group::MatchCivil,
         Group::NextCivil,
@@ -75,9 +78,12 @@ impl Group {
         Group::IterateMany,
         Group::FirstOfMany,
         Group::IterateDaily,
+        Group::IterateDailyLong,
         Group::IterateMore,
         Group::OverAnHour,
         Group::OverADay,
+        Group::HourlyOverAnHour,
+        Group::OftenOverAnHour,
     ];
 
     /// Makes each call of the group once.
@@ -113,6 +119,9 @@ impl Group {
             Group::IterateMany => many::iterate(&subjects.table, times.civil.as_slice()),
             Group::FirstOfMany => many::first(&subjects.table, times.civil.as_slice()),
             Group::IterateDaily => many::iterate(&subjects.daily_table, times.civil.as_slice()),
+            Group::IterateDailyLong => {
+                many::iterate_long(&subjects.daily_table, times.civil.as_slice())
+            }
             Group::IterateMore => many::iterate(&subjects.larger_table, times.civil.as_slice()),
             Group::OverAnHour => next(
                 subjects.each_second.as_slice(),
@@ -122,6 +131,13 @@ impl Group {
                 subjects.each_second.as_slice(),
                 times.before_a_day.as_slice(),
             ),
+            Group::HourlyOverAnHour => next(
+                subjects.hourly.as_slice(),
+                times.before_an_hour.as_slice(),
+            ),
+            Group::OftenOverAnHour => {
+                next(subjects.often.as_slice(), times.before_an_hour.as_slice())
+            }
         }
     }
 }
@@ -155,9 +171,12 @@ impl fmt::Display for Group {
             Group::IterateMany => "64 runs of a table of 1,000 patterns",
             Group::FirstOfMany => "first run of an iterator over that table",
             Group::IterateDaily => "64 runs of a table of 1,000 patterns, one at a time",
+            Group::IterateDailyLong => "10,000 runs of that table",
             Group::IterateMore => "64 runs of a table of 100,000 patterns",
             Group::OverAnHour => "next run of * * * * * *, over a gap of an hour",
             Group::OverADay => "next run of * * * * * *, over a gap of a day",
+            Group::HourlyOverAnHour => "next run of 0 * * * *, over a gap of an hour",
+            Group::OftenOverAnHour => "next run of */5 * * * *, over a gap of an hour",
         };
         write!(f, "{name}")
     }

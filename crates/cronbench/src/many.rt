@@ -15,8 +15,10 @@ const TIMES: u32 = 25;
 /// How often the larger table has each pattern, so that forty are a hundred thousand.
 const LARGER_TIMES: u32 = 2_500;
 
-/// How many items the table's iterator is asked for.
+/// How many items a table's iterator is asked for: of a short list, and of a long one, in which the first two count little.
 const ITEMS: u32 = 64;
+
+const LONG_ITEMS: u32 = 10_000;
 
 /// How many jobs the table has of which one runs at a time: each runs once a day, some seconds after the one before it.
 const DAILY_JOBS: u32 = 1_000;
@@ -93,10 +95,19 @@ pub fn next(table: &CronTable, starts: &[DateTime]) -> Result<Answers, CronError
 
 /// Goes over the table's first runs behind the first start. An answer is a run.
 pub fn iterate(table: &CronTable, starts: &[DateTime]) -> Result<Answers, CronError> {
+    iterate_over(table, starts, ITEMS)
+}
+
+/// The same, over many more of them.
+pub fn iterate_long(table: &CronTable, starts: &[DateTime]) -> Result<Answers, CronError> {
+    iterate_over(table, starts, LONG_ITEMS)
+}
+
+fn iterate_over(table: &CronTable, starts: &[DateTime], items: u32) -> Result<Answers, CronError> {
     let mut answers = Answers::default();
     if let Some(start) = starts.first() {
         let mut runs = table.iter_after(*start);
-        for _ in 0..ITEMS {
+        for _ in 0..items {
             add_run(&mut answers, &mut runs);
         }
     }

@@ -20,6 +20,12 @@ const LEAP_MONDAY: &str = "0 0 29 2 +MON";
 /// A pattern of every second.
 const EACH_SECOND: &str = "* * * * * *";
 
+/// A pattern of every hour.
+const HOURLY: &str = "0 * * * *";
+
+/// A pattern of twelve times an hour.
+const OFTEN: &str = "*/5 * * * *";
+
 /// A pattern whose date is in no year.
 const NO_DATE: &str = "0 0 31 2 *";
 
@@ -51,6 +57,10 @@ pub struct Subjects<'t> {
     pub daily_table: CronTable,
     /// A job that runs in each second.
     pub each_second: Vec<Job>,
+    /// A job that runs at each hour.
+    pub hourly: Vec<Job>,
+    /// A job that runs twelve times an hour.
+    pub often: Vec<Job>,
     /// A job that runs in few years.
     pub rare: Vec<Job>,
     /// The jobs that never run.
@@ -73,6 +83,8 @@ impl<'t> Subjects<'t> {
         let larger_table = many::larger_table(alloc, patterns.as_slice())?;
         let daily_table = many::daily_table(alloc)?;
         let each_second = one(alloc, EACH_SECOND)?;
+        let hourly = one(alloc, HOURLY)?;
+        let often = one(alloc, OFTEN)?;
         let rare = one(alloc, LEAP_MONDAY)?;
         let never = Never::new(alloc)?;
         let hostile = Hostile::new(alloc)?;
@@ -84,6 +96,8 @@ impl<'t> Subjects<'t> {
             larger_table,
             daily_table,
             each_second,
+            hourly,
+            often,
             rare,
             never,
             times,
