@@ -1,139 +1,147 @@
--- What a hole that is cut to so many characters writes.
-use Rattle.std.proofs.Common.{◌≡◌, ℕ, zero, suc, ◌+◌, ◌-◌, ◌*◌, ◌/◌, ◌%◌, ◌^◌, ◌<◌, ◌≤◌, true, false, leb, ◌==◌, List, [], ◌∷◌, ◌++◌, length, take, refl, ap, ◌∙◌, inl, inr, IsUtf8, arith, append-nil, length-append}
-use Rattle.std.proofs.lemmas.Bool.{cases_lt, le-ltb, lt-ltb}
+-- How long an excerpt is, and what a loop over the characters of a text has written.
+use Rattle.std.proofs.Common.{◌≡◌, ℕ, zero, suc, ◌+◌, ◌-◌, ◌*◌, ◌/◌, ◌%◌, ◌^◌, ◌<◌, ◌≤◌, ◌==◌, ◌||◌, true, false, leb, List, [], ◌∷◌, ◌++◌, length, take, IsUtf8, arith, inl, inr, cond, Bool, ap, sym, ◌∙◌, refl, subst}
+use Rattle.std.proofs.lemmas.Bool.{cases_lt, and_parts}
 use Rattle.std.proofs.lemmas.Fmt.{length-decimal-le}
-use Rattle.std.proofs.lemmas.List.{length-take}
+use Rattle.std.proofs.lemmas.List.{length-take, length-append, append_assoc, append-nil}
 use Rattle.std.proofs.lemmas.Bool.Decides.{nat_tests}
-use Rattle.std.proofs.lemmas.Str.{encode_ascii, encodes-chars, length-encode, len_utf8_bounds, length-le-encodes}
-use Rattle.std.specs.Str.{chars}
-use Rattle.std.specs.Fmt.{is_char_start, char_count, take_chars, padded, format_spec}
-use Rattle.std.specs.Fmt.{decimal}
-use Rattle.std.specs.Prelude.{codes}
-use Rattle.croner_base.specs.Excerpt.{excerpt}
-use lib.Utf8.{encode, encodes, next}
+use Rattle.std.proofs.lemmas.Str.{encodes-chars, length-encode, len_utf8_bounds, length-le-encodes, encodes_same}
+use Rattle.std.specs.Char.{encode_utf8}
+use Rattle.std.specs.Str.{chars, encode_utf8_all}
+use Rattle.std.specs.Fmt.{decimal, digits, digits_onto, digit_glyph}
+use Rattle.std.specs.Prelude.{codes, nat_le}
+use Rattle.croner_base.specs.Excerpt.{excerpt, excerpt_end, shown, all_shown, is_among, is_control, ends_a_line, turns_round, has_no_width, has_no_width_above, is_unseen}
 
-take_none : (b : ℕ) (t : List ℕ) → is_char_start b ≡ true → take_chars 0 (b ∷ t) ≡ []
-unfolding take_chars
-take_none b t e = rw e
+one_of_two : (b : Bool) (xs ys : List ℕ) (n : ℕ) → length xs ≤ n → length ys ≤ n → length (cond b xs ys) ≤ n
+one_of_two true xs ys n h k = h
+one_of_two false xs ys n h k = k
 
-take_first : (n b : ℕ) (t : List ℕ) → is_char_start b ≡ true → take_chars (suc n) (b ∷ t) ≡ b ∷ take_chars n t
-unfolding take_chars
-take_first n b t e =
-    let more : (suc n == 0) ≡ false = grind (arith, nat_tests) in
-    let one : suc n - 1 ≡ n = omega arith in
-    rw (e, more, one)
+-- ---- digits
 
-take_later : (n b : ℕ) (t : List ℕ) → is_char_start b ≡ false → take_chars n (b ∷ t) ≡ b ∷ take_chars n t
-unfolding take_chars
-take_later n b t e = rw e
+of_zero : (k n : ℕ) (acc : List ℕ) → n < 1 → length (digits_onto k 16 false n acc) ≤ 1 + length acc
+of_zero zero n acc h = omega arith
+of_zero (suc k) zero acc h = omega arith
+of_zero (suc k) (suc n) acc h = absurd (omega (arith, h))
 
-low_starts : (b : ℕ) → b < 128 → is_char_start b ≡ true
-low_starts b h = grind (arith, nat_tests)
+more_digits : (b m : ℕ) → ((k n : ℕ) (acc : List ℕ) → n < b → length (digits_onto k 16 false n acc) ≤ m + length acc)
+    → (k n : ℕ) (acc : List ℕ) → n < 16 * b → length (digits_onto k 16 false n acc) ≤ m + 1 + length acc
+more_digits b m ih zero n acc h = omega arith
+more_digits b m ih (suc k) n acc h =
+    let rest : length (digits_onto k 16 false (n / 16) (digit_glyph false (n % 16) ∷ acc)) ≤ m + suc (length acc) = ih k (n / 16) (digit_glyph false (n % 16) ∷ acc) (omega (arith, h)) in
+    let one : length (digit_glyph false (n % 16) ∷ acc) ≤ m + 1 + length acc = omega arith in
+    let all : length (digits_onto k 16 false (n / 16) (digit_glyph false (n % 16) ∷ acc)) ≤ m + 1 + length acc = omega (arith, rest) in
+    one_of_two (n / 16 == 0) (digit_glyph false (n % 16) ∷ acc) (digits_onto k 16 false (n / 16) (digit_glyph false (n % 16) ∷ acc)) (m + 1 + length acc) one all
 
-high_starts : (b : ℕ) → 192 ≤ b → is_char_start b ≡ true
-high_starts b h = grind (arith, nat_tests)
+length_digits : (c : ℕ) → c < 1048576 → length (digits 16 false c) ≤ 6
+unfolding digits
+length_digits c h =
+    more_digits 65536 5 (more_digits 4096 4 (more_digits 256 3 (more_digits 16 2 (more_digits 1 1 of_zero)))) 64 c [] (omega (arith, h))
 
-none_starts : (b : ℕ) → 128 ≤ b → b < 192 → is_char_start b ≡ false
-none_starts b low high = grind (arith, nat_tests)
+-- ---- characters that nobody sees
 
-next_starts_none : (x : ℕ) → is_char_start (next x) ≡ false
-next_starts_none x = none_starts (128 + x % 64) (omega arith) (omega arith)
+either : {P : Type 0} (x y : Bool) → (x ≡ true → P) → (y ≡ true → P) → (x || y) ≡ true → P
+either true y h k e = h refl
+either false y h k e = k e
 
--- the bytes of a character: one that starts it, and no other
-data Spelled (bs : List ℕ) : Type 0 where
-  ascii : (b : ℕ) → b < 128 → bs ≡ b ∷ [] → Spelled bs
-  two : (b x : ℕ) → 192 ≤ b → bs ≡ b ∷ next x ∷ [] → Spelled bs
-  three : (b x y : ℕ) → 192 ≤ b → bs ≡ b ∷ next x ∷ next y ∷ [] → Spelled bs
-  four : (b x y z : ℕ) → 192 ≤ b → bs ≡ b ∷ next x ∷ next y ∷ next z ∷ [] → Spelled bs
+among_below : (first last c : ℕ) → last < 1048576 → is_among first last c ≡ true → c < 1048576
+among_below first last c small h =
+    let high : leb c last ≡ true = (and_parts (leb first c) (leb c last) h).1 in
+    grind (arith, nat_tests)
 
-encode_two : (c : ℕ) → 128 ≤ c → c < 2048 → encode c ≡ (192 + c / 64) ∷ next c ∷ []
-unfolding encode
-encode_two c low high = rw (le-ltb c 128 low, lt-ltb c 2048 high)
+same_below : (k c : ℕ) → k < 1048576 → (c == k) ≡ true → c < 1048576
+same_below k c small h = grind (arith, nat_tests)
 
-encode_three : (c : ℕ) → 2048 ≤ c → c < 65536 → encode c ≡ (224 + c / 4096) ∷ next (c / 64) ∷ next c ∷ []
-unfolding encode
-encode_three c low high = rw (le-ltb c 128 (omega arith), le-ltb c 2048 low, lt-ltb c 65536 high)
+control_below : (c : ℕ) → is_control c ≡ true → c < 1048576
+control_below c = either _ _ (among_below 0 0x1f c (omega arith)) (among_below 0x7f 0x9f c (omega arith))
 
-encode_four : (c : ℕ) → 65536 ≤ c → encode c ≡ (240 + c / 262144) ∷ next (c / 4096) ∷ next (c / 64) ∷ next c ∷ []
-unfolding encode
-encode_four c low = rw (le-ltb c 128 (omega arith), le-ltb c 2048 (omega arith), le-ltb c 65536 low)
+turning_below : (c : ℕ) → turns_round c ≡ true → c < 1048576
+turning_below c =
+    either _ _ (same_below 0x61c c (omega arith)) (either _ _ (among_below 0x200e 0x200f c (omega arith))
+    (either _ _ (among_below 0x202a 0x202e c (omega arith)) (among_below 0x2066 0x2069 c (omega arith))))
 
-spelled : (c : ℕ) → Spelled (encode c)
-spelled c = elim (cases_lt c 128) [
-  | inl h ↦ ascii c h (encode_ascii c h)
-  | inr low ↦ elim (cases_lt c 2048) [
-    | inl high ↦ two (192 + c / 64) c (omega arith) (encode_two c low high)
-    | inr low' ↦ elim (cases_lt c 65536) [
-      | inl high ↦ three (224 + c / 4096) (c / 64) c (omega arith) (encode_three c low' high)
-      | inr low'' ↦ four (240 + c / 262144) (c / 4096) (c / 64) c (omega arith) (encode_four c low'')
+widthless_below : (c : ℕ) → has_no_width c ≡ true → c < 1048576
+widthless_below c =
+    either _ _ (same_below 0xad c (omega arith)) (either _ _ (same_below 0x34f c (omega arith)) (either _ _ (among_below 0x115f 0x1160 c (omega arith))
+    (either _ _ (among_below 0x17b4 0x17b5 c (omega arith)) (either _ _ (among_below 0x180b 0x180f c (omega arith))
+    (either _ _ (among_below 0x200b 0x200d c (omega arith)) (either _ _ (among_below 0x2060 0x2065 c (omega arith))
+    (either _ _ (among_below 0x206a 0x206f c (omega arith)) (either _ _ (same_below 0x3164 c (omega arith))
+    (either _ _ (among_below 0xfe00 0xfe0f c (omega arith)) (either _ _ (same_below 0xfeff c (omega arith))
+    (either _ _ (same_below 0xffa0 c (omega arith)) (among_below 0xfff0 0xfffb c (omega arith)))))))))))))
+
+above_below : (c : ℕ) → has_no_width_above c ≡ true → c < 1048576
+above_below c =
+    either _ _ (among_below 0x1bca0 0x1bca3 c (omega arith)) (either _ _ (among_below 0x1d173 0x1d17a c (omega arith)) (among_below 0xe0000 0xe0fff c (omega arith)))
+
+unseen_below : (c : ℕ) → is_unseen c ≡ true → c < 1048576
+unseen_below c =
+    either (is_control c) _ (control_below c) (either (ends_a_line c) _ (among_below 0x2028 0x2029 c (omega arith)) (either (turns_round c) _ (turning_below c)
+    (either (has_no_width c) (has_no_width_above c) (widthless_below c) (above_below c))))
+
+-- ---- lengths
+
+length_unseen : (c : ℕ) (b : Bool) → is_unseen c ≡ b → length (cond b (codes "\\u{" ++ (digits 16 false c ++ codes "}")) (encode_utf8 c)) ≤ 10
+length_unseen c true h = omega (arith, length_digits c (unseen_below c h), length-append (digits 16 false c) (codes "}"))
+length_unseen c false h = omega (arith, length-encode c, (len_utf8_bounds c).1)
+
+length_shown : (c : ℕ) → length (shown c) ≤ 10
+length_shown c =
+    one_of_two (c == 9) _ _ 10 (omega arith) (one_of_two (c == 10) _ _ 10 (omega arith) (one_of_two (c == 13) _ _ 10 (omega arith) (length_unseen c (is_unseen c) refl)))
+
+length_all_shown : (cs : List ℕ) → length (all_shown cs) ≤ 10 * length cs
+length_all_shown [] = omega arith
+length_all_shown (c ∷ cs) = omega (arith, length_shown c, length_all_shown cs, length-append (shown c) (all_shown cs))
+
+length_end : (most count : ℕ) → count < 2 ^ 64 → length (excerpt_end most count) ≤ 45
+length_end most count small =
+    elim (cases_lt most count) [
+      | inl long ↦
+          let no : leb count most ≡ false = grind (arith, nat_tests) in
+          let places : length (decimal (count - most)) ≤ 20 = omega (arith, length-decimal-le 20 (count - most)) in
+          rw no (omega (arith, places, length-append (decimal (count - most)) (codes ")")))
+      | inr short ↦
+          let yes : leb count most ≡ true = grind (arith, nat_tests) in
+          rw yes (omega arith)
     ]
-  ]
-]
-
-none_spelled : (bs t : List ℕ) → Spelled bs → take_chars 0 (bs ++ t) ≡ []
-none_spelled bs t (ascii b h e) = rw e (take_none b t (low_starts b h))
-none_spelled bs t (two b x h e) = rw e (take_none b _ (high_starts b h))
-none_spelled bs t (three b x y h e) = rw e (take_none b _ (high_starts b h))
-none_spelled bs t (four b x y z h e) = rw e (take_none b _ (high_starts b h))
-
-one_spelled : (n : ℕ) (bs t : List ℕ) → Spelled bs → take_chars (suc n) (bs ++ t) ≡ bs ++ take_chars n t
-one_spelled n bs t (ascii b h e) = rw e (take_first n b t (low_starts b h))
-one_spelled n bs t (two b x h e) = rw e (take_first n b _ (high_starts b h) ∙ ap (λ l. b ∷ l) (take_later n (next x) t (next_starts_none x)))
-one_spelled n bs t (three b x y h e) = rw e (take_first n b _ (high_starts b h) ∙ ap (λ l. b ∷ l) (take_later n (next x) _ (next_starts_none x) ∙ ap (λ l. next x ∷ l) (take_later n (next y) t (next_starts_none y))))
-one_spelled n bs t (four b x y z h e) = rw e (take_first n b _ (high_starts b h) ∙ ap (λ l. b ∷ l) (take_later n (next x) _ (next_starts_none x) ∙ ap (λ l. next x ∷ l) (take_later n (next y) _ (next_starts_none y) ∙ ap (λ l. next y ∷ l) (take_later n (next z) t (next_starts_none z)))))
-
-take_empty : (n : ℕ) → take_chars n [] ≡ []
-unfolding take_chars
-take_empty n = refl
-
-take_encodes : (n : ℕ) (cs : List ℕ) → take_chars n (encodes cs) ≡ encodes (take n cs)
-take_encodes zero [] = take_empty 0
-take_encodes (suc n) [] = take_empty (suc n)
-take_encodes zero (c ∷ cs) = none_spelled (encode c) (encodes cs) (spelled c)
-take_encodes (suc n) (c ∷ cs) = one_spelled n (encode c) (encodes cs) (spelled c) ∙ ap (λ l. encode c ++ l) (take_encodes n cs)
-
-take_encodes_of : (n : ℕ) (text cs : List ℕ) → encodes cs ≡ text → take_chars n text ≡ encodes (take n cs)
-take_encodes_of n text cs e = rw (← e) (take_encodes n cs)
-
--- the hole writes the first characters
-pub cut_written : (n : ℕ) (text : List ℕ) → IsUtf8 text → padded (format_spec 32 0 0 0 n) text ≡ encodes (take n (chars text))
-unfolding padded char_count
-cut_written n text u =
-    let none : 0 - char_count (take_chars n text) - 0 ≡ 0 = omega arith in
-    rw (none, append-nil) (take_encodes_of n text (chars text) (encodes-chars text u))
-
-length_encodes : (cs : List ℕ) → length (encodes cs) ≤ 4 * length cs
-length_encodes [] = omega arith
-length_encodes (c ∷ cs) =
-    let one = length-encode c in
-    let four = (len_utf8_bounds c).1 in
-    let more = length_encodes cs in
-    omega (arith, length-append (encode c) (encodes cs))
 
 -- an excerpt is short, whatever the text
-pub length_excerpt : (most : ℕ) (text : List ℕ) → IsUtf8 text → length text < 2 ^ 64 → length (excerpt most text) ≤ 4 * most + 46
+pub length_excerpt : (most : ℕ) (text : List ℕ) → IsUtf8 text → length text < 2 ^ 64 → length (excerpt most text) ≤ 10 * most + 46
 length_excerpt most text u small =
     let cs = chars text in
-    let all : length (encodes cs) ≤ 4 * length cs = length_encodes cs in
     let same = encodes-chars text u in
-    let fewer : length cs ≤ length text = omega (arith, length-le-encodes cs, ap length same) in
-    elim (cases_lt most (length cs)) [
-      | inl long ↦
-          let no : leb (length cs) most ≡ false = grind (arith, nat_tests) in
-          let places : length (decimal (length cs - most)) ≤ 20 = omega (arith, length-decimal-le 20 (length cs - most)) in
-          let cut = length_encodes (take most cs) in
-          let first : length (take most cs) ≤ most = omega (arith, length-take most cs) in
-          rw no (simp (length-append) (omega arith))
-      | inr short ↦
-          let yes : leb (length cs) most ≡ true = grind (arith, nat_tests) in
-          let whole : length text ≤ 4 * most = omega (arith, ap length same) in
-          rw yes (simp (length-append) (omega arith))
-    ]
+    let fewer : length cs < 2 ^ 64 = omega (arith, length-le-encodes cs, ap length same, small) in
+    let front = length_all_shown (take most cs) in
+    let first : length (take most cs) ≤ most = omega (arith, length-take most cs) in
+    let behind = length_end most (length cs) fewer in
+    omega (arith, front, first, behind, length-append (all_shown (take most cs)) (excerpt_end most (length cs)))
+
+-- ---- the loop
+
+pub one_more_shown : (done all cs es : List ℕ) (left less c : ℕ) → cs ≡ c ∷ es → left ≡ less + 1 → done ++ all_shown (take left cs) ≡ all → (done ++ shown c) ++ all_shown (take less es) ≡ all
+one_more_shown done all cs es left less c e m h =
+    let next : less + 1 ≡ suc less = omega arith in
+    let taken : take left cs ≡ c ∷ take less es = ap (λ n. take n cs) (m ∙ next) ∙ ap (take (suc less)) e in
+    append_assoc done (shown c) (all_shown (take less es)) ∙ sym (ap (λ x. done ++ all_shown x) taken) ∙ h
+
+take_none : (n : ℕ) (cs : List ℕ) → cs ≡ [] → take n cs ≡ []
+take_none zero cs e = refl
+take_none (suc n) [] e = refl
+take_none (suc n) (c ∷ cs) e = absurd (omega (arith, ap length e))
+
+no_bytes : (bs : List ℕ) → length bs ≡ 0 → bs ≡ []
+no_bytes [] e = refl
+no_bytes (b ∷ bs) e = absurd (omega (arith, e))
+
+pub none_more_shown : (done all cs : List ℕ) (left : ℕ) (rest : List ℕ) → encode_utf8_all cs ≡ rest → length rest ≡ 0 → done ++ all_shown (take left cs) ≡ all → done ≡ all
+none_more_shown done all cs left rest e n h =
+    let none : cs ≡ [] = encodes_same cs [] (e ∙ no_bytes rest n) in
+    let taken : take left cs ≡ [] = take_none left cs none in
+    sym (append-nil done) ∙ sym (ap (λ x. done ++ all_shown x) taken) ∙ h
+
+pub no_more_shown : (done all cs : List ℕ) (left : ℕ) → left ≡ 0 → done ++ all_shown (take left cs) ≡ all → done ≡ all
+no_more_shown done all cs left e h = sym (append-nil done) ∙ sym (ap (λ n. done ++ all_shown (take n cs)) e) ∙ h
 
 -- the text of a long excerpt
-pub long_written : (most : ℕ) (text : List ℕ) (count : ℕ) → IsUtf8 text → count ≡ length (chars text) → most < count
-    → 39 ∷ (padded (format_spec 32 0 0 0 most) text ++ (codes "' (characters left out: " ++ (decimal (count - most) ++ codes ")"))) ≡ excerpt most text
-long_written most text count u same long =
-    let cut = cut_written most text u in
+pub long_written : (most : ℕ) (text : List ℕ) (count : ℕ) → count ≡ length (chars text) → most < count
+    → 39 ∷ (all_shown (take most (chars text)) ++ (codes "' (characters left out: " ++ (decimal (count - most) ++ codes ")"))) ≡ excerpt most text
+long_written most text count same long =
     let no : leb (length (chars text)) most ≡ false = grind (arith, nat_tests) in
-    rw (cut, same, no)
+    rw (same, no)

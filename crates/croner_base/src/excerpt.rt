@@ -1,8 +1,9 @@
 //! What a message repeats of a text: enough to find the place, and no more.
 
-ghost use Rattle.std.specs.Prelude.{◌≡◌, ◌≤◌, ◌<◌, ◌^◌, length};
+ghost use Rattle.std.specs.Prelude.{◌≡◌, ◌≤◌, ◌<◌, ◌^◌, ◌==◌, length};
 ghost use Rattle.std.specs.Str.{chars};
 ghost use Rattle.croner_base.specs.Excerpt.{excerpt, excerpt_characters, half_excerpt_characters};
+ghost use Rattle.croner_base.specs.Excerpt.{is_among, is_control, ends_a_line, turns_round, has_no_width, has_no_width_above, is_unseen};
 
 use std::fmt;
 
@@ -13,7 +14,8 @@ const EXCERPT_CHARACTERS: usize = 64;
 const HALF_EXCERPT_CHARACTERS: usize = 32;
 
 /// A text as a message repeats it, between quotes: whole where it has at most so many characters, and else its first ones
-/// and how many are left out. It is never cut inside a character.
+/// and how many are left out. It is never cut inside a character. A character that a terminal acts on, or that nobody sees,
+/// stands as `\t`, `\n`, `\r` or by its number, as `\u{1b}`.
 #[derive(Debug, Clone, Copy)]
 pub struct Excerpt<'t> {
     text: &'t str,
@@ -22,11 +24,11 @@ pub struct Excerpt<'t> {
 }
 
 impl<'t> Excerpt<'t> {
-    /// The excerpt of a text, of at most 64 characters. It is written in at most 302 bytes, however long the text is.
+    /// The excerpt of a text, of at most 64 characters. It is written in at most 686 bytes, however long the text is.
     pub fn of(text: &'t str) -> Excerpt<'t>
         ensures text { result.text.now ≡ text.now }
         ensures most { result.most ≡ excerpt_characters }
-        ensures short { length text.now < 2 ^ 64 → length (excerpt excerpt_characters text.now) ≤ 302 }
+        ensures short { length text.now < 2 ^ 64 → length (excerpt excerpt_characters text.now) ≤ 686 }
     {
         Excerpt {
             text,
@@ -35,11 +37,11 @@ impl<'t> Excerpt<'t> {
     }
 
     /// The excerpt of one of two texts that a message repeats: each has at most 32 characters, and is written in at most
-    /// 174 bytes.
+    /// 366 bytes.
     pub fn of_one_of_two(text: &'t str) -> Excerpt<'t>
         ensures text { result.text.now ≡ text.now }
         ensures most { result.most ≡ half_excerpt_characters }
-        ensures short { length text.now < 2 ^ 64 → length (excerpt half_excerpt_characters text.now) ≤ 174 }
+        ensures short { length text.now < 2 ^ 64 → length (excerpt half_excerpt_characters text.now) ≤ 366 }
     {
         Excerpt {
             text,
@@ -72,11 +74,12 @@ impl fmt::Display for Excerpt<'_> {
         let text = self.text();
         let most = self.most();
         let count = character_count(text);
+        let shown = Shown { text, most };
         if count <= most {
-            return write!(f, "'{text}'");
+            return write!(f, "'{shown}'");
         }
         let left_out = count - most;
-        write!(f, "'{text:.most$}' (characters left out: {left_out})")
+        write!(f, "'{shown}' (characters left out: {left_out})")
     }
 }
 
@@ -84,4 +87,129 @@ fn character_count(text: &str) -> usize
     ensures { result ≡ length (chars text.now) }
 {
     text.chars().count()
+}
+
+/// The first characters of a text, so many at most, as a message repeats them.
+#[derive(Clone, Copy)]
+struct Shown<'t> {
+    text: &'t str,
+    most: usize,
+}
+
+impl<'t> Shown<'t> {
+    fn text(&self) -> &'t str
+        ensures { result.now ≡ self.now.text.now }
+    {
+        self.text
+    }
+}
+
+impl fmt::Display for Shown<'_> {
+    ghost use Rattle.std.specs.Prelude.{Some, take};
+    ghost use Rattle.std.specs.Str.{chars};
+    ghost use Rattle.croner_base.specs.Excerpt.{all_shown};
+
+    ghost output = { λ s. Some (all_shown (take s.most (chars s.text.now))) };
+
+    fn fmt<W: fmt::Write>(&self, f: &mut fmt::Formatter<W>) -> fmt::Result {
+        let text = self.text();
+        let mut rest = text.chars();
+        let mut left = self.most;
+        while left > 0 {
+            let Some(c) = rest.next() else {
+                return Ok(());
+            };
+            let shown = ShownCharacter { c };
+            write!(f, "{shown}")?;
+            left -= 1;
+        }
+        Ok(())
+    }
+}
+
+/// A character as a message repeats it.
+#[derive(Clone, Copy)]
+struct ShownCharacter {
+    c: char,
+}
+
+impl fmt::Display for ShownCharacter {
+    ghost use Rattle.std.specs.Prelude.{Some};
+    ghost use Rattle.croner_base.specs.Excerpt.{shown};
+
+    ghost output = { λ s. Some (shown s.c) };
+
+    fn fmt<W: fmt::Write>(&self, f: &mut fmt::Formatter<W>) -> fmt::Result {
+        let c = self.c;
+        match c {
+            '\t' => f.write_str("\\t"),
+            '\n' => f.write_str("\\n"),
+            '\r' => f.write_str("\\r"),
+            _ if is_unseen(c) => {
+                let code = u32::from(c);
+                write!(f, "\\u{{{code:x}}}")
+            }
+            _ => f.write_char(c),
+        }
+    }
+}
+
+fn is_among(c: char, first: char, last: char) -> bool
+    ensures { result ≡ is_among first last c }
+{
+    first <= c && c <= last
+}
+
+fn is_control(c: char) -> bool
+    ensures { result ≡ is_control c }
+{
+    is_among(c, '\0', '\u{1f}') || is_among(c, '\u{7f}', '\u{9f}')
+}
+
+fn ends_a_line(c: char) -> bool
+    ensures { result ≡ ends_a_line c }
+{
+    is_among(c, '\u{2028}', '\u{2029}')
+}
+
+fn turns_round(c: char) -> bool
+    ensures { result ≡ turns_round c }
+{
+    c == '\u{61c}'
+        || is_among(c, '\u{200e}', '\u{200f}')
+        || is_among(c, '\u{202a}', '\u{202e}')
+        || is_among(c, '\u{2066}', '\u{2069}')
+}
+
+fn has_no_width(c: char) -> bool
+    ensures { result ≡ has_no_width c }
+{
+    c == '\u{ad}'
+        || c == '\u{34f}'
+        || is_among(c, '\u{115f}', '\u{1160}')
+        || is_among(c, '\u{17b4}', '\u{17b5}')
+        || is_among(c, '\u{180b}', '\u{180f}')
+        || is_among(c, '\u{200b}', '\u{200d}')
+        || is_among(c, '\u{2060}', '\u{2065}')
+        || is_among(c, '\u{206a}', '\u{206f}')
+        || c == '\u{3164}'
+        || is_among(c, '\u{fe00}', '\u{fe0f}')
+        || c == '\u{feff}'
+        || c == '\u{ffa0}'
+        || is_among(c, '\u{fff0}', '\u{fffb}')
+}
+
+fn has_no_width_above(c: char) -> bool
+    ensures { result ≡ has_no_width_above c }
+{
+    is_among(c, '\u{1bca0}', '\u{1bca3}')
+        || is_among(c, '\u{1d173}', '\u{1d17a}')
+        || is_among(c, '\u{e0000}', '\u{e0fff}')
+}
+
+/// Whether a character is a control, ends a line, turns others round or has no width.
+fn is_unseen(c: char) -> bool
+    ensures { result ≡ is_unseen c }
+{
+    is_control(c) || ends_a_line(c) || turns_round(c) || has_no_width(c) || has_no_width_above(c)
 }
