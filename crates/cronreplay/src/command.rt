@@ -2,26 +2,25 @@
 
 use crate::fault::Fault;
 use crate::member::list;
+use crate::shown::Record;
+use crate::writer::Failing;
 use cronrun_command::run;
-use serde_json::{Map, Value, put};
+use serde_json::Value;
 use std::alloc::{AllocError, Global};
 
-/// What `cronrun` answers to words: its status and what it writes.
+/// What `cronrun` answers to words: its status and what its writers take.
 pub fn cronrun(alloc: Global, question: &Value) -> Result<Value, Fault> {
     let words = words(alloc, list(question, "words")?)?;
-    let mut out = Vec::new(alloc);
-    let mut err = Vec::new(alloc);
+    let mut out = Failing::new(alloc, question.get("out"))?;
+    let mut err = Failing::new(alloc, question.get("err"))?;
     let status = run(alloc, words.as_slice(), &mut out, &mut err);
-    answer(alloc, status, out.as_slice(), err.as_slice())
+    answer(alloc, status, out.taken.as_slice(), err.taken.as_slice())
 }
 
 fn answer(alloc: Global, status: u8, out: &[u8], err: &[u8]) -> Result<Value, Fault> {
     let (out, err) = (written(alloc, out)?, written(alloc, err)?);
-    let mut answer = Map::new(alloc);
-    put(&mut answer, alloc, "status", Value::from(status))?;
-    put(&mut answer, alloc, "stdout", out)?;
-    put(&mut answer, alloc, "stderr", err)?;
-    Ok(Value::Object(answer))
+    let answer = Record::new(alloc).with("status", Value::from(status))?;
+    Ok(answer.with("stdout", out)?.with("stderr", err)?.shown())
 }
 
 fn words(alloc: Global, items: &[Value]) -> Result<Vec<String>, Fault> {

@@ -1,11 +1,16 @@
-//! Comparing two patterns.
+//! Comparing two patterns, and two iterators.
 
 use crate::fault::Fault;
+use crate::iterators::how_made;
 use crate::job::{Job, switch};
-use crate::member::{member, text};
+use crate::member::{civil, member, text};
 use crate::shown;
-use croner::CronPattern;
-use serde_json::{Map, Value, put};
+use crate::shown::Record;
+use crate::subject::{Runs, Subject};
+use crate::zone::civil_value;
+use croner::{CronIterator, CronPattern};
+use jiff::civil::DateTime;
+use serde_json::Value;
 use std::alloc::Global;
 use std::hash::{DefaultHasher, Hash, Hasher};
 
@@ -21,10 +26,9 @@ fn compared(alloc: Global, a: &CronPattern, b: &CronPattern) -> Result<Value, Fa
     if equal && hash_of(a) != hash_of(b) {
         return shown::text(alloc, "hash");
     }
-    let mut answer = Map::new(alloc);
-    put(&mut answer, alloc, "cmp", shown::ordering(alloc, a.cmp(b))?)?;
-    put(&mut answer, alloc, "eq", Value::Bool(equal))?;
-    Ok(Value::Object(answer))
+    let order = shown::ordering(alloc, a.cmp(b))?;
+    let answer = Record::new(alloc).with("cmp", order)?;
+    Ok(answer.with("eq", Value::Bool(equal))?.shown())
 }
 
 // A pattern that is parsed, or only made of its text.
@@ -50,8 +54,46 @@ impl Side {
     }
 }
 
-fn hash_of(pattern: &CronPattern) -> u64 {
+fn hash_of<T: Hash>(value: &T) -> u64 {
     let mut state = DefaultHasher::new();
-    pattern.hash(&mut state);
+    value.hash(&mut state);
     state.finish()
+}
+
+/// How two iterators over the runs of a job compare, whether they are equal, and whether they are hashed alike.
+pub fn compare_iterators(alloc: Global, question: &Value, job: &Job) -> Result<Value, Fault> {
+    let start = civil_value(civil(question, "start")?)?;
+    let a = runs(job, start, member(question, "a")?)?;
+    let b = runs(job, start, member(question, "b")?)?;
+    match (&a, &b) {
+        (Runs::OfJob(a), Runs::OfJob(b)) => iterators_compared(alloc, a, b),
+        _ => Err(Fault::Malformed),
+    }
+}
+
+// An iterator that has been asked for one run where a side says so.
+fn runs<'j>(job: &'j Job, start: DateTime, side: &Value) -> Result<Runs<'j, DateTime>, Fault> {
+    let mut runs = Runs::new(Subject::Job(job), start, how_made(side)?)?;
+    if switch(side, "asked")? {
+        let _run = runs.next();
+    }
+    Ok(runs)
+}
+
+fn iterators_compared(
+    alloc: Global,
+    a: &CronIterator<DateTime>,
+    b: &CronIterator<DateTime>,
+) -> Result<Value, Fault> {
+    let order = match a.partial_cmp(b) {
+        Some(order) => shown::ordering(alloc, order)?,
+        None => Value::Null,
+    };
+    let answer = Record::new(alloc).with("cmp", order)?;
+    let answer = answer.with("eq", Value::Bool(*a == *b))?;
+    Ok(
+        answer
+            .with("hash", Value::Bool(hash_of(a) == hash_of(b)))?
+            .shown(),
+    )
 }

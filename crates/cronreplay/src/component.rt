@@ -3,12 +3,13 @@
 use crate::fault::Fault;
 use crate::member::{items, list, member, number};
 use crate::shown;
+use crate::shown::Record;
 use croner::component::{
     ALL_BIT, CLOSEST_WEEKDAY_BIT, CronComponent, LAST_BIT, NTH_1ST_BIT, NTH_2ND_BIT, NTH_3RD_BIT,
     NTH_4TH_BIT, NTH_5TH_BIT,
 };
 use croner::errors::CronError;
-use serde_json::{Map, Value, put};
+use serde_json::Value;
 use std::alloc::Global;
 
 const MODIFIERS: [(&str, u8); 8] = [
@@ -24,39 +25,27 @@ const MODIFIERS: [(&str, u8); 8] = [
 
 /// What a field holds.
 pub fn field(alloc: Global, component: &CronComponent) -> Result<Value, Fault> {
-    let mut field = Map::new(alloc);
-    put(&mut field, alloc, "marks", marks(alloc, component)?)?;
-    put(
-        &mut field,
-        alloc,
-        "enabled",
-        Value::from(enabled(component)),
-    )?;
-    put(&mut field, alloc, "step", Value::from(component.step()))?;
-    put(
-        &mut field,
-        alloc,
-        "wildcard",
-        Value::Bool(component.from_wildcard()),
-    )?;
-    Ok(Value::Object(field))
+    let marks = marks(alloc, component)?;
+    let field = Record::new(alloc).with("marks", marks)?;
+    let field = field.with("enabled", Value::from(enabled(component)))?;
+    let field = field.with("step", Value::from(component.step()))?;
+    Ok(
+        field
+            .with("wildcard", Value::Bool(component.from_wildcard()))?
+            .shown(),
+    )
 }
 
 // The values of each modifier that has any.
 fn marks(alloc: Global, component: &CronComponent) -> Result<Value, Fault> {
-    let mut marks = Map::new(alloc);
+    let mut marks = Record::new(alloc);
     for (name, bit) in MODIFIERS {
         let values = component.get_set_values(bit)?;
         if !values.is_empty() {
-            put(
-                &mut marks,
-                alloc,
-                name,
-                shown::runs(alloc, values.as_slice())?,
-            )?;
+            marks = marks.with(name, shown::runs(alloc, values.as_slice())?)?;
         }
     }
-    Ok(Value::Object(marks))
+    Ok(marks.shown())
 }
 
 // The sum of the bits that are enabled.
@@ -83,10 +72,8 @@ fn called_in_turn(
 ) -> Result<Value, Fault> {
     let results = results(alloc, component, list(question, "calls")?)?;
     let after = field(alloc, component)?;
-    let mut answer = Map::new(alloc);
-    put(&mut answer, alloc, "results", results)?;
-    put(&mut answer, alloc, "after", after)?;
-    Ok(Value::Object(answer))
+    let answer = Record::new(alloc).with("results", results)?;
+    Ok(answer.with("after", after)?.shown())
 }
 
 fn results(alloc: Global, component: &mut CronComponent, calls: &[Value]) -> Result<Value, Fault> {
@@ -113,19 +100,28 @@ fn made(alloc: Global, new: &Value) -> Result<CronComponent, Fault> {
     Ok(CronComponent::new(alloc, min, max, features, offset)?)
 }
 
+/// The answer of one call of a new field.
+pub fn component_call(alloc: Global, question: &Value) -> Result<Value, Fault> {
+    let mut component = made(alloc, member(question, "new")?)?;
+    answered(alloc, &mut component, list(question, "call")?)
+}
+
 // The result of one call: its answer, or the refusal.
 fn result(alloc: Global, component: &mut CronComponent, call: &[Value]) -> Result<Value, Fault> {
+    match answered(alloc, component, call) {
+        Err(Fault::Refused(error)) => Ok(shown::refusal(alloc, &error)?),
+        answered => answered,
+    }
+}
+
+fn answered(alloc: Global, component: &mut CronComponent, call: &[Value]) -> Result<Value, Fault> {
     let (name, arguments) = call.split_first().ok_or(Fault::Malformed)?;
     let name = name.as_str().ok_or(Fault::Malformed)?;
-    let answered = match arguments {
+    match arguments {
         [] => asked(alloc, component, name),
         [argument] => called(alloc, component, name, argument),
         [position, bit] => marked(alloc, component, name, position, bit),
         _ => Err(Fault::Malformed),
-    };
-    match answered {
-        Err(Fault::Refused(error)) => Ok(shown::refusal(alloc, &error)?),
-        answered => answered,
     }
 }
 

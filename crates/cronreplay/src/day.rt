@@ -55,7 +55,8 @@ pub fn day_mask(question: &Value, job: &Job) -> Result<Value, Fault> {
     Ok(Value::from(pattern.day_mask(length, first)?))
 }
 
-fn time_component(question: &Value) -> Result<TimeComponent, Fault> {
+/// A part of a date and time by its name.
+pub fn time_component(question: &Value) -> Result<TimeComponent, Fault> {
     match text(question, "component")? {
         "second" => Ok(TimeComponent::Second),
         "minute" => Ok(TimeComponent::Minute),

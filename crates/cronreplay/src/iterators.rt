@@ -1,15 +1,15 @@
 //! Iterators: the answers of their calls.
 
 use crate::fault::Fault;
+use crate::job::switch;
 use crate::member::{number_at, text};
-use crate::shown::Shown;
+use crate::shown::{Shown, refusal};
 use crate::subject::{How, Runs, Subject};
-use croner::errors::CronError;
 use croner::time::Direction;
 use serde_json::Value;
 use std::alloc::Global;
 
-/// The answers of so many calls of `next`, null for None.
+/// The answers of so many calls of `next`.
 pub fn items<T: Shown>(
     alloc: Global,
     question: &Value,
@@ -18,6 +18,9 @@ pub fn items<T: Shown>(
 ) -> Result<Value, Fault> {
     let (how, count) = (how_made(question)?, number_at(question, "count")?);
     let mut runs = Runs::new(subject, start, how)?;
+    if switch(question, "copied")? {
+        return listed(alloc, &mut runs.copied()?, count);
+    }
     listed(alloc, &mut runs, count)
 }
 
@@ -29,7 +32,8 @@ fn listed<T: Shown>(alloc: Global, runs: &mut Runs<'_, T>, count: u64) -> Result
     Ok(Value::Array(items))
 }
 
-fn how_made(question: &Value) -> Result<How, Fault> {
+/// How an iterator is made.
+pub fn how_made(question: &Value) -> Result<How, Fault> {
     match text(question, "how")? {
         "from_forward" => Ok(How::From(Direction::Forward)),
         "from_backward" => Ok(How::From(Direction::Backward)),
@@ -39,13 +43,15 @@ fn how_made(question: &Value) -> Result<How, Fault> {
     }
 }
 
-// The answer of one call. Want of memory ends the replay and is no answer.
-fn item<T: Shown>(alloc: Global, runs: &mut Runs<'_, T>) -> Result<Value, Fault> {
-    match runs.next() {
+/// The answer of one call: where a fault is kept behind it, the name of the fault, and else the item, or null for None. Want of
+/// memory ends the replay and is no answer.
+pub fn item<T: Shown>(alloc: Global, runs: &mut Runs<'_, T>) -> Result<Value, Fault> {
+    let run = runs.next();
+    if let Some(fault) = runs.fault() {
+        return Ok(refusal(alloc, fault)?);
+    }
+    match run {
         Some(run) => run.shown(alloc),
-        None => match runs.fault() {
-            Some(CronError::OutOfMemory) => Err(Fault::OutOfMemory),
-            _ => Ok(Value::Null),
-        },
+        None => Ok(Value::Null),
     }
 }

@@ -1,6 +1,6 @@
 //! Jobs: the pattern of a question, read by the parser of its settings.
 use crate::fault::Fault;
-use crate::member::text;
+use crate::member::{items, member, number};
 use croner::Cron;
 use croner::parser::{CronParser, Seconds, Year};
 use serde_json::Value;
@@ -19,9 +19,20 @@ impl Drop for Job {
 }
 
 impl Job {
-    /// The job of a question: its text, read by the parser of its settings.
+    /// A job.
+    pub fn new(cron: Cron) -> Job {
+        Job { cron }
+    }
+
+    /// The job of a question: its text, read by the parser of its settings. A text that is a list has pieces, each with how often
+    /// it stands there.
     pub fn read(alloc: Global, question: &Value) -> Result<Job, Fault> {
-        Job::of_text(alloc, question, text(question, "text")?)
+        let text = member(question, "text")?;
+        if let Some(text) = text.as_str() {
+            return Job::of_text(alloc, question, text);
+        }
+        let text = put_together(alloc, items(text)?)?;
+        Job::of_text(alloc, question, text.as_str())
     }
 
     /// The job of a text, read by the parser of a question's settings.
@@ -44,8 +55,30 @@ impl Job {
     }
 }
 
-// The parser of the settings; those that a question leaves out are the parser's own.
-fn parser(question: &Value) -> Result<CronParser, Fault> {
+fn put_together(alloc: Global, pieces: &[Value]) -> Result<String, Fault> {
+    let mut text = String::new(alloc);
+    for piece in pieces {
+        let [piece, count] = items(piece)? else {
+            return Err(Fault::Malformed);
+        };
+        add_piece(
+            &mut text,
+            piece.as_str().ok_or(Fault::Malformed)?,
+            number(count)?,
+        )?;
+    }
+    Ok(text)
+}
+
+fn add_piece(text: &mut String, piece: &str, count: u32) -> Result<(), Fault> {
+    for _ in 0..count {
+        text.push_str(piece)?;
+    }
+    Ok(())
+}
+
+/// The parser of the settings; those that a question leaves out are the parser's own.
+pub fn parser(question: &Value) -> Result<CronParser, Fault> {
     let Some(settings) = question.get("settings") else {
         return Ok(CronParser::new());
     };

@@ -2,7 +2,7 @@
 
 use crate::fault::Fault;
 use crate::question::answer;
-use crate::shown::refusal;
+use crate::shown::refused;
 use crate::wanted::is_wanted;
 use serde_json::Value;
 use std::alloc::{AllocError, Global};
@@ -116,7 +116,7 @@ fn outcome_of(alloc: Global, line: &[u8]) -> Result<Outcome, Stop> {
 fn judged(alloc: Global, question: &Value) -> Result<Outcome, Stop> {
     let got = match answer(alloc, question) {
         Ok(got) => got,
-        Err(Fault::Refused(error)) => refusal(alloc, &error)?,
+        Err(Fault::Refused(error)) => refused(alloc, question, &error)?,
         Err(Fault::Malformed) => return Ok(Outcome::Malformed),
         Err(Fault::Unsupported) => return Ok(Outcome::Unsupported),
         Err(Fault::OutOfMemory) => return Err(Stop::OutOfMemory),

@@ -3,6 +3,7 @@
 use crate::fault::Fault;
 use crate::job::Job;
 use crate::member::list;
+use crate::shown;
 use crate::shown::Shown;
 use croner::CronIterator;
 use croner::crontable::{CronTable, CronTableIterator};
@@ -46,25 +47,12 @@ impl<T: Shown> Run<T> {
         let instant = self.instant.shown(alloc)?;
         match &self.places {
             None => Ok(instant),
-            Some(places) => beside(alloc, instant, places.as_slice()),
+            Some(places) => {
+                let places = shown::places(alloc, places.as_slice())?;
+                shown::pair(alloc, instant, places)
+            }
         }
     }
-}
-
-fn beside(alloc: Global, instant: Value, places: &[usize]) -> Result<Value, Fault> {
-    let places = numbers(alloc, places)?;
-    let mut both = Vec::new(alloc);
-    both.push(instant)?;
-    both.push(places)?;
-    Ok(Value::Array(both))
-}
-
-fn numbers(alloc: Global, places: &[usize]) -> Result<Value, Fault> {
-    let mut numbers = Vec::new(alloc);
-    for place in places {
-        numbers.push(Value::from(*place as u64))?;
-    }
-    Ok(Value::Array(numbers))
 }
 
 impl<'j> Subject<'j> {
@@ -132,12 +120,31 @@ impl<T: Shown> Drop for Runs<'_, T> {
     }
 }
 
+impl How {
+    /// The search whose answer is the first item: its direction, and whether it counts its start.
+    pub fn search(self) -> (Direction, bool) {
+        match self {
+            How::From(direction) => (direction, true),
+            How::After => (Direction::Forward, false),
+            How::Before => (Direction::Backward, false),
+        }
+    }
+}
+
 impl<'j, T: Shown> Runs<'j, T> {
     /// The runs of a subject from a start.
     pub fn new(subject: Subject<'j>, start: T, how: How) -> Result<Runs<'j, T>, CronError> {
         match subject {
             Subject::Job(job) => Ok(Runs::OfJob(runs_of_job(job, start, how)?)),
             Subject::Table(table) => Ok(Runs::OfTable(runs_of_table(table, start, how))),
+        }
+    }
+
+    /// A copy of the iterator.
+    pub fn copied(&self) -> Result<Runs<'j, T>, Fault> {
+        match self {
+            Runs::OfJob(runs) => Ok(Runs::OfJob(runs.clone()?)),
+            Runs::OfTable(runs) => Ok(Runs::OfTable(runs.clone()?)),
         }
     }
 

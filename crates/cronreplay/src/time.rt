@@ -2,7 +2,8 @@
 
 use crate::fault::Fault;
 use crate::iterators::items;
-use crate::member::{civil, number_at};
+use crate::job::Job;
+use crate::member::{civil, number, number_at};
 use crate::searches::runs;
 use crate::shown;
 use crate::shown::Shown;
@@ -10,6 +11,7 @@ use crate::subject::Subject;
 use crate::zone::{Zone, civil_value, zone_of};
 use croner::time::table::TableTime;
 use croner::time::{Direction, Resolution};
+use croner_backends::{BoxedTime, NarrowTime};
 use jiff::civil::DateTime;
 use jiff::{Timestamp, Zoned};
 use serde_json::Value;
@@ -22,6 +24,8 @@ pub enum Ask<'j> {
     Search(Subject<'j>, Direction),
     /// The items of an iterator.
     Items(Subject<'j>),
+    /// Whether a job runs at the start.
+    Match(&'j Job),
     Resolve,
     Reading,
     Add,
@@ -35,10 +39,18 @@ pub fn answer_from_start(alloc: Global, question: &Value, ask: Ask<'_>) -> Resul
             let start = TableTime::new(&table, start_second(question, ask)?)?;
             answer_at(alloc, question, ask, start)
         }
-        Zone::Rule(zone) => match Timestamp::from_second(start_second(question, ask)?) {
-            Ok(instant) => answer_at(alloc, question, ask, Zoned::new(instant, zone)),
-            Err(_) => Err(Fault::Malformed),
-        },
+        Zone::Boxed(table) => {
+            let start = TableTime::new(&table, start_second(question, ask)?)?;
+            answer_at(alloc, question, ask, BoxedTime::new(alloc, start)?)
+        }
+        Zone::Narrow(table, low, high) => {
+            let start = TableTime::new(&table, start_second(question, ask)?)?;
+            answer_at(alloc, question, ask, NarrowTime::new(start, low, high)?)
+        }
+        Zone::Rule(zone) => {
+            let instant = start_instant(question, ask)?;
+            answer_at(alloc, question, ask, Zoned::new(instant, zone))
+        }
     }
 }
 
@@ -57,6 +69,20 @@ fn start_second(question: &Value, ask: Ask<'_>) -> Result<i64, Fault> {
     }
 }
 
+// The start as a second, or as a second and a nanosecond of it.
+fn start_instant(question: &Value, ask: Ask<'_>) -> Result<Timestamp, Fault> {
+    let start = question.get("start").and_then(Value::as_array);
+    let (second, nanosecond) = match start.map(Vec::as_slice) {
+        None => (start_second(question, ask)?, 0),
+        Some([second, nanosecond]) => (number(second)?, number(nanosecond)?),
+        Some(_) => return Err(Fault::Malformed),
+    };
+    match Timestamp::new(second, nanosecond) {
+        Ok(instant) => Ok(instant),
+        Err(_) => Err(Fault::Malformed),
+    }
+}
+
 fn answer_at<T: Shown>(
     alloc: Global,
     question: &Value,
@@ -66,6 +92,7 @@ fn answer_at<T: Shown>(
     match ask {
         Ask::Search(subject, direction) => runs(alloc, question, subject, start, direction),
         Ask::Items(subject) => items(alloc, question, subject, start),
+        Ask::Match(job) => Ok(Value::Bool(job.cron.is_time_matching(&start)?)),
         Ask::Resolve => resolve(alloc, question, &start),
         Ask::Reading => reading(alloc, &start),
         Ask::Add => add(alloc, question, &start),

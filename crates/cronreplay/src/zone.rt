@@ -1,6 +1,7 @@
 //! Clocks: civil time, tables and rules.
 
 use crate::fault::Fault;
+use crate::job::switch;
 use crate::member::{items, list, number, number_at};
 use crate::shown;
 use croner::time::CivilDateTime;
@@ -15,6 +16,10 @@ use std::alloc::Global;
 pub enum Zone {
     Civil,
     Table(ClockTable),
+    /// A table, over the backend that takes memory for each answer.
+    Boxed(ClockTable),
+    /// A table, over the backend that holds what lies between two instants.
+    Narrow(ClockTable, i64, i64),
     Rule(TimeZone<'static>),
 }
 
@@ -24,9 +29,30 @@ pub fn zone_of(alloc: Global, question: &Value) -> Result<Zone, Fault> {
         None | Some(Value::Null) => Ok(Zone::Civil),
         Some(zone) => match zone.get("rule") {
             Some(rule) => Ok(Zone::Rule(read_rule(rule)?)),
-            None => Ok(Zone::Table(table(alloc, zone)?)),
+            None => over_backend(zone, table(alloc, zone)?),
         },
     }
+}
+
+fn over_backend(zone: &Value, table: ClockTable) -> Result<Zone, Fault> {
+    if switch(zone, "boxed")? {
+        return Ok(Zone::Boxed(table));
+    }
+    match zone.get("held") {
+        None => Ok(Zone::Table(table)),
+        Some(held) => {
+            let (low, high) = bounds(held)?;
+            Ok(Zone::Narrow(table, low, high))
+        }
+    }
+}
+
+/// The first and the last instant that are held.
+pub fn bounds(held: &Value) -> Result<(i64, i64), Fault> {
+    let [low, high] = items(held)? else {
+        return Err(Fault::Malformed);
+    };
+    Ok((number(low)?, number(high)?))
 }
 
 fn read_rule(rule: &Value) -> Result<TimeZone<'static>, Fault> {
@@ -36,16 +62,36 @@ fn read_rule(rule: &Value) -> Result<TimeZone<'static>, Fault> {
     }
 }
 
-// The table of the members `first` and `changes`, or its refusal.
-fn table(alloc: Global, zone: &Value) -> Result<ClockTable, Fault> {
+/// The table of the members `first` and `changes`, or its refusal.
+pub fn table(alloc: Global, zone: &Value) -> Result<ClockTable, Fault> {
     let mut changes = Vec::new(alloc);
     for change in list(zone, "changes")? {
-        let [instant, offset] = items(change)? else {
-            return Err(Fault::Malformed);
-        };
-        changes.push((number(instant)?, number(offset)?))?;
+        if change.is_object() {
+            add_series(change, &mut changes)?;
+        } else {
+            let [instant, offset] = items(change)? else {
+                return Err(Fault::Malformed);
+            };
+            changes.push((number(instant)?, number(offset)?))?;
+        }
     }
     Ok(ClockTable::new(number_at(zone, "first")?, changes)?)
+}
+
+// So many changes, each so many seconds after the one before, whose offsets are the two that are given in turn.
+fn add_series(series: &Value, changes: &mut Vec<(i64, i32)>) -> Result<(), Fault> {
+    let [even, odd] = list(series, "offsets")? else {
+        return Err(Fault::Malformed);
+    };
+    let (even, odd): (i32, i32) = (number(even)?, number(odd)?);
+    let (count, apart): (u32, i64) = (number_at(series, "count")?, number_at(series, "apart")?);
+    let mut instant: i64 = number_at(series, "from")?;
+    for place in 0..count {
+        let offset = if place % 2 == 0 { even } else { odd };
+        changes.push((instant, offset))?;
+        instant = instant.saturating_add(apart);
+    }
+    Ok(())
 }
 
 /// Whether a table is accepted.

@@ -1,0 +1,91 @@
+//! What `Debug` shows, once for each type.
+
+use crate::fault::Fault;
+use crate::member::text;
+use crate::shown::debugged;
+use croner::component::{CronComponent, NONE_BIT};
+use croner::errors::CronError;
+use croner::parser::{CronParser, Seconds, Year};
+use croner::time::table::{ClockTable, TableTime};
+use croner::time::{CivilDateTime, CronDateTime};
+use croner::{Cron, Direction, JobType, TimeComponent, Weekday};
+use serde_json::Value;
+use std::alloc::Global;
+
+/// What `Debug` shows of a value by its name; where the question says how that begins and ends, true if it does.
+pub fn debug(alloc: Global, question: &Value) -> Result<Value, Fault> {
+    let shown = value(alloc, text(question, "value")?)?;
+    if question.get("begin").is_none() {
+        return Ok(Value::String(shown));
+    }
+    let (begin, end) = (text(question, "begin")?, text(question, "end")?);
+    if shown.as_str().starts_with(begin) && shown.as_str().ends_with(end) {
+        return Ok(Value::Bool(true));
+    }
+    Ok(Value::String(shown))
+}
+
+fn value(alloc: Global, name: &str) -> Result<String, Fault> {
+    match name {
+        "weekday" => debugged(alloc, &Weekday::Friday),
+        "direction" => debugged(alloc, &Direction::Backward),
+        "component" => debugged(alloc, &TimeComponent::Hour),
+        "job_type" => debugged(alloc, &JobType::FixedTime),
+        "seconds" => debugged(alloc, &Seconds::Required),
+        "year" => debugged(alloc, &Year::Optional),
+        "parser" => debugged(alloc, &CronParser::new()),
+        "builder" => debugged(alloc, &CronParser::builder()),
+        "empty" => debugged(alloc, &CronError::EmptyPattern),
+        _ => made_value(alloc, name),
+    }
+}
+
+fn made_value(alloc: Global, name: &str) -> Result<String, Fault> {
+    match name {
+        "error" => copied_error(alloc),
+        "civil" => debugged(alloc, &CivilDateTime::from_ymd_hms(2024, 2, 29, 1, 2, 3)?),
+        "field" => debugged(alloc, &CronComponent::new(alloc, 0, 1, NONE_BIT, 0)?),
+        "time" => time(alloc),
+        "resolution" => resolution(alloc),
+        "job" => copied_job(&Cron::from_str(alloc, "5 4 * * *")?),
+        "pattern" => copied_pattern(&Cron::from_str(alloc, "5 4 * * *")?),
+        _ => Err(Fault::Malformed),
+    }
+}
+
+fn copied_error(alloc: Global) -> Result<String, Fault> {
+    let error = CronError::InvalidPattern(String::from_str(alloc, "one")?);
+    debugged(alloc, &error.clone()?)
+}
+
+fn time(alloc: Global) -> Result<String, Fault> {
+    let clock = clock(alloc, 0, (0, 7200))?;
+    debugged(alloc, &TableTime::new(&clock, 5)?)
+}
+
+// A second that a clock shows twice.
+fn resolution(alloc: Global) -> Result<String, Fault> {
+    let clock = clock(alloc, 7200, (0, 7199))?;
+    let time = TableTime::new(&clock, 0)?;
+    debugged(alloc, &time.resolve_civil(alloc, time.to_civil())?)
+}
+
+fn clock(alloc: Global, first: i32, change: (i64, i32)) -> Result<ClockTable, Fault> {
+    let mut changes = Vec::new(alloc);
+    changes.push(change)?;
+    Ok(ClockTable::new(first, changes)?)
+}
+
+fn copied_job(job: &Cron) -> Result<String, Fault> {
+    let copy = job.clone()?;
+    let text = debugged(copy.pattern.allocator(), &copy);
+    drop(copy);
+    text
+}
+
+fn copied_pattern(job: &Cron) -> Result<String, Fault> {
+    let copy = job.pattern.clone()?;
+    let text = debugged(copy.allocator(), &copy);
+    drop(copy);
+    text
+}

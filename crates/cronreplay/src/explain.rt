@@ -1,0 +1,94 @@
+//! Why a text is refused: the message of `parse` and the fault of `explain`, and what the message suggests.
+
+use crate::fault::Fault;
+use crate::job::{Job, parser};
+use crate::member::text;
+use crate::shown;
+use crate::shown::Record;
+use crate::values::values;
+use croner::errors::CronError;
+use croner::parser::{FaultKind, PatternFault};
+use serde_json::Value;
+use std::alloc::Global;
+
+/// The bytes of the fault and the message of a refused text; `"accepted"` where neither `explain` nor `parse` refuses it.
+pub fn explain(alloc: Global, question: &Value) -> Result<Value, Fault> {
+    let (parser, text) = (parser(question)?, text(question, "text")?);
+    match (
+        parser.explain(alloc, text)?,
+        Job::of_text(alloc, question, text),
+    ) {
+        (Some(fault), Err(Fault::Refused(error))) => told(alloc, &fault, &error),
+        (None, Ok(_)) => shown::text(alloc, "accepted"),
+        (Some(_), Ok(_)) => shown::text(alloc, "refused by explain alone"),
+        (None, Err(Fault::Refused(_))) => shown::text(alloc, "refused by parse alone"),
+        (_, Err(fault)) => Err(fault),
+    }
+}
+
+// The message of `parse` where it is of the fault's kind and has what the fault says.
+fn told(alloc: Global, fault: &PatternFault, error: &CronError) -> Result<Value, Fault> {
+    if !is_kind(error, fault.kind) {
+        return shown::text(alloc, "of another kind");
+    }
+    let (said, message) = (fault.to_string(alloc)?, error.to_string(alloc)?);
+    if fault.kind != FaultKind::EmptyPattern && !message.contains(said.as_str()) {
+        return Ok(Value::String(said));
+    }
+    let answer = Record::new(alloc).with("start", Value::from(fault.start))?;
+    let answer = answer.with("end", Value::from(fault.end))?;
+    Ok(answer.with("message", Value::String(message))?.shown())
+}
+
+fn is_kind(error: &CronError, kind: FaultKind) -> bool {
+    match error {
+        CronError::EmptyPattern => kind == FaultKind::EmptyPattern,
+        CronError::InvalidPattern(_) => kind == FaultKind::InvalidPattern,
+        CronError::IllegalCharacters(_) => kind == FaultKind::IllegalCharacters,
+        CronError::ComponentError(_) => kind == FaultKind::ComponentError,
+        _ => false,
+    }
+}
+
+/// What is suggested for a refused text, and the values of a field where it stands in the fault's place; null where nothing is.
+pub fn suggest(alloc: Global, question: &Value) -> Result<Value, Fault> {
+    let text = text(question, "text")?;
+    let Some(fault) = parser(question)?.explain(alloc, text)? else {
+        return shown::text(alloc, "accepted");
+    };
+    let said = fault.to_string(alloc)?;
+    match suggestion_in(said.as_str()) {
+        None => Ok(Value::Null),
+        Some(suggestion) => followed(alloc, question, &fault, suggestion),
+    }
+}
+
+// What stands between `write ` and the end of its clause.
+fn suggestion_in(said: &str) -> Option<&str> {
+    let (_, rest) = said.split_once(": write ")?;
+    let rest = rest.strip_suffix('.').unwrap_or(rest);
+    match rest.split_once(", or let") {
+        Some((suggestion, _)) => Some(suggestion),
+        None => Some(rest),
+    }
+}
+
+fn followed(
+    alloc: Global,
+    question: &Value,
+    fault: &PatternFault,
+    suggestion: &str,
+) -> Result<Value, Fault> {
+    let text = text(question, "text")?;
+    let front = text.get(..fault.start).ok_or(Fault::Malformed)?;
+    let rest = text.get(fault.end..).ok_or(Fault::Malformed)?;
+    let mended = format!(in alloc; "{front}{suggestion}{rest}")?;
+    let values = values_of(alloc, question, mended.as_str())?;
+    let answer = Record::new(alloc).with("suggestion", Value::try_from_str(alloc, suggestion)?)?;
+    Ok(answer.with("values", values)?.shown())
+}
+
+fn values_of(alloc: Global, question: &Value, mended: &str) -> Result<Value, Fault> {
+    let job = Job::of_text(alloc, question, mended)?;
+    values(alloc, question, &job)
+}

@@ -1,0 +1,136 @@
+//! The laws whose calls take memory, once each with enough of it.
+
+use crate::fault::Fault;
+use crate::job::{Job, parser};
+use crate::member::{civil, member, number_at, text};
+use crate::shown;
+use crate::shown::{Record, Shown, times};
+use crate::subject::{How, Runs, Subject};
+use crate::zone::{bounds, civil_value, table};
+use croner::CronIterator;
+use croner::describe::lang::english::English;
+use croner::laws::equality::equal_and_described;
+use croner::laws::listing::{items_in_order, next_runs, there_and_back};
+use croner::laws::rereading::read_twice;
+use croner::time::Direction;
+use croner::time::table::TableTime;
+use croner_backends::laws::listings::{next_boxed_runs, next_narrow_runs};
+use croner_backends::laws::searches::{nearest_boxed_run, nearest_narrow_run};
+use croner_backends::{BoxedTime, NarrowTime};
+use jiff::civil::DateTime;
+use serde_json::Value;
+use std::alloc::Global;
+
+/// How many calls a law of iterators makes.
+const CALLS: u32 = 3;
+
+/// What the law of a question gives.
+pub fn law(alloc: Global, question: &Value) -> Result<Value, Fault> {
+    match text(question, "law")? {
+        "read_twice" => texts_read(alloc, question),
+        "equal_and_described" => descriptions(alloc, question),
+        name => law_of_job(alloc, question, name, &Job::read(alloc, question)?),
+    }
+}
+
+// The text that a job keeps, and that of the job read from it.
+fn texts_read(alloc: Global, question: &Value) -> Result<Value, Fault> {
+    let (first, second) = read_twice(&parser(question)?, alloc, text(question, "text")?)?;
+    let (first, second) = (Job::new(first), Job::new(second));
+    let first = shown::text(alloc, first.cron.as_str())?;
+    let second = shown::text(alloc, second.cron.as_str())?;
+    shown::pair(alloc, first, second)
+}
+
+// Whether two jobs are equal, and the description of each.
+fn descriptions(alloc: Global, question: &Value) -> Result<Value, Fault> {
+    let a = Job::read(alloc, member(question, "a")?)?;
+    let b = Job::read(alloc, member(question, "b")?)?;
+    let (equal, a, b) = equal_and_described(alloc, &a.cron, &b.cron, &English)?;
+    let answer = Record::new(alloc).with("eq", Value::Bool(equal))?;
+    Ok(
+        answer
+            .with("a", Value::String(a))?
+            .with("b", Value::String(b))?
+            .shown(),
+    )
+}
+
+fn law_of_job(alloc: Global, question: &Value, name: &str, job: &Job) -> Result<Value, Fault> {
+    match name {
+        "next_runs" => runs(alloc, job, civil_start(question)?),
+        "items_in_order" => order(alloc, job, civil_start(question)?),
+        "there_and_back" => back(alloc, job, &civil_start(question)?),
+        _ => over_backend(alloc, question, name, job),
+    }
+}
+
+fn civil_start(question: &Value) -> Result<DateTime, Fault> {
+    civil_value(civil(question, "start")?)
+}
+
+// The runs after a start, and whether they are all.
+fn runs(alloc: Global, job: &Job, start: DateTime) -> Result<Value, Fault> {
+    let mut runs = Runs::new(Subject::Job(job), start, How::After)?;
+    let (runs, is_over) = next_runs(alloc, iterator(&mut runs)?, CALLS)?;
+    let runs = times(alloc, runs.as_slice())?;
+    shown::pair(alloc, runs, Value::Bool(is_over))
+}
+
+// The runs before a start, and how each compares with the one before it.
+fn order(alloc: Global, job: &Job, start: DateTime) -> Result<Value, Fault> {
+    let mut runs = Runs::new(Subject::Job(job), start, How::Before)?;
+    let (runs, orders) = items_in_order(alloc, iterator(&mut runs)?, CALLS)?;
+    let runs = times(alloc, runs.as_slice())?;
+    let mut shown = Vec::new(alloc);
+    for order in orders {
+        shown.push(shown::ordering(alloc, order)?)?;
+    }
+    shown::pair(alloc, runs, Value::Array(shown))
+}
+
+// The next run after a run, and the one before that.
+fn back(alloc: Global, job: &Job, run: &DateTime) -> Result<Value, Fault> {
+    let (there, back) = there_and_back(&job.cron, run)?;
+    times(alloc, [there, back?].as_slice())
+}
+
+fn iterator<'r, T: Shown>(runs: &'r mut Runs<'_, T>) -> Result<&'r mut CronIterator<T>, Fault> {
+    match runs {
+        Runs::OfJob(runs) => Ok(runs),
+        Runs::OfTable(_) => Err(Fault::Malformed),
+    }
+}
+
+// The run before a start, and the runs after it, over a backend of the tests.
+fn over_backend(alloc: Global, question: &Value, name: &str, job: &Job) -> Result<Value, Fault> {
+    let zone = member(question, "zone")?;
+    let table = table(alloc, zone)?;
+    let start = TableTime::new(&table, number_at(question, "start")?)?;
+    match name {
+        "boxed" => boxed(alloc, job, BoxedTime::new(alloc, start)?),
+        "narrow" => {
+            let (low, high) = bounds(member(zone, "held")?)?;
+            narrow(alloc, job, NarrowTime::new(start, low, high)?)
+        }
+        _ => Err(Fault::Malformed),
+    }
+}
+
+fn boxed(alloc: Global, job: &Job, start: BoxedTime<'_>) -> Result<Value, Fault> {
+    let previous = nearest_boxed_run(&job.cron, &start, false, Direction::Backward)?;
+    let previous = previous.shown(alloc)?;
+    let mut runs = Runs::new(Subject::Job(job), start, How::After)?;
+    let (runs, _) = next_boxed_runs(alloc, iterator(&mut runs)?, CALLS)?;
+    let runs = times(alloc, runs.as_slice())?;
+    shown::pair(alloc, previous, runs)
+}
+
+fn narrow(alloc: Global, job: &Job, start: NarrowTime<'_>) -> Result<Value, Fault> {
+    let previous = nearest_narrow_run(&job.cron, &start, false, Direction::Backward)?;
+    let previous = previous.shown(alloc)?;
+    let mut runs = Runs::new(Subject::Job(job), start, How::After)?;
+    let (runs, _) = next_narrow_runs(alloc, iterator(&mut runs)?, CALLS)?;
+    let runs = times(alloc, runs.as_slice())?;
+    shown::pair(alloc, previous, runs)
+}
