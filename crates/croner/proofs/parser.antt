@@ -1,6 +1,7 @@
 -- Texts: their words, names and fields, and which of them a parser reads.
 pub mod Cuts
 pub mod Examples
+pub mod ExamplesFaults
 pub mod Expanded
 pub mod FieldReads
 pub mod Names

@@ -2,6 +2,7 @@
 
 ghost use Rattle.std.specs.Prelude.{◌≡◌, ◌||◌, true, false, Some, None, IfOk, MatchOption, map, string_bytes};
 
+mod at_fault;
 mod escapes;
 mod explain;
 mod fault;

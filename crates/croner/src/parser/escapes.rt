@@ -1,22 +1,18 @@
-//! What a message repeats of a text: few characters, and none that a terminal or a log acts on.
+//! What a message repeats of a text.
 
+use croner_base::excerpt::Excerpt;
 use std::alloc::{AllocError, Global};
-
-/// The most characters of a text that a message repeats.
-const MOST_CHARACTERS: usize = 64;
-
-/// The most of each of two pieces of a text.
-const MOST_OF_TWO: usize = 32;
 
 /// What stands at a place of a text, between quotes, and the part of a list in which it stands.
 pub fn found_at(alloc: Global, text: &str, start: usize, end: usize) -> Result<String, AllocError> {
     let (front, piece, rest) = cut(text, start, end);
     let part = part_around(text, front, rest);
     if part.len() <= piece.len() {
-        return quoted(alloc, piece, MOST_CHARACTERS);
+        let piece = Excerpt::of(piece);
+        return format!(in alloc; "{piece}");
     }
-    let piece = quoted(alloc, piece, MOST_OF_TWO)?;
-    let part = quoted(alloc, part, MOST_OF_TWO)?;
+    let piece = Excerpt::of_one_of_two(piece);
+    let part = Excerpt::of_one_of_two(part);
     format!(in alloc; "{piece} in {part}")
 }
 
@@ -43,49 +39,4 @@ fn part_around<'t>(text: &'t str, front: &str, rest: &str) -> &'t str {
 
 fn is_between_parts(c: char) -> bool {
     c == ',' || c.is_whitespace()
-}
-
-/// A piece of a text between quotes, with at most so many characters.
-fn quoted(alloc: Global, piece: &str, most: usize) -> Result<String, AllocError> {
-    let mut written = String::new(alloc);
-    written.push('\'')?;
-    for c in piece.chars().take(most) {
-        push_escaped(alloc, &mut written, c)?;
-    }
-    written.push('\'')?;
-    if piece.chars().count() > most {
-        written.push_str(" and more")?;
-    }
-    Ok(written)
-}
-
-/// Writes a character, escaped where it is a control, a mark of direction or of no width.
-fn push_escaped(alloc: Global, written: &mut String, c: char) -> Result<(), AllocError> {
-    match c {
-        '\t' => written.push_str("\\t"),
-        '\n' => written.push_str("\\n"),
-        '\r' => written.push_str("\\r"),
-        _ if is_unseen(c) => {
-            let code = u32::from(c);
-            let escape = format!(in alloc; "\\u{{{code:x}}}")?;
-            written.push_str(escape.as_str())
-        }
-        _ => written.push(c),
-    }
-}
-
-/// Whether a character is a control, a mark of direction or a character of no width.
-fn is_unseen(c: char) -> bool {
-    matches!(
-        c,
-        '\0'..='\u{1f}'
-            | '\u{7f}'..='\u{9f}'
-            | '\u{ad}'
-            | '\u{61c}'
-            | '\u{180e}'
-            | '\u{200b}'..='\u{200f}'
-            | '\u{2028}'..='\u{202e}'
-            | '\u{2060}'..='\u{206f}'
-            | '\u{feff}'
-    )
 }

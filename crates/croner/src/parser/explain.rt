@@ -8,14 +8,14 @@ ghost use Rattle.croner.specs.parser.Grammar.{Refusal};
 
 use super::CronParser;
 use super::escapes::found_at;
-use super::fault::{FaultKind, PatternFault};
+use super::fault::{Expected, FaultKind, Hint, PatternFault};
 use super::place::fault_at;
 use super::second_reading::find_fault;
 use croner_base::errors::CronError;
 use std::alloc::{AllocError, Global};
 
 impl CronParser {
-    ghost use Rattle.std.specs.Prelude.{◌≡◌, IfOk, Result};
+    ghost use Rattle.std.specs.Prelude.{◌≡◌, IfOk, IfSome, Result};
     ghost use Rattle.croner_base.specs.declared.errors.CronError.TheVariants.{OutOfMemory};
     ghost use Rattle.croner_pattern.specs.Meaning.{Meaning};
     ghost use Rattle.croner.specs.parser.Faults.{Explains, IsPlaced};
@@ -25,14 +25,15 @@ impl CronParser {
     /// Why a text is refused; nothing where [`CronParser::parse`] accepts it.
     ///
     /// The fault has the kind of `parse`'s refusal and a place in the text as it is handed in, in bytes from 0 on bounds of
-    /// characters. Where it names a field, the place is a piece of that field. The only error is `OutOfMemory`.
+    /// characters: one illegal character, a piece of a part that can't be read, or the field at which a count is wrong. It
+    /// names the field in which it lies, but for a wrong count and a text with `@`. The only error is `OutOfMemory`.
     ///
     /// ```
     /// let parser = CronParser::new();
     /// let fault = parser.explain(alloc, "0 9 * * MONDAY")?; // the letter at byte 11, in the weekday
     /// ```
     pub fn explain(&self, alloc: Global, text: &str) -> Result<Option<PatternFault>, CronError>
-        ensures { Explains (outcome self.now text.now) text.now result }
+        ensures { Explains self.now text.now result }
     {
         let refused = match self.parse_text(alloc, text) {
             Ok(_job) => return Ok(None),
@@ -41,22 +42,24 @@ impl CronParser {
         let Some(kind) = kind_of(&refused) else {
             return Err(CronError::OutOfMemory);
         };
-        let fault = self.fault_of(alloc, text, kind)?;
-        Ok(Some(fault))
+        match self.fault_of(alloc, text, kind)? {
+            Some(fault) => Ok(Some(fault)),
+            None => Err(CronError::OutOfMemory),
+        }
     }
 
-    /// The fault of a refused text, by the kind of its refusal.
+    /// The fault of a refused text, by the kind of its refusal; nothing where its place fails a test.
     fn fault_of(
         &self,
         alloc: Global,
         text: &str,
         kind: FaultKind,
-    ) -> Result<PatternFault, AllocError>
-        ensures kind { IfOk result (λ f. f.kind ≡ kind) }
-        ensures placed { IfOk result (λ f. IsPlaced text.now f) }
+    ) -> Result<Option<PatternFault>, AllocError>
+        ensures kind { IfOk result (λ o. IfSome o (λ f. f.kind ≡ kind)) }
+        ensures placed { IfOk result (λ o. IfSome o (λ f. IsPlaced self.now text.now f)) }
     {
         match find_fault(alloc, self, text, kind) {
-            Ok(found) => fault_at(alloc, text, kind, found),
+            Ok(found) => fault_at(alloc, self, text, kind, found),
             Err(_) => Err(AllocError),
         }
     }
@@ -90,9 +93,23 @@ impl CronParser {
 
     /// The message of a refused text: its fault, and what the text says there.
     fn message(&self, alloc: Global, text: &str, kind: FaultKind) -> Result<String, AllocError> {
-        let fault = self.fault_of(alloc, text, kind)?;
-        let found = found_at(alloc, text, fault.start, fault.end)?;
+        let Some(fault) = self.fault_of(alloc, text, kind)? else {
+            return Ok(String::new(alloc));
+        };
+        let (start, end) = repeated(text, &fault);
+        let found = found_at(alloc, text, start, end)?;
         format!(in alloc; "{fault} Found: {found}.")
+    }
+}
+
+/// The bytes that a message repeats: the fault's place, and of a text of too few fields the whole.
+fn repeated(text: &str, fault: &PatternFault) -> (usize, usize) {
+    match fault.expected {
+        Expected::Count {
+            hint: Hint::None,
+            ..
+        } => (0, text.len()),
+        _ => (fault.start, fault.end),
     }
 }
 

@@ -79,14 +79,26 @@ impl PatternField {
 pub enum Hint {
     /// There is nothing to add.
     None,
-    /// Six fields begin with the seconds.
+    /// Six fields begin with the second; with `0` in front of them the last is the year.
     SixFields,
-    /// The list before it ends in a comma: a space begins a new field.
+    /// Six fields begin with the second, and these settings take no year.
+    SixFieldsWithoutYear,
+    /// A space beside a comma: a space begins a new field.
     SpaceAfterComma,
-    /// Weekdays are counted as in Quartz, from 1 for Sunday.
-    QuartzWeekdays,
+    /// A space inside a range or a step: a space begins a new field.
+    SpaceInPart,
     /// A pattern ends before the command of a crontab's line.
     Command,
+    /// The sign is legal in other fields: `L`, `W`, `?`, `#` or `+`.
+    SignElsewhere { sign: char },
+    /// The minute and the hour are two fields.
+    TimeOfDay,
+    /// No quotes stand around a pattern.
+    Quotes,
+    /// No setting stands in front of a pattern.
+    Setting,
+    /// The hour of midnight is 0.
+    Midnight,
 }
 
 /// What to write in the place of a part that is refused, where there is something that says the same.
@@ -114,7 +126,7 @@ pub enum Suggestion {
     },
 }
 
-/// How the values of a suggestion are written.
+/// How the values of a field may be written.
 #[derive(Debug, Clone, Copy, PartialEq, Eq)]
 pub enum ValueNames {
     /// As numbers.
@@ -143,35 +155,43 @@ pub enum Expected {
     Settings,
     /// One of the six nicknames.
     Nickname,
+    /// The nickname `@daily`, which says the same as `@midnight`.
+    NicknameOfMidnight,
     /// One of the six nicknames; `@reboot` names no time.
     NicknameOfTime,
-    /// The pattern in fields: the nickname has too few for these settings.
+    /// A step in the place of `@every`.
+    NicknameOfInterval,
+    /// The pattern in seven fields: the nickname has too few for these settings.
     NicknameInFields {
-        seconds: Seconds,
-        year: Year,
+        pattern: &'static str,
     },
-    /// No such letter, or a name of three letters: the one that stands in front, where there is one.
+    /// No `@`: one stands in front of a nickname alone.
+    NoAtSign,
+    /// A name of three letters: the one that stands in front.
     Name {
-        name: Option<&'static str>,
-        hint: Hint,
+        name: &'static str,
     },
     /// A character that is legal in the field.
     Legal {
-        legal: &'static str,
+        field: PatternField,
+        quartz: bool,
         hint: Hint,
     },
-    /// A number of the field.
+    /// A number of the field, or a name for it.
     Number {
         least: u16,
         greatest: u16,
+        names: ValueNames,
         hint: Hint,
     },
-    /// A number of the field in front of a sign, or behind it.
+    /// A number of the field in front of a sign, or behind it, or a name for it.
     NumberBeside {
         sign: char,
         behind: bool,
         least: u16,
         greatest: u16,
+        names: ValueNames,
+        hint: Hint,
     },
     /// A range that goes up.
     Ascending {
@@ -195,6 +215,10 @@ pub enum Expected {
     Nth,
     /// `L` alone, or `LW`, in the day of month.
     LastAlone,
+    /// One weekday in front of the `L`.
+    LastBehindWeekday,
+    /// One day of the month in front of the `W`.
+    NearestBehindDay,
 }
 
 /// A fault of a text that [`CronParser::parse`](super::CronParser::parse) refuses: where it is, and what was expected there.
@@ -204,7 +228,7 @@ pub enum Expected {
 pub struct PatternFault {
     /// The kind of the refusal.
     pub kind: FaultKind,
-    /// The field in which it lies, where it lies in one.
+    /// The field in which it lies: none for an empty text, a wrong count, and a text with `@`.
     pub field: Option<PatternField>,
     /// The byte of the text at which it begins, from 0.
     pub start: usize,

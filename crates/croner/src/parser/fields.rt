@@ -9,9 +9,6 @@ ghost use Rattle.croner.specs.Views.{texts_of};
 use super::fault::PatternField;
 use std::alloc::{AllocError, Global};
 
-/// The characters of the weekday field, as messages give them.
-const WEEKDAY_CHARACTERS: &str = "digits, names and * / , - ? # L, and one + in front";
-
 /// The text of each field.
 #[derive(Clone, Copy)]
 pub struct FieldTexts<'t> {
@@ -168,17 +165,13 @@ pub fn are_legal(texts: FieldTexts<'_>) -> bool
         && all_plain(texts.years)
 }
 
-/// What is legal in a field, where a character of its text is not.
-pub fn legal_character(c: char, is_first: bool, field: PatternField) -> Option<&'static str> {
-    let (signs, legal) = match field {
-        PatternField::DayOfMonth => ("*/,-?LW", "digits and * / , - ? L W"),
-        PatternField::Month => ("*/,-", "digits, names and * / , -"),
-        PatternField::Weekday if is_first => ("*/,-?#L+", WEEKDAY_CHARACTERS),
-        PatternField::Weekday => ("*/,-?#L", WEEKDAY_CHARACTERS),
-        _ => ("*/,-", "digits and * / , -"),
+/// Whether a character is legal in a field, where it is no letter of a name.
+pub fn is_legal_in(c: char, is_first: bool, field: PatternField) -> bool {
+    let signs = match field {
+        PatternField::DayOfMonth => "*/,-?LW",
+        PatternField::Weekday if is_first => "*/,-?#L+",
+        PatternField::Weekday => "*/,-?#L",
+        _ => "*/,-",
     };
-    if c.is_ascii_digit() || signs.contains(c) {
-        return None;
-    }
-    Some(legal)
+    c.is_ascii_digit() || signs.contains(c)
 }

@@ -1,6 +1,6 @@
 //! The words of refusals: the one place where they stand.
 
-use super::fault::{Expected, Hint, PatternFault, Suggestion, ValueNames};
+use super::fault::{Expected, Hint, PatternFault, PatternField, Suggestion, ValueNames};
 use super::{Seconds, Year};
 use std::fmt;
 
@@ -26,42 +26,66 @@ impl fmt::Display for PatternFault {
 impl fmt::Display for Expected {
     fn fmt<W: fmt::Write>(&self, f: &mut fmt::Formatter<W>) -> fmt::Result {
         match self {
-            Expected::Legal { legal, hint } => write!(f, "expected {legal}.{hint}"),
-            Expected::Number {
-                least,
-                greatest,
+            Expected::Legal {
+                field,
+                quartz,
                 hint,
-            } => { write!(f, "expected a number from {least} to {greatest}.{hint}") }
+            } => {
+                let values = values_of(*field, *quartz);
+                let signs = signs_of(*field);
+                write!(f, "expected {values} and the signs {signs}.{hint}")
+            }
+            Expected::Name { name } => write!(f, "a name has three letters: write {name}."),
             Expected::Ascending { suggestion } => write!(f, "a range goes up{suggestion}."),
             Expected::OneSign { sign } => write!(f, "expected one '{sign}' in a part."),
             Expected::RangeToStep { suggestion } => write!(
                 f,
                 "expected '*' or a range before the '/'{suggestion}, or let the parser take sloppy ranges."
             ),
-            Expected::Name { name, hint } => write_name(f, *name, *hint),
-            other => other.write_rest(f),
+            other => other.write_number(f),
         }
     }
 }
 
-/// What was expected in the place of a letter.
-fn write_name<W: fmt::Write>(
-    f: &mut fmt::Formatter<W>,
-    name: Option<&'static str>,
-    hint: Hint,
-) -> fmt::Result {
-    match name {
-        Some(name) => write!(f, "a name has three letters: write {name}.{hint}"),
-        None => write!(
-            f,
-            "no name of a month or a weekday stands here, and the letter is neither L nor W.{hint}"
-        ),
-    }
-}
-
 impl Expected {
-    /// What was expected of a count or beside a sign, and the sentences to which no number belongs.
-    fn write_rest<W: fmt::Write>(&self, f: &mut fmt::Formatter<W>) -> fmt::Result {
+    /// Which number was expected, and the sentences to which none belongs.
+    fn write_number<W: fmt::Write>(&self, f: &mut fmt::Formatter<W>) -> fmt::Result {
+        match *self {
+            Expected::Number {
+                least,
+                greatest,
+                names,
+                hint,
+            } => {
+                let value = AnyValue {
+                    least,
+                    greatest,
+                    names,
+                };
+                write!(f, "expected {value}.{hint}")
+            }
+            Expected::NumberBeside {
+                sign,
+                behind,
+                least,
+                greatest,
+                names,
+                hint,
+            } => {
+                let side = if behind { "behind" } else { "in front of" };
+                let value = AnyValue {
+                    least,
+                    greatest,
+                    names,
+                };
+                write!(f, "expected {value} {side} the '{sign}'.{hint}")
+            }
+            other => other.write_count(f),
+        }
+    }
+
+    /// Which counts of fields were expected, and the other sentences.
+    fn write_count<W: fmt::Write>(&self, f: &mut fmt::Formatter<W>) -> fmt::Result {
         match self {
             Expected::Count {
                 found,
@@ -76,38 +100,14 @@ impl Expected {
                     "the pattern has {found} {fields}, but {counts} are expected.{hint}"
                 )
             }
-            Expected::NicknameInFields { seconds, year } => {
-                let counts = expected_counts(*seconds, *year);
-                write!(
-                    f,
-                    "a nickname has no year and stands for 5 fields, but {counts} are expected: write the fields."
-                )
-            }
-            Expected::NumberBeside {
-                sign,
-                behind,
-                least,
-                greatest,
-            } => {
-                let side = if *behind { "behind" } else { "in front of" };
-                write!(
-                    f,
-                    "expected a number from {least} to {greatest} {side} the '{sign}'."
-                )
-            }
+            Expected::NicknameInFields { pattern } => write!(
+                f,
+                "these settings want a year, which a nickname has not: write {pattern}."
+            ),
             other => f.write_str(other.sentence()),
         }
     }
-}
 
-/// The hint as a sentence behind another.
-impl fmt::Display for Hint {
-    fn fmt<W: fmt::Write>(&self, f: &mut fmt::Formatter<W>) -> fmt::Result {
-        f.write_str(self.words())
-    }
-}
-
-impl Expected {
     /// What was expected, where no number and no hint belongs to it.
     fn sentence(&self) -> &'static str {
         match self {
@@ -115,18 +115,35 @@ impl Expected {
                 "these settings accept no text, since they want a year and no seconds."
             }
             Expected::Nickname => NICKNAMES,
+            Expected::NicknameOfMidnight => {
+                "no such nickname, but one that says the same: write @daily."
+            }
             Expected::NicknameOfTime => {
                 "@reboot names no time: the nicknames are @yearly, @annually, @monthly, @weekly, @daily and @hourly."
+            }
+            Expected::NicknameOfInterval => {
+                "no such nickname: an interval is a step, as in */5 * * * * for each fifth minute."
+            }
+            Expected::NoAtSign => {
+                "a pattern has no '@': one stands in front of a nickname alone, as in @daily."
             }
             Expected::Step => "expected a step from 1 to 65535 behind the '/'.",
             Expected::ShorterStep => {
                 "the step is too long: the value after the last one may be at most 65535."
             }
             Expected::StarAlone => {
-                "a '*' names every value and stands alone in its field, or in front of a '/'."
+                "a '*' names every value, and stands alone in its field or in front of a '/': leave it out, or leave out the rest."
             }
             Expected::Nth => "expected a number from 1 to 5 or L behind the '#'.",
-            Expected::LastAlone => "the field takes L alone, and LW.",
+            Expected::LastAlone => {
+                "L stands alone in a part, for the last day of the month, or as LW, for the last one from Monday to Friday."
+            }
+            Expected::LastBehindWeekday => {
+                "L stands behind one weekday: 5L is the last Friday of the month."
+            }
+            Expected::NearestBehindDay => {
+                "W stands behind one day of the month: 15W is the day from Monday to Friday that is nearest to the 15th."
+            }
             _ => "expected a pattern.",
         }
     }
@@ -135,33 +152,131 @@ impl Expected {
 const NICKNAMES: &str =
     "no such nickname: they are @yearly, @annually, @monthly, @weekly, @daily and @hourly.";
 
+/// The hint as a sentence behind another, with a space in front; the empty text where there is none.
+impl fmt::Display for Hint {
+    fn fmt<W: fmt::Write>(&self, f: &mut fmt::Formatter<W>) -> fmt::Result {
+        f.write_str(self.words())
+    }
+}
+
 impl Hint {
-    /// The hint as a sentence behind another, with a space in front; the empty text where there is none.
     fn words(self) -> &'static str {
         match self {
             Hint::None => "",
-            Hint::SixFields => " Six fields begin with the seconds.",
+            Hint::SixFields => {
+                " Six fields begin with the second: where the last is a year, write 0 in front of the six."
+            }
+            Hint::SixFieldsWithoutYear => {
+                " Six fields begin with the second, and these settings take no year."
+            }
             Hint::SpaceAfterComma => {
-                " The list here or before it ends in a comma: a space behind a comma begins a new field."
+                " A space begins a new field: leave it out beside the commas of a list."
             }
-            Hint::QuartzWeekdays => " Quartz weekdays are 1 (Sunday) to 7 (Saturday).",
+            Hint::SpaceInPart => {
+                " A space begins a new field: leave it out inside a range or a step."
+            }
             Hint::Command => {
-                " If a command stands here: a pattern ends before the command of a crontab's line."
+                " If a user, a command or a comment stands here, leave it out: a pattern ends before it."
             }
+            Hint::SignElsewhere { sign } => sign_words(sign),
+            Hint::TimeOfDay => " The minute and the hour are two fields, the minute first.",
+            Hint::Quotes => " Leave out the quotes.",
+            Hint::Setting => " A setting such as TZ=UTC is no part of a pattern: leave it out.",
+            Hint::Midnight => " Midnight is 0.",
         }
     }
 }
 
-/// The counts of fields that settings accept, in words.
+/// Where a sign stands, as a sentence behind another.
+fn sign_words(sign: char) -> &'static str {
+    match sign {
+        'L' => " L stands in the day of month, and behind a weekday.",
+        'W' => " W stands in the day of month alone, behind a day or behind L.",
+        '?' => " ? stands in the day of month and in the weekday alone.",
+        '#' => " # stands in the weekday alone, behind a weekday.",
+        '+' => " + stands in the weekday alone, in front of it.",
+        _ => "",
+    }
+}
+
+/// The values of a field, in words.
+fn values_of(field: PatternField, quartz: bool) -> &'static str {
+    match field {
+        PatternField::Seconds | PatternField::Minutes => "numbers from 0 to 59",
+        PatternField::Hours => "numbers from 0 to 23",
+        PatternField::DayOfMonth => "numbers from 1 to 31",
+        PatternField::Month => "numbers from 1 to 12, names from JAN to DEC",
+        PatternField::Weekday if quartz => {
+            "numbers from 1 (Sunday) to 7 (Saturday), names from SUN to SAT"
+        }
+        PatternField::Weekday => "numbers from 0 to 7 (0 and 7 are Sunday), names from SUN to SAT",
+        PatternField::Year => "numbers from 1 to 5000",
+    }
+}
+
+/// The signs of a field, in words.
+fn signs_of(field: PatternField) -> &'static str {
+    match field {
+        PatternField::DayOfMonth => {
+            "star (*), slash (/), comma (,), dash (-), question mark (?), L (last day) and W (nearest day from Monday to Friday)"
+        }
+        PatternField::Weekday => {
+            "star (*), slash (/), comma (,), dash (-), question mark (?), number sign (#), L (last of the month) and one plus (+) in front"
+        }
+        _ => "star (*), slash (/), comma (,) and dash (-)",
+    }
+}
+
+/// The counts of fields that settings accept, with the names of the fields.
 fn expected_counts(seconds: Seconds, year: Year) -> &'static str {
     match (seconds, year) {
-        (Seconds::Optional, Year::Optional) => "5, 6 or 7",
-        (Seconds::Optional, Year::Disallowed) => "5 or 6",
-        (Seconds::Required, Year::Optional) => "6 or 7",
-        (Seconds::Required, Year::Disallowed) => "6",
+        (Seconds::Optional, Year::Optional) => {
+            "5 (minute, hour, day, month, weekday), 6 (the second in front) or 7 (and the year at the end)"
+        }
+        (Seconds::Optional, Year::Disallowed) => {
+            "5 (minute, hour, day, month, weekday) or 6 (the second in front)"
+        }
+        (Seconds::Required, Year::Optional) => {
+            "6 (second, minute, hour, day, month, weekday) or 7 (the year at the end)"
+        }
+        (Seconds::Required, Year::Disallowed) => "6 (second, minute, hour, day, month, weekday)",
         (Seconds::Disallowed, Year::Required) => "no fields",
-        (Seconds::Disallowed, Year::Optional | Year::Disallowed) => "5",
-        (Seconds::Optional | Seconds::Required, Year::Required) => "7",
+        (Seconds::Disallowed, Year::Optional | Year::Disallowed) => {
+            "5 (minute, hour, day, month, weekday)"
+        }
+        (Seconds::Optional | Seconds::Required, Year::Required) => {
+            "7 (second, minute, hour, day, month, weekday, year)"
+        }
+    }
+}
+
+/// `a number from 1 to 12 or a name from JAN to DEC`.
+#[derive(Clone, Copy)]
+struct AnyValue {
+    least: u16,
+    greatest: u16,
+    names: ValueNames,
+}
+
+impl fmt::Display for AnyValue {
+    fn fmt<W: fmt::Write>(&self, f: &mut fmt::Formatter<W>) -> fmt::Result {
+        let least = self.least;
+        let greatest = self.greatest;
+        match self.names {
+            ValueNames::Numbers => write!(f, "a number from {least} to {greatest}"),
+            ValueNames::Months => write!(
+                f,
+                "a number from {least} to {greatest} or a name from JAN to DEC"
+            ),
+            ValueNames::Weekdays => write!(
+                f,
+                "a number from {least} to {greatest} (0 and 7 are Sunday) or a name from SUN to SAT"
+            ),
+            ValueNames::QuartzWeekdays => write!(
+                f,
+                "a number from {least} (Sunday) to {greatest} (Saturday) or a name from SUN to SAT"
+            ),
+        }
     }
 }
 

@@ -29,16 +29,43 @@ impl Rules {
     /// A number of the field was expected.
     fn number(self) -> Expected {
         let (least, greatest) = self.bounds();
-        let hint = match self.hint {
-            Hint::None if self.quartz && self.field == PatternField::Weekday => {
-                Hint::QuartzWeekdays
-            }
-            hint => hint,
-        };
         Expected::Number {
             least,
             greatest,
-            hint,
+            names: self.names(),
+            hint: self.hint,
+        }
+    }
+
+    /// A number of the field was expected in the place of a part of it.
+    fn number_for(self, part: Part<'_>) -> Expected {
+        let mut rules = self;
+        if self.hint == Hint::None && self.field == PatternField::Hours && part.read == "24" {
+            rules.hint = Hint::Midnight;
+        }
+        rules.number()
+    }
+
+    /// A number of the field was expected beside a sign.
+    fn number_beside(self, sign: char, behind: bool) -> Expected {
+        let (least, greatest) = self.bounds();
+        Expected::NumberBeside {
+            sign,
+            behind,
+            least,
+            greatest,
+            names: self.names(),
+            hint: self.hint,
+        }
+    }
+
+    /// How the values of the field may be written beside numbers.
+    fn names(self) -> ValueNames {
+        match self.field {
+            PatternField::Month => ValueNames::Months,
+            PatternField::Weekday if self.quartz => ValueNames::QuartzWeekdays,
+            PatternField::Weekday => ValueNames::Weekdays,
+            _ => ValueNames::Numbers,
         }
     }
 
@@ -150,22 +177,26 @@ fn fault_of_side<'t>(
     rules: Rules,
 ) -> Option<(Piece<'t>, Expected)> {
     if side.is_empty() {
-        let (least, greatest) = rules.bounds();
-        let sign_char = if sign.text == "/" { '/' } else { '-' };
-        return Some((
-            sign,
-            Expected::NumberBeside {
-                sign: sign_char,
-                behind,
-                least,
-                greatest,
-            },
-        ));
+        return Some((sign, rules.number_beside('-', behind)));
     }
-    match side.number() {
-        Some(number) if rules.has(number) => None,
-        _ => Some((side.written, rules.number())),
+    fault_of_value(side, rules)
+}
+
+/// What should be one value of the field, and isn't.
+fn fault_of_value<'t>(value: Part<'t>, rules: Rules) -> Option<(Piece<'t>, Expected)> {
+    if let Some(number) = value.number() {
+        if rules.has(number) {
+            return None;
+        }
+        return Some((value.written, rules.number_for(value)));
     }
+    let expected = match rules.field {
+        PatternField::DayOfMonth if value.read.contains('L') => Expected::LastAlone,
+        PatternField::DayOfMonth if value.read.contains('W') => Expected::NearestBehindDay,
+        PatternField::Weekday if value.read.contains('L') => Expected::LastBehindWeekday,
+        _ => rules.number(),
+    };
+    Some((value.written, expected))
 }
 
 fn fault_of_range<'t>(
@@ -224,12 +255,7 @@ fn names_of(left: Part<'_>, right: Part<'_>, rules: Rules) -> ValueNames {
     if !is_name(left) || !is_name(right) {
         return ValueNames::Numbers;
     }
-    match rules.field {
-        PatternField::Month => ValueNames::Months,
-        PatternField::Weekday if rules.quartz => ValueNames::QuartzWeekdays,
-        PatternField::Weekday => ValueNames::Weekdays,
-        _ => ValueNames::Numbers,
-    }
+    rules.names()
 }
 
 fn is_name(part: Part<'_>) -> bool {
@@ -286,8 +312,11 @@ fn fault_of_start<'t>(
         return None;
     }
     let number = left.number();
-    if !left.is_empty() && !number.is_some_and(|n| rules.has(n)) {
-        return Some((left.written, rules.number()));
+    if !left.is_empty() {
+        let found = fault_of_value(left, rules);
+        if found.is_some() {
+            return found;
+        }
     }
     if rules.sloppy {
         return None;
@@ -313,22 +342,10 @@ fn stepped(number: Option<u16>, step: u16, rules: Rules) -> Suggestion {
 }
 
 fn fault_of_nearest<'t>(sides: Sides<'t>, rules: Rules) -> Option<(Piece<'t>, Expected)> {
-    let (least, greatest) = rules.bounds();
     if sides.left.is_empty() {
-        return Some((
-            sides.sign,
-            Expected::NumberBeside {
-                sign: 'W',
-                behind: false,
-                least,
-                greatest,
-            },
-        ));
+        return Some((sides.sign, rules.number_beside('W', false)));
     }
-    match sides.left.number() {
-        Some(number) if rules.has(number) => None,
-        _ => Some((sides.left.written, rules.number())),
-    }
+    fault_of_value(sides.left, rules)
 }
 
 fn fault_of_number<'t>(
@@ -340,10 +357,14 @@ fn fault_of_number<'t>(
         return Some((part.written, Expected::LastAlone));
     }
     if head.is_empty() {
-        return None;
+        let sides = part.split('#')?;
+        return Some((sides.sign, rules.number_beside('#', false)));
     }
-    match head.number() {
-        Some(number) if rules.has(number) => None,
-        _ => Some((head.written, rules.number())),
+    if let Some(last) = head.split('L').or(head.split('l')) {
+        if last.left.is_empty() || !last.right.is_empty() {
+            return Some((part.written, Expected::LastBehindWeekday));
+        }
+        return fault_of_value(last.left, rules);
     }
+    fault_of_value(head, rules)
 }

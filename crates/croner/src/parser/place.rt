@@ -1,72 +1,140 @@
 //! The place of a fault in a text: it is tested before a fault is made of it.
 
-ghost use Rattle.std.specs.Prelude.{◌≡◌, ◌+◌, ◌∷◌, ◌<◌, [], true, length, map, take, IfOk, slice_range, IsCharBoundary};
+ghost use Rattle.std.specs.Prelude.{◌≡◌, ◌+◌, ◌∷◌, ◌<◌, ◌≤◌, [], true, length, map, take, IfOk, IfSome, slice_range, IsCharBoundary};
 ghost use Rattle.std.specs.Str.{chars};
-ghost use Rattle.croner.specs.parser.Faults.{IsInField, IsInNamed, IsPlaced, unwritten};
+ghost use Rattle.croner.specs.parser.Faults.{IsCounted, IsInField, IsInNamed, IsLeast, IsPlaced, counted_word, is_whole, unwritten};
 ghost use Rattle.croner.specs.parser.Words.{words};
 
+use super::CronParser;
 use super::fault::{Expected, FaultKind, PatternFault, PatternField};
 use super::fields::has_byte;
 use super::text::words;
 use std::alloc::{AllocError, Global};
 
-/// What the second reading of a refused text found: the bytes from `start` to `end`, and the field in which they may lie.
+/// What the second reading of a refused text found: the bytes from `start` to `end`, and what was expected there.
 #[derive(Clone, Copy)]
 pub struct Finding {
-    pub field: Option<PatternField>,
     pub start: usize,
     pub end: usize,
     pub expected: Expected,
 }
 
-/// The fault at a place of the text. Where the place is none the fault is the whole text, and where it isn't in the field
-/// no field is named.
+/// The fault at a place of the text; nothing where the place fails a test.
 pub fn fault_at(
     alloc: Global,
+    parser: &CronParser,
     text: &str,
     kind: FaultKind,
     found: Finding,
-) -> Result<PatternFault, AllocError>
-    ensures kind { IfOk result (λ f. f.kind ≡ kind) }
-    ensures placed { IfOk result (λ f. IsPlaced text.now f) }
+) -> Result<Option<PatternFault>, AllocError>
+    ensures kind { IfOk result (λ o. IfSome o (λ f. f.kind ≡ kind)) }
+    ensures placed { IfOk result (λ o. IfSome o (λ f. IsPlaced parser.now text.now f)) }
 {
-    let expected = found.expected;
-    if !is_some_piece(text, found.start, found.end) {
-        return Ok(whole(text, kind, expected));
+    let (start, end) = (found.start, found.end);
+    if !is_piece(text, start, end) {
+        return Ok(None);
     }
-    let field = field_around(alloc, text, found)?;
-    Ok(PatternFault {
+    if !is_least(alloc, parser, text, kind, start, end)? {
+        return Ok(None);
+    }
+    let field = parser.field_at_fault(alloc, kind, text)?;
+    if !is_in_named(alloc, text, field, start, end)? {
+        return Ok(None);
+    }
+    Ok(Some(PatternFault {
         kind,
         field,
-        start: found.start,
-        end: found.end,
-        character: character_at(text, found.start),
-        expected,
-    })
+        start,
+        end,
+        character: character_at(text, start),
+        expected: found.expected,
+    }))
 }
 
-/// The fault of a whole text.
-fn whole(text: &str, kind: FaultKind, expected: Expected) -> PatternFault
-    ensures kind { result.kind ≡ kind }
-    ensures placed { IsPlaced text.now result }
+/// Whether these are bytes of whole characters, and some where there are any.
+fn is_piece(text: &str, start: usize, end: usize) -> bool
+    ensures starts { result ≡ true → IsCharBoundary text.now start }
+    ensures ends { result ≡ true → IsCharBoundary text.now end }
+    ensures order { result ≡ true → start ≤ end }
+    ensures some { result ≡ true → 0 < length text.now → start < end }
 {
-    PatternFault {
-        kind,
-        field: None,
-        start: 0,
-        end: text.len(),
-        character: 1,
-        expected,
+    if !text.is_char_boundary(start) || !text.is_char_boundary(end) {
+        return false;
+    }
+    start < end || start == end && text.is_empty()
+}
+
+/// Whether the bytes are the least piece that a fault of this kind means.
+fn is_least(
+    alloc: Global,
+    parser: &CronParser,
+    text: &str,
+    kind: FaultKind,
+    start: usize,
+    end: usize,
+) -> Result<bool, AllocError>
+    requires starts { IsCharBoundary text.now start }
+    requires ends { IsCharBoundary text.now end }
+    requires order { start ≤ end }
+    ensures { IfOk result (λ b. b ≡ true → IsLeast parser.now kind text.now start end) }
+{
+    match kind {
+        FaultKind::EmptyPattern => Ok(start == 0 && end == text.len()),
+        FaultKind::InvalidPattern => is_counted(alloc, parser, text, start, end),
+        FaultKind::IllegalCharacters => Ok(character_count(&text[start..end]) == 1),
+        FaultKind::ComponentError => Ok(!has_byte(&text[start..end], b',')),
     }
 }
 
-/// Whether these are bytes of whole characters, and some.
-fn is_some_piece(text: &str, start: usize, end: usize) -> bool
-    ensures starts { result ≡ true → IsCharBoundary text.now start }
-    ensures ends { result ≡ true → IsCharBoundary text.now end }
-    ensures some { result ≡ true → start < end }
+/// Whether the bytes are the word of a wrong count.
+fn is_counted(
+    alloc: Global,
+    parser: &CronParser,
+    text: &str,
+    start: usize,
+    end: usize,
+) -> Result<bool, AllocError>
+    requires starts { IsCharBoundary text.now start }
+    requires ends { IsCharBoundary text.now end }
+    requires order { start ≤ end }
+    ensures { IfOk result (λ b. b ≡ true → IsCounted parser.now text.now start end) }
 {
-    start < end && text.is_char_boundary(start) && text.is_char_boundary(end)
+    if is_whole(parser, text) {
+        return Ok(start == 0 && end == text.len());
+    }
+    if !is_one_word(alloc, &text[start..end])? {
+        return Ok(false);
+    }
+    let (front, _) = text.split_at(end);
+    let word = word_count(alloc, front)?;
+    let wanted = counted_word(alloc, parser, text)?;
+    Ok(word == wanted)
+}
+
+/// Whether a wrong count is a fault of the whole text.
+fn is_whole(parser: &CronParser, text: &str) -> bool
+    ensures { result ≡ is_whole parser.now text.now }
+{
+    has_byte(text, b'@') || parser.most_fields() == 0
+}
+
+/// The number of the word at which a count is wrong: the first one too many, or the last of too few.
+fn counted_word(alloc: Global, parser: &CronParser, text: &str) -> Result<usize, AllocError>
+    ensures { IfOk result (λ n. n ≡ counted_word parser.now text.now) }
+{
+    let most = parser.most_fields();
+    let count = word_count(alloc, text)?;
+    if most < count {
+        return Ok(most + 1);
+    }
+    Ok(count)
+}
+
+/// How many characters a text has.
+fn character_count(text: &str) -> usize
+    ensures { result ≡ length (chars text.now) }
+{
+    text.chars().count()
 }
 
 /// The place of the character that begins at a byte, from 1.
@@ -78,24 +146,23 @@ fn character_at(text: &str, start: usize) -> usize
     front.chars().count() + 1
 }
 
-/// The field that is named, where the place lies in it.
-fn field_around(
+/// Whether the bytes lie in the field that is named, where one is.
+fn is_in_named(
     alloc: Global,
     text: &str,
-    found: Finding,
-) -> Result<Option<PatternField>, AllocError>
-    requires starts { IsCharBoundary text.now found.start }
-    requires ends { IsCharBoundary text.now found.end }
-    requires some { found.start < found.end }
-    ensures { IfOk result (λ f. IsInNamed text.now f found.start found.end) }
+    field: Option<PatternField>,
+    start: usize,
+    end: usize,
+) -> Result<bool, AllocError>
+    requires starts { IsCharBoundary text.now start }
+    requires ends { IsCharBoundary text.now end }
+    requires order { start ≤ end }
+    ensures { IfOk result (λ b. b ≡ true → IsInNamed text.now field start end) }
 {
-    let Some(field) = found.field else {
-        return Ok(None);
-    };
-    if is_in_field(alloc, text, field, found.start, found.end)? {
-        return Ok(Some(field));
+    match field {
+        Some(field) => is_in_field(alloc, text, field, start, end),
+        None => Ok(true),
     }
-    Ok(None)
 }
 
 /// Whether the bytes are a piece of one word, which is the field's. A text with `@` may get fields that are not written in it,
@@ -109,7 +176,7 @@ fn is_in_field(
 ) -> Result<bool, AllocError>
     requires starts { IsCharBoundary text.now start }
     requires ends { IsCharBoundary text.now end }
-    requires some { start < end }
+    requires order { start ≤ end }
     ensures { IfOk result (λ b. b ≡ true → IsInField text.now field start end) }
 {
     if has_byte(text, b'@') {

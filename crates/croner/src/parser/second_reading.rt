@@ -2,11 +2,11 @@
 //! handed in, with its own letters and names.
 
 use super::fault::{Expected, FaultKind, Hint, PatternField};
-use super::fields::legal_character;
+use super::fields::is_legal_in;
 use super::part::{Part, Rules, fault_of_part};
 use super::place::Finding;
 use super::read::start_pattern;
-use super::text::{is_lost, name_at, replaced};
+use super::text::{name_at, replaced};
 use super::{CronParser, Seconds, Year};
 use croner_base::component::CronComponent;
 use croner_base::errors::CronError;
@@ -33,9 +33,8 @@ impl<'t> Piece<'t> {
     }
 
     /// This place, for a fault.
-    pub fn found(self, field: Option<PatternField>, expected: Expected) -> Finding {
+    pub fn found(self, expected: Expected) -> Finding {
         Finding {
-            field,
             start: self.start,
             end: self.end(),
             expected,
@@ -46,7 +45,7 @@ impl<'t> Piece<'t> {
 /// The whole text, for a fault.
 fn whole(text: &str, expected: Expected) -> Finding {
     let piece = Piece { text, start: 0 };
-    piece.found(None, expected)
+    piece.found(expected)
 }
 
 /// Where the fault of a refused text is, by the kind of the refusal.
@@ -61,7 +60,7 @@ pub fn find_fault(
     let found = match kind {
         FaultKind::EmptyPattern => None,
         FaultKind::InvalidPattern => Some(wrong_count(parser, text, words)),
-        FaultKind::IllegalCharacters => illegal_character(alloc, words)?,
+        FaultKind::IllegalCharacters => illegal_character(alloc, parser, text, words)?,
         FaultKind::ComponentError => refused_part(alloc, parser, words)?,
     };
     match found {
@@ -105,13 +104,8 @@ fn wrong_count(parser: &CronParser, text: &str, words: &[Piece<'_>]) -> Finding 
         return whole(text, Expected::Settings);
     };
     let found = words.len();
-    if let [first, ..] = words {
-        if first.text.starts_with('@') {
-            return whole(text, nickname_fault(first.text, found, seconds, year));
-        }
-    }
     let (word, hint) = match words.get(most) {
-        Some(word) => (Some(word), Hint::Command),
+        Some(word) => (Some(word), hint_of_many(words, most)),
         None => (words.last(), Hint::None),
     };
     let expected = Expected::Count {
@@ -121,29 +115,66 @@ fn wrong_count(parser: &CronParser, text: &str, words: &[Piece<'_>]) -> Finding 
         hint,
     };
     match word {
-        Some(word) => word.found(None, expected),
-        None => whole(text, expected),
+        Some(word) if !text.contains('@') => word.found(expected),
+        _ => whole(text, nickname_fault(words, expected, year)),
     }
 }
 
-/// Why a text that begins with `@` is refused for its count.
-fn nickname_fault(first: &str, found: usize, seconds: Seconds, year: Year) -> Expected {
-    if found == 1 && is_nickname(first) {
-        return Expected::NicknameInFields { seconds, year };
+/// Why there may be too many fields: a space beside a sign, or a command behind the pattern.
+fn hint_of_many(words: &[Piece<'_>], most: usize) -> Hint {
+    for word in words.iter().take(most) {
+        if word.text.ends_with(',') || word.text.starts_with(',') {
+            return Hint::SpaceAfterComma;
+        }
+        if word.text == "-" || word.text == "/" {
+            return Hint::SpaceInPart;
+        }
+    }
+    Hint::Command
+}
+
+/// Why a text with `@` is refused for its count.
+fn nickname_fault(words: &[Piece<'_>], count: Expected, year: Year) -> Expected {
+    let found = words.len();
+    let first = match words {
+        [first, ..] if first.text.starts_with('@') => first.text,
+        _ => return count,
+    };
+    if found == 1 && year == Year::Required {
+        if let Some(pattern) = nickname_in_fields(first) {
+            return Expected::NicknameInFields { pattern };
+        }
+    }
+    if found == 1 && first.eq_ignore_ascii_case("@midnight") {
+        return Expected::NicknameOfMidnight;
     }
     if first.eq_ignore_ascii_case("@reboot") {
         return Expected::NicknameOfTime;
     }
+    if first.eq_ignore_ascii_case("@every") {
+        return Expected::NicknameOfInterval;
+    }
     Expected::Nickname
 }
 
-fn is_nickname(word: &str) -> bool {
-    word.eq_ignore_ascii_case("@yearly")
-        || word.eq_ignore_ascii_case("@annually")
-        || word.eq_ignore_ascii_case("@monthly")
-        || word.eq_ignore_ascii_case("@weekly")
-        || word.eq_ignore_ascii_case("@daily")
-        || word.eq_ignore_ascii_case("@hourly")
+/// The seven fields of a nickname, and of `@midnight`, which is none here.
+fn nickname_in_fields(word: &str) -> Option<&'static str> {
+    if word.eq_ignore_ascii_case("@yearly") || word.eq_ignore_ascii_case("@annually") {
+        return Some("0 0 0 1 1 * *");
+    }
+    if word.eq_ignore_ascii_case("@monthly") {
+        return Some("0 0 0 1 * * *");
+    }
+    if word.eq_ignore_ascii_case("@weekly") {
+        return Some("0 0 0 * * SUN *");
+    }
+    if word.eq_ignore_ascii_case("@daily") || word.eq_ignore_ascii_case("@midnight") {
+        return Some("0 0 0 * * * *");
+    }
+    if word.eq_ignore_ascii_case("@hourly") {
+        return Some("0 0 * * * * *");
+    }
+    None
 }
 
 // ---- characters
@@ -156,21 +187,95 @@ fn field_of(place: usize, count: usize) -> PatternField {
     PatternField::at(place)
 }
 
-/// The first character that is not legal in its field.
-fn illegal_character(alloc: Global, words: &[Piece<'_>]) -> Result<Option<Finding>, AllocError> {
+/// The first character that is not legal in its field, or the `@` of a text with one: it may get fields that are not written.
+fn illegal_character(
+    alloc: Global,
+    parser: &CronParser,
+    text: &str,
+    words: &[Piece<'_>],
+) -> Result<Option<Finding>, AllocError> {
+    if let Some(start) = text.find('@') {
+        return Ok(Some(at_sign(start)));
+    }
     for (place, word) in words.iter().enumerate() {
         let field = field_of(place, words.len());
-        let hint = if place < LEAST_FIELDS {
-            Hint::None
-        } else {
-            Hint::Command
-        };
-        let found = illegal_in_word(alloc, *word, field, hint)?;
-        if found.is_some() {
-            return Ok(found);
+        let found = illegal_in_word(alloc, *word, field)?;
+        if let Some(illegal) = found {
+            let hint = if place >= LEAST_FIELDS && illegal.c != '?' {
+                Hint::Command
+            } else if place == 0 && word.text.contains('=') {
+                Hint::Setting
+            } else if illegal.is_in_word {
+                Hint::None
+            } else {
+                hint_of_character(illegal.c)
+            };
+            return Ok(Some(illegal.found(field, parser.alternative_weekdays, hint)));
         }
     }
     Ok(None)
+}
+
+fn at_sign(start: usize) -> Finding {
+    Finding {
+        start,
+        end: start.saturating_add(1),
+        expected: Expected::NoAtSign,
+    }
+}
+
+/// Why such a character may stand where it is not legal.
+fn hint_of_character(c: char) -> Hint {
+    match c {
+        'L' | 'W' | '?' | '#' | '+' => Hint::SignElsewhere { sign: c },
+        ':' => Hint::TimeOfDay,
+        '"' | '\'' | '`' => Hint::Quotes,
+        _ => Hint::None,
+    }
+}
+
+/// A character that is not legal in its field, in capitals, the name that stands right in front of it, and whether a letter
+/// stands beside it.
+#[derive(Clone, Copy)]
+struct Illegal {
+    c: char,
+    start: usize,
+    name: Option<&'static str>,
+    is_in_word: bool,
+}
+
+impl Illegal {
+    fn found(self, field: PatternField, quartz: bool, hint: Hint) -> Finding {
+        let expected = match self.name {
+            Some(name) if self.c.is_ascii_uppercase() && is_name_of(name, field) => {
+                Expected::Name { name }
+            }
+            _ => Expected::Legal {
+                field,
+                quartz,
+                hint,
+            },
+        };
+        Finding {
+            start: self.start,
+            end: self.start.saturating_add(self.c.len_utf8()),
+            expected,
+        }
+    }
+}
+
+fn is_letter(c: char) -> bool {
+    c.is_ascii_alphabetic()
+}
+
+/// Whether a name is one of the field's values.
+fn is_name_of(name: &str, field: PatternField) -> bool {
+    let is_weekday = matches!(name, "SUN" | "MON" | "TUE" | "WED" | "THU" | "FRI" | "SAT");
+    match field {
+        PatternField::Month => !is_weekday,
+        PatternField::Weekday => is_weekday,
+        _ => false,
+    }
 }
 
 /// The first character of a word that is in no name and not legal in the field.
@@ -178,8 +283,7 @@ fn illegal_in_word(
     alloc: Global,
     word: Piece<'_>,
     field: PatternField,
-    hint: Hint,
-) -> Result<Option<Finding>, AllocError> {
+) -> Result<Option<Illegal>, AllocError> {
     let raised = word.text.to_ascii_uppercase(alloc)?;
     let raised = raised.as_str();
     let mut behind_name = 0;
@@ -193,32 +297,20 @@ fn illegal_in_word(
             behind_name = at.saturating_add(found.len());
             continue;
         }
-        if let Some(expected) = refused_character(c, at, field, hint) {
+        if !is_legal_in(c, at == 0, field) {
             let start = word.start.saturating_add(at);
-            let expected = match expected {
-                Expected::Name { hint, .. } if name.is_some() && at == behind_name => {
-                    Expected::Name { name, hint }
-                }
-                other => other,
-            };
-            return Ok(Some(Finding {
-                field: Some(field),
+            let name = if at == behind_name { name } else { None };
+            let rest = raised.get(at.saturating_add(c.len_utf8())..).unwrap_or("");
+            let is_in_word = name.is_some() || rest.starts_with(is_letter);
+            return Ok(Some(Illegal {
+                c,
                 start,
-                end: start.saturating_add(c.len_utf8()),
-                expected,
+                name,
+                is_in_word,
             }));
         }
     }
     Ok(None)
-}
-
-/// What was expected in the place of a character that is not legal in a field.
-fn refused_character(c: char, at: usize, field: PatternField, hint: Hint) -> Option<Expected> {
-    if is_lost(c) {
-        return Some(Expected::Name { name: None, hint });
-    }
-    let legal = legal_character(c, at == 0, field)?;
-    Some(Expected::Legal { legal, hint })
 }
 
 // ---- parts
@@ -230,14 +322,13 @@ fn refused_part(
     words: &[Piece<'_>],
 ) -> Result<Option<Finding>, CronError> {
     let mut pattern = start_pattern(alloc, "", parser.alternative_weekdays)?;
-    let mut comma = false;
     for (place, word) in words.iter().enumerate() {
         let field = field_of(place, words.len());
         let rules = Rules {
             field,
             quartz: parser.alternative_weekdays,
             sloppy: parser.sloppy_ranges,
-            hint: hint_of(field, words.len(), comma || word.text.ends_with(',')),
+            hint: hint_of(parser.year, field, words, place),
         };
         let component = component_of(&mut pattern, field);
         component.set_sloppy_ranges(parser.sloppy_ranges);
@@ -245,19 +336,62 @@ fn refused_part(
         if found.is_some() {
             return Ok(found);
         }
-        comma = word.text.ends_with(',');
     }
     Ok(None)
 }
 
-fn hint_of(field: PatternField, count: usize, comma: bool) -> Hint {
-    if comma {
+/// Why a refused part may stand in the word at a place: a space beside a sign, or six fields that end in a year.
+fn hint_of(year: Year, field: PatternField, words: &[Piece<'_>], place: usize) -> Hint {
+    let before = match place.checked_sub(1) {
+        Some(before) => text_at(words, before),
+        None => "",
+    };
+    let word = text_at(words, place);
+    let behind = text_at(words, place.saturating_add(1));
+    if before.ends_with(',') || word.ends_with(',') || word.starts_with(',') {
         return Hint::SpaceAfterComma;
     }
-    if field == PatternField::Weekday && count == WORDS_WITH_SECONDS {
-        return Hint::SixFields;
+    if goes_on(before, word) || goes_on(word, behind) {
+        return Hint::SpaceInPart;
     }
-    Hint::None
+    if words.len() != WORDS_WITH_SECONDS {
+        return Hint::None;
+    }
+    if field != PatternField::Weekday && !words.last().is_some_and(|last| is_year(last.text)) {
+        return Hint::None;
+    }
+    if year == Year::Disallowed {
+        return Hint::SixFieldsWithoutYear;
+    }
+    Hint::SixFields
+}
+
+fn text_at<'t>(words: &[Piece<'t>], place: usize) -> &'t str {
+    match words.get(place) {
+        Some(word) => word.text,
+        None => "",
+    }
+}
+
+/// Whether a range or a step may go on from one word to the next: a number, a dash or a slash, and a number.
+fn goes_on(word: &str, next: &str) -> bool {
+    if word.ends_with(is_range_sign) {
+        return next.starts_with(is_digit);
+    }
+    next.starts_with(is_range_sign) && word.ends_with(is_digit)
+}
+
+fn is_range_sign(c: char) -> bool {
+    c == '-' || c == '/'
+}
+
+fn is_digit(c: char) -> bool {
+    c.is_ascii_digit()
+}
+
+/// Whether a word is a number of four digits.
+fn is_year(word: &str) -> bool {
+    word.len() == 4 && word.as_bytes().iter().all(|b| b.is_ascii_digit())
 }
 
 fn component_of(pattern: &mut CronPattern, field: PatternField) -> &mut CronComponent {
@@ -363,5 +497,5 @@ fn found_in_part(
         read: read.as_str(),
     };
     let (place, expected) = fault_of_part(whole, rules);
-    Ok(Some(place.found(Some(rules.field), expected)))
+    Ok(Some(place.found(expected)))
 }
