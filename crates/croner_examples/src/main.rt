@@ -1,24 +1,44 @@
-//! Programs over `croner` that a reader can copy: a scheduler's job in a struct of its own, jobs of patterns that no parser made,
-//! and a job on the clock of a real zone.
+//! Programs over `croner` that a reader can copy. README.md and docs/GUIDE.md show them, line by line.
 #![tactic(auto)]
 
+mod guide;
 mod many_jobs;
+mod named_job;
+mod next_run;
 mod own_pattern;
-mod scheduler;
+mod wake_ups;
 mod zones;
 
 use croner::{Cron, CronPattern};
 use jiff::Timestamp;
 use jiff::civil::DateTime;
-use jiff::tz::TimeZone;
+use jiff::tz::TimeZoneDatabase;
 use many_jobs::{Change, Scheduler};
-use scheduler::Job;
+use named_job::Job;
 
-// The next run of a job in a struct of its own.
-fn show_report(rt: &HostRuntime, now: &DateTime) -> anyhow::Result<()> {
-    let report = Job::read(rt.alloc(), "report", "0 9 1 * MON")?;
-    let next = report.next_after(now)?;
-    println!(rt; "{}: {next}", report.name())?; // report: 2024-07-01T09:00:00
+// The next run of a job in a named zone, and the runs of a day on which that clock goes back from 3 to 2.
+fn show_in_paris(rt: &HostRuntime) -> anyhow::Result<()> {
+    let zones = TimeZoneDatabase::from_dir(rt, "zones")?;
+    let now = Timestamp::new(1_729_980_000, 0)?; // 2024-10-27T00:00:00 there
+    next_run::show_next(rt, &zones, now)?;
+    let name = String::from_str(rt.alloc(), "sample")?;
+    let cron = Cron::from_str(rt.alloc(), "*/30 2 * * *")?;
+    let day = now.to_zoned(zones.get("Europe/Paris")?);
+    named_job::show_day(rt, &Job { name, cron }, &day)?;
+    show_in_table(rt, &zones, now)
+}
+
+// The next run by the table of a zone.
+fn show_in_table(
+    rt: &HostRuntime,
+    database: &TimeZoneDatabase,
+    now: Timestamp,
+) -> anyhow::Result<()> {
+    let cron = Cron::from_str(rt.alloc(), "30 2 * * *")?;
+    let run = zones::next_in_zone(rt.alloc(), &cron, &database.get("Europe/Paris")?, now)?;
+    println!(rt; "in Paris: {run}")?; // in Paris: 2024-10-27T00:30:00Z
+    let run = zones::next_in_named_zone(rt, &cron, "UTC", now)?;
+    println!(rt; "in UTC: {run}")?; // in UTC: 2024-10-27T02:30:00Z
     Ok(())
 }
 
@@ -37,18 +57,6 @@ fn show_own(rt: &HostRuntime) -> anyhow::Result<()> {
     let pattern = CronPattern::new(rt.alloc(), "by hand")?;
     let is_job = own_pattern::job_of(pattern).is_some();
     println!(rt; "by hand: {is_job}")?; // by hand: true
-    Ok(())
-}
-
-// The next run on the clock of a zone, where that clock goes back from 3 to 2.
-fn show_in_zone(rt: &HostRuntime) -> anyhow::Result<()> {
-    let paris = TimeZone::posix("CET-1CEST,M3.5.0,M10.5.0/3")?;
-    let cron = Cron::from_str(rt.alloc(), "30 2 * * *")?;
-    let now = Timestamp::new(1_729_980_000, 0)?; // 2024-10-27T00:00:00 there
-    let run = zones::next_in_zone(rt.alloc(), &cron, &paris, now)?;
-    println!(rt; "in Paris: {run}")?; // in Paris: 2024-10-27T00:30:00Z
-    let run = zones::next_in_named_zone(rt, &cron, "UTC", now)?;
-    println!(rt; "in UTC: {run}")?; // in UTC: 2024-10-27T02:30:00Z
     Ok(())
 }
 
@@ -74,11 +82,24 @@ fn show_many(rt: &HostRuntime) -> anyhow::Result<()> {
     Scheduler::new(rt.alloc(), saturday).run(rt, changes)
 }
 
+// The snippets of the guide.
+fn show_guide(rt: &HostRuntime) -> anyhow::Result<()> {
+    let first = DateTime::new(2024, 7, 1, 0, 0, 0, 0)?;
+    let last = DateTime::new(2024, 7, 31, 23, 59, 59, 0)?;
+    let cron = guide::read_quartz(rt.alloc(), "0 0 9 ? * 2")?;
+    let runs = guide::runs_between(rt.alloc(), &cron, first, last)?;
+    println!(rt; "{} in July", runs.len())?;
+    println!(rt; "{:?}", guide::last_run(&cron, &last)?)?;
+    guide::show_texts(rt, &Cron::from_str(rt.alloc(), "5 9 * * MON")?)?;
+    guide::show_fault(rt, "0 0 * * FRI-MON")
+}
+
 fn main(rt: HostRuntime) -> anyhow::Result<()> {
     let now = DateTime::new(2024, 6, 28, 12, 0, 0, 0)?; // a Friday
-    show_report(&rt, &now)?;
+    show_in_paris(&rt)?;
     show_changed(&rt, &now)?;
     show_own(&rt)?;
-    show_in_zone(&rt)?;
-    show_many(&rt)
+    show_many(&rt)?;
+    show_guide(&rt)?;
+    wake_ups::main(rt)
 }

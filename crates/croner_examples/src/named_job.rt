@@ -1,0 +1,30 @@
+//! A job with a name, and its runs of a day.
+use croner::{Cron, Direction};
+use jiff::tz::TimeZoneDatabase;
+use jiff::{Timestamp, Zoned};
+
+#[derive(Debug, Drop)]
+pub struct Job {
+    pub name: String,
+    pub cron: Cron,
+}
+
+/// Prints the runs of a job on the day of a time, 100 at most.
+pub fn show_day(rt: &HostRuntime, job: &Job, time: &Zoned<'_>) -> anyhow::Result<()> {
+    let midnight = time.start_of_day()?;
+    for run in job.cron.iter_from(midnight, Direction::Forward)?.take(100) {
+        if run.date() != time.date() {
+            break;
+        }
+        println!(rt; "{}: {run}", job.name)?;
+    }
+    Ok(())
+}
+
+pub fn main(rt: HostRuntime) -> anyhow::Result<()> {
+    let zones = TimeZoneDatabase::from_env(&rt)?;
+    let day = Timestamp::new(1_729_980_000, 0)?.to_zoned(zones.get("Europe/Paris")?); // 2024-10-27
+    let name = String::from_str(rt.alloc(), "sample")?;
+    let cron = Cron::from_str(rt.alloc(), "*/30 2 * * *")?;
+    show_day(&rt, &Job { name, cron }, &day)
+}
