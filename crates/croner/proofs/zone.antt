@@ -2,6 +2,7 @@
 pub mod Ahead
 pub mod CalmZone
 pub mod Covered
+pub mod Edges
 pub mod ErrorsKept
 pub mod FirstInstants
 pub mod GapSides

@@ -1,6 +1,6 @@
 -- What a pattern is asked of its fields, in which order, and where a field of another shape refuses. The values are those
 -- of the schedule: only which questions are asked is said here.
-use Rattle.std.specs.Prelude.{ℕ, ◌+◌, ◌*◌, ◌-◌, ◌%◌, Bool, true, false, ◌&&◌, ◌||◌, ◌≡◌, ◌≤◌, nat_lt, nat_le, List, [], ◌∷◌, map, Option, Some, None, is_some, if◌then◌else◌}
+use Rattle.std.specs.Prelude.{ℕ, pos, ◌+◌, ◌*◌, ◌-◌, ◌%◌, Bool, true, false, ◌&&◌, ◌||◌, ◌≡◌, nat_lt, nat_le, List, [], ◌∷◌, map, Option, Some, None, is_some, if◌then◌else◌}
 use Rattle.std.specs.List.{list_all}
 use Rattle.croner_base.specs.declared.time.Direction.{Direction}
 use Rattle.croner_base.specs.declared.time.Direction.TheVariants.{Forward, Backward}
@@ -9,6 +9,7 @@ use Rattle.croner_base.specs.declared.time.TimeComponent.TheVariants.{Second, Mi
 use Rattle.croner_base.specs.Field.{Field, can_ask, is_marked, values_between}
 use Rattle.croner_pattern.specs.Days.{days_of, weekday_of, occurrence, is_last_weekday, is_last_day, is_last_working, is_nearest}
 use Rattle.croner_pattern.specs.Meaning.{Meaning}
+use Rattle.croner_pattern.specs.NextSecond.{FindsNearest}
 use Rattle.croner_pattern.specs.Schedule.{is_plain, names_last_day, names_last_working_day, bit_of_nth, are_joined}
 
 -- whether the value is marked with one of the bits, where the field can be asked
@@ -81,21 +82,9 @@ date_answer m len first day =
 abbrev pub are_answered : Meaning → ℕ → ℕ → Bool
 are_answered m len first = list_all (λ day. is_some (date_answer m len first day)) (days_of len)
 
--- a value lies at or ahead of another in the direction of a search
-abbrev pub IsAhead : Direction → ℕ → ℕ → Type 0
-IsAhead Forward from value = from ≤ value
-IsAhead Backward from value = value ≤ from
-
--- the value is the first plain one in the direction
-pub record IsFirstMember (direction : Direction) (f : Field) (from found : ℕ) : Type 0 where
-  pub ahead : IsAhead direction from found
-  pub plain : is_plain f found ≡ true
-  pub nearest : (value : ℕ) → IsAhead direction from value → is_plain f value ≡ true → IsAhead direction found value
-
 -- the least plain value from the given one on, or the greatest up to it; none where no plain value lies there
 abbrev pub IsNearestMember : Direction → Field → ℕ → Option ℕ → Type 0
-IsNearestMember direction f from None = (value : ℕ) → IsAhead direction from value → is_plain f value ≡ false
-IsNearestMember direction f from (Some found) = IsFirstMember direction f from found
+IsNearestMember direction f from found = FindsNearest pos (λ value. is_plain f value ≡ true) direction (pos from) found
 
 -- the fields that are searched: seconds, minutes and hours
 abbrev pub clock_field : Meaning → TimeComponent → Option Field

@@ -181,8 +181,7 @@ module _ (m : Meaning) where
     ]
 
 reaches_prop : (direction : Direction) (a b : ℤ) → IsProp (Reaches direction a b)
-reaches_prop Forward a b = hlevel props
-reaches_prop Backward a b = hlevel props
+reaches_prop direction a b = hlevel props
 
 -- what is kept of a job
 pub found_known : (direction : Direction) (inclusive : Bool) (m : Meaning) (start found : Moment) → has_field_shapes m ≡ true → ∥ IsFound direction inclusive (timetable_of m) start found ∥₁

@@ -13,7 +13,6 @@ use Rattle.std.specs.declared.cmp.Ordering.TheVariants.{Less, Equal, Greater}
 use Rattle.croner_base.specs.declared.errors.CronError.{CronError}
 use Rattle.croner_base.specs.declared.errors.CronError.TheVariants.{TimeSearchLimitExceeded, OutOfMemory}
 use Rattle.croner_base.specs.declared.time.Direction.{Direction}
-use Rattle.croner_base.specs.declared.time.Direction.TheVariants.{Forward, Backward}
 use Rattle.croner_base.specs.Calm.{IsCalm}
 use Rattle.croner_base.specs.Zone.{Zone, Moment, reading, nanos_of}
 use Rattle.croner_pattern.specs.Meaning.{Meaning}
@@ -30,7 +29,7 @@ use Rattle.croner.specs.Private.crontable.Room.{IsRefusedInRoom}
 use Rattle.croner.proofs.zone.Ahead.{reaches-trans, precedes-reaches, not_both, either}
 use Rattle.croner.proofs.iterator.Listings.{is_run}
 use Rattle.croner.proofs.iterator.ThereAndBack.{searchable_run}
-use Rattle.croner.proofs.zone.SearchLimit.{calm_start}
+use Rattle.croner.proofs.zone.SearchLimit.{along-nanos, calm_start}
 
 none_is_some : {A : Type 0} (x : A) → None ≡ Some x → ⊥
 none_is_some x e = absurd (cc)
@@ -72,8 +71,7 @@ one_nanos : (a b : Moment) → a.fraction ≡ 0 → b.fraction ≡ 0 → nanos_o
 one_nanos a b f g e = omega (arith, ints)
 
 pub order_nanos : (direction : Direction) (a b : Moment) → a.fraction ≡ 0 → b.fraction ≡ 0 → Precedes direction (nanos_of a) (nanos_of b) → Precedes direction a.instant b.instant
-order_nanos Forward a b f g lt = omega (arith, ints)
-order_nanos Backward a b f g lt = omega (arith, ints)
+order_nanos direction a b f g lt = omega (arith, ints, along-nanos direction a f, along-nanos direction b g)
 
 -- the limit, with what it says
 table_limit : (lack : Bool) (direction : Direction) (inclusive : Bool) (patterns : List Meaning) (start : Moment) → (StartsCalm start → NoneInSpanWhere direction start.zone.reads (TableCounts direction inclusive patterns start.zone start.instant))

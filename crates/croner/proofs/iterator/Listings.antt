@@ -11,7 +11,7 @@ use Rattle.croner_pattern.specs.Meaning.{Meaning}
 use Rattle.croner.specs.iterator.Listing.{Begins, BeginsWhere, Standing, IsLeft, moved, new_standing}
 pub use Rattle.croner.proofs.zone.RunsOfSeconds.{is_run}
 use Rattle.croner.proofs.zone.RunsOfSeconds.{counts_reaches}
-use Rattle.croner.proofs.zone.Ahead.{not_both, same_or_ahead, reaches-precedes}
+use Rattle.croner.proofs.zone.Ahead.{opposite, not_both, same_or_ahead, reaches-precedes}
 use Rattle.croner_base.specs.declared.time.Direction.{Direction}
 use Rattle.croner_base.specs.declared.time.Direction.TheVariants.{Forward, Backward}
 
@@ -103,12 +103,12 @@ is_next direction inclusive job s t near = record {
 -- back from the next run: the run itself
 pub there_and_back : (job : Job) (r n b : ℤ) → Run job r → Nearest Forward false job r n → Nearest Backward false job n b → b ≡ r
 there_and_back job r n b run next back =
-    let le = back.nearest r (inl (past_start Forward job r n next.counts, run)) in
+    let le = back.nearest r (inl (opposite Forward r n (past_start Forward job r n next.counts), run)) in
     elim (same_or_ahead Backward b r le) [
       | inl e ↦ e
       | inr between ↦
-          let on = next.nearest b (inl (between, is_run Backward false job n b back.counts)) in
-          absurd (not_both Forward b n (past_start Backward job n b back.counts) on)
+          let on = next.nearest b (inl (opposite Backward b r between, is_run Backward false job n b back.counts)) in
+          absurd (not_both Forward b n (opposite Backward n b (past_start Backward job n b back.counts)) on)
     ]
 
 -- ---- taken up at an item

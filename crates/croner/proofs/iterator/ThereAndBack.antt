@@ -19,6 +19,7 @@ use Rattle.croner.specs.search.PatternJob.{timetable_of, pattern_job}
 use Rattle.croner.specs.search.Premises.{IsSearchable, StartsCalm}
 use Rattle.croner.specs.search.Runs.{Run, Nearest}
 use Rattle.croner.specs.search.Searches.{IsFound, IsRefused, IsReturnable}
+use Rattle.croner.proofs.zone.Ahead.{opposite}
 use Rattle.croner.proofs.zone.CalmZone.{calm_of}
 use Rattle.croner.proofs.zone.HeldRuns.{holds_from}
 use Rattle.croner.proofs.iterator.Listings.{is_run, there_and_back}
@@ -45,7 +46,7 @@ stays_late z calm i j low le =
 in_span : (m : Meaning) (start : Moment) → IsReturnable m start → InSpan Backward start.zone.reads start.instant
 in_span m start r j le =
     let low : (year_2 +ℤ pos fold_limit) ≤ℤ start.zone.reads start.instant = subst (λ (w : ℤ). (year_2 +ℤ pos fold_limit) ≤ℤ w) r.from.shows (late r.from.shown r.from.from) in
-    stays_late start.zone r.calm.calm start.instant j low le
+    stays_late start.zone r.calm.calm start.instant j low (omega (arith, ints))
 
 -- what a search finds is searched from as well
 pub searchable_run : (m : Meaning) (start found : Moment) → IsSearchable start → found.zone ≡ start.zone → found.fraction ≡ 0
@@ -84,7 +85,7 @@ module _ (m : Meaning) (start next : Moment) (r : IsReturnable m start) (there :
   none_left none =
       let P : Zone → Type 0 = λ z. NoneInSpan Backward false (pattern_job m z) next.instant in
       elim near.counts [
-        | inl (past, run) ↦ subst P there.zone none start.instant (in_span m start r) (inl (past, r.run))
+        | inl (past, run) ↦ subst P there.zone none start.instant (in_span m start r) (inl (opposite Forward start.instant next.instant past, r.run))
         | inr (is, e, own) ↦ absurd (false≢true is)
       ]
 

@@ -64,7 +64,7 @@ first_ordered reads w v i j h a b =
 
 pub firsts_in_order : (direction : Direction) (reads : ℤ → ℤ) (w v i j : ℤ) → Reaches direction w v → First reads w i → First reads v j → Reaches direction i j
 firsts_in_order Forward reads w v i j h a b = first_ordered reads w v i j h a b
-firsts_in_order Backward reads w v i j h a b = first_ordered reads v w j i h b a
+firsts_in_order Backward reads w v i j h a b = let below = first_ordered reads v w j i (omega (arith, ints)) b a in omega (arith, ints)
 
 -- wall seconds that nothing reads have the first instant of the next that is read
 pub first_over_gap : (reads : ℤ → ℤ) (w v t : ℤ) → w ≤ℤ v → First reads v t → ((u : ℤ) → w ≤ℤ u → u <ℤ v → (j : ℤ) → reads j ≡ u → ⊥) → First reads w t
@@ -84,12 +84,12 @@ first_over_gap reads w v t h a unread =
 pub twin_behind : (direction : Direction) (reads : ℤ → ℤ) → Calm reads → (i j : ℤ) → Precedes direction i j → Reaches direction (reads j) (reads i) → (x : ℤ) × Reaches direction x i × Reaches direction i (offset_from direction x fold_limit) × (reads x ≡ reads j)
 twin_behind Forward reads calm i j h le = earlier_twin reads calm i j h le
 twin_behind Backward reads calm i j h le =
-    let (x, on, near, same) = later_twin reads calm j i h le in
-    (x, on, omega (arith, ints), same)
+    let (x, on, near, same) = later_twin reads calm j i (omega (arith, ints)) (omega (arith, ints)) in
+    (x, omega (arith, ints), omega (arith, ints), same)
 
 pub twin_ahead : (direction : Direction) (reads : ℤ → ℤ) → Calm reads → (i j : ℤ) → Precedes direction i j → Reaches direction (reads j) (reads i) → (x : ℤ) × Reaches direction j x × (reads x ≡ reads i)
 twin_ahead Forward reads calm i j h le = let (x, on, near, same) = later_twin reads calm i j h le in (x, on, same)
-twin_ahead Backward reads calm i j h le = let (x, on, near, same) = earlier_twin reads calm j i h le in (x, on, same)
+twin_ahead Backward reads calm i j h le = let (x, on, near, same) = earlier_twin reads calm j i (omega (arith, ints)) (omega (arith, ints)) in (x, omega (arith, ints), same)
 
 -- where nothing ahead reads what s reads, what lies ahead reads more than s
 pub reads_on : (direction : Direction) (reads : ℤ → ℤ) → Calm reads → (s i : ℤ) → (HasTwin direction reads s → ⊥) → Precedes direction s i → Precedes direction (reads s) (reads i)
@@ -104,7 +104,7 @@ reads_on direction reads calm s i none past =
 -- the clock is not put back from x to s, and again from j to t, so near to each other
 not_twice : (direction : Direction) (reads : ℤ → ℤ) → Calm reads → (x s j t : ℤ) → Precedes direction x s → Reaches direction (reads s) (reads x) → Reaches direction s j → Precedes direction j t → Reaches direction (reads t) (reads j) → Reaches direction j (offset_from direction x fold_limit) → ⊥
 not_twice Forward reads calm x s j t a b c d e near = put_back_once reads calm x s j t a b c d e (omega (arith, ints))
-not_twice Backward reads calm x s j t a b c d e near = put_back_once reads calm t j s x d e c a b (omega (arith, ints))
+not_twice Backward reads calm x s j t a b c d e near = put_back_once reads calm t j s x (omega (arith, ints)) (omega (arith, ints)) (omega (arith, ints)) (omega (arith, ints)) (omega (arith, ints)) (omega (arith, ints))
 
 module _ (direction : Direction) (reads : ℤ → ℤ) (calm : Calm reads) where
   -- what a walk meets is never behind, where it is the last in the direction that reads the second

@@ -16,9 +16,11 @@ use Rattle.croner.specs.Private.search.Held.{HoldsYears, IsBackendError}
 use Rattle.croner.specs.search.Limit.{IsWithin}
 use Rattle.croner.specs.search.Runs.{Precedes}
 use Rattle.croner.specs.declared.search.gap.Around.{Around}
-use Rattle.croner.specs.Private.search.Gaps.{IsSkipped, UnreadTo, IsFirstShown, IsBeyond, IsAround, HasGapSide, CrossesGap}
+use Rattle.croner_pattern.specs.Directions.{along}
+use Rattle.croner.specs.Private.search.Gaps.{IsSkipped, IsFirstShown, IsBeyond, IsAround, HasGapSide, CrossesGap}
 use Rattle.croner.specs.Private.search.Halves.{Break, offset_from}
-use Rattle.croner.specs.Private.search.Walk.{HasGapEnd, HasGapFront}
+use Rattle.croner.specs.Private.search.Walk.{UnreadTo, HasGapEnd, HasGapFront}
+use Rattle.croner.proofs.zone.Ahead.{along-offset}
 use Rattle.croner.proofs.zone.CalmZone.{Exactly, calm_of, exact_of}
 use Rattle.croner.proofs.zone.ZoneOrder.{Calm, cases_lt_z, distance, gains, read_or_skipped, after_break, below_before, above_after}
 use Rattle.croner.proofs.zone.WalkArms.{first_of_one, first_of_two}
@@ -124,7 +126,7 @@ module _ (reads : ℤ → ℤ) (calm : Calm reads) where
   side_unread Forward held inside none none2 near =
       λ u from to x e. one_gap held (held +ℤ pos inside) none none2 (omega (arith, ints)) (omega (arith, ints)) u from (omega (arith, ints)) x e
   side_unread Backward held inside none none2 near =
-      λ u from to x e. one_gap (held -ℤ pos inside) held none2 none (omega (arith, ints)) (omega (arith, ints)) u (omega (arith, ints)) from x e
+      λ u from to x e. one_gap (held -ℤ pos inside) held none2 none (omega (arith, ints)) (omega (arith, ints)) u (omega (arith, ints)) (omega (arith, ints)) x e
 
   -- and the second at the limit of the search lies in the gap no more
   side_ends : (direction : Direction) (held : ℤ) → Exactly reads held Gap → Exactly reads (offset_from direction held gap_limit) Gap → ⊥
@@ -140,8 +142,7 @@ module _ (reads : ℤ → ℤ) (calm : Calm reads) where
 -- ---- what the backend answers
 
 pub zero_on : (direction : Direction) (w : ℤ) → offset_from direction w 0 ≡ w
-zero_on Forward w = omega (arith, ints)
-zero_on Backward w = omega (arith, ints)
+zero_on direction w = grind (arith, ints)
 
 pub held_skipped : (direction : Direction) (z : Zone) (held : CivilDateTime) → z.resolves held ≡ Some Gap → IsSkipped z (offset_from direction (wall_second held) 0)
 held_skipped direction z held named = λ calm x e. exact_of z calm held Gap named x (e ∙ zero_on direction (wall_second held))
@@ -169,8 +170,7 @@ module _ {T : Type 0} (moment : T → Moment) (z : Zone) (c : CivilDateTime) whe
 -- ---- the side of the gap
 
 on_past : (direction : Direction) (held w : ℤ) (n : ℕ) → 0 < n → w ≡ offset_from direction held n → Precedes direction held w
-on_past Forward held w n some at = omega (arith, ints)
-on_past Backward held w n some at = omega (arith, ints)
+on_past direction held w n some at = omega (arith, ints, ap (along direction) at, along-offset direction held n)
 
 module _ {T : Type 0} (moment : T → Moment) (lack : Bool) (direction : Direction) (z : Zone) (held : CivilDateTime) (named : z.resolves held ≡ Some Gap) where
   pub side_found : (limit : ℕ) (around : Around T) (found : CivilDateTime × T) → IsAround moment lack direction z (wall_second held) around → around.outside ≤ around.inside + 1 → around.answer ≡ Ok found → HasGapSide moment direction limit z (wall_second held) (Some found)
@@ -203,7 +203,7 @@ module _ {T : Type 0} (moment : T → Moment) (lack : Bool) (direction : Directi
   pub gap_front_of : (found : CivilDateTime × T) → HasGapSide moment Backward gap_limit z (wall_second held) (Some found) → HasGapFront z (wall_second held) (Some found.0)
   gap_front_of found (before, shown, unread) = (
     before,
-    λ calm. (λ u from to. unread calm u (omega (arith, ints)) (omega (arith, ints)), ((moment found.1).instant, shown.at calm)),
+    λ calm. (unread calm, ((moment found.1).instant, shown.at calm)),
   )
 
 -- from the held second to the side that is found, where both lie in the years that are searched whole

@@ -6,9 +6,14 @@ use Rattle.croner_base.specs.declared.time.Direction.{Direction}
 use Rattle.croner_base.specs.declared.time.Direction.TheVariants.{Forward, Backward}
 use Rattle.croner.proofs.zone.ZoneOrder.{cases_lt_z, put_back, put_back_once, before_break, after_break}
 use Rattle.croner.proofs.zone.WalkLoop.{never_true}
+use Rattle.croner.proofs.zone.SearchLimit.{precedes_whole}
+use Rattle.croner.specs.search.Runs.{Precedes}
 use Rattle.croner_base.specs.Zone.{Zone, Moment, reading, nanos_of}
 use Rattle.croner_base.specs.Calm.{IsCalm, HoldsAround, IsNear}
-use Rattle.croner.specs.Private.search.Halves.{edge_limit, Break, HasTwin, EdgeOf, offset_from, moment_from, IsEdge}
+use Rattle.croner.specs.Private.search.Halves.{edge_limit, Break, BreaksBehind, HasTwin, EdgeOf, offset_from, moment_from, IsEdge}
+use Rattle.croner_base.specs.Limits.{apart_limit}
+use Rattle.croner_pattern.specs.Directions.{along, one_on}
+use Rattle.croner.proofs.zone.Ahead.{along-offset, either, not_both, reaches-equal}
 use Rattle.croner.proofs.zone.GapSides.{zero_on}
 use Rattle.croner.proofs.zone.CalmZone.{Exactly, calm_of, exact_of}
 use Rattle.croner.proofs.zone.ZoneOrder.{Calm, gains, loses}
@@ -35,7 +40,7 @@ module _ (reads : ℤ → ℤ) (calm : Calm reads) where
 
   edge_before : (i j : ℤ) → i ≡ j +ℤ pos 1 → HasTwin Backward reads i → (HasTwin Backward reads j → ⊥) → Break reads j
   edge_before i j e (x, same, past) none =
-      let (q, turn) = put_back reads calm x i past (omega (arith, ints)) in
+      let (q, turn) = put_back reads calm x i (omega (arith, ints)) (omega (arith, ints)) in
       let low = turn.low in
       let near = turn.near in
       let high = turn.high in
@@ -47,28 +52,35 @@ module _ (reads : ℤ → ℤ) (calm : Calm reads) where
         | inr le ↦ let at : q ≡ j = omega (arith, ints) in subst (Break reads) at turn.breaks
       ]
 
+-- between two instants next to each other, one with another that shows the same ahead and one with none, the clock is put back
+edge_breaks : (direction : Direction) (reads : ℤ → ℤ) → Calm reads → (i j : ℤ) → j ≡ one_on direction i → HasTwin direction reads i → (HasTwin direction reads j → ⊥) → BreaksBehind direction reads j
+edge_breaks Forward reads calm i j e twin none =
+    let at : i ≡ j -ℤ pos 1 = omega (arith, ints) in
+    subst (Break reads) at (edge_after reads calm i twin (λ t. none (subst (HasTwin Forward reads) (sym e) t)))
+edge_breaks Backward reads calm i j e twin none = edge_before reads calm i j (omega (arith, ints)) twin none
+
+next_offset : (direction : Direction) (s : ℤ) (k n : ℕ) → n ≡ k + 1 → offset_from direction s n ≡ one_on direction (offset_from direction s k)
+next_offset Forward s k n e = omega (arith, ints)
+next_offset Backward s k n e = omega (arith, ints)
+
 pub edge_between : (direction : Direction) (reads : ℤ → ℤ) → Calm reads → (s : ℤ) (k n : ℕ) → n ≡ k + 1 → k < edge_limit → HasTwin direction reads (offset_from direction s k) → (HasTwin direction reads (offset_from direction s n) → ⊥) → EdgeOf direction reads s (offset_from direction s n)
-edge_between Forward reads calm s k n e h twin none =
-    let at : s +ℤ pos n ≡ s +ℤ pos k +ℤ pos 1 = omega (arith, ints) in
-    let b = edge_after reads calm (s +ℤ pos k) twin (λ t. none (subst (HasTwin Forward reads) (sym at) t)) in
-    (s +ℤ pos k, at, record { from = omega (arith, ints); near = omega (arith, ints); breaks = b })
-edge_between Backward reads calm s k n e h twin none =
-    let at : s -ℤ pos k ≡ s -ℤ pos n +ℤ pos 1 = omega (arith, ints) in
+edge_between direction reads calm s k n e h twin none =
+    let there = along-offset direction s n in
+    let limit = along-offset direction s (apart_limit + 1) in
     record {
       from = omega (arith, ints);
       near = omega (arith, ints);
-      breaks = edge_before reads calm (s -ℤ pos k) (s -ℤ pos n) at twin none;
+      breaks = edge_breaks direction reads calm (offset_from direction s k) (offset_from direction s n) (next_offset direction s k n e) twin none;
     }
 
 -- ---- the half that an instant is on
 
 pub twin_of_two : (direction : Direction) (reads : ℤ → ℤ) (i e l : ℤ) → Exactly reads (reads i) (Ambiguous e l) → (HasTwin Forward reads i → i <ℤ l) × (i <ℤ l → HasTwin Forward reads i) × (HasTwin Backward reads i → e <ℤ i) × (e <ℤ i → HasTwin Backward reads i)
 twin_of_two direction reads i e l (lt, a, b, only) =
-    (λ (x, same, past). elim (only x same) [ inl k ↦ omega (arith, ints) | inr k ↦ omega (arith, ints) ], λ h. (l, b, h), λ (x, same, past). elim (only x same) [ inl k ↦ omega (arith, ints) | inr k ↦ omega (arith, ints) ], λ h. (e, a, h))
+    (λ (x, same, past). elim (only x same) [ inl k ↦ omega (arith, ints) | inr k ↦ omega (arith, ints) ], λ h. (l, b, h), λ (x, same, past). elim (only x same) [ inl k ↦ omega (arith, ints) | inr k ↦ omega (arith, ints) ], λ h. (e, a, omega (arith, ints)))
 
 pub no_twin_of_one : (direction : Direction) (reads : ℤ → ℤ) (i t : ℤ) → Exactly reads (reads i) (Single t) → HasTwin direction reads i → ⊥
-no_twin_of_one Forward reads i t (e, only) (x, same, past) = let a = only x same in let b = only i refl in omega (arith, ints)
-no_twin_of_one Backward reads i t (e, only) (x, same, past) = let a = only x same in let b = only i refl in omega (arith, ints)
+no_twin_of_one direction reads i t (e, only) (x, same, past) = not_both direction i x past (reaches-equal direction x i (only x same ∙ sym (only i refl)))
 
 pub no_twin_of_gap : (direction : Direction) (reads : ℤ → ℤ) (i : ℤ) → Exactly reads (reads i) Gap → HasTwin direction reads i → ⊥
 no_twin_of_gap direction reads i none twin = none i refl
@@ -80,8 +92,8 @@ twin_far Forward reads calm s (x, same, past) (y, same2, past2) =
     let near = (put_back reads calm s x past (omega (arith, ints))).1.near in
     put_back_once reads calm s x (s +ℤ pos edge_limit) y past (omega (arith, ints)) (omega (arith, ints)) past2 (omega (arith, ints)) (omega (arith, ints))
 twin_far Backward reads calm s (x, same, past) (y, same2, past2) =
-    let near = (put_back reads calm x s past (omega (arith, ints))).1.near in
-    put_back_once reads calm y (s -ℤ pos edge_limit) x s past2 (omega (arith, ints)) (omega (arith, ints)) past (omega (arith, ints)) (omega (arith, ints))
+    let near = (put_back reads calm x s (omega (arith, ints)) (omega (arith, ints))).1.near in
+    put_back_once reads calm y (s -ℤ pos edge_limit) x s (omega (arith, ints)) (omega (arith, ints)) (omega (arith, ints)) (omega (arith, ints)) (omega (arith, ints)) (omega (arith, ints))
 
 -- ---- as the code has them
 
@@ -105,6 +117,16 @@ true_of_not false h = refl
 not_of_true : (b : Bool) → IsTrue (not b) → IsTrue b → ⊥
 not_of_true true h t = absurd (cc)
 not_of_true false h t = absurd (cc)
+
+-- a whole second lies behind another one where a second on it is not past it
+pub behind_test : (direction : Direction) (origin instant next : Moment) (b : Bool) → origin.fraction ≡ 0 → instant.fraction ≡ 0 → next ≡ moment_from direction instant 1
+    → (IsTrue b ↔ Precedes direction (nanos_of origin) (nanos_of next)) → IsTrue (not b) ↔ Precedes direction instant.instant origin.instant
+behind_test direction origin instant next b whole whole2 at test =
+    let less = precedes_whole direction origin next b whole (ap (λ (m : Moment). m.fraction) at ∙ whole2) test in
+    let on : along direction next.instant ≡ along direction instant.instant +ℤ pos 1 = ap (λ (m : Moment). along direction m.instant) at ∙ along-offset direction instant.instant 1 in (
+      λ t. elim (either direction instant.instant origin.instant) [ inl lt ↦ lt | inr le ↦ absurd (not_of_true b t (less.1 (omega (arith, ints)))) ],
+      λ h. true_of_not b (λ yes. let k = less.0 yes in omega (arith, ints)),
+    )
 
 pub test_backward : (direction : Direction) (m l : Moment) (c : CivilDateTime) (e : ℤ) (b : Bool) → direction ≡ Backward → wall_second c ≡ reading m → m.zone.resolves c ≡ Some (Ambiguous e l.instant) → l.fraction ≡ 0 → (IsTrue b ↔ nanos_of m <ℤ nanos_of l) → IsCalmStart m.zone m.fraction → IsTrue (not b) ↔ HasTwin direction m.zone.reads m.instant
 test_backward Forward m l c e b f at is whole test start = absurd (cc)

@@ -1,5 +1,5 @@
 -- What a search answers from its two walks, and what its limit means.
-use Rattle.std.proofs.Common.{◌≡◌, ℕ, ◌≤◌, ℤ, pos, ◌+ℤ◌, ◌-ℤ◌, ◌≤ℤ◌, ◌⊎◌, arith, refl, sym, ◌∙◌, inl, inr, ap, subst, Bool, true, false, Some, IsTrue, ◌↔◌}
+use Rattle.std.proofs.Common.{◌≡◌, ℕ, ◌≤◌, ℤ, pos, ◌+ℤ◌, ◌-ℤ◌, ◌*ℤ◌, ◌≤ℤ◌, ◌⊎◌, arith, refl, sym, ◌∙◌, inl, inr, ap, subst, Bool, true, false, Some, IsTrue, ◌↔◌}
 use Rattle.std.proofs.lemmas.Int.{ints}
 use Rattle.croner_base.specs.declared.time.Direction.{Direction}
 use Rattle.croner_base.specs.declared.time.Direction.TheVariants.{Forward, Backward}
@@ -8,6 +8,7 @@ use Rattle.croner_base.specs.declared.errors.CronError.TheVariants.{TimeSearchLi
 use Rattle.croner_base.specs.Zone.{Zone, Moment, reading, nanos_of}
 use Rattle.croner_base.specs.Calm.{IsCalm, IsNear}
 use Rattle.croner_base.specs.Limits.{gap_limit}
+use Rattle.croner_pattern.specs.Directions.{along}
 use Rattle.croner.specs.search.Runs.{Timetable, Job, job_in, Nearest, Precedes, Reaches}
 use Rattle.croner.specs.search.Limit.{IsWithin, NoneInSpan, IsPast}
 use Rattle.croner.specs.Private.search.Schedule.{IsCovered, NoneScheduled}
@@ -17,12 +18,13 @@ use Rattle.croner.specs.search.Refusal.{IsRefusal}
 use Rattle.croner.specs.Private.search.Walk.{RunOf, NoneOf, WalkedFrom, walk_start, one_on, OutFrom, IsWalked, IsWalkRefused}
 use Rattle.croner.specs.search.Searches.{IsFound, IsRefused}
 use Rattle.croner.specs.Private.search.Halves.{edge_limit, EdgeOf, HasTwin, CountsBoth, IsEdge, HasOtherHalf, opposite_way, offset_from}
-use Rattle.croner.proofs.zone.ZoneOrder.{Calm, before_break, after_break}
+use Rattle.croner.proofs.zone.ZoneOrder.{Calm}
 use Rattle.croner.proofs.zone.CalmZone.{calm_of}
-use Rattle.croner.proofs.zone.RunsOfSeconds.{counts_reaches}
+use Rattle.croner.proofs.zone.Edges.{edge_line}
+use Rattle.croner.proofs.zone.RunsOfSeconds.{run_is_on, counts_reaches}
 use Rattle.croner.proofs.zone.WalkSteps.{Seen}
 use Rattle.croner.proofs.zone.WalkLoop.{never_true, backend_error}
-use Rattle.croner.proofs.zone.Ahead.{either, reaches-same, reaches-precedes}
+use Rattle.croner.proofs.zone.Ahead.{along-offset, along-behind, either, reaches-same, reaches-precedes}
 use Rattle.croner.proofs.zone.TwoHalves.{seen_alone, seen_twice, walked_counts, edge_counts, found_alone, found_before_edge, found_second, found_first}
 
 -- ---- a run in the span is of a second that is covered
@@ -39,8 +41,7 @@ second_is_near job calm w i of =
     ]
 
 run_is_covered : (direction : Direction) (job : Job) → Calm job.zone.reads → (w i : ℤ) → RunOf job w i → IsWithin direction (job.zone.reads i) → IsCovered direction job.timetable.fixed_time w
-run_is_covered Forward job calm w i of within =
-    elim (second_is_near job calm w i of) [ inl (each, e) ↦ omega (arith, ints) | inr (fixed, low, high) ↦ omega (arith, ints) ]
+run_is_covered Forward job calm w i of within = let low = run_is_on job w i of in omega (arith, ints)
 run_is_covered Backward job calm w i of within =
     elim (second_is_near job calm w i of) [
       | inl (each, e) ↦ subst (λ (b : Bool). IsCovered Backward b w) (sym each) (omega (arith, ints))
@@ -61,24 +62,14 @@ module _ (direction : Direction) (inclusive : Bool) (job : Job) (calm : Calm job
 
 -- from the start to the edge the clock goes straight on
 line_to_edge : (direction : Direction) (reads : ℤ → ℤ) → Calm reads → (s e own i : ℤ) → EdgeOf direction reads s e → own ≡ one_on (opposite_way direction) e → Reaches direction s i → Precedes direction i e → Reaches direction (reads i) (reads own)
-line_to_edge Forward reads calm s e own i (p, at, edge) is from before =
-    let near = edge.near in
-    let same : reads own ≡ reads p = ap reads (omega (arith, ints)) in
-    let line = before_break reads calm p i p edge.breaks (omega (arith, ints)) (omega (arith, ints)) (omega (arith, ints)) in
+line_to_edge direction reads calm s e own i edge is from before =
+    let behind = along-behind direction own e is in
+    let next = along-offset direction own 1 in
+    let line = edge_line direction reads calm s e i own edge from (omega (arith, ints)) (omega (arith, ints)) in
     omega (arith, ints)
-line_to_edge Backward reads calm s e own i edge is from before =
-    let near = edge.near in
-    let same : reads own ≡ reads (e +ℤ pos 1) = ap reads (omega (arith, ints)) in
-    let line = after_break reads calm e (e +ℤ pos 1) i edge.breaks (omega (arith, ints)) (omega (arith, ints)) (omega (arith, ints)) in
-    omega (arith, ints)
-
-own_reaches : (direction : Direction) (reads : ℤ → ℤ) (s e own i : ℤ) → own ≡ one_on (opposite_way direction) e → Reaches direction e i → Reaches direction own i
-own_reaches Forward reads s e own i is on = omega (arith, ints)
-own_reaches Backward reads s e own i is on = omega (arith, ints)
 
 pub within_less : (direction : Direction) (a b : ℤ) → Reaches direction a b → IsWithin direction b → IsWithin direction a
-within_less Forward a b h k = omega (arith, ints)
-within_less Backward a b h k = omega (arith, ints)
+within_less direction a b h k = grind (arith, ints)
 
 module _ (direction : Direction) (inclusive : Bool) (job : Job) (calm : Calm job.zone.reads) (s : ℤ) where
   pub out_alone : (CountsBoth direction job.timetable.fixed_time → ⊥) ⊎ (HasTwin direction job.zone.reads s → ⊥) → OutFrom direction inclusive job s → NoneInSpan direction inclusive job s
@@ -99,7 +90,7 @@ module _ (direction : Direction) (inclusive : Bool) (job : Job) (calm : Calm job
       λ i span counts.
       elim (seen_twice direction inclusive job calm s e i both edge counts) [
         | inl (before, seen) ↦ unseen_out direction inclusive job calm s i out (span i (reaches-same direction i)) seen
-        | inr (on, seen) ↦ late (span own (own_reaches direction job.zone.reads s e own i is on))
+        | inr (on, seen) ↦ late (span own (omega (arith, ints, along-behind direction own e is, along-offset direction own 1)))
       ]
 
   -- the first walk is out, and the own half does not: the walk from the edge has the nearest run
@@ -136,9 +127,16 @@ years_held m h = record { seconds = h.held.years; instants = h.held.year_instant
 pub holds_here : (m : Moment) → IsSearchable m → HoldsSecond m.zone (reading m)
 holds_here m h = λ c at. h.held.near c (subst (IsNear (reading m)) (sym at) (omega (arith, ints), omega (arith, ints)))
 
-precedes_whole : (direction : Direction) (a b : Moment) (t : Bool) → a.fraction ≡ 0 → b.fraction ≡ 0 → (IsTrue t ↔ Precedes direction (nanos_of a) (nanos_of b)) → IsTrue t ↔ Precedes direction a.instant b.instant
-precedes_whole Forward a b t f g test = (λ h. let k = test.0 h in omega (arith, ints), λ h. test.1 (omega (arith, ints)))
-precedes_whole Backward a b t f g test = (λ h. let k = test.0 h in omega (arith, ints), λ h. test.1 (omega (arith, ints)))
+-- a whole second lies where its nanoseconds do
+pub along-nanos : (direction : Direction) (m : Moment) → m.fraction ≡ 0 → along direction (nanos_of m) ≡ along direction m.instant *ℤ pos 1_000_000_000
+along-nanos Forward m whole = omega (arith, ints)
+along-nanos Backward m whole = omega (arith, ints)
+
+pub precedes_whole : (direction : Direction) (a b : Moment) (t : Bool) → a.fraction ≡ 0 → b.fraction ≡ 0 → (IsTrue t ↔ Precedes direction (nanos_of a) (nanos_of b)) → IsTrue t ↔ Precedes direction a.instant b.instant
+precedes_whole direction a b t f g test =
+    let x = along-nanos direction a f in
+    let y = along-nanos direction b g in
+    (λ h. let k = test.0 h in omega (arith, ints), λ h. test.1 (omega (arith, ints)))
 
 precedes_so : (direction : Direction) (a b : Moment) (t : Bool) → t ≡ true → a.fraction ≡ 0 → b.fraction ≡ 0 → (IsTrue t ↔ Precedes direction (nanos_of a) (nanos_of b)) → Precedes direction a.instant b.instant
 precedes_so direction a b t e f g test = (precedes_whole direction a b t f g test).0 e

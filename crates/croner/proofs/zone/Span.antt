@@ -1,17 +1,17 @@
 -- Which runs lie in the span of a search: those that read a year of it, as does the half of a repeated range behind them.
-use Rattle.std.proofs.Common.{◌≡◌, ℤ, pos, ◌+ℤ◌, ◌-ℤ◌, arith, refl, sym, ◌∙◌, inl, inr, ap, subst, Bool, true, false, IsTrue, ◌↔◌, Some}
+use Rattle.std.proofs.Common.{◌≡◌, ℤ, arith, refl, sym, ◌∙◌, inl, inr, ap, subst, Bool, true, false, IsTrue, ◌↔◌, Some}
 use Rattle.std.proofs.lemmas.Bool.{false≢true}
 use Rattle.std.proofs.lemmas.Int.{ints}
 use Rattle.croner_base.specs.declared.time.Direction.{Direction}
-use Rattle.croner_base.specs.declared.time.Direction.TheVariants.{Forward, Backward}
 use Rattle.croner_base.specs.Zone.{Zone, Moment, reading}
 use Rattle.croner.specs.search.Runs.{Reaches}
 use Rattle.croner.specs.search.Limit.{IsWithin, InSpan}
 use Rattle.croner.specs.search.Premises.{StartsCalm}
 use Rattle.croner.specs.Private.search.Halves.{HasTwin, EdgeOf, IsEdge, opposite_way}
-use Rattle.croner.proofs.zone.ZoneOrder.{Calm, cases_lt_z, before_break, after_break, below_before, above_after}
+use Rattle.croner.proofs.zone.Edges.{edge_line, edge_past}
+use Rattle.croner.proofs.zone.ZoneOrder.{Calm}
 use Rattle.croner.proofs.zone.CalmZone.{calm_of}
-use Rattle.croner.proofs.zone.Ahead.{reaches-same, same_or_ahead, either, opposite, precedes-reaches, reaches-precedes}
+use Rattle.croner.proofs.zone.Ahead.{along-opposite, reaches-same, same_or_ahead, either, opposite, opposite-reaches, precedes-reaches, reaches-precedes}
 use Rattle.croner.proofs.zone.FirstInstants.{twin_behind}
 use Rattle.croner.proofs.zone.SearchLimit.{within_less}
 
@@ -35,29 +35,18 @@ span_alone direction reads calm i within alone = λ j le.
 
 -- on the half that the search meets last: the nearest instant of the other half
 span_across : (direction : Direction) (reads : ℤ → ℤ) → Calm reads → (i e : ℤ) → EdgeOf (opposite_way direction) reads i e → IsWithin direction (reads i) → IsWithin direction (reads e) → InSpan direction reads i
-span_across Forward reads calm i e edge within across = λ j le.
-    elim (cases_lt_z e j) [
-      | inr under ↦ let low = below_before reads calm e j edge.breaks under in omega (arith, ints)
-      | inl above ↦
-          let near = edge.near in
-          let line : reads i ≡ reads j +ℤ (i -ℤ j) = after_break reads calm e j i edge.breaks above le near in
-          omega (arith, ints)
-    ]
-span_across Backward reads calm i e (p, at, edge) within across = λ j le.
-    elim (cases_lt_z p j) [
-      | inl above ↦
-          let high = above_after reads calm p j edge.breaks above in
-          let same : reads e ≡ reads (p +ℤ pos 1) = ap reads at in
-          omega (arith, ints)
-      | inr under ↦
-          let near = edge.near in
-          let line : reads j ≡ reads i +ℤ (j -ℤ i) = before_break reads calm p i j edge.breaks under le near in
-          omega (arith, ints)
+span_across direction reads calm i e edge within across = λ j le.
+    let back = opposite_way direction in
+    let from : Reaches back i j = omega (arith, ints, along-opposite direction i, along-opposite direction j) in
+    elim (either back j e) [
+      | inl before ↦
+          let line = edge_line back reads calm i e i j edge (reaches-same back i) from before in
+          within_less direction (reads j) (reads i) (opposite-reaches direction (reads i) (reads j) (omega (arith, ints))) within
+      | inr on ↦ within_less direction (reads j) (reads e) (opposite-reaches direction (reads e) (reads j) (edge_past back reads calm i e j edge on)) across
     ]
 
 edge_lies : (direction : Direction) (reads : ℤ → ℤ) (i e : ℤ) → EdgeOf (opposite_way direction) reads i e → Reaches direction e i
-edge_lies Forward reads i e edge = let from = edge.from in omega (arith, ints)
-edge_lies Backward reads i e (p, at, edge) = let from = edge.from in omega (arith, ints)
+edge_lies direction reads i e edge = opposite-reaches direction i e (precedes-reaches (opposite_way direction) i e edge.from)
 
 -- ---- as the code has them
 

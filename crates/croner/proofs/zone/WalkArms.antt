@@ -3,15 +3,14 @@ use Rattle.std.proofs.Common.{◌≡◌, ℤ, pos, ◌+ℤ◌, ◌<ℤ◌, ◌�
 use Rattle.std.proofs.lemmas.Int.{ints}
 use Rattle.croner_base.specs.declared.time.Direction.{Direction}
 use Rattle.croner_base.specs.declared.time.Direction.TheVariants.{Forward, Backward}
-use Rattle.croner.proofs.zone.Ahead.{reaches-equal, precedes-reaches, not_both}
-use Rattle.croner.proofs.zone.ZoneOrder.{cases_lt_z}
+use Rattle.croner.proofs.zone.Ahead.{reaches-equal, precedes-reaches, not_both, either}
 use Rattle.croner.proofs.zone.FirstInstants.{first_if_least, first_ordered, first_over_gap, last_is_ahead}
 use Rattle.croner.proofs.zone.RunsOfSeconds.{true_or_false}
 use Rattle.croner.proofs.zone.WalkSteps.{start_reaches, ahead_of, ahead_reaches, each_reads, first_of_run, each_answer, first_answer, none_past}
 use Rattle.croner.proofs.zone.CalmZone.{Exactly}
 use Rattle.croner.proofs.zone.ZoneOrder.{Calm}
 use Rattle.croner_base.specs.declared.time.value.Resolution.TheVariants.{Single, Ambiguous, Gap}
-use Rattle.croner.specs.Private.search.Walk.{First, RunOf, NoneOf, WalkedFrom, walk_start, one_on, Unread, NearerOf, ChosenOf}
+use Rattle.croner.specs.Private.search.Walk.{First, RunOf, NoneOf, WalkedFrom, walk_start, one_on, UnreadTo, NearerOf, ChosenOf}
 use Rattle.croner_base.specs.Zone.{Moment}
 use Rattle.croner.specs.search.Runs.{Job, Precedes, Reaches, Ahead}
 
@@ -85,12 +84,12 @@ module _ (job : Job) (calm : Calm job.zone.reads) (inclusive : Bool) (direction 
   pub gap_each_past : (s from w : ℤ) → job.timetable.fixed_time ≡ false → Exactly job.zone.reads w Gap → NoneOf direction inclusive job s from w → NoneOf direction inclusive job s from (one_on direction w)
   gap_each_past s from w each unread none = none_past direction inclusive job s from w none (λ i own of ahead. unread i (each_reads job w i each of))
 
-  pub gap_answer : (s w v t : ℤ) → job.timetable.fixed_time ≡ true → w ≤ℤ v → Unread job.zone.reads w v → First job.zone.reads v t → Reaches direction (walk_start direction inclusive (job.zone.reads s)) w → job.timetable.scheduled w → NoneOf direction inclusive job s (walk_start direction inclusive (job.zone.reads s)) w → job.timetable.date_matches (job.zone.reads t) → Ahead direction inclusive s t → WalkedFrom direction inclusive job s t
+  pub gap_answer : (s w v t : ℤ) → job.timetable.fixed_time ≡ true → w ≤ℤ v → UnreadTo Forward job.zone.reads w v → First job.zone.reads v t → Reaches direction (walk_start direction inclusive (job.zone.reads s)) w → job.timetable.scheduled w → NoneOf direction inclusive job s (walk_start direction inclusive (job.zone.reads s)) w → job.timetable.date_matches (job.zone.reads t) → Ahead direction inclusive s t → WalkedFrom direction inclusive job s t
   gap_answer s w v t fixed h unread first from own none date ahead =
       first_answer direction job inclusive s (walk_start direction inclusive (job.zone.reads s)) w t from own none fixed (first_over_gap job.zone.reads w v t h first unread) (inr date) ahead
 
 -- a run of a second of the Gap is the Gap's end
-gap_run_is_end : (job : Job) (u v t i : ℤ) → job.timetable.fixed_time ≡ true → u <ℤ v → Unread job.zone.reads u v → First job.zone.reads v t → job.zone.reads t ≡ v → RunOf job u i → (i ≡ t) × job.timetable.date_matches (job.zone.reads t)
+gap_run_is_end : (job : Job) (u v t i : ℤ) → job.timetable.fixed_time ≡ true → u <ℤ v → UnreadTo Forward job.zone.reads u v → First job.zone.reads v t → job.zone.reads t ≡ v → RunOf job u i → (i ≡ t) × job.timetable.date_matches (job.zone.reads t)
 gap_run_is_end job u v t i fixed lt unread first at of =
     let end = first_over_gap job.zone.reads u v t (omega (arith, ints)) first unread in
     elim of [
@@ -103,30 +102,21 @@ gap_run_is_end job u v t i fixed lt unread first at of =
           ]
     ]
 
-module _ (job : Job) (inclusive : Bool) where
-  -- forward the walk goes on at the Gap's end, backward before the Gap
-  pub gap_fixed_past_forward : (s from w v t : ℤ) → job.timetable.fixed_time ≡ true → w <ℤ v → Unread job.zone.reads w v → First job.zone.reads v t → job.zone.reads t ≡ v → NoneOf Forward inclusive job s from w → (job.timetable.date_matches (job.zone.reads t) → Ahead Forward inclusive s t → ⊥) → NoneOf Forward inclusive job s from v
-  gap_fixed_past_forward s from w v t fixed lt unread first at none refused =
-      λ u i a b own of ahead.
-      elim (cases_lt_z u w) [
-        | inl below ↦ none u i a below own of ahead
-        | inr le ↦
-            let (same, date) = gap_run_is_end job u v t i fixed b (λ x h k. unread x (omega (arith, ints)) k) first at of in
-            refused date (subst (Ahead Forward inclusive s) same ahead)
-      ]
-
-  pub gap_fixed_past_backward : (s from b w v t : ℤ) → job.timetable.fixed_time ≡ true → w <ℤ v → b <ℤ w → Unread job.zone.reads (b +ℤ pos 1) v → First job.zone.reads v t → job.zone.reads t ≡ v → NoneOf Backward inclusive job s from w → (job.timetable.date_matches (job.zone.reads t) → Ahead Backward inclusive s t → ⊥) → NoneOf Backward inclusive job s from b
-  gap_fixed_past_backward s from b w v t fixed lt front unread first at none refused =
-      λ u i a c own of ahead.
-      elim (cases_lt_z w u) [
-        | inl above ↦ none u i a above own of ahead
-        | inr le ↦
-            let (same, date) = gap_run_is_end job u v t i fixed (omega (arith, ints)) (λ x h k. unread x (omega (arith, ints)) k) first at of in
-            refused date (subst (Ahead Backward inclusive s) same ahead)
-      ]
+-- the walk goes on past the seconds of a gap
+pub gap_fixed_past : (direction : Direction) (inclusive : Bool) (job : Job) (s from w side v t : ℤ) → job.timetable.fixed_time ≡ true → ((u : ℤ) → Reaches direction w u → Precedes direction u side → (u <ℤ v) × UnreadTo Forward job.zone.reads u v)
+    → First job.zone.reads v t → job.zone.reads t ≡ v → NoneOf direction inclusive job s from w → (job.timetable.date_matches (job.zone.reads t) → Ahead direction inclusive s t → ⊥) → NoneOf direction inclusive job s from side
+gap_fixed_past direction inclusive job s from w side v t fixed gap first at none refused =
+    λ u i a b own of ahead.
+    elim (either direction u w) [
+      | inl before ↦ none u i a before own of ahead
+      | inr on ↦
+          let (lt, unread) = gap u on b in
+          let (same, date) = gap_run_is_end job u v t i fixed lt unread first at of in
+          refused date (subst (Ahead direction inclusive s) same ahead)
+    ]
 
 module _ (job : Job) (calm : Calm job.zone.reads) (inclusive : Bool) where
   pub two_each_answer : {T : Type 0} (moment : T → Moment) (direction : Direction) (s w : ℤ) (e l t : T) → job.timetable.fixed_time ≡ false → Exactly job.zone.reads w (Ambiguous (moment e).instant (moment l).instant) → Reaches direction (walk_start direction inclusive (job.zone.reads s)) w → job.timetable.scheduled w → NoneOf direction inclusive job s (walk_start direction inclusive (job.zone.reads s)) w → ChosenOf moment false direction s e l (Some t) → WalkedFrom direction inclusive job s (moment t).instant
   two_each_answer moment Forward s w e l t each (lt, a, b, only) from own none chosen = nearer_answer job calm inclusive Forward moment s w e l t each lt a b only from own none chosen
   two_each_answer moment Backward s w e l t each (lt, a, b, only) from own none chosen =
-      nearer_answer job calm inclusive Backward moment s w l e t each lt b a (λ x h. elim (only x h) [ inl at ↦ inr at | inr at ↦ inl at ]) from own none chosen
+      nearer_answer job calm inclusive Backward moment s w l e t each (omega (arith, ints)) b a (λ x h. elim (only x h) [ inl at ↦ inr at | inr at ↦ inl at ]) from own none chosen

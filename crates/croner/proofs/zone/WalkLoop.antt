@@ -9,20 +9,21 @@ use Rattle.croner_base.specs.declared.errors.CronError.{CronError}
 use Rattle.croner_base.specs.Civil.{wall_second}
 use Rattle.croner_base.specs.Zone.{Zone, Moment, Names}
 use Rattle.croner_base.specs.Calm.{IsCalm, IsSearched, IsInReach}
+use Rattle.croner_pattern.specs.Directions.{along}
 use Rattle.croner.specs.search.Limit.{NoneAhead}
 use Rattle.croner.specs.search.Runs.{Job, Precedes, Reaches, Ahead}
-use Rattle.croner.specs.Private.search.Gaps.{UnreadTo, CrossesGap, GoesPast}
+use Rattle.croner.specs.Private.search.Gaps.{CrossesGap, GoesPast}
 use Rattle.croner.specs.Private.search.Schedule.{NextScheduled, NoneScheduled}
 use Rattle.croner.specs.search.Premises.{IsCalmStart, HasOneInstantEach, Shows}
 use Rattle.croner.specs.Private.search.Held.{HoldsYears, IsBackendError}
 use Rattle.croner.specs.Private.search.Wall.{IsLastYear}
-use Rattle.croner.specs.Private.search.Walk.{NoneOf, WalkedFrom, Walking, walk_start, one_on, ChosenOf, IsOneOf, GapEnd, Unread, Onward, Paces, CannotMove, IsWalked, OutFrom, HasGapEnd, HasGapFront}
-use Rattle.croner.proofs.zone.CalmZone.{calm_of, exact_of}
+use Rattle.croner.specs.Private.search.Walk.{NoneOf, WalkedFrom, Walking, walk_start, one_on, ChosenOf, IsOneOf, GapEnd, UnreadTo, Onward, Paces, CannotMove, IsWalked, OutFrom, HasGapEnd, HasGapFront}
+use Rattle.croner.proofs.zone.CalmZone.{Exactly, calm_of, exact_of}
 use Rattle.croner.proofs.zone.ZoneOrder.{cases_lt_z}
 use Rattle.croner.proofs.zone.RunsOfSeconds.{true_or_false}
-use Rattle.croner.proofs.zone.Ahead.{reaches-same, reaches-trans, precedes-reaches, either}
+use Rattle.croner.proofs.zone.Ahead.{along-offset, reaches-same, reaches-trans, precedes-reaches, both_ways, either}
 use Rattle.croner.proofs.zone.WalkSteps.{none_at_start, none_to_next, one_on_reaches, start_reaches, start_ahead, each_reads}
-use Rattle.croner.proofs.zone.WalkArms.{single_answer, two_each_answer, two_each_past, gap_each_past, two_fixed_answer, two_fixed_past, gap_answer, gap_fixed_past_forward, gap_fixed_past_backward}
+use Rattle.croner.proofs.zone.WalkArms.{single_answer, two_each_answer, two_each_past, gap_each_past, two_fixed_answer, two_fixed_past, gap_answer, gap_fixed_past}
 use Rattle.croner.proofs.zone.WallSeconds.{IsFar, last_year_far}
 
 le_of_lt : (a b : ℤ) → a <ℤ b → a ≤ℤ b
@@ -30,10 +31,6 @@ le_of_lt a b h = omega (arith, ints)
 
 pub never_true : false ≡ true → ⊥
 never_true e = cc
-
-joined_unread : (reads : ℤ → ℤ) (front held end : ℤ) → Unread reads (front +ℤ pos 1) (held +ℤ pos 1) → Unread reads held end → Unread reads (front +ℤ pos 1) end
-joined_unread reads front held end a b =
-    λ u low high x e. elim (cases_lt_z u (held +ℤ pos 1)) [ inl lt ↦ a u low lt x e | inr le ↦ b u (omega (arith, ints)) high x e ]
 
 -- of two instants of an interval job both are behind
 both_behind : {T : Type 0} (moment : T → Moment) (direction : Direction) (s : ℤ) (e l : T) → ChosenOf moment false direction s e l None → Precedes direction (moment e).instant s × Precedes direction (moment l).instant s
@@ -119,61 +116,31 @@ module _ (direction : Direction) (inclusive : Bool) (job : Job) (s : ℤ) (f : �
   walked_gap held end t fixed walking own gap_end date ahead start =
       gap_answer job (calm_of job.zone start.calm) inclusive direction s held end t fixed (le_of_lt held end gap_end.past) gap_end.unread gap_end.first walking.reaches own (walking.none start) (subst job.timetable.date_matches (sym gap_end.at) date) ahead
 
-pub walking_past_gap_forward : (direction : Direction) (inclusive : Bool) (job : Job) (s : ℤ) (f : ℕ) (held end t : ℤ) → direction ≡ Forward → job.timetable.fixed_time ≡ true → Walking direction inclusive job s f held → held <ℤ end → (IsCalm job.zone → GapEnd job.zone.reads held end t) → (f ≡ 0 → job.timetable.date_matches end → Ahead direction inclusive s t → ⊥) → Walking direction inclusive job s f end
-walking_past_gap_forward Forward inclusive job s f held end t e fixed walking past gap_end refused =
-    let reaches = walking.reaches in
-    record {
-      reaches = omega (arith, ints);
-      none = λ start.
-          let found = gap_end start.calm in
-          gap_fixed_past_forward job inclusive s (walk_start Forward inclusive (job.zone.reads s)) held end t fixed past found.unread found.first found.at (walking.none start)
-          (λ date ahead. refused start.whole (subst job.timetable.date_matches found.at date) ahead);
-    }
-walking_past_gap_forward Backward inclusive job s f held end t e fixed walking past gap_end refused = absurd (cc)
+-- what lies from a held second up to the far side of its gap, which forward is where it ends, is of the gap
+of_gap : (direction : Direction) (reads : ℤ → ℤ) (held end side t : ℤ) → (direction ≡ Forward → side ≡ end) → UnreadTo direction reads held side → GapEnd reads held end t
+    → (u : ℤ) → Reaches direction held u → Precedes direction u side → (u <ℤ end) × UnreadTo Forward reads u end
+of_gap Forward reads held end side t ends unread gap u on before = let at = ends refl in (omega (arith, ints), λ x from to. gap.unread x (omega (arith, ints)) to)
+of_gap Backward reads held end side t ends unread gap u on before =
+    let past = gap.past in (
+      omega (arith, ints),
+      λ x from to. elim (cases_lt_z held x) [ inl lt ↦ gap.unread x (omega (arith, ints)) to | inr le ↦ unread x (omega (arith, ints)) (omega (arith, ints)) ],
+    )
 
-pub walking_past_gap_backward : (direction : Direction) (inclusive : Bool) (job : Job) (s : ℤ) (f : ℕ) (held end t front : ℤ) → direction ≡ Backward → job.timetable.fixed_time ≡ true → Walking direction inclusive job s f held → (IsCalm job.zone → GapEnd job.zone.reads held end t) → (f ≡ 0 → job.timetable.date_matches end → Ahead direction inclusive s t → ⊥) → front <ℤ held → (IsCalm job.zone → Unread job.zone.reads (front +ℤ pos 1) (held +ℤ pos 1)) → Walking direction inclusive job s f front
-walking_past_gap_backward Forward inclusive job s f held end t front e fixed walking gap_end refused below unread = absurd (cc)
-walking_past_gap_backward Backward inclusive job s f held end t front e fixed walking gap_end refused below unread =
-    let reaches = walking.reaches in
+pub walking_past_gap_side : (direction : Direction) (inclusive : Bool) (job : Job) (s : ℤ) (f : ℕ) (held end side t : ℤ) → job.timetable.fixed_time ≡ true → Walking direction inclusive job s f held → Precedes direction held side → (direction ≡ Forward → side ≡ end) → (IsCalm job.zone → UnreadTo direction job.zone.reads held side) → (IsCalm job.zone → GapEnd job.zone.reads held end t)
+    → (f ≡ 0 → job.timetable.date_matches end → Ahead direction inclusive s t → ⊥) → Walking direction inclusive job s f side
+walking_past_gap_side direction inclusive job s f held end side t fixed walking past ends unread gap_end refused =
     record {
-      reaches = omega (arith, ints);
+      reaches = reaches-trans direction (walk_start direction inclusive (job.zone.reads s)) held side walking.reaches (precedes-reaches direction held side past);
       none = λ start.
           let found = gap_end start.calm in
-          gap_fixed_past_backward job inclusive s (walk_start Backward inclusive (job.zone.reads s)) front held end t fixed found.past below
-          (joined_unread job.zone.reads front held end (unread start.calm) found.unread)
-          found.first found.at (walking.none start)
+          gap_fixed_past direction inclusive job s (walk_start direction inclusive (job.zone.reads s)) held side end t fixed
+          (of_gap direction job.zone.reads held end side t ends (unread start.calm) found) found.first found.at (walking.none start)
           (λ date ahead. refused start.whole (subst job.timetable.date_matches found.at date) ahead);
     }
 
 -- ---- how far a pass goes
 
-pub onward_one : (direction : Direction) (reads : ℤ → ℤ) (held wall : ℤ) → wall ≡ one_on direction held → Onward direction reads held wall
-onward_one Forward reads held wall e = record { on = omega (arith, ints); within = λ p below above. (omega (arith, ints), omega (arith, ints)) }
-onward_one Backward reads held wall e = record { on = omega (arith, ints); within = λ p below above. (omega (arith, ints), omega (arith, ints)) }
-
-pub onward_end : (direction : Direction) (reads : ℤ → ℤ) (held end t : ℤ) → direction ≡ Forward → GapEnd reads held end t → Onward direction reads held end
-onward_end Backward reads held end t f found = absurd (cc)
-onward_end Forward reads held end t f found =
-    let past = found.past in
-    record {
-      on = found.past;
-      within = λ p below above. (
-        omega (arith, ints),
-        elim (cases_lt_z (reads (p +ℤ pos 1)) end) [ inr le ↦ le | inl lt ↦ absurd (found.unread (reads (p +ℤ pos 1)) (omega (arith, ints)) lt (p +ℤ pos 1) refl) ],
-      );
-    }
-
-pub onward_front : (direction : Direction) (reads : ℤ → ℤ) (held front : ℤ) → direction ≡ Backward → front <ℤ held → Unread reads (front +ℤ pos 1) (held +ℤ pos 1) → Onward direction reads held front
-onward_front Forward reads held front f past unread = absurd (cc)
-onward_front Backward reads held front f past unread =
-    record {
-      on = past;
-      within = λ p below above. (
-        elim (cases_lt_z front (reads p)) [ inr le ↦ le | inl lt ↦ absurd (unread (reads p) (omega (arith, ints)) (omega (arith, ints)) p refl) ],
-        omega (arith, ints),
-      );
-    }
-
+-- past a second that is not read, and past no second that is
 pub onward_across : (direction : Direction) (reads : ℤ → ℤ) (held side : ℤ) → Precedes direction held side → UnreadTo direction reads held side → Onward direction reads held side
 onward_across Forward reads held side on unread =
     record {
@@ -187,10 +154,15 @@ onward_across Backward reads held side on unread =
     record {
       on = on;
       within = λ p below above. (
-        elim (cases_lt_z side (reads p)) [ inr le ↦ le | inl lt ↦ absurd (unread (reads p) (omega (arith, ints)) lt p refl) ],
+        elim (cases_lt_z side (reads p)) [ inr le ↦ le | inl lt ↦ absurd (unread (reads p) (omega (arith, ints)) (omega (arith, ints)) p refl) ],
         omega (arith, ints),
       );
     }
+
+pub onward_one : (direction : Direction) (reads : ℤ → ℤ) (held wall : ℤ) → wall ≡ one_on direction held → Exactly reads held Gap → Onward direction reads held wall
+onward_one direction reads held wall e unread =
+    onward_across direction reads held wall (omega (arith, ints, ap (along direction) e, along-offset direction held 1))
+    (λ u on before x at. unread x (at ∙ both_ways direction u held (omega (arith, ints, ap (along direction) e, along-offset direction held 1)) on))
 
 -- a walk that comes to a scheduled second has something scheduled ahead
 pub something_ahead : (direction : Direction) (inclusive : Bool) (job : Job) (s : ℤ) (f : ℕ) (wall : ℤ) → Walking direction inclusive job s f wall → job.timetable.scheduled wall → NoneAhead direction inclusive job.timetable.scheduled (job.zone.reads s) → ⊥
@@ -239,7 +211,7 @@ module _ {T : Type 0} (moment : T → Moment) (direction : Direction) (inclusive
   past_gap_each : (c : CivilDateTime) (moved : ℤ) → job.timetable.fixed_time ≡ false → job.zone.resolves c ≡ Some Gap → Walking direction inclusive job origin.instant origin.fraction (wall_second c) → moved ≡ one_on direction (wall_second c) → Walking direction inclusive job origin.instant origin.fraction moved × (IsCalmStart job.zone origin.fraction → Paces direction job.zone.reads origin.instant (wall_second c) moved)
   past_gap_each c moved each is there moves = (
     walking_past_gap direction inclusive job origin.instant origin.fraction c moved each there is moves,
-    λ start. inl (exact_of job.zone start.calm c Gap is, onward_one direction job.zone.reads (wall_second c) moved moves),
+    λ start. let unread = exact_of job.zone start.calm c Gap is in inl (unread, onward_one direction job.zone.reads (wall_second c) moved moves unread),
   )
 
   pub past_gap_on : (c : CivilDateTime) (wall : ℤ) → job.timetable.fixed_time ≡ false → job.zone.resolves c ≡ Some Gap → Walking direction inclusive job origin.instant origin.fraction (wall_second c) → GoesPast direction job.zone (wall_second c) wall → Walking direction inclusive job origin.instant origin.fraction wall × (IsCalmStart job.zone origin.fraction → Paces direction job.zone.reads origin.instant (wall_second c) wall)
@@ -262,17 +234,33 @@ module _ {T : Type 0} (moment : T → Moment) (direction : Direction) (inclusive
         walked = λ start. walked_gap direction inclusive job origin.instant origin.fraction (wall_second c) (wall_second end) (moment t).instant fixed there own (gap_end start.calm) date (ahead start.whole whole) start;
       }
 
-  pub past_gap_forward : (c end : CivilDateTime) (t : T) → direction ≡ Forward → job.timetable.fixed_time ≡ true → job.zone.resolves c ≡ Some Gap → Walking direction inclusive job origin.instant origin.fraction (wall_second c) → HasGapEnd moment job.zone (wall_second c) (Some (end, t)) → (origin.fraction ≡ 0 → (moment t).fraction ≡ 0 → job.timetable.date_matches (wall_second end) → Ahead direction inclusive origin.instant (moment t).instant → ⊥) → Walking direction inclusive job origin.instant origin.fraction (wall_second end) × (IsCalmStart job.zone origin.fraction → Paces direction job.zone.reads origin.instant (wall_second c) (wall_second end))
-  past_gap_forward c end t forward fixed is there (past, zone_is, whole, many, gap_end) refused = (
-    walking_past_gap_forward direction inclusive job origin.instant origin.fraction (wall_second c) (wall_second end) (moment t).instant forward fixed there past gap_end (λ w. refused w whole),
-    λ start. inl (exact_of job.zone start.calm c Gap is, onward_end direction job.zone.reads (wall_second c) (wall_second end) (moment t).instant forward (gap_end start.calm)),
-  )
+  -- past a gap of a fixed-time job to its far side
+  abbrev pub GoesOn : CivilDateTime → CivilDateTime → Type 0
+  GoesOn c side =
+      Walking direction inclusive job origin.instant origin.fraction (wall_second side)
+      × (IsCalmStart job.zone origin.fraction → Paces direction job.zone.reads origin.instant (wall_second c) (wall_second side))
 
-  pub past_gap_backward : (c end front : CivilDateTime) (t : T) → direction ≡ Backward → job.timetable.fixed_time ≡ true → job.zone.resolves c ≡ Some Gap → Walking direction inclusive job origin.instant origin.fraction (wall_second c) → HasGapEnd moment job.zone (wall_second c) (Some (end, t)) → (origin.fraction ≡ 0 → (moment t).fraction ≡ 0 → job.timetable.date_matches (wall_second end) → Ahead direction inclusive origin.instant (moment t).instant → ⊥) → HasGapFront job.zone (wall_second c) (Some front) → Walking direction inclusive job origin.instant origin.fraction (wall_second front) × (IsCalmStart job.zone origin.fraction → Paces direction job.zone.reads origin.instant (wall_second c) (wall_second front))
-  past_gap_backward c end front t backward fixed is there (past, zone_is, whole, many, gap_end) refused (below, gap_front) = (
-    walking_past_gap_backward direction inclusive job origin.instant origin.fraction (wall_second c) (wall_second end) (moment t).instant (wall_second front) backward fixed there gap_end (λ w. refused w whole) below (λ calm. (gap_front calm).0),
-    λ start. inl (exact_of job.zone start.calm c Gap is, onward_front direction job.zone.reads (wall_second c) (wall_second front) backward below (gap_front start.calm).0),
-  )
+  abbrev pub NotCarried : CivilDateTime → T → Type 0
+  NotCarried end t = origin.fraction ≡ 0 → (moment t).fraction ≡ 0 → job.timetable.date_matches (wall_second end) → Ahead direction inclusive origin.instant (moment t).instant → ⊥
+
+  module _ (c end : CivilDateTime) (t : T) (fixed : job.timetable.fixed_time ≡ true) (is : job.zone.resolves c ≡ Some Gap) (there : Walking direction inclusive job origin.instant origin.fraction (wall_second c)) (found : HasGapEnd moment job.zone (wall_second c) (Some (end, t))) (refused : NotCarried end t) where
+    past_gap_side : (side : CivilDateTime) → Precedes direction (wall_second c) (wall_second side) → (direction ≡ Forward → wall_second side ≡ wall_second end) → (IsCalm job.zone → UnreadTo direction job.zone.reads (wall_second c) (wall_second side)) → GoesOn c side
+    past_gap_side side on ends unread =
+        let (past, zone_is, whole, many, gap_end) = found in (
+          walking_past_gap_side direction inclusive job origin.instant origin.fraction (wall_second c) (wall_second end) (wall_second side) (moment t).instant fixed there on ends unread gap_end (λ w. refused w whole),
+          λ start. inl (exact_of job.zone start.calm c Gap is, onward_across direction job.zone.reads (wall_second c) (wall_second side) on (unread start.calm)),
+        )
+
+    pub past_gap_forward : direction ≡ Forward → GoesOn c end
+    past_gap_forward forward =
+        let (past, zone_is, whole, many, gap_end) = found in
+        past_gap_side end (subst (λ (d : Direction). Precedes d (wall_second c) (wall_second end)) (sym forward) past) (λ f. refl)
+        (λ calm. subst (λ (d : Direction). UnreadTo d job.zone.reads (wall_second c) (wall_second end)) (sym forward) (gap_end calm).unread)
+
+    pub past_gap_backward : (front : CivilDateTime) → direction ≡ Backward → HasGapFront job.zone (wall_second c) (Some front) → GoesOn c front
+    past_gap_backward front backward (before, gap_front) =
+        past_gap_side front (subst (λ (d : Direction). Precedes d (wall_second c) (wall_second front)) (sym backward) before) (λ f. absurd (cc))
+        (λ calm. subst (λ (d : Direction). UnreadTo d job.zone.reads (wall_second c) (wall_second front)) (sym backward) (gap_front calm).0)
 
 -- ---- what the backend holds
 

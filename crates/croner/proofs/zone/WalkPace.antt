@@ -1,5 +1,5 @@
 -- How many passes a walk can take: those in gaps, and those of one repeated range.
-use Rattle.std.proofs.Common.{◌≡◌, ℕ, zero, suc, ◌+◌, ◌≤◌, ◌<◌, ℤ, pos, negsuc, ◌+ℤ◌, ◌-ℤ◌, ◌<ℤ◌, ◌≤ℤ◌, ◌⊎◌, arith, inl, inr, ap, subst, sym, List, [], ◌∷◌, int_lt, if◌then◌else◌, unsigned_abs, true}
+use Rattle.std.proofs.Common.{◌≡◌, ℕ, zero, suc, ◌+◌, ◌≤◌, ◌<◌, ℤ, pos, negsuc, ◌+ℤ◌, ◌-ℤ◌, ◌<ℤ◌, ◌≤ℤ◌, ◌⊎◌, arith, ◌∙◌, inl, inr, ap, subst, sym, List, [], ◌∷◌, int_lt, if◌then◌else◌, unsigned_abs, true}
 use Rattle.std.proofs.lemmas.Int.{ints}
 use Rattle.std.specs.List.{All}
 use Rattle.std.proofs.lemmas.List.Elements.{All-nil, All-cons, All-weaker}
@@ -10,14 +10,14 @@ use Rattle.croner_base.specs.declared.time.value.Resolution.TheVariants.{Gap}
 use Rattle.croner_base.specs.Zone.{Zone}
 use Rattle.croner_base.specs.Calm.{IsCalm, IsSearched, IsMet, Rises, gap_seconds, jump}
 use Rattle.croner_base.specs.Limits.{fold_limit, most_gap_seconds, first_searched}
+use Rattle.croner_pattern.specs.Directions.{along}
 use Rattle.croner.specs.search.Runs.{Precedes, Reaches}
 use Rattle.croner.specs.Private.search.Halves.{Break}
 use Rattle.croner.specs.Private.search.Walk.{one_on, pass_limit, Onward, Paces}
 use Rattle.croner.proofs.zone.CalmZone.{Exactly, change_of_break}
 use Rattle.croner.proofs.zone.ZoneOrder.{Calm, cases_lt_z, nonnegative, put_back, below_before, above_after}
 use Rattle.croner.proofs.zone.GapSides.{unread_is_in_gap}
-use Rattle.croner.proofs.zone.Ahead.{reaches-trans, precedes-reaches}
-use Rattle.croner.proofs.zone.WalkSteps.{one_on_reaches}
+use Rattle.croner.proofs.zone.Ahead.{along-offset, either, same_or_ahead}
 
 -- how many seconds the clock skips after p: none where it is put back
 abbrev pub skipped : (ℤ → ℤ) → ℤ → ℕ
@@ -47,24 +47,22 @@ LastFirst direction reads (p ∷ ps) = Break reads p × Heads direction p ps × 
 
 -- how far it is from one wall second to another in the direction
 abbrev pub way : Direction → ℤ → ℤ → ℤ
-way Forward from to = to -ℤ from
-way Backward from to = from -ℤ to
+way direction from to = along direction to -ℤ along direction from
 
--- the wall second is past the near side of the gap after p
-abbrev pub Entered : Direction → (ℤ → ℤ) → ℤ → ℤ → Type 0
-Entered Forward reads p wall = reads p <ℤ wall
-Entered Backward reads p wall = wall <ℤ reads (p +ℤ pos 1)
+-- what the clock shows at the near side of the gap after p, and at the far side
+abbrev pub near_side : Direction → (ℤ → ℤ) → ℤ → ℤ
+near_side Forward reads p = reads p
+near_side Backward reads p = reads (p +ℤ pos 1)
 
--- what the clock shows at the far side of the gap after p
 abbrev pub far_side : Direction → (ℤ → ℤ) → ℤ → ℤ
 far_side Forward reads p = reads (p +ℤ pos 1)
 far_side Backward reads p = reads p
 
 -- after k passes the walk stands at `wall`, past the near sides of the gaps after ps
-abbrev pub Met : Direction → (ℤ → ℤ) → List ℤ → ℤ → ℕ → ℕ → Type 0
-Met direction reads [] wall k slack = k ≤ slack
-Met direction reads (p ∷ ps) wall k slack =
-    Entered direction reads p wall × (k + up (way direction wall (far_side direction reads p)) ≤ all_skipped reads (p ∷ ps) + slack)
+abbrev pub Counted : Direction → (ℤ → ℤ) → List ℤ → ℤ → ℕ → ℕ → Type 0
+Counted direction reads [] wall k slack = k ≤ slack
+Counted direction reads (p ∷ ps) wall k slack =
+    Precedes direction (near_side direction reads p) wall × (k + up (way direction wall (far_side direction reads p)) ≤ all_skipped reads (p ∷ ps) + slack)
 
 -- how far the walk has come from what s shows
 abbrev pub come : Direction → ℤ → ℤ → ℕ
@@ -78,7 +76,7 @@ pub record Paced (direction : Direction) (reads : ℤ → ℤ) (s wall : ℤ) (k
   pub slack : ℕ
   pub margin : slack ≤ fold_limit
   pub below : slack ≤ come direction (reads s) wall
-  pub met : Met direction reads gaps wall k slack
+  pub met : Counted direction reads gaps wall k slack
 
 up_less : (a b : ℤ) → a ≤ℤ b → up a ≤ up b
 up_less (pos a) (pos b) h = omega (arith, ints)
@@ -91,60 +89,54 @@ up_more a b h more =
     let y = nonnegative b (omega (arith, ints)) in
     omega (arith, ints)
 
-way_on : (direction : Direction) (from to further : ℤ) → Reaches direction to further → way direction from to ≤ℤ way direction from further
-way_on Forward from to further on = omega (arith, ints)
-way_on Backward from to further on = omega (arith, ints)
-
-way_left : (direction : Direction) (from further to : ℤ) → Reaches direction from further → way direction further to ≤ℤ way direction from to
-way_left Forward from further to on = omega (arith, ints)
-way_left Backward from further to on = omega (arith, ints)
-
-way_ahead : (direction : Direction) (from to : ℤ) → Reaches direction from to → pos 0 ≤ℤ way direction from to
-way_ahead Forward from to on = omega (arith, ints)
-way_ahead Backward from to on = omega (arith, ints)
-
-way_one : (direction : Direction) (from to next : ℤ) → next ≡ one_on direction to → way direction from next ≡ way direction from to +ℤ pos 1
-way_one Forward from to next e = omega (arith, ints)
-way_one Backward from to next e = omega (arith, ints)
-
-entered_on : (direction : Direction) (reads : ℤ → ℤ) (p wall next : ℤ) → Entered direction reads p wall → Reaches direction wall next → Entered direction reads p next
-entered_on Forward reads p wall next entered on = omega (arith, ints)
-entered_on Backward reads p wall next entered on = omega (arith, ints)
-
 -- ---- how many passes gaps can take
 
+-- w lies in the gap after q
+record IsIn (direction : Direction) (reads : ℤ → ℤ) (q w : ℤ) : Type 0 where
+  entered : Precedes direction (near_side direction reads q) w
+  left : Precedes direction w (far_side direction reads q)
+  breaks : Break reads q
+  skips : along direction (far_side direction reads q) -ℤ along direction (near_side direction reads q) ≡ reads (q +ℤ pos 1) -ℤ reads q
+
+is_in : (direction : Direction) (reads : ℤ → ℤ) (q w : ℤ) → reads q <ℤ w → w <ℤ reads (q +ℤ pos 1) → IsIn direction reads q w
+is_in Forward reads q w below above = record { entered = below; left = above; breaks = λ (e : reads (q +ℤ pos 1) ≡ reads q +ℤ pos 1). omega (arith, ints); skips = omega (arith, ints) }
+is_in Backward reads q w below above = record { entered = omega (arith, ints); left = omega (arith, ints); breaks = λ (e : reads (q +ℤ pos 1) ≡ reads q +ℤ pos 1). omega (arith, ints); skips = omega (arith, ints) }
+
+-- what lies past a gap shows nothing before its far side
+past_gap : (direction : Direction) (reads : ℤ → ℤ) → Calm reads → (p q : ℤ) → Break reads q → Precedes direction q p → Reaches direction (far_side direction reads q) (near_side direction reads p)
+past_gap Forward reads calm p q breaks past = above_after reads calm q p breaks past
+past_gap Backward reads calm p q breaks past = let low = below_before reads calm q (p +ℤ pos 1) breaks (omega (arith, ints)) in omega (arith, ints)
+
 -- gaps that hold ordered seconds are in order
-gaps_ordered : (direction : Direction) (reads : ℤ → ℤ) → Calm reads → (p q wall w : ℤ) → Break reads q → Entered direction reads p wall → Reaches direction wall w → reads q <ℤ w → w <ℤ reads (q +ℤ pos 1) → Precedes direction p q ⊎ (p ≡ q)
-gaps_ordered Forward reads calm p q wall w breaks entered on below above =
-    elim (cases_lt_z q p) [
-      | inl under ↦ let high = above_after reads calm q p breaks under in absurd (omega (arith, ints))
-      | inr le ↦ elim (cases_lt_z p q) [ inl lt ↦ inl lt | inr ge ↦ inr (omega (arith, ints)) ]
-    ]
-gaps_ordered Backward reads calm p q wall w breaks entered on below above =
-    elim (cases_lt_z p q) [
-      | inl under ↦ let low = below_before reads calm q (p +ℤ pos 1) breaks (omega (arith, ints)) in absurd (omega (arith, ints))
-      | inr le ↦ elim (cases_lt_z q p) [ inl lt ↦ inl lt | inr ge ↦ inr (omega (arith, ints)) ]
+gaps_ordered : (direction : Direction) (reads : ℤ → ℤ) → Calm reads → (p q wall w : ℤ) → IsIn direction reads q w → Precedes direction (near_side direction reads p) wall → Reaches direction wall w → Precedes direction p q ⊎ (p ≡ q)
+gaps_ordered direction reads calm p q wall w inside entered on =
+    elim (either direction q p) [
+      | inl past ↦ let high = past_gap direction reads calm p q inside.breaks past in let left = inside.left in absurd (omega (arith, ints))
+      | inr le ↦ elim (same_or_ahead direction p q le) [ inl same ↦ inr same | inr lt ↦ inl lt ]
     ]
 
 -- from w in the gap after q the walk goes on to `next` in it
 record InGap (direction : Direction) (reads : ℤ → ℤ) (q w next : ℤ) : Type 0 where
-  entered : Entered direction reads q next
+  entered : Precedes direction (near_side direction reads q) next
   some : pos 0 ≤ℤ way direction next (far_side direction reads q)
   fewer : (way direction next (far_side direction reads q) +ℤ pos 1) ≤ℤ way direction w (far_side direction reads q)
   skips : (way direction next (far_side direction reads q) +ℤ pos 1) ≤ℤ (reads (q +ℤ pos 1) -ℤ reads q -ℤ pos 1)
 
+onward_in : (direction : Direction) (reads : ℤ → ℤ) (q next : ℤ) → (reads q ≤ℤ next) × (next ≤ℤ reads (q +ℤ pos 1)) → Reaches direction next (far_side direction reads q)
+onward_in Forward reads q next (low, high) = high
+onward_in Backward reads q next (low, high) = omega (arith, ints)
+
 in_gap : (direction : Direction) (reads : ℤ → ℤ) (q w next : ℤ) → reads q <ℤ w → w <ℤ reads (q +ℤ pos 1) → Onward direction reads w next → InGap direction reads q w next
-in_gap Forward reads q w next below above onward =
+in_gap direction reads q w next below above onward =
+    let inside = is_in direction reads q w below above in
+    let entered = inside.entered in
+    let skips = inside.skips in
     let on = onward.on in
-    let (low, high) = onward.within q below above in
-    record { entered = omega (arith, ints); some = omega (arith, ints); fewer = omega (arith, ints); skips = omega (arith, ints) }
-in_gap Backward reads q w next below above onward =
-    let on = onward.on in
-    let (low, high) = onward.within q below above in
+    let high = onward_in direction reads q next (onward.within q below above) in
     record { entered = omega (arith, ints); some = omega (arith, ints); fewer = omega (arith, ints); skips = omega (arith, ints) }
 
 -- a pass in a gap, which moves on by a second or more and not past the gap's far side
-gap_pass : (direction : Direction) (reads : ℤ → ℤ) → Calm reads → (ps : List ℤ) (wall w next q : ℤ) (k slack : ℕ) → LastFirst direction reads ps → Touching reads ps → Met direction reads ps wall k slack → Reaches direction wall w → reads q <ℤ w → w <ℤ reads (q +ℤ pos 1) → Onward direction reads w next → Touches reads q → (qs : List ℤ) × LastFirst direction reads qs × Touching reads qs × Met direction reads qs next (k + 1) slack
+gap_pass : (direction : Direction) (reads : ℤ → ℤ) → Calm reads → (ps : List ℤ) (wall w next q : ℤ) (k slack : ℕ) → LastFirst direction reads ps → Touching reads ps → Counted direction reads ps wall k slack → Reaches direction wall w → reads q <ℤ w → w <ℤ reads (q +ℤ pos 1) → Onward direction reads w next → Touches reads q → (qs : List ℤ) × LastFirst direction reads qs × Touching reads qs × Counted direction reads qs next (k + 1) slack
 gap_pass direction reads calm [] wall w next q k slack sorted touching met on below above onward touch =
     let breaks : Break reads q = λ (e : reads (q +ℤ pos 1) ≡ reads q +ℤ pos 1). omega (arith, ints) in
     let here = in_gap direction reads q w next below above onward in
@@ -154,27 +146,27 @@ gap_pass direction reads calm (p ∷ ps) wall w next q k slack sorted touching m
     let breaks : Break reads q = λ (e : reads (q +ℤ pos 1) ≡ reads q +ℤ pos 1). omega (arith, ints) in
     let here = in_gap direction reads q w next below above onward in
     let room = met.1 in
-    elim (gaps_ordered direction reads calm p q wall w breaks met.0 on below above) [
+    elim (gaps_ordered direction reads calm p q wall w (is_in direction reads q w below above) met.0 on) [
       | inl later ↦
           let less = up_more (way direction next (far_side direction reads q)) (reads (q +ℤ pos 1) -ℤ reads q -ℤ pos 1) here.some here.skips in
           (q ∷ (p ∷ ps), (breaks, later, sorted), (touch, touching), (here.entered, omega arith))
       | inr same ↦
           let there : InGap direction reads p w next = subst (λ (r : ℤ). InGap direction reads r w next) (sym same) here in
-          let left = way_left direction wall w (far_side direction reads p) on in
           let fewer = there.fewer in
           let less = up_more (way direction next (far_side direction reads p)) (way direction wall (far_side direction reads p)) there.some (omega (arith, ints)) in
           (p ∷ ps, sorted, touching, (there.entered, omega arith))
     ]
 
 -- a pass outside gaps, which uses up one of the slack
-other_pass : (direction : Direction) (reads : ℤ → ℤ) (ps : List ℤ) (wall next : ℤ) (k slack : ℕ) → Met direction reads ps wall k slack → Reaches direction wall next → Met direction reads ps next (k + 1) (slack + 1)
+other_pass : (direction : Direction) (reads : ℤ → ℤ) (ps : List ℤ) (wall next : ℤ) (k slack : ℕ) → Counted direction reads ps wall k slack → Reaches direction wall next → Counted direction reads ps next (k + 1) (slack + 1)
 other_pass direction reads [] wall next k slack met on = omega arith
 other_pass direction reads (p ∷ ps) wall next k slack met on =
-    let less = up_less (way direction next (far_side direction reads p)) (way direction wall (far_side direction reads p)) (way_left direction wall next (far_side direction reads p) on) in
+    let less = up_less (way direction next (far_side direction reads p)) (way direction wall (far_side direction reads p)) (omega (arith, ints)) in
     let room = met.1 in
-    (entered_on direction reads p wall next met.0 on, omega arith)
+    let entered = met.0 in
+    (omega (arith, ints), omega arith)
 
-bounded : (direction : Direction) (reads : ℤ → ℤ) (ps : List ℤ) (wall : ℤ) (k slack : ℕ) → Met direction reads ps wall k slack → k ≤ all_skipped reads ps + slack
+bounded : (direction : Direction) (reads : ℤ → ℤ) (ps : List ℤ) (wall : ℤ) (k slack : ℕ) → Counted direction reads ps wall k slack → k ≤ all_skipped reads ps + slack
 bounded direction reads [] wall k slack met = omega arith
 bounded direction reads (p ∷ ps) wall k slack met = let room = met.1 in omega arith
 
@@ -198,7 +190,7 @@ paced_gap : (direction : Direction) (reads : ℤ → ℤ) → Calm reads → (s 
 paced_gap direction reads calm s wall w next k paced on unread years onward =
     let (q, below, above) = unread_is_in_gap reads calm w unread in
     let (qs, sorted, touching, met) = gap_pass direction reads calm paced.gaps wall w next q k paced.slack paced.sorted paced.touching paced.met on below above onward (touches reads calm q w below above years) in
-    let more = up_less (way direction (reads s) wall) (way direction (reads s) next) (way_on direction (reads s) wall next (reaches-trans direction wall w next on (precedes-reaches direction w next onward.on))) in
+    let more = up_less (way direction (reads s) wall) (way direction (reads s) next) (omega (arith, ints, onward.on)) in
     let under = paced.below in
     record { gaps = qs; sorted = sorted; touching = touching; slack = paced.slack; margin = paced.margin; below = omega arith; met = met }
 
@@ -216,17 +208,16 @@ turned_little reads calm i j h le =
 -- so a second whose nearer instant is behind lies near what the start shows
 behind_near : (direction : Direction) (reads : ℤ → ℤ) → Calm reads → (e s w : ℤ) → Precedes direction e s → reads e ≡ w → Reaches direction (reads s) w → way direction (reads s) w <ℤ pos fold_limit
 behind_near Forward reads calm e s w behind at from = let little = turned_little reads calm e s behind (omega (arith, ints)) in omega (arith, ints)
-behind_near Backward reads calm e s w behind at from = let little = turned_little reads calm s e behind (omega (arith, ints)) in omega (arith, ints)
+behind_near Backward reads calm e s w behind at from = let little = turned_little reads calm s e (omega (arith, ints)) (omega (arith, ints)) in omega (arith, ints)
 
 paced_behind : (direction : Direction) (reads : ℤ → ℤ) → Calm reads → (s wall w next e : ℤ) (k : ℕ) → Paced direction reads s wall k → Reaches direction wall w → Reaches direction (reads s) w → Precedes direction e s → reads e ≡ w → next ≡ one_on direction w → Paced direction reads s next (k + 1)
 paced_behind direction reads calm s wall w next e k paced on from behind at moved =
     let near = behind_near direction reads calm e s w behind at from in
     let under = paced.below in
     let margin = paced.margin in
-    let ahead = way_ahead direction (reads s) w from in
-    let one = way_one direction (reads s) w next moved in
-    let a = up_less (way direction (reads s) wall) (way direction (reads s) w) (way_on direction (reads s) wall w on) in
-    let b = nonnegative (way direction (reads s) w) ahead in
+    let one : along direction next ≡ along direction w +ℤ pos 1 = ap (along direction) moved ∙ along-offset direction w 1 in
+    let a = up_less (way direction (reads s) wall) (way direction (reads s) w) (omega (arith, ints)) in
+    let b = nonnegative (way direction (reads s) w) (omega (arith, ints)) in
     let c = nonnegative (way direction (reads s) next) (omega (arith, ints)) in
     record {
       gaps = paced.gaps;
@@ -235,7 +226,7 @@ paced_behind direction reads calm s wall w next e k paced on from behind at move
       slack = paced.slack + 1;
       margin = omega (arith, ints);
       below = omega (arith, ints);
-      met = other_pass direction reads paced.gaps wall next k paced.slack paced.met (subst (Reaches direction wall) (sym moved) (one_on_reaches direction wall w on));
+      met = other_pass direction reads paced.gaps wall next k paced.slack paced.met (omega (arith, ints));
     }
 
 pub paced_on : (direction : Direction) (reads : ℤ → ℤ) → Calm reads → (s wall w next : ℤ) (k : ℕ) → Paced direction reads s wall k → Reaches direction wall w → Reaches direction (reads s) w → IsSearched w → Paces direction reads s w next → Paced direction reads s next (k + 1)
@@ -273,7 +264,7 @@ Joins (p ∷ ps) qs = Heads Backward p qs
 sorted_reversed : (reads : ℤ → ℤ) (ps qs : List ℤ) → LastFirst Forward reads ps → LastFirst Backward reads qs → Joins ps qs → LastFirst Backward reads (reversed ps qs)
 sorted_reversed reads [] qs a b join = b
 sorted_reversed reads (p ∷ []) qs (breaks, heads, a) b join = (breaks, join, b)
-sorted_reversed reads (p ∷ (r ∷ ps)) qs (breaks, heads, a) b join = sorted_reversed reads (r ∷ ps) (p ∷ qs) a (breaks, join, b) heads
+sorted_reversed reads (p ∷ (r ∷ ps)) qs (breaks, heads, a) b join = sorted_reversed reads (r ∷ ps) (p ∷ qs) a (breaks, join, b) (omega (arith, ints))
 
 all_after : (reads : ℤ → ℤ) (p : ℤ) (ps : List ℤ) → Heads Backward p ps → LastFirst Backward reads ps → All (λ e. (p +ℤ pos 1) <ℤ e) (ends ps)
 all_after reads p [] heads sorted = All-nil (λ e. (p +ℤ pos 1) <ℤ e)

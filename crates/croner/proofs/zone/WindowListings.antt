@@ -18,9 +18,10 @@ use Rattle.croner.specs.iterator.Listing.{BeginsWhere, Standing, IsLeft, counts_
 use Rattle.croner.specs.laws.Zones.{IsOnClockOf, IsWellIn, in_zone, table_in_zone}
 use Rattle.croner.specs.search.Limit.{InSpan}
 use Rattle.croner.specs.search.PatternJob.{timetable_of}
-use Rattle.croner.specs.search.Runs.{Precedes, Reaches}
+use Rattle.croner.specs.search.Runs.{job_in, Precedes, Reaches}
 use Rattle.croner.proofs.zone.Ahead.{not_both}
-use Rattle.croner.proofs.zone.Windows.{Alike, GoesOn, alike, alike_back, behind_first, goes_on, counts, later_well, onward, span}
+use Rattle.croner.proofs.zone.RunsOfSeconds.{counts_reaches}
+use Rattle.croner.proofs.zone.Windows.{Alike, GoesOn, alike, alike_back, behind_first, goes_on, counts, between, span}
 
 -- ---- what is left
 
@@ -46,7 +47,7 @@ same_left tz first last table s h =
       start = h.well_in;
       to = λ i hi c. counts s.direction (counts_position s) tz first last (zoned_zone tz) s.position.zone (timetable_of s.pattern) s.position.instant i a h.well_in hi c;
       back = λ i hi c. counts s.direction (counts_position s) tz first last s.position.zone (zoned_zone tz) (timetable_of s.pattern) s.position.instant i b h.well_in hi c;
-      from = λ i c. onward s.direction (counts_position s) (zoned_zone tz) (timetable_of s.pattern) s.position.instant i c;
+      from = λ i c. counts_reaches s.direction (counts_position s) (job_in (zoned_zone tz) (timetable_of s.pattern)) s.position.instant i c;
     }
 
 -- at each place of a table of patterns
@@ -67,7 +68,7 @@ same_left_at tz first last table s k h =
         stands = c.stands;
         counts = counts s.direction (counts_table_position s) tz first last s.position.zone (zoned_zone tz) (timetable_of c.pattern) s.position.instant i b h.well_in hi c.counts;
       };
-      from = λ i c. onward s.direction (counts_table_position s) (zoned_zone tz) (timetable_of c.pattern) s.position.instant i c.counts;
+      from = λ i c. counts_reaches s.direction (counts_table_position s) (job_in (zoned_zone tz) (timetable_of c.pattern)) s.position.instant i c.counts;
     }
 
 pub same_table_left : (tz : TimeZone) (first last : ℤ) (table : ClockTable) (s : TableStanding) → IsOnClockOf tz first last (table_zone table) s.position
@@ -101,11 +102,6 @@ first_pairs R items more ordered = λ a b d before within.
 pub first_all : {X : Type 0} (P : X → Type 0) (items more : List X) → All P (items ++ more) → All P items
 first_all P [] more h = All-nil P
 first_all P (x ∷ xs) more h = All-cons P x xs (All-head P x (xs ++ more) h) (first_all P xs more (All-tail P x (xs ++ more) h))
-
--- an instant between the start and one well in the window is well in it
-between : (direction : Direction) (tz : TimeZone) (first last s i item : ℤ) → IsWellIn tz first last s → IsWellIn tz first last item → Reaches direction s i → Reaches direction i item → IsWellIn tz first last i
-between Forward tz first last s i item hs hx from to = later_well tz first last s i hs from (omega (arith, signed_arith, hx.1, to))
-between Backward tz first last s i item hs hx from to = later_well tz first last item i hx to (omega (arith, signed_arith, hs.1, from))
 
 pub begins_well : (direction : Direction) (tz : TimeZone) (first last s : ℤ) (own other : ℤ → Type 0) (items more : List ℤ) → SameWell direction tz first last s own other → BeginsWhere direction own (items ++ more) → All (IsWellIn tz first last) items → BeginsWhere direction other items
 begins_well direction tz first last s own other items more h n well = record {

@@ -19,6 +19,8 @@ use Rattle.croner_base.specs.ZoneTable.{ahead_at, nearest_in}
 use Rattle.croner_base.proofs.TableOffsets.{offset_within}
 use Rattle.croner_base.proofs.TableReadings.{calm_offsets}
 use Rattle.croner_base.proofs.ZonedMoments.{zone_reads-held}
+use Rattle.croner.proofs.zone.Ahead.{either, precedes-reaches}
+use Rattle.croner.proofs.zone.RunsOfSeconds.{counts_reaches}
 use Rattle.croner.specs.laws.Zones.{day_margin, IsAtMostADayAhead, IsWellIn, IsClockOf}
 use Rattle.croner.specs.search.Limit.{InSpan, NoneInSpan}
 use Rattle.croner.specs.search.Runs.{Timetable, job_in, OwnRun, CarriedRun, Run, Reaches, StartCounts, Counts, Nearest}
@@ -29,7 +31,7 @@ two_days_in tz first last i (inl far, high) = omega (arith, signed_arith, far)
 two_days_in tz first last i (inr far, high) = far.1
 
 -- and so is what comes behind it in the window
-pub later_well : (tz : TimeZone) (first last i j : ℤ) → IsWellIn tz first last i → i ≤ℤ j → j ≤ℤ last → IsWellIn tz first last j
+later_well : (tz : TimeZone) (first last i j : ℤ) → IsWellIn tz first last i → i ≤ℤ j → j ≤ℤ last → IsWellIn tz first last j
 later_well tz first last i j (inl far, high) order within = (inl (omega (arith, signed_arith, far, order)), within)
 later_well tz first last i j (inr far, high) order within = (inr (far.0, omega (arith, signed_arith, far.1, order)), within)
 
@@ -76,27 +78,21 @@ pub counts : (direction : Direction) (inclusive : Bool) (tz : TimeZone) (first l
 counts direction inclusive tz first last z t timetable s i a hs hi (inl h) = inl (h.0, run tz first last z t timetable i a hi h.1)
 counts direction inclusive tz first last z t timetable s i a hs hi (inr h) = inr (h.0, h.1, start_counts direction tz first last z t timetable s a hs h.2)
 
--- what counts lies ahead of the start, or is it
-pub onward : (direction : Direction) (inclusive : Bool) (z : Zone) (timetable : Timetable) (s i : ℤ) → Counts direction inclusive (job_in z timetable) s i → Reaches direction s i
-onward Forward inclusive z timetable s i (inl h) = omega (arith, signed_arith, h.0)
-onward Forward inclusive z timetable s i (inr h) = omega (arith, signed_arith, h.1)
-onward Backward inclusive z timetable s i (inl h) = omega (arith, signed_arith, h.0)
-onward Backward inclusive z timetable s i (inr h) = omega (arith, signed_arith, h.1)
+-- an instant between two that are well in the window is well in it
+pub between : (direction : Direction) (tz : TimeZone) (first last s i item : ℤ) → IsWellIn tz first last s → IsWellIn tz first last item → Reaches direction s i → Reaches direction i item → IsWellIn tz first last i
+between Forward tz first last s i item hs hx from to = later_well tz first last s i hs from (omega (arith, signed_arith, hx.1, to))
+between Backward tz first last s i item hs hx from to = later_well tz first last item i hx (omega (arith, signed_arith, to)) (omega (arith, signed_arith, hs.1, from))
 
 pub nearest : (direction : Direction) (inclusive : Bool) (tz : TimeZone) (first last : ℤ) (z t : Zone) (timetable : Timetable) (s r : ℤ) → Alike tz first last z t → IsWellIn tz first last s → IsWellIn tz first last r → Nearest direction inclusive (job_in t timetable) s r → Nearest direction inclusive (job_in z timetable) s r
-nearest Forward inclusive tz first last z t timetable s r a hs hr n = record {
-  counts = counts Forward inclusive tz first last z t timetable s r a hs hr n.counts;
-  nearest = λ j c. let from = onward Forward inclusive z timetable s j c in by_lt_z last j
-      (λ past. omega (arith, signed_arith, hr.1, past))
-      (λ within. let inside = later_well tz first last s j hs from within in
-      n.nearest j (counts Forward inclusive tz first last t z timetable s j (alike_back tz first last z t a) hs inside c));
-}
-nearest Backward inclusive tz first last z t timetable s r a hs hr n = record {
-  counts = counts Backward inclusive tz first last z t timetable s r a hs hr n.counts;
-  nearest = λ j c. let to = onward Backward inclusive z timetable s j c in by_lt_z j r
-      (λ early. omega (arith, signed_arith, early))
-      (λ from. let inside = later_well tz first last r j hr from (omega (arith, signed_arith, hs.1, to)) in
-      n.nearest j (counts Backward inclusive tz first last t z timetable s j (alike_back tz first last z t a) hs inside c));
+nearest direction inclusive tz first last z t timetable s r a hs hr n = record {
+  counts = counts direction inclusive tz first last z t timetable s r a hs hr n.counts;
+  nearest = λ j c. elim (either direction j r) [
+    | inr on ↦ on
+    | inl before ↦
+        let from = counts_reaches direction inclusive (job_in z timetable) s j c in
+        let inside = between direction tz first last s j r hs hr from (precedes-reaches direction j r before) in
+        n.nearest j (counts direction inclusive tz first last t z timetable s j (alike_back tz first last z t a) hs inside c)
+  ];
 }
 
 -- outside the window the clock of a table goes on from what it shows at the ends
@@ -109,7 +105,7 @@ span Forward tz first last z t i a g low high h = λ j le. by_lt_z j first
     (λ early. let f = h first low in let s = a.same first (omega (arith, signed_arith)) (omega (arith, signed_arith, low, high)) in omega (arith, signed_arith, f, s, g.before j early))
     (λ from. let s = a.same j from (omega (arith, signed_arith, le, high)) in let w = h j le in omega (arith, signed_arith, s, w))
 span Backward tz first last z t i a g low high h = λ j le. by_lt_z last j
-    (λ late. let f = h last high in let s = a.same last (omega (arith, signed_arith, low, high)) (omega (arith, signed_arith)) in omega (arith, signed_arith, f, s, g.behind j late))
+    (λ late. let f = h last (omega (arith, signed_arith, high)) in let s = a.same last (omega (arith, signed_arith, low, high)) (omega (arith, signed_arith)) in omega (arith, signed_arith, f, s, g.behind j late))
     (λ to. let s = a.same j (omega (arith, signed_arith, le, low)) to in let w = h j le in omega (arith, signed_arith, s, w))
 
 pub none_counts : (direction : Direction) (inclusive : Bool) (tz : TimeZone) (first last : ℤ) (z t : Zone) (timetable : Timetable) (s i : ℤ) → Alike tz first last z t → GoesOn first last t → IsWellIn tz first last s → NoneInSpan direction inclusive (job_in t timetable) s → IsWellIn tz first last i → InSpan direction z.reads i → Counts direction inclusive (job_in z timetable) s i → ⊥

@@ -42,15 +42,15 @@ distance i j h =
     let back : j ≡ i +ℤ (j -ℤ i) = omega (arith, ints) in
     back ∙ ap (λ (z : ℤ). i +ℤ z) e
 
-pub along : (P : ℤ → Type 0) (i j : ℤ) → i ≤ℤ j → P i → ((k : ℤ) → i ≤ℤ k → k <ℤ j → P k → P (k +ℤ pos 1)) → P j
-along P i j h start step = steps_from P i (up (j -ℤ i)) j (distance i j h) start step
+pub step_by_step : (P : ℤ → Type 0) (i j : ℤ) → i ≤ℤ j → P i → ((k : ℤ) → i ≤ℤ k → k <ℤ j → P k → P (k +ℤ pos 1)) → P j
+step_by_step P i j h start step = steps_from P i (up (j -ℤ i)) j (distance i j h) start step
 
 -- ---- straight lines
 
 module _ (reads : ℤ → ℤ) where
   pub straight : (i j : ℤ) → i ≤ℤ j → ((k : ℤ) → i ≤ℤ k → k <ℤ j → Break reads k → ⊥) → reads j ≡ reads i +ℤ (j -ℤ i)
   straight i j h none =
-      along (λ k. reads k ≡ reads i +ℤ (k -ℤ i)) i j h (omega (arith, ints))
+      step_by_step (λ k. reads k ≡ reads i +ℤ (k -ℤ i)) i j h (omega (arith, ints))
       (λ k low high so_far.
       elim (same_or_not (reads (k +ℤ pos 1)) (reads k +ℤ pos 1)) [
         | inl e ↦ omega (arith, ints)
@@ -59,7 +59,7 @@ module _ (reads : ℤ → ℤ) where
 
   pub straight_or_break : (i j : ℤ) → i ≤ℤ j → (reads j ≡ reads i +ℤ (j -ℤ i)) ⊎ ((p : ℤ) × (i ≤ℤ p) × (p <ℤ j) × Break reads p)
   straight_or_break i j h =
-      along (λ k. (reads k ≡ reads i +ℤ (k -ℤ i)) ⊎ ((p : ℤ) × (i ≤ℤ p) × (p <ℤ k) × Break reads p)) i j h (inl (omega (arith, ints)))
+      step_by_step (λ k. (reads k ≡ reads i +ℤ (k -ℤ i)) ⊎ ((p : ℤ) × (i ≤ℤ p) × (p <ℤ k) × Break reads p)) i j h (inl (omega (arith, ints)))
       (λ k low high so_far.
       elim so_far [
         | inl e ↦
@@ -209,10 +209,10 @@ module _ (reads : ℤ → ℤ) (calm : Calm reads) where
   -- a reading between two readings is read between them, or skipped there
   pub read_or_skipped : (w i j : ℤ) → i ≤ℤ j → reads i ≤ℤ w → w ≤ℤ reads j → ((k : ℤ) × (i ≤ℤ k) × (k ≤ℤ j) × (reads k ≡ w)) ⊎ ((p : ℤ) × (i ≤ℤ p) × (p <ℤ j) × (reads p <ℤ w) × (w <ℤ reads (p +ℤ pos 1)))
   read_or_skipped w i j h low high =
-      let Met : ℤ → Type 0 = λ m. (reads m <ℤ w) ⊎ (((k : ℤ) × (i ≤ℤ k) × (k ≤ℤ m) × (reads k ≡ w)) ⊎ ((p : ℤ) × (i ≤ℤ p) × (p <ℤ m) × (reads p <ℤ w) × (w <ℤ reads (p +ℤ pos 1)))) in
-      let start : Met i = elim (cases_lt_z (reads i) w) [ inl lt ↦ inl lt | inr le ↦ inr (inl (i, omega (arith, ints), omega (arith, ints), omega (arith, ints))) ] in
-      let met : Met j =
-      along Met i j h start
+      let SoFar : ℤ → Type 0 = λ m. (reads m <ℤ w) ⊎ (((k : ℤ) × (i ≤ℤ k) × (k ≤ℤ m) × (reads k ≡ w)) ⊎ ((p : ℤ) × (i ≤ℤ p) × (p <ℤ m) × (reads p <ℤ w) × (w <ℤ reads (p +ℤ pos 1)))) in
+      let start : SoFar i = elim (cases_lt_z (reads i) w) [ inl lt ↦ inl lt | inr le ↦ inr (inl (i, omega (arith, ints), omega (arith, ints), omega (arith, ints))) ] in
+      let found : SoFar j =
+      step_by_step SoFar i j h start
       (λ m from to so_far.
       elim so_far [
         | inl lt ↦
@@ -227,4 +227,4 @@ module _ (reads : ℤ → ℤ) (calm : Calm reads) where
         | inr (inl (k, a, b, e)) ↦ inr (inl (k, a, omega (arith, ints), e))
         | inr (inr (p, a, b, c, d)) ↦ inr (inr (p, a, omega (arith, ints), c, d))
       ]) in
-      elim met [ inl lt ↦ absurd (omega (arith, ints)) | inr found ↦ found ]
+      elim found [ inl lt ↦ absurd (omega (arith, ints)) | inr found ↦ found ]

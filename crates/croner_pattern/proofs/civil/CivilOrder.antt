@@ -1,5 +1,5 @@
 -- The order of civil date-times: that of their parts, from the year down to the second.
-use Rattle.std.proofs.Common.{◌≡◌, ℕ, ◌+◌, ◌*◌, ◌<◌, ◌≤◌, inl, inr, refl, arith, ℤ, pos, ◌+ℤ◌, ◌*ℤ◌, ◌<ℤ◌, ◌≤ℤ◌, Bool, true, false, IsTrue, ◌↔◌}
+use Rattle.std.proofs.Common.{◌≡◌, ℕ, ◌+◌, ◌*◌, ◌<◌, ◌≤◌, inl, inr, refl, sym, subst, arith, ℤ, pos, ◌+ℤ◌, ◌*ℤ◌, ◌<ℤ◌, ◌≤ℤ◌, Bool, true, false, IsTrue, ◌↔◌}
 use Rattle.std.proofs.lemmas.Int.{by_lt_z}
 use Rattle.std.proofs.lemmas.Bool.{cases_lt, false≢true}
 use Rattle.jiff_core.proofs.SignedLemmas.{signed_arith}
@@ -108,26 +108,26 @@ reach-year dir a b h = grind (arith, signed_arith, rank-le_day a b, rank-le_day 
 
 pub reach-day : (dir : Direction) (a b : CivilDate) → b.year ≡ a.year → b.month ≡ a.month → Reaches dir (day_of_date a) (day_of_date b) → Reaches dir (pos a.day) (pos b.day)
 reach-day Forward a b y m h = omega (arith, signed_arith, rank-le_day a b h)
-reach-day Backward a b y m h = omega (arith, signed_arith, rank-le_day b a h)
+reach-day Backward a b y m h = omega (arith, signed_arith, rank-le_day b a (omega (arith, signed_arith)))
 
 pub day-reach : (dir : Direction) (a b : CivilDate) → b.year ≡ a.year → b.month ≡ a.month → Reaches dir (pos a.day) (pos b.day) → Reaches dir (day_of_date a) (day_of_date b)
 day-reach Forward a b y m h = day-le_rank a b (omega (arith, signed_arith))
-day-reach Backward a b y m h = day-le_rank b a (omega (arith, signed_arith))
+day-reach Backward a b y m h = omega (arith, signed_arith, day-le_rank b a (omega (arith, signed_arith)))
 
 pub reach-month : (dir : Direction) (a b : CivilDate) → b.year ≡ a.year → Reaches dir (day_of_date a) (day_of_date b) → Reaches dir (pos a.month) (pos b.month)
 reach-month Forward a b y h = omega (arith, signed_arith, rank-le_day a b h, date_bounds a, date_bounds b)
-reach-month Backward a b y h = omega (arith, signed_arith, rank-le_day b a h, date_bounds a, date_bounds b)
+reach-month Backward a b y h = omega (arith, signed_arith, rank-le_day b a (omega (arith, signed_arith)), date_bounds a, date_bounds b)
 
 pub year-ahead : (dir : Direction) (a b : CivilDate) → Precedes dir a.year b.year → Precedes dir (day_of_date a) (day_of_date b)
 year-ahead dir a b h = grind (arith, signed_arith, day-lt_rank a b, day-lt_rank b a, date_bounds a, date_bounds b)
 
 pub month-ahead : (dir : Direction) (a b : CivilDate) → b.year ≡ a.year → Precedes dir (pos a.month) (pos b.month) → Precedes dir (day_of_date a) (day_of_date b)
 month-ahead Forward a b y h = day-lt_rank a b (omega (arith, signed_arith, date_bounds a, date_bounds b))
-month-ahead Backward a b y h = day-lt_rank b a (omega (arith, signed_arith, date_bounds a, date_bounds b))
+month-ahead Backward a b y h = omega (arith, signed_arith, day-lt_rank b a (omega (arith, signed_arith, date_bounds a, date_bounds b)))
 
 pub day-ahead : (dir : Direction) (a b : CivilDate) → b.year ≡ a.year → b.month ≡ a.month → Precedes dir (pos a.day) (pos b.day) → Precedes dir (day_of_date a) (day_of_date b)
 day-ahead Forward a b y m h = day-lt_rank a b (omega (arith, signed_arith))
-day-ahead Backward a b y m h = day-lt_rank b a (omega (arith, signed_arith))
+day-ahead Backward a b y m h = omega (arith, signed_arith, day-lt_rank b a (omega (arith, signed_arith)))
 
 -- ---- the first day of the year from which no step leads on
 
@@ -146,25 +146,21 @@ IsRankPast Backward d = rank d <ℤ rank_at (pos first_year) 12 31
 
 pub edge-reached : (dir : Direction) (d : CivilDate) (b : Bool) → (b ≡ true → IsRankReached dir d) → (b ≡ false → IsRankPast dir d) → IsTrue b ↔ Reaches dir (day_of_date d) (edge_day dir)
 edge-reached Forward d true hit miss = (λ t. day-le_rank d (edge Forward) (hit refl), λ r. refl)
-edge-reached Backward d true hit miss = (λ t. day-le_rank (edge Backward) d (hit refl), λ r. refl)
+edge-reached Backward d true hit miss = (λ t. omega (arith, signed_arith, day-le_rank (edge Backward) d (hit refl)), λ r. refl)
 edge-reached Forward d false hit miss = (λ t. absurd (false≢true t), λ r. absurd (omega (arith, signed_arith, r, day-lt_rank (edge Forward) d (miss refl))))
 edge-reached Backward d false hit miss = (λ t. absurd (false≢true t), λ r. absurd (omega (arith, signed_arith, r, day-lt_rank d (edge Backward) (miss refl))))
 
-pub forward-reached : (dir : Direction) (d : CivilDate) (b : Bool) → dir ≡ Forward → (b ≡ true → IsRankReached Forward d) → (b ≡ false → IsRankPast Forward d) → IsTrue b ↔ Reaches dir (day_of_date d) (edge_day dir)
-forward-reached Forward d b is hit miss = edge-reached Forward d b hit miss
-forward-reached Backward d b is hit miss = absurd cc
-
-pub backward-reached : (dir : Direction) (d : CivilDate) (b : Bool) → dir ≡ Backward → (b ≡ true → IsRankReached Backward d) → (b ≡ false → IsRankPast Backward d) → IsTrue b ↔ Reaches dir (day_of_date d) (edge_day dir)
-backward-reached Backward d b is hit miss = edge-reached Backward d b hit miss
-backward-reached Forward d b is hit miss = absurd cc
+pub at_edge : (dir way : Direction) (d : CivilDate) (b : Bool) → dir ≡ way → (b ≡ true → IsRankReached way d) → (b ≡ false → IsRankPast way d) → IsTrue b ↔ Reaches dir (day_of_date d) (edge_day dir)
+at_edge dir way d b is hit miss =
+    subst (λ (x : Direction). IsTrue b ↔ Reaches x (day_of_date d) (edge_day x)) (sym is) (edge-reached way d b hit miss)
 
 pub room-before : (dir : Direction) (d : CivilDate) → has_room dir d.year ≡ true → Precedes dir (day_of_date d) (edge_day dir)
 room-before Forward d h = day-lt_rank d (edge Forward) (omega (arith, signed_arith, date_bounds d))
-room-before Backward d h = day-lt_rank (edge Backward) d (omega (arith, signed_arith, date_bounds d))
+room-before Backward d h = omega (arith, signed_arith, day-lt_rank (edge Backward) d (omega (arith, signed_arith, date_bounds d)))
 
 pub no_room-past : (dir : Direction) (d : CivilDate) → has_room dir d.year ≡ false → Reaches dir (edge_day dir) (day_of_date d)
 no_room-past Forward d h = day-le_rank (edge Forward) d (omega (arith, signed_arith, date_bounds d))
-no_room-past Backward d h = day-le_rank d (edge Backward) (omega (arith, signed_arith, date_bounds d))
+no_room-past Backward d h = omega (arith, signed_arith, day-le_rank d (edge Backward) (omega (arith, signed_arith, date_bounds d)))
 
 -- ---- wall seconds: by the date, and on one date by the time
 
@@ -181,7 +177,8 @@ pub wall-reach_date : (dir : Direction) (a b : CivilDateTime) → Precedes dir (
 wall-reach_date dir a b h = grind (arith, signed_arith, wall_second-parts a, wall_second-parts b, seconds_bound a.time, seconds_bound b.time)
 
 pub wall-reach_time : (dir : Direction) (a b : CivilDateTime) → day_of_date b.date ≡ day_of_date a.date → Reaches dir (place_in_day a.time) (place_in_day b.time) → Reaches dir (wall_second a) (wall_second b)
-wall-reach_time dir a b e h = grind (arith, signed_arith, wall_second-parts a, wall_second-parts b)
+wall-reach_time Forward a b e h = omega (arith, signed_arith, wall_second-parts a, wall_second-parts b)
+wall-reach_time Backward a b e h = omega (arith, signed_arith, wall_second-parts a, wall_second-parts b)
 
 -- ---- times of day: by the hour, in an hour by the minute, in a minute by the second
 

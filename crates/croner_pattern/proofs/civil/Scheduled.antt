@@ -56,12 +56,6 @@ module _ (m : Meaning) (dir : Direction) (from : CivilDateTime) where
 
   -- ---- on the start's own day
 
-  pub own-first : (t : CivilTime) → is_date_matching m from.date ≡ true → IsForemost place_in_day (IsTimeFrom m dir from.time) dir t → (has_room dir from.date.year ≡ false → IsMove m from.time t) → IsForemost place_in_day (IsOpenTime m dir from) dir t
-  own-first t date n move = record {
-    is = record { date = date; on = n.is.on; matches = n.is.matches; move = move };
-    first = λ y is. n.first y (record { on = is.on; matches = is.matches });
-  }
-
   -- a step to the first time that matches is one to each later time
   pub own-none : (t : CivilTime) → IsForemost place_in_day (IsTimeFrom m dir from.time) dir t → has_room dir from.date.year ≡ false → (IsMove m from.time t → ⊥) → (y : CivilTime) → ¬ (IsOpenTime m dir from y)
   own-none t n lacks no_move y is =

@@ -10,19 +10,14 @@ use Rattle.croner_base.specs.Calm.{IsCalm}
 use Rattle.croner_base.specs.Limits.{gap_limit}
 use Rattle.croner.specs.Private.search.Held.{HoldsYears, IsBackendError}
 use Rattle.croner.specs.search.Limit.{IsWithin}
-use Rattle.croner.specs.search.Runs.{Precedes, Reaches}
+use Rattle.croner.specs.search.Runs.{Precedes}
 use Rattle.croner.specs.declared.search.gap.Around.{Around}
 use Rattle.croner.specs.Private.search.Halves.{offset_from}
-use Rattle.croner.specs.Private.search.Walk.{First, one_on}
+use Rattle.croner.specs.Private.search.Walk.{First, one_on, UnreadTo}
 
 -- in a calm zone no instant shows the second
 abbrev pub IsSkipped : Zone → ℤ → Type 0
 IsSkipped z w = IsCalm z → (x : ℤ) → ¬ (z.reads x ≡ w)
-
--- no instant shows any of the seconds from one on in the direction, up to another left out
-abbrev pub UnreadTo : Direction → (ℤ → ℤ) → ℤ → ℤ → Type 0
-UnreadTo direction reads from to =
-    (u : ℤ) → Reaches direction from u → Precedes direction u to → (x : ℤ) → ¬ (reads x ≡ u)
 
 -- the value is the first instant that shows the second
 pub record IsFirstShown {T : Type 0} (moment : T → Moment) (z : Zone) (found : CivilDateTime × T) : Type 0 where

@@ -1,13 +1,14 @@
 -- The two halves of a repeated range of the wall clock.
 -- Private contracts alone cite these definitions.
-use Rattle.std.specs.Prelude.{◌≡◌, ⊤, ℕ, ◌+◌, ◌≤◌, ℤ, pos, ◌+ℤ◌, ◌-ℤ◌, ◌<ℤ◌, ◌≤ℤ◌, Bool, false, Option, Some, None}
+use Rattle.std.specs.Prelude.{◌≡◌, ⊤, ℕ, ◌+◌, ◌≤◌, ℤ, pos, ◌+ℤ◌, ◌-ℤ◌, Bool, false, Option, Some, None}
 use Rattle.croner_base.specs.declared.time.Direction.{Direction}
 use Rattle.croner_base.specs.declared.time.Direction.TheVariants.{Forward, Backward}
 use Rattle.croner_base.specs.Zone.{Moment}
 use Rattle.croner_base.specs.Limits.{apart_limit}
-use Rattle.croner.specs.search.Runs.{Precedes}
+use Rattle.croner.specs.search.Runs.{Precedes, Reaches}
 use Rattle.croner.specs.Private.search.Walk.{one_on}
 use Rattle.croner.specs.search.Premises.{IsCalmStart, StartsCalm}
+pub use Rattle.croner_pattern.specs.Directions.{offset_from}
 
 -- how many seconds on the edge of the other half is sought
 abbrev pub edge_limit : ℕ
@@ -21,27 +22,16 @@ Break reads p = ¬ (reads (p +ℤ pos 1) ≡ reads p +ℤ pos 1)
 abbrev pub HasTwin : Direction → (ℤ → ℤ) → ℤ → Type 0
 HasTwin direction reads i = (x : ℤ) × (reads x ≡ reads i) × Precedes direction i x
 
--- s is at most a window before the change after p
-pub record EdgeAfter (reads : ℤ → ℤ) (s p : ℤ) : Type 0 where
-  pub from : s ≤ℤ p
-  pub near : p ≤ℤ (s +ℤ pos apart_limit)
-  pub breaks : Break reads p
+-- the clock is put forward or back between e and the instant behind it in the direction
+abbrev pub BreaksBehind : Direction → (ℤ → ℤ) → ℤ → Type 0
+BreaksBehind Forward reads e = Break reads (e -ℤ pos 1)
+BreaksBehind Backward reads e = Break reads e
 
--- s is at most a window after the change after p
-pub record EdgeBefore (reads : ℤ → ℤ) (p s : ℤ) : Type 0 where
-  pub from : p <ℤ s
-  pub near : s ≤ℤ (p +ℤ pos (apart_limit + 1))
-  pub breaks : Break reads p
-
--- e is the nearest instant of the half that s is not on
-abbrev pub EdgeOf : Direction → (ℤ → ℤ) → ℤ → ℤ → Type 0
-EdgeOf Forward reads s e = (p : ℤ) × (e ≡ p +ℤ pos 1) × EdgeAfter reads s p
-EdgeOf Backward reads s e = EdgeBefore reads e s
-
--- so many seconds on in the direction
-abbrev pub offset_from : Direction → ℤ → ℕ → ℤ
-offset_from Forward s n = s +ℤ pos n
-offset_from Backward s n = s -ℤ pos n
+-- e is the nearest instant of the half that s is not on: right past a change, at most a window from s
+pub record EdgeOf (direction : Direction) (reads : ℤ → ℤ) (s e : ℤ) : Type 0 where
+  pub from : Precedes direction s e
+  pub near : Reaches direction e (offset_from direction s (apart_limit + 1))
+  pub breaks : BreaksBehind direction reads e
 
 -- the same moment so many seconds on in the direction
 abbrev pub moment_from : Direction → Moment → ℕ → Moment

@@ -91,14 +91,15 @@ IsOneOf a b None = ⊤
 abbrev pub CannotMove : Direction → Moment → Type 0
 CannotMove direction m = m.zone.holds (one_on direction m.instant) ≡ false
 
--- no instant shows any of the seconds from `low` up to `high`, this one left out
-abbrev pub Unread : (ℤ → ℤ) → ℤ → ℤ → Type 0
-Unread reads low high = (u : ℤ) → low ≤ℤ u → u <ℤ high → (x : ℤ) → ¬ (reads x ≡ u)
+-- no instant shows any of the seconds from one on in the direction, up to another left out
+abbrev pub UnreadTo : Direction → (ℤ → ℤ) → ℤ → ℤ → Type 0
+UnreadTo direction reads from to =
+    (u : ℤ) → Reaches direction from u → Precedes direction u to → (x : ℤ) → ¬ (reads x ≡ u)
 
 -- t is the first instant after the gap that holds w, and shows v
 pub record GapEnd (reads : ℤ → ℤ) (w v t : ℤ) : Type 0 where
   pub past : w <ℤ v
-  pub unread : Unread reads w v
+  pub unread : UnreadTo Forward reads w v
   pub first : First reads v t
   pub at : reads t ≡ v
 
@@ -151,6 +152,6 @@ HasGapEnd moment z held None = ¬ (IsCalm z)
 -- before the gap that holds a second: its front, or further than the search reaches
 abbrev pub HasGapFront : Zone → ℤ → Option CivilDateTime → Type 0
 HasGapFront z held (Some front) =
-    (wall_second front <ℤ held)
-    × (IsCalm z → Unread z.reads (wall_second front +ℤ pos 1) (held +ℤ pos 1) × ((t : ℤ) × (z.reads t ≡ wall_second front)))
+    Precedes Backward held (wall_second front)
+    × (IsCalm z → UnreadTo Backward z.reads held (wall_second front) × ((t : ℤ) × (z.reads t ≡ wall_second front)))
 HasGapFront z held None = ¬ (IsCalm z)

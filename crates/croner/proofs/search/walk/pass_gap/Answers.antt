@@ -25,22 +25,23 @@ pub returns-in-Forward-clause-value : goal.returns-in-Forward-clause-value
 returns-in-Forward-clause-value g c =
     let found = rw c.in-Some.is at c.in_ok-end.ensures in
     past_gap_forward g.T.CronDateTime.moment _ _ _ (g.T.CronDateTime.moment c.args.origin.now.time.now) c.args.found c.in-Some.end c.in-Some.carried
-    c.in-Forward.is (sym c.is_fixed_time.ensures ∙ c.if-not-is_fixed_time.false) c.requires.in_gap c.requires.walking found.value
+    (sym c.is_fixed_time.ensures ∙ c.if-not-is_fixed_time.false) c.requires.in_gap c.requires.walking found.value
     (λ whole whole2 date ahead.
     elim c.else-matches_date.branch [
       | else-matches_date-via-then-matches_date+else-lies_ahead w ↦ never_true (sym w.if-lies_ahead.false ∙ (w.lies_ahead.ensures whole whole2).1 ahead)
       | else-matches_date-via-else-matches_date w ↦ never_true (sym w.if-matches_date.false ∙ c.matches_date.ensures.1 date)
     ])
+    c.in-Forward.is
 
 pub returns-in-Some-2-clause-value : goal.returns-in-Some-2-clause-value
 returns-in-Some-2-clause-value g c =
     let found = rw c.in-Some.is at c.in_ok-end.ensures in
     let before = rw c.in-Some-2.is at c.in_ok-front-in-Backward.ensures in
-    past_gap_backward g.T.CronDateTime.moment _ _ _ (g.T.CronDateTime.moment c.args.origin.now.time.now) c.args.found c.in-Some.end c.in-Some-2.front c.in-Some.carried
-    c.in-Backward.is (sym c.is_fixed_time.ensures ∙ c.if-not-is_fixed_time.false) c.requires.in_gap c.requires.walking found.value
+    past_gap_backward g.T.CronDateTime.moment _ _ _ (g.T.CronDateTime.moment c.args.origin.now.time.now) c.args.found c.in-Some.end c.in-Some.carried
+    (sym c.is_fixed_time.ensures ∙ c.if-not-is_fixed_time.false) c.requires.in_gap c.requires.walking found.value
     (λ whole whole2 date ahead.
     elim c.else-matches_date.branch [
       | else-matches_date-via-then-matches_date+else-lies_ahead w ↦ never_true (sym w.if-lies_ahead.false ∙ (w.lies_ahead.ensures whole whole2).1 ahead)
       | else-matches_date-via-else-matches_date w ↦ never_true (sym w.if-matches_date.false ∙ c.matches_date.ensures.1 date)
     ])
-    before.value
+    c.in-Some-2.front c.in-Backward.is before.value

@@ -8,7 +8,7 @@ use Rattle.croner_pattern.specs.Meaning.{meaning_of}
 use Rattle.croner_pattern.specs.Private.Cursor.{first_year, last_year, year_kind, IsInYear, IsInYears}
 use Rattle.croner_pattern.proofs.civil.DateSearch.{plain_year, year-closed, has_month, years}
 use Rattle.croner_pattern.proofs.civil.Foremost.{Leads, hit, miss, skip, ended, last}
-use Rattle.croner_pattern.proofs.civil.ValueSearch.{neighbour-way}
+use Rattle.croner_pattern.proofs.civil.ValueSearch.{neighbour-way, fewer_left}
 use Rattle.croner_pattern.proofs.cursor.dates.in_later_years.Goals as goal
 use Rattle.croner_pattern.proofs.cursor.dates.in_later_years.Goals.{then-has_kind+in_default-in_year, else-has_kind}
 
@@ -61,6 +61,10 @@ loop-year-preserved c =
           c.loop-year.invariant.leads r
           (skip (years m dir) (pos c.loop-year.from) c.in-Some.year c.in-Some.ensures r (miss (years m dir) y closed r f)));
     }
+
+pub loop-year-smaller : goal.loop-year-smaller
+loop-year-smaller c =
+    fewer_left c.args.direction last_year c.loop-year.from c.in-Some.year c.in_ok-from.from c.in-Some.ensures.is.high c.in-Some.ensures.on c.in_ok-from.ensures
 
 pub returns : goal.returns
 returns c =
