@@ -1,5 +1,6 @@
 -- Listings of runs, item by item: a list that begins what is left, and what is left behind its last item.
-use Rattle.std.proofs.Common.{◌≡◌, ◌↔◌, ℤ, ◌⊎◌, sym, inl, inr, subst, Bool, false, List, [], ◌∷◌, ◌++◌, get_or, rules}
+use Rattle.std.proofs.Common.{◌≡◌, ◌↔◌, ℤ, ◌⊎◌, sym, inl, inr, subst, Bool, false, List, [], ◌∷◌, ◌++◌, get_or, rules, arith}
+use Rattle.std.proofs.lemmas.Int.{ints}
 use Rattle.std.proofs.lemmas.Bool.{false≢true}
 use Rattle.std.proofs.lemmas.List.Elements.{All-push, All-contains, Contains-push, Contains-append_left}
 use Rattle.std.proofs.lemmas.List.Quantifiers.{all_pairs_push}
@@ -11,7 +12,7 @@ use Rattle.croner_pattern.specs.Meaning.{Meaning}
 use Rattle.croner.specs.iterator.Listing.{Begins, BeginsWhere, Standing, IsLeft, moved, new_standing}
 pub use Rattle.croner.proofs.zone.RunsOfSeconds.{is_run}
 use Rattle.croner.proofs.zone.RunsOfSeconds.{counts_reaches}
-use Rattle.croner.proofs.zone.Ahead.{opposite, not_both, same_or_ahead, reaches-precedes}
+use Rattle.croner.proofs.zone.Ahead.{opposite, same_or_ahead}
 use Rattle.croner_base.specs.declared.time.Direction.{Direction}
 use Rattle.croner_base.specs.declared.time.Direction.TheVariants.{Forward, Backward}
 
@@ -32,7 +33,7 @@ past_start direction job t i counts = elim counts [ inl (past, run) ↦ past | i
 -- what counts from the nearest run counts from the start
 pub counts_after : (direction : Direction) (inclusive : Bool) (job : Job) (s t i : ℤ) → Nearest direction inclusive job s t → Counts direction false job t i → Counts direction inclusive job s i
 counts_after direction inclusive job s t i near counts =
-    inl (reaches-precedes direction s t i (counts_reaches direction inclusive job s t near.counts) (past_start direction job t i counts), is_run direction false job t i counts)
+    inl (omega (arith, ints, counts_reaches direction inclusive job s t near.counts, past_start direction job t i counts), is_run direction false job t i counts)
 
 -- ---- lists
 
@@ -76,7 +77,7 @@ begins_where direction left rest items h = record {
   complete = λ i last counts has reaches.
       elim (h.either i counts) [
         | inl had ↦ had
-        | inr r ↦ absurd (not_both direction last i (All-contains (λ x. Precedes direction x i) items last (h.behind i r) has) reaches)
+        | inr r ↦ absurd (omega (arith, ints, All-contains (λ x. Precedes direction x i) items last (h.behind i r) has))
       ];
 }
 
@@ -108,7 +109,7 @@ there_and_back job r n b run next back =
       | inl e ↦ e
       | inr between ↦
           let on = next.nearest b (inl (opposite Backward b r between, is_run Backward false job n b back.counts)) in
-          absurd (not_both Forward b n (opposite Backward n b (past_start Backward job n b back.counts)) on)
+          absurd (omega (arith, ints, opposite Backward n b (past_start Backward job n b back.counts)))
     ]
 
 -- ---- taken up at an item

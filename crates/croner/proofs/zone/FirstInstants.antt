@@ -6,7 +6,7 @@ use Rattle.croner_base.specs.declared.time.Direction.{Direction}
 use Rattle.croner_base.specs.declared.time.Direction.TheVariants.{Forward, Backward}
 use Rattle.croner.specs.search.Runs.{Precedes, Reaches}
 use Rattle.croner.specs.Private.search.Halves.{HasTwin, offset_from}
-use Rattle.croner.proofs.zone.Ahead.{either, not_both, reaches-trans, precedes-reaches, precedes-trans}
+use Rattle.croner.proofs.zone.Ahead.{either}
 use Rattle.croner.proofs.zone.ZoneOrder.{Calm, cases_lt_z, put_back, put_back_once, before_break, after_break}
 use Rattle.croner.specs.Private.search.Walk.{First}
 
@@ -98,7 +98,7 @@ reads_on direction reads calm s i none past =
       | inl lt ↦ lt
       | inr back ↦
           let (x, on, same) = twin_ahead direction reads calm s i past back in
-          absurd (none (x, same, precedes-trans direction s i x past on))
+          absurd (none (x, same, omega (arith, ints)))
     ]
 
 -- the clock is not put back from x to s, and again from j to t, so near to each other
@@ -113,7 +113,7 @@ module _ (direction : Direction) (reads : ℤ → ℤ) (calm : Calm reads) where
       elim (either direction t s) [
         | inl before ↦
             let (x, past, same) = twin_ahead direction reads calm t s before (subst (Reaches direction (reads s)) (sym e) h) in
-            absurd (not_both direction t s before (reaches-trans direction s x t past (last x (same ∙ e))))
+            absurd (omega (arith, ints, last x (same ∙ e)))
         | inr on ↦ on
       ]
 
@@ -123,10 +123,10 @@ module _ (direction : Direction) (reads : ℤ → ℤ) (calm : Calm reads) where
       elim (either direction j t) [
         | inr le ↦ le
         | inl under ↦
-            let back : Reaches direction (reads t) (reads j) = rw (e, f) (precedes-reaches direction w v before) in
+            let back : Reaches direction (reads t) (reads j) = rw (e, f) (omega (arith, ints)) in
             let (x, behind, near, same) = twin_behind direction reads calm j t under back in
             elim (either direction x s) [
               | inl past ↦ absurd (not_twice direction reads calm x s j t past (rw (same, e) from) on under back near)
-              | inr ahead ↦ absurd (not_both direction j t under (reaches-trans direction t x j (nearest x ahead (same ∙ e)) behind))
+              | inr ahead ↦ absurd (omega (arith, ints, nearest x ahead (same ∙ e)))
             ]
       ]

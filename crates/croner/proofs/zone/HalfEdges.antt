@@ -13,7 +13,7 @@ use Rattle.croner_base.specs.Calm.{IsCalm, HoldsAround, IsNear}
 use Rattle.croner.specs.Private.search.Halves.{edge_limit, Break, BreaksBehind, HasTwin, EdgeOf, offset_from, moment_from, IsEdge}
 use Rattle.croner_base.specs.Limits.{apart_limit}
 use Rattle.croner_pattern.specs.Directions.{along, one_on}
-use Rattle.croner.proofs.zone.Ahead.{along-offset, either, not_both, reaches-equal}
+use Rattle.croner.proofs.zone.Ahead.{along-offset, either, reaches-equal}
 use Rattle.croner.proofs.zone.GapSides.{zero_on}
 use Rattle.croner.proofs.zone.CalmZone.{Exactly, calm_of, exact_of}
 use Rattle.croner.proofs.zone.ZoneOrder.{Calm, gains, loses}
@@ -80,7 +80,7 @@ twin_of_two direction reads i e l (lt, a, b, only) =
     (λ (x, same, past). elim (only x same) [ inl k ↦ omega (arith, ints) | inr k ↦ omega (arith, ints) ], λ h. (l, b, h), λ (x, same, past). elim (only x same) [ inl k ↦ omega (arith, ints) | inr k ↦ omega (arith, ints) ], λ h. (e, a, omega (arith, ints)))
 
 pub no_twin_of_one : (direction : Direction) (reads : ℤ → ℤ) (i t : ℤ) → Exactly reads (reads i) (Single t) → HasTwin direction reads i → ⊥
-no_twin_of_one direction reads i t (e, only) (x, same, past) = not_both direction i x past (reaches-equal direction x i (only x same ∙ sym (only i refl)))
+no_twin_of_one direction reads i t (e, only) (x, same, past) = omega (arith, ints, reaches-equal direction x i (only x same ∙ sym (only i refl)))
 
 pub no_twin_of_gap : (direction : Direction) (reads : ℤ → ℤ) (i : ℤ) → Exactly reads (reads i) Gap → HasTwin direction reads i → ⊥
 no_twin_of_gap direction reads i none twin = none i refl

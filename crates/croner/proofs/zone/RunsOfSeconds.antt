@@ -9,7 +9,7 @@ use Rattle.croner.specs.Private.search.Walk.{First, RunOf}
 use Rattle.croner.specs.search.Runs.{Job, Run, OwnRun, StartCounts, Counts, Ahead, Reaches}
 use Rattle.croner_base.specs.declared.time.Direction.{Direction}
 use Rattle.croner_base.specs.declared.time.Direction.TheVariants.{Forward, Backward}
-use Rattle.croner.proofs.zone.Ahead.{reaches-equal, precedes-reaches}
+use Rattle.croner.proofs.zone.Ahead.{reaches-equal}
 
 pub true_or_false : (b : Bool) → (b ≡ true) ⊎ (b ≡ false)
 true_or_false true = inl refl
@@ -88,4 +88,4 @@ counts_ahead direction inclusive job s i counts = elim counts [ inl (past, run) 
 
 -- ahead of the start, or the start itself
 pub counts_reaches : (direction : Direction) (inclusive : Bool) (job : Job) (s i : ℤ) → Counts direction inclusive job s i → Reaches direction s i
-counts_reaches direction inclusive job s i counts = elim counts [ inl (past, run) ↦ precedes-reaches direction s i past | inr (is, e, own) ↦ reaches-equal direction s i (sym e) ]
+counts_reaches direction inclusive job s i counts = elim counts [ inl (past, run) ↦ omega (arith, ints) | inr (is, e, own) ↦ reaches-equal direction s i (sym e) ]

@@ -24,7 +24,7 @@ use Rattle.croner.proofs.zone.Edges.{edge_line}
 use Rattle.croner.proofs.zone.RunsOfSeconds.{run_is_on, counts_reaches}
 use Rattle.croner.proofs.zone.WalkSteps.{Seen}
 use Rattle.croner.proofs.zone.WalkLoop.{never_true, backend_error}
-use Rattle.croner.proofs.zone.Ahead.{along-offset, along-behind, either, reaches-same, reaches-precedes}
+use Rattle.croner.proofs.zone.Ahead.{along-offset, along-behind, either, reaches-same}
 use Rattle.croner.proofs.zone.TwoHalves.{seen_alone, seen_twice, walked_counts, edge_counts, found_alone, found_before_edge, found_second, found_first}
 
 -- ---- a run in the span is of a second that is covered
@@ -112,7 +112,7 @@ module _ (direction : Direction) (inclusive : Bool) (job : Job) (calm : Calm job
   second_out e t both edge walked past second =
       λ i span counts.
       elim (seen_twice direction inclusive job calm s e i both edge counts) [
-        | inl (before, (w, from, own, of, ahead)) ↦ past (reaches-precedes direction t i e (walked.nearest w i from own of ahead) before)
+        | inl (before, (w, from, own, of, ahead)) ↦ past (omega (arith, ints, walked.nearest w i from own of ahead))
         | inr (on, seen) ↦ unseen_out direction true job calm e i second (span i (reaches-same direction i)) seen
       ]
 

@@ -11,7 +11,7 @@ use Rattle.croner.specs.Private.search.Halves.{HasTwin, EdgeOf, IsEdge, opposite
 use Rattle.croner.proofs.zone.Edges.{edge_line, edge_past}
 use Rattle.croner.proofs.zone.ZoneOrder.{Calm}
 use Rattle.croner.proofs.zone.CalmZone.{calm_of}
-use Rattle.croner.proofs.zone.Ahead.{along-opposite, reaches-same, same_or_ahead, either, opposite, opposite-reaches, precedes-reaches, reaches-precedes}
+use Rattle.croner.proofs.zone.Ahead.{along-opposite, reaches-same, same_or_ahead, either, opposite, opposite-reaches}
 use Rattle.croner.proofs.zone.FirstInstants.{twin_behind}
 use Rattle.croner.proofs.zone.SearchLimit.{within_less}
 
@@ -26,10 +26,10 @@ span_alone direction reads calm i within alone = λ j le.
       | inl at ↦ subst (λ (x : ℤ). IsWithin direction (reads x)) (sym at) within
       | inr before ↦
           elim (either direction (reads j) (reads i)) [
-            | inl lt ↦ within_less direction (reads j) (reads i) (precedes-reaches direction (reads j) (reads i) lt) within
+            | inl lt ↦ within_less direction (reads j) (reads i) (omega (arith, ints)) within
             | inr back ↦
                 let (x, on, near, same) = twin_behind direction reads calm j i before back in
-                absurd (alone (x, same, opposite direction x i (reaches-precedes direction x j i on before)))
+                absurd (alone (x, same, opposite direction x i (omega (arith, ints))))
           ]
     ]
 
@@ -46,7 +46,7 @@ span_across direction reads calm i e edge within across = λ j le.
     ]
 
 edge_lies : (direction : Direction) (reads : ℤ → ℤ) (i e : ℤ) → EdgeOf (opposite_way direction) reads i e → Reaches direction e i
-edge_lies direction reads i e edge = opposite-reaches direction i e (precedes-reaches (opposite_way direction) i e edge.from)
+edge_lies direction reads i e edge = opposite-reaches direction i e (omega (arith, ints, edge.from))
 
 -- ---- as the code has them
 

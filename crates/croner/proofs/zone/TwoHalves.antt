@@ -3,7 +3,7 @@ use Rattle.std.proofs.Common.{◌≡◌, ℤ, ◌-ℤ◌, ◌<ℤ◌, ◌⊎◌,
 use Rattle.std.proofs.lemmas.Int.{ints}
 use Rattle.croner_base.specs.declared.time.Direction.{Direction}
 use Rattle.croner_base.specs.declared.time.Direction.TheVariants.{Forward, Backward}
-use Rattle.croner.proofs.zone.Ahead.{reaches-same, reaches-equal, precedes-reaches, precedes-trans, either}
+use Rattle.croner.proofs.zone.Ahead.{reaches-same, reaches-equal, either}
 use Rattle.croner.proofs.zone.Edges.{edge_line, edge_past}
 use Rattle.croner.proofs.zone.ZoneOrder.{Calm}
 use Rattle.croner.proofs.zone.FirstInstants.{reads_on}
@@ -79,7 +79,7 @@ seen_alone direction inclusive job calm s i alone counts =
 -- where both halves count, before the edge the first walk visits the second of a run that counts
 visited_before : (direction : Direction) (inclusive : Bool) (job : Job) → Calm job.zone.reads → (s e i w : ℤ) → EdgeOf direction job.zone.reads s e → Counts direction inclusive job s i → Precedes direction i e → Reaches direction (job.zone.reads i) w → Reaches direction (walk_start direction inclusive (job.zone.reads s)) w
 visited_before direction inclusive job calm s e i w edge (inl (past, run)) before on =
-    let line = edge_line direction job.zone.reads calm s e s i edge (reaches-same direction s) (precedes-reaches direction s i past) before in
+    let line = edge_line direction job.zone.reads calm s e s i edge (reaches-same direction s) (omega (arith, ints)) before in
     start_past direction inclusive (job.zone.reads s) w (omega (arith, ints))
 visited_before direction inclusive job calm s e i w edge (inr (is, same, start)) before on =
     start_at direction inclusive (job.zone.reads s) w is (subst (λ (x : ℤ). Reaches direction (job.zone.reads x) w) same on)
@@ -99,7 +99,7 @@ seen_twice direction inclusive job calm s e i both edge counts =
 -- a run from the edge counts from the start too
 pub edge_counts : (direction : Direction) (inclusive : Bool) (job : Job) (s e u : ℤ) → EdgeOf direction job.zone.reads s e → Counts direction true job e u → Counts direction inclusive job s u
 edge_counts direction inclusive job s e u edge counts =
-    inl (precedes-trans direction s e u edge.from (counts_reaches direction true job e u counts), is_run direction true job e u counts)
+    inl (omega (arith, ints, edge.from, counts_reaches direction true job e u counts), is_run direction true job e u counts)
 
 -- ---- what a search answers
 

@@ -3,7 +3,7 @@ use Rattle.std.proofs.Common.{◌≡◌, ℤ, pos, ◌+ℤ◌, ◌<ℤ◌, ◌�
 use Rattle.std.proofs.lemmas.Int.{ints}
 use Rattle.croner_base.specs.declared.time.Direction.{Direction}
 use Rattle.croner_base.specs.declared.time.Direction.TheVariants.{Forward, Backward}
-use Rattle.croner.proofs.zone.Ahead.{reaches-equal, precedes-reaches, not_both, either}
+use Rattle.croner.proofs.zone.Ahead.{reaches-equal, not_both, either}
 use Rattle.croner.proofs.zone.FirstInstants.{first_if_least, first_ordered, first_over_gap, last_is_ahead}
 use Rattle.croner.proofs.zone.RunsOfSeconds.{true_or_false}
 use Rattle.croner.proofs.zone.WalkSteps.{start_reaches, ahead_of, ahead_reaches, each_reads, first_of_run, each_answer, first_answer, none_past}
@@ -55,10 +55,10 @@ module _ (job : Job) (calm : Calm job.zone.reads) (inclusive : Bool) (direction 
       elim chosen [
         | inl (same, ahead) ↦
             subst Goal (sym same) (each_answer direction job calm inclusive s w n each from own none e ahead
-            (λ x h k. elim (only x k) [ inl at ↦ reaches-equal direction n x (sym at) | inr at ↦ precedes-reaches direction n x (subst (Precedes direction n) (sym at) order) ]))
+            (λ x h k. elim (only x k) [ inl at ↦ reaches-equal direction n x (sym at) | inr at ↦ omega (arith, ints, subst (Precedes direction n) (sym at) order) ]))
         | inr (same, behind, ahead) ↦
             subst Goal (sym same) (each_answer direction job calm inclusive s w l each from own none f ahead
-            (λ x h k. elim (only x k) [ inl at ↦ absurd (not_both direction n s behind (subst (Reaches direction s) at h)) | inr at ↦ reaches-equal direction l x (sym at) ]))
+            (λ x h k. elim (only x k) [ inl at ↦ absurd (omega (arith, ints, subst (Reaches direction s) at h)) | inr at ↦ reaches-equal direction l x (sym at) ]))
       ]
 
   pub two_fixed_answer : (s w e l : ℤ) → job.timetable.fixed_time ≡ true → Exactly job.zone.reads w (Ambiguous e l) → Reaches direction (walk_start direction inclusive (job.zone.reads s)) w → job.timetable.scheduled w → NoneOf direction inclusive job s (walk_start direction inclusive (job.zone.reads s)) w → Reaches direction s e → WalkedFrom direction inclusive job s e
@@ -70,7 +70,7 @@ module _ (job : Job) (calm : Calm job.zone.reads) (inclusive : Bool) (direction 
       none_past direction inclusive job s from w none
       (λ i own of ahead.
       let at = ahead_reaches direction inclusive s i ahead in
-      elim (exact.3 i (each_reads job w i each of)) [ inl same ↦ not_both direction e s a (subst (Reaches direction s) same at) | inr same ↦ not_both direction l s b (subst (Reaches direction s) same at) ])
+      elim (exact.3 i (each_reads job w i each of)) [ inl same ↦ omega (arith, ints, subst (Reaches direction s) same at) | inr same ↦ omega (arith, ints, subst (Reaches direction s) same at) ])
 
   pub two_fixed_past : (s from w e l : ℤ) → job.timetable.fixed_time ≡ true → Exactly job.zone.reads w (Ambiguous e l) → NoneOf direction inclusive job s from w → Precedes direction e s → NoneOf direction inclusive job s from (one_on direction w)
   two_fixed_past s from w e l fixed exact none a =

@@ -21,8 +21,8 @@ use Rattle.croner.specs.Private.search.Walk.{NoneOf, WalkedFrom, Walking, walk_s
 use Rattle.croner.proofs.zone.CalmZone.{Exactly, calm_of, exact_of}
 use Rattle.croner.proofs.zone.ZoneOrder.{cases_lt_z}
 use Rattle.croner.proofs.zone.RunsOfSeconds.{true_or_false}
-use Rattle.croner.proofs.zone.Ahead.{along-offset, reaches-same, reaches-trans, precedes-reaches, both_ways, either}
-use Rattle.croner.proofs.zone.WalkSteps.{none_at_start, none_to_next, one_on_reaches, start_reaches, start_ahead, each_reads}
+use Rattle.croner.proofs.zone.Ahead.{along-offset, reaches-same, both_ways, either}
+use Rattle.croner.proofs.zone.WalkSteps.{none_at_start, none_to_next, start_reaches, start_ahead, each_reads}
 use Rattle.croner.proofs.zone.WalkArms.{single_answer, two_each_answer, two_each_past, gap_each_past, two_fixed_answer, two_fixed_past, gap_answer, gap_fixed_past}
 use Rattle.croner.proofs.zone.WallSeconds.{IsFar, last_year_far}
 
@@ -51,14 +51,14 @@ module _ (direction : Direction) (inclusive : Bool) (job : Job) (s : ℤ) (f : �
   walking_next wall next walking found =
       let from = walk_start direction inclusive (job.zone.reads s) in
       record {
-        reaches = reaches-trans direction from wall next walking.reaches found.on;
+        reaches = omega (arith, ints, walking.reaches, found.on);
         none = λ calm. none_to_next direction inclusive job s from wall next (walking.none calm) found;
       }
 
   walking_on : (w moved : ℤ) → Walking direction inclusive job s f w → moved ≡ one_on direction w → (IsCalm job.zone → NoneOf direction inclusive job s (walk_start direction inclusive (job.zone.reads s)) w → f ≡ 0 → NoneOf direction inclusive job s (walk_start direction inclusive (job.zone.reads s)) (one_on direction w)) → Walking direction inclusive job s f moved
   walking_on w moved walking e past =
       subst (λ (v : ℤ). Walking direction inclusive job s f v) (sym e)
-      (record { reaches = one_on_reaches direction (walk_start direction inclusive (job.zone.reads s)) w walking.reaches; none = λ start. past start.calm (walking.none start) start.whole })
+      (record { reaches = omega (arith, ints, walking.reaches, along-offset direction w 1); none = λ start. past start.calm (walking.none start) start.whole })
 
   pub walked_single : (c : CivilDateTime) (t : ℤ) → Walking direction inclusive job s f (wall_second c) → job.timetable.scheduled (wall_second c) → job.zone.resolves c ≡ Some (Single t) → IsCalmStart job.zone f → WalkedFrom direction inclusive job s t
   walked_single c t there own named start =
@@ -104,7 +104,7 @@ module _ (direction : Direction) (inclusive : Bool) (job : Job) (s : ℤ) (f : �
   pub walking_across : (held side : ℤ) → job.timetable.fixed_time ≡ false → Walking direction inclusive job s f held → CrossesGap direction job.zone held side → Walking direction inclusive job s f side
   walking_across held side each there crosses =
       record {
-        reaches = reaches-trans direction (walk_start direction inclusive (job.zone.reads s)) held side there.reaches (precedes-reaches direction held side crosses.on);
+        reaches = omega (arith, ints, there.reaches, crosses.on);
         none = λ start w i a b own of ahead.
             elim (either direction w held) [
               | inl before ↦ there.none start w i a before own of ahead
@@ -130,7 +130,7 @@ pub walking_past_gap_side : (direction : Direction) (inclusive : Bool) (job : Jo
     → (f ≡ 0 → job.timetable.date_matches end → Ahead direction inclusive s t → ⊥) → Walking direction inclusive job s f side
 walking_past_gap_side direction inclusive job s f held end side t fixed walking past ends unread gap_end refused =
     record {
-      reaches = reaches-trans direction (walk_start direction inclusive (job.zone.reads s)) held side walking.reaches (precedes-reaches direction held side past);
+      reaches = omega (arith, ints, walking.reaches);
       none = λ start.
           let found = gap_end start.calm in
           gap_fixed_past direction inclusive job s (walk_start direction inclusive (job.zone.reads s)) held side end t fixed

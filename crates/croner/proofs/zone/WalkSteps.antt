@@ -1,7 +1,8 @@
 -- The seconds that a walk leaves behind, and its answers.
-use Rattle.std.proofs.Common.{◌≡◌, ℤ, ◌⊎◌, refl, sym, ◌∙◌, inl, inr, ap, subst, Bool, true, false}
+use Rattle.std.proofs.Common.{◌≡◌, ℤ, ◌⊎◌, refl, sym, ◌∙◌, inl, inr, ap, subst, Bool, true, false, arith}
+use Rattle.std.proofs.lemmas.Int.{ints}
 use Rattle.croner_base.specs.declared.time.Direction.{Direction}
-use Rattle.croner.proofs.zone.Ahead.{reaches-same, reaches-equal, reaches-trans, precedes-reaches, precedes-trans, not_both, either, same_or_ahead, both_ways, one_on-ahead, one_on-next, one_on-last}
+use Rattle.croner.proofs.zone.Ahead.{along-offset, reaches-equal, either, same_or_ahead, both_ways}
 use Rattle.croner.proofs.zone.FirstInstants.{nearest_in_order, firsts_in_order}
 use Rattle.croner.proofs.zone.ZoneOrder.{Calm}
 use Rattle.croner.specs.Private.search.Schedule.{NextScheduled}
@@ -15,14 +16,11 @@ Seen direction inclusive job s from i = (w : ℤ) × Reaches direction from w ×
 -- ---- the seconds that a walk leaves behind
 
 pub none_at_start : (direction : Direction) (inclusive : Bool) (job : Job) (s from : ℤ) → NoneOf direction inclusive job s from from
-none_at_start direction inclusive job s from = λ w i a b own of ahead. not_both direction w from b a
+none_at_start direction inclusive job s from = λ w i a b own of ahead. omega (arith, ints)
 
 pub none_to_next : (direction : Direction) (inclusive : Bool) (job : Job) (s from to next : ℤ) → NoneOf direction inclusive job s from to → NextScheduled direction job.timetable.scheduled to next → NoneOf direction inclusive job s from next
 none_to_next direction inclusive job s from to next none found =
     λ w i a b own of ahead. elim (either direction w to) [ inl lt ↦ none w i a lt own of ahead | inr le ↦ found.none w le b own ]
-
-pub one_on_reaches : (direction : Direction) (from to : ℤ) → Reaches direction from to → Reaches direction from (one_on direction to)
-one_on_reaches direction from to a = reaches-trans direction from to (one_on direction to) a (precedes-reaches direction to (one_on direction to) (one_on-ahead direction to))
 
 pub none_past : (direction : Direction) (inclusive : Bool) (job : Job) (s from w : ℤ) → NoneOf direction inclusive job s from w → ((i : ℤ) → job.timetable.scheduled w → RunOf job w i → Ahead direction inclusive s i → ⊥) → NoneOf direction inclusive job s from (one_on direction w)
 none_past direction inclusive job s from w none here =
@@ -30,7 +28,7 @@ none_past direction inclusive job s from w none here =
     elim (either direction v w) [
       | inl lt ↦ none v i a lt own of ahead
       | inr le ↦
-          let e : v ≡ w = both_ways direction v w (one_on-last direction v w b) le in
+          let e : v ≡ w = both_ways direction v w (omega (arith, ints, along-offset direction w 1)) le in
           here i (subst job.timetable.scheduled e own) (subst (λ (u : ℤ). RunOf job u i) e of) ahead
     ]
 
@@ -39,16 +37,16 @@ none_past direction inclusive job s from w none here =
 -- what a walk visits lies ahead of where its origin reads, or there
 pub start_reaches : (direction : Direction) (inclusive : Bool) (r w : ℤ) → Reaches direction (walk_start direction inclusive r) w → Reaches direction r w
 start_reaches direction true r w h = h
-start_reaches direction false r w h = reaches-trans direction r (one_on direction r) w (one_on_reaches direction r r (reaches-same direction r)) h
+start_reaches direction false r w h = omega (arith, ints, along-offset direction r 1)
 
 pub start_ahead : (direction : Direction) (inclusive : Bool) (r w : ℤ) → Reaches direction (walk_start direction inclusive r) w → Ahead direction inclusive r w
 start_ahead direction true r w h = elim (same_or_ahead direction r w h) [ inl e ↦ inr (refl, sym e) | inr lt ↦ inl lt ]
-start_ahead direction false r w h = inl (precedes-trans direction r (one_on direction r) w (one_on-ahead direction r) h)
+start_ahead direction false r w h = inl (omega (arith, ints, along-offset direction r 1))
 
 -- and it visits what lies ahead, and where its origin reads if that counts
 pub start_past : (direction : Direction) (inclusive : Bool) (r w : ℤ) → Precedes direction r w → Reaches direction (walk_start direction inclusive r) w
-start_past direction true r w h = precedes-reaches direction r w h
-start_past direction false r w h = one_on-next direction r w h
+start_past direction true r w h = omega (arith, ints)
+start_past direction false r w h = omega (arith, ints, along-offset direction r 1)
 
 pub start_at : (direction : Direction) (inclusive : Bool) (r w : ℤ) → inclusive ≡ true → Reaches direction r w → Reaches direction (walk_start direction inclusive r) w
 start_at direction true r w e h = h
@@ -61,14 +59,14 @@ ahead_of direction reads inclusive s t w from on le =
     elim (same_or_ahead direction s t le) [
       | inr lt ↦ inl lt
       | inl e ↦
-          elim (start_ahead direction inclusive (reads s) (reads t) (reaches-trans direction (walk_start direction inclusive (reads s)) w (reads t) from on)) [
-            | inl lt ↦ absurd (not_both direction (reads s) (reads t) lt (reaches-equal direction (reads t) (reads s) (ap reads (sym e))))
+          elim (start_ahead direction inclusive (reads s) (reads t) (omega (arith, ints))) [
+            | inl lt ↦ absurd (omega (arith, ints, reaches-equal direction (reads t) (reads s) (ap reads (sym e))))
             | inr (is, same) ↦ inr (is, sym e)
           ]
     ]
 
 pub ahead_reaches : (direction : Direction) (inclusive : Bool) (s i : ℤ) → Ahead direction inclusive s i → Reaches direction s i
-ahead_reaches direction inclusive s i ahead = elim ahead [ inl lt ↦ precedes-reaches direction s i lt | inr (is, e) ↦ reaches-equal direction s i (sym e) ]
+ahead_reaches direction inclusive s i ahead = elim ahead [ inl lt ↦ omega (arith, ints) | inr (is, e) ↦ reaches-equal direction s i (sym e) ]
 
 pub each_reads : (job : Job) (w i : ℤ) → job.timetable.fixed_time ≡ false → RunOf job w i → job.zone.reads i ≡ w
 each_reads job w i each of = elim of [ inl (f, e) ↦ e | inr (fixed, first, date) ↦ absurd (cc) ]

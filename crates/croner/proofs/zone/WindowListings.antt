@@ -1,5 +1,6 @@
 -- Listings over the clock of a window, and those of its zone: what is left well in the window is the same.
 use Rattle.std.proofs.Common.{◌≡◌, ℕ, zero, suc, length, get_or, length-append, sym, subst, arith, inl, inr, ℤ, List, [], ◌∷◌, ◌++◌}
+use Rattle.std.proofs.lemmas.Int.{ints}
 use Rattle.std.proofs.lemmas.List.{get_or-map, get_or_append_left, length-map, map-append}
 use Rattle.std.proofs.lemmas.List.Elements.{All-head, All-tail, All-cons, All-nil, All-weaker, All-contains, Contains-append_left, Contains-append_right, Contains-append_cases}
 use Rattle.std.specs.List.{All, AllPairs, Contains}
@@ -19,7 +20,6 @@ use Rattle.croner.specs.laws.Zones.{IsOnClockOf, IsWellIn, in_zone, table_in_zon
 use Rattle.croner.specs.search.Limit.{InSpan}
 use Rattle.croner.specs.search.PatternJob.{timetable_of}
 use Rattle.croner.specs.search.Runs.{job_in, Precedes, Reaches}
-use Rattle.croner.proofs.zone.Ahead.{not_both}
 use Rattle.croner.proofs.zone.RunsOfSeconds.{counts_reaches}
 use Rattle.croner.proofs.zone.Windows.{Alike, GoesOn, alike, alike_back, behind_first, goes_on, counts, between, span}
 
@@ -111,7 +111,7 @@ begins_well direction tz first last s own other items more h n well = record {
       let inside = between direction tz first last s i item h.start (All-contains (IsWellIn tz first last) items item well has) (h.from i o) reaches in
       elim (Contains-append_cases items more i (n.complete i item (h.back i inside o) (Contains-append_left items more item has) reaches)) [
         | inl had ↦ had
-        | inr later ↦ absurd (not_both direction item i (before_more (Precedes direction) items more item i n.ordered has later) reaches)
+        | inr later ↦ absurd (omega (arith, ints, before_more (Precedes direction) items more item i n.ordered has later))
       ];
 }
 

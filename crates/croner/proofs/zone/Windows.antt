@@ -19,7 +19,7 @@ use Rattle.croner_base.specs.ZoneTable.{ahead_at, nearest_in}
 use Rattle.croner_base.proofs.TableOffsets.{offset_within}
 use Rattle.croner_base.proofs.TableReadings.{calm_offsets}
 use Rattle.croner_base.proofs.ZonedMoments.{zone_reads-held}
-use Rattle.croner.proofs.zone.Ahead.{either, precedes-reaches}
+use Rattle.croner.proofs.zone.Ahead.{either}
 use Rattle.croner.proofs.zone.RunsOfSeconds.{counts_reaches}
 use Rattle.croner.specs.laws.Zones.{day_margin, IsAtMostADayAhead, IsWellIn, IsClockOf}
 use Rattle.croner.specs.search.Limit.{InSpan, NoneInSpan}
@@ -90,7 +90,7 @@ nearest direction inclusive tz first last z t timetable s r a hs hr n = record {
     | inr on ↦ on
     | inl before ↦
         let from = counts_reaches direction inclusive (job_in z timetable) s j c in
-        let inside = between direction tz first last s j r hs hr from (precedes-reaches direction j r before) in
+        let inside = between direction tz first last s j r hs hr from (omega (arith, ints)) in
         n.nearest j (counts direction inclusive tz first last t z timetable s j (alike_back tz first last z t a) hs inside c)
   ];
 }
