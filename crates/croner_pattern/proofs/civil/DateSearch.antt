@@ -13,7 +13,7 @@ use Rattle.croner_pattern.specs.Meaning.{Meaning}
 use Rattle.croner_pattern.specs.Schedule.{is_plain, is_day_matching, is_year_matching, is_date_matching, first_weekday, IsDayMask}
 use Rattle.croner_pattern.specs.Directions.{Precedes, Reaches}
 use Rattle.croner_pattern.specs.Private.Cursor.{one_on, first_year, last_year, has_room, edge_day, last_day, IsYearBeyond, IsPlainWithin, IsForemost, HasDay, HasDayAfter, HasOpenMonth, IsMonthDays, IsMatchingIn, IsInMonth, IsInMonths, IsReached, IsInYear, IsInYears, IsAfter}
-use Rattle.croner_pattern.proofs.civil.Ahead.{reaches-trans, precedes-reaches, not_both, same_or_ahead, reaches-same, reaches-equal, one_on-next}
+use Rattle.croner_pattern.proofs.civil.Ahead.{same_or_ahead, reaches-same, reaches-equal, along-offset}
 use Rattle.croner_pattern.proofs.civil.CivilOrder.{SameDate, reach-year, reach-month, reach-day, day-reach, year-ahead, month-ahead, day-ahead, room-before}
 use Rattle.croner_pattern.proofs.civil.Foremost.{Split, Leads, Ladder, same_number, alike, beyond}
 
@@ -170,7 +170,7 @@ months m dir y = record {
   number = λ d. d.month;
   shown = λ d h. refl;
   named = λ d h. month_plain m d h.matches;
-  apart = λ a b h k later. precedes-reaches dir (day_of_date a) (day_of_date b) (month-ahead dir a b (k.same_year ∙ sym h.same_year) later);
+  apart = λ a b h k later. omega (arith, signed_arith, month-ahead dir a b (k.same_year ∙ sym h.same_year) later);
 }
 
 pub years : (m : Meaning) (dir : Direction) → Ladder day_of_date dir (IsReached m dir) (λ d. d.year) (IsPlainWithin m.years first_year last_year)
@@ -178,7 +178,7 @@ years m dir = record {
   number = λ d. unsigned_abs d.year;
   shown = λ d h. year_number m d h.matches;
   named = λ d h. year_within m d h.matches;
-  apart = λ a b h k later. precedes-reaches dir (day_of_date a) (day_of_date b) (year-ahead dir a b later);
+  apart = λ a b h k later. omega (arith, signed_arith, year-ahead dir a b later);
 }
 
 -- a year from its first month on
@@ -194,7 +194,7 @@ module _ (m : Meaning) (dir : Direction) (y : ℤ) (from : ℕ) (start : (month 
 
   pub year-past : (found : CivilDate) → (Reaches dir (day_of_date found) (edge_day dir) → ⊥) → IsForemost day_of_date (IsInMonths m dir y (pos from)) dir found → (d : CivilDate) → ¬ (IsInYear m dir y d)
   year-past found past n d h =
-      past (reaches-trans dir (day_of_date found) (day_of_date d) (edge_day dir) (n.first d (all_months d h)) h.among.within)
+      past (omega (arith, signed_arith, n.first d (all_months d h), h.among.within))
 
   pub year-none : ((d : CivilDate) → ¬ (IsInMonths m dir y (pos from) d)) → (d : CivilDate) → ¬ (IsInYear m dir y d)
   year-none none d h = none d (all_months d h)
@@ -226,7 +226,7 @@ years-beyond m dir year k b =
       among = h.among;
       on = subst (λ z. Reaches dir (pos k) z) (sym number) (b.first (unsigned_abs d.year) p.low p.high (subst (λ z. Reaches dir (one_on dir year) z) number h.on));
     })
-    (λ d h. record { among = h.among; on = reaches-trans dir (one_on dir year) (pos k) d.year b.on h.on })
+    (λ d h. record { among = h.among; on = omega (arith, signed_arith, b.on, h.on) })
 
 -- ---- after a date
 
@@ -243,7 +243,7 @@ Later m dir date d = IsInMonths m dir date.year (one_on dir (pos date.month)) d 
 
 in_room : (dir : Direction) (date d : CivilDate) → has_room dir date.year ≡ true → d.year ≡ date.year → Reaches dir (day_of_date d) (edge_day dir)
 in_room dir date d room same =
-    precedes-reaches dir (day_of_date d) (edge_day dir) (room-before dir d (ap (has_room dir) same ∙ room))
+    omega (arith, signed_arith, room-before dir d (ap (has_room dir) same ∙ room))
 
 later-order : (m : Meaning) (dir : Direction) (date a b : CivilDate) → a.year ≡ date.year → a.month ≡ date.month → Later m dir date b → Precedes dir (day_of_date a) (day_of_date b)
 later-order m dir date a b e f (inl h) =
@@ -257,19 +257,19 @@ later-after m dir date d room (inr h) = record { ahead = later-order m dir date 
 
 not_itself : (dir : Direction) (date d : CivilDate) → Precedes dir (day_of_date date) (day_of_date d) → d.year ≡ date.year → d.month ≡ date.month → Precedes dir (pos date.day) (pos d.day)
 not_itself dir date d h e f =
-    elim (same_or_ahead dir (pos date.day) (pos d.day) (reach-day dir date d e f (precedes-reaches dir (day_of_date date) (day_of_date d) h))) [
+    elim (same_or_ahead dir (pos date.day) (pos d.day) (reach-day dir date d e f (omega (arith, signed_arith)))) [
       | inr ahead ↦ ahead
-      | inl same ↦ absurd (not_both dir (day_of_date date) (day_of_date d) h (day-reach dir d date (sym e) (sym f) (reaches-equal dir (pos d.day) (pos date.day) (sym same))))
+      | inl same ↦ absurd (omega (arith, signed_arith, day-reach dir d date (sym e) (sym f) (reaches-equal dir (pos d.day) (pos date.day) (sym same))))
     ]
 
 pub after-split : (m : Meaning) (dir : Direction) (date : CivilDate) → has_room dir date.year ≡ true → Split day_of_date dir (IsAfter m dir date) (InMonthAfter m dir date) (Later m dir date)
 after-split m dir date room = record {
   parts = λ d h.
-      let on = precedes-reaches dir (day_of_date date) (day_of_date d) h.ahead in
+      let on : Reaches dir (day_of_date date) (day_of_date d) = omega (arith, signed_arith, h.ahead) in
       elim (same_or_ahead dir date.year d.year (reach-year dir date d on)) [
-        | inr later ↦ inr (inr (record { among = record { within = h.within; matches = h.matches }; on = one_on-next dir date.year d.year later }))
+        | inr later ↦ inr (inr (record { among = record { within = h.within; matches = h.matches }; on = omega (arith, signed_arith, along-offset dir date.year 1) }))
         | inl same ↦ elim (same_or_ahead dir (pos date.month) (pos d.month) (reach-month dir date d (sym same) on)) [
-          | inr later ↦ inr (inl (record { among = record { same_year = sym same; matches = h.matches }; on = one_on-next dir (pos date.month) (pos d.month) later }))
+          | inr later ↦ inr (inl (record { among = record { same_year = sym same; matches = h.matches }; on = omega (arith, signed_arith, along-offset dir (pos date.month) 1) }))
           | inl here ↦
               let month : d.month ≡ date.month = omega (arith, signed_arith, here) in
               inl (record { same_year = sym same; same_month = month; ahead = not_itself dir date d h.ahead (sym same) month; matches = h.matches })
@@ -277,7 +277,7 @@ after-split m dir date room = record {
       ];
   first = λ d h. record { ahead = day-ahead dir date d h.same_year h.same_month h.ahead; within = in_room dir date d room h.same_year; matches = h.matches };
   second = λ d h. later-after m dir date d room h;
-  order = λ a b h k. precedes-reaches dir (day_of_date a) (day_of_date b) (later-order m dir date a b h.same_year h.same_month k);
+  order = λ a b h k. omega (arith, signed_arith, later-order m dir date a b h.same_year h.same_month k);
 }
 
 pub later-split : (m : Meaning) (dir : Direction) (date : CivilDate) → Split day_of_date dir (Later m dir date) (IsInMonths m dir date.year (one_on dir (pos date.month))) (IsInYears m dir (one_on dir date.year))
@@ -285,9 +285,7 @@ later-split m dir date = record {
   parts = λ d h. h;
   first = λ d h. inl h;
   second = λ d h. inr h;
-  order = λ a b h k.
-      precedes-reaches dir (day_of_date a) (day_of_date b)
-      (year-ahead dir a b (subst (λ z. Precedes dir z b.year) (sym h.among.same_year) (beyond dir date.year b.year k.on)));
+  order = λ a b h k. omega (arith, signed_arith, year-ahead dir a b (subst (λ z. Precedes dir z b.year) (sym h.among.same_year) (beyond dir date.year b.year k.on)));
 }
 
 -- the first of the days that are left in the month
@@ -320,6 +318,6 @@ last_day-no_room dir from h = rw h refl
 -- a search comes to the date where it begins
 pub start-within : (dir : Direction) (from : CivilDate) → Reaches dir (day_of_date from) (last_day dir from)
 start-within dir from = elim (bool_cases (has_room dir from.year)) [
-  | inl h ↦ rw (last_day-room dir from h) (precedes-reaches dir (day_of_date from) (edge_day dir) (room-before dir from h))
+  | inl h ↦ rw (last_day-room dir from h) (omega (arith, signed_arith, room-before dir from h))
   | inr h ↦ rw (last_day-no_room dir from h) (reaches-same dir (day_of_date from))
 ]

@@ -3,10 +3,11 @@ use Rattle.std.proofs.Common.{◌≡◌, ◌↔◌, ℕ, ◌+◌, ◌-◌, ◌*�
 use Rattle.std.specs.Int.{bit_at}
 use Rattle.std.proofs.lemmas.Bool.{cases_lt}
 use Rattle.std.proofs.lemmas.Nat.Bits.{bit_at-zero, bit_at_cat_low, bit_at_cat_high}
+use Rattle.jiff_core.proofs.SignedLemmas.{signed_arith}
 use Rattle.croner_base.specs.declared.time.Direction.{Direction}
 use Rattle.croner_pattern.specs.Directions.{Reaches}
 use Rattle.croner_pattern.specs.Private.Cursor.{one_on, AreFrom, HasDay, HasDayAfter, FindsForemost}
-use Rattle.croner_pattern.proofs.civil.Ahead.{one_on-next}
+use Rattle.croner_pattern.proofs.civil.Ahead.{along-offset}
 use Rattle.croner_pattern.proofs.civil.Foremost.{alike, beyond}
 use Rattle.croner_pattern.proofs.civil.ValueSearch.{past_zero}
 
@@ -33,7 +34,7 @@ day_place days day fits =
 pub later_days : (dir : Direction) (days day next word rest : ℕ) (r : Option ℕ) → pos next ≡ one_on dir (pos day) → ((d : ℕ) → (bit_at word d ≡ 1) ↔ HasDay days d) → AreFrom dir word next rest → FindsForemost pos (λ b. bit_at rest b ≡ 1) dir r → FindsForemost pos (HasDayAfter dir days day) dir r
 later_days dir days day next word rest r e shows from =
     alike pos dir (HasDayAfter dir days day) (λ b. bit_at rest b ≡ 1)
-    (λ d h. (from d).1 ((shows d).1 h.day_is, subst (λ z. Reaches dir z (pos d)) (sym e) (one_on-next dir (pos day) (pos d) h.ahead)))
+    (λ d h. (from d).1 ((shows d).1 h.day_is, subst (λ z. Reaches dir z (pos d)) (sym e) (omega (arith, signed_arith, h.ahead, along-offset dir (pos day) 1))))
     (λ d b. record {
       day_is = (shows d).0 ((from d).0 b).0;
       ahead = beyond dir (pos day) (pos d) (subst (λ z. Reaches dir z (pos d)) e ((from d).0 b).1);
@@ -41,4 +42,4 @@ later_days dir days day next word rest r e shows from =
     r
 
 pub no_later_day : (dir : Direction) (days day d : ℕ) → one_on dir (pos day) ≡ negsuc 0 → ¬ (HasDayAfter dir days day d)
-no_later_day dir days day d e h = past_zero dir day d e (one_on-next dir (pos day) (pos d) h.ahead)
+no_later_day dir days day d e h = past_zero dir day d e (omega (arith, signed_arith, h.ahead, along-offset dir (pos day) 1))

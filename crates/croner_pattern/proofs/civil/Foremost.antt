@@ -5,7 +5,7 @@ use Rattle.jiff_core.proofs.SignedLemmas.{signed_arith}
 use Rattle.croner_base.specs.declared.time.Direction.{Direction}
 use Rattle.croner_pattern.specs.Directions.{Precedes, Reaches}
 use Rattle.croner_pattern.specs.Private.Cursor.{one_on, IsNearest, NoneOn, IsForemost, FindsForemost, IsFrom, IsAt}
-use Rattle.croner_pattern.proofs.civil.Ahead.{reaches-equal, reaches-trans, precedes-reaches, precedes-trans, same_or_ahead, one_on-ahead, one_on-next}
+use Rattle.croner_pattern.proofs.civil.Ahead.{reaches-equal, same_or_ahead, along-offset}
 use Rattle.croner_pattern.proofs.civil.ValueSearch.{past_zero}
 
 -- what is found among these is found among those
@@ -46,7 +46,7 @@ pub same_number : (a b : ℕ) → pos a ≡ pos b → a ≡ b
 same_number a b e = omega (arith, signed_arith)
 
 pub beyond : (dir : Direction) (a b : ℤ) → Reaches dir (one_on dir a) b → Precedes dir a b
-beyond dir a b r = precedes-trans dir a (one_on dir a) b (one_on-ahead dir a) r
+beyond dir a b r = omega (arith, signed_arith, along-offset dir a 1)
 
 module _ {X : Type 0} {place : X → ℤ} {dir : Direction} {All : X → Type 0} {key : X → ℤ} {Named : ℕ → Type 0} (l : Ladder place dir All key Named) where
   -- those with a number, and those with a later one
@@ -54,10 +54,10 @@ module _ {X : Type 0} {place : X → ℤ} {dir : Direction} {All : X → Type 0}
   split k = record {
     parts = λ x h. elim (same_or_ahead dir k (key x) h.on) [
       | inl same ↦ inl (record { among = h.among; here = sym same })
-      | inr later ↦ inr (record { among = h.among; on = one_on-next dir k (key x) later })
+      | inr later ↦ inr (record { among = h.among; on = omega (arith, signed_arith, along-offset dir k 1) })
     ];
     first = λ x h. record { among = h.among; on = reaches-equal dir k (key x) (sym h.here) };
-    second = λ x h. record { among = h.among; on = precedes-reaches dir k (key x) (beyond dir k (key x) h.on) };
+    second = λ x h. record { among = h.among; on = omega (arith, signed_arith, beyond dir k (key x) h.on) };
     order = λ a b h r. l.apart a b h.among r.among (subst (λ z. Precedes dir z (key b)) (sym h.here) (beyond dir k (key b) r.on));
   }
 
@@ -76,7 +76,7 @@ module _ {X : Type 0} {place : X → ℤ} {dir : Direction} {All : X → Type 0}
         among = h.among;
         on = subst (λ z. Reaches dir (pos k) z) (sym (l.shown x h.among)) (n.first (l.number x) (subst (λ z. Reaches dir from z) (l.shown x h.among) h.on) (l.named x h.among));
       })
-      (λ x h. record { among = h.among; on = reaches-trans dir from (pos k) (key x) n.on h.on })
+      (λ x h. record { among = h.among; on = omega (arith, signed_arith, n.on, h.on) })
 
   -- nothing is left where no number is, nor before the first
   pub ended : (from : ℤ) → NoneOn pos Named dir from → (x : X) → ¬ (IsFrom All key dir from x)

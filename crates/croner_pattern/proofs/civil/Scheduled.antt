@@ -1,5 +1,6 @@
 -- The search for the nearest scheduled date and time.
-use Rattle.std.proofs.Common.{◌≡◌, inl, inr, true, false, sym, ap, subst, ◌∙◌}
+use Rattle.std.proofs.Common.{◌≡◌, inl, inr, true, false, sym, ap, subst, ◌∙◌, arith}
+use Rattle.jiff_core.proofs.SignedLemmas.{signed_arith}
 use Rattle.std.proofs.lemmas.Bool.{false≢true}
 use Rattle.croner_base.specs.declared.time.Direction.{Direction}
 use Rattle.croner_base.specs.declared.time.civil.CivilDate.{CivilDate}
@@ -10,7 +11,7 @@ use Rattle.croner_pattern.specs.Meaning.{Meaning}
 use Rattle.croner_pattern.specs.Schedule.{is_date_matching, is_scheduled}
 use Rattle.croner_pattern.specs.Directions.{Precedes, Reaches}
 use Rattle.croner_pattern.specs.Private.Cursor.{has_room, last_day, place_in_day, IsMatchingTime, IsMove, IsTimeFrom, IsOpenTime, IsFirstTime, IsAfter, IsForemost, IsOpen, IsOnSchedule, IsNearest, NoneOn}
-use Rattle.croner_pattern.proofs.civil.Ahead.{reaches-trans, precedes-reaches, either, same_or_ahead, both_ways}
+use Rattle.croner_pattern.proofs.civil.Ahead.{either, same_or_ahead, both_ways}
 use Rattle.croner_pattern.proofs.civil.CivilOrder.{same_date, reach-date, reach-time, wall-reach_date, wall-reach_time}
 use Rattle.croner_pattern.proofs.civil.DateSearch.{and-split, and-join, same_match, last_day-room, last_day-no_room, start-within}
 use Rattle.croner_pattern.proofs.civil.TimeSearch.{first-least, first-matches, move-between}
@@ -88,7 +89,7 @@ module _ (m : Meaning) (dir : Direction) (from : CivilDateTime) where
     is = n.is.scheduled;
     first = λ y r is.
         elim (either dir (wall_second y) (wall_second c)) [
-          | inl before ↦ n.first y r (is_open y r (precedes-reaches dir (wall_second y) (wall_second c) before) is)
+          | inl before ↦ n.first y r (is_open y r (omega (arith, signed_arith)) is)
           | inr on ↦ on
         ];
   }
@@ -167,6 +168,6 @@ module _ (m : Meaning) (dir : Direction) (from : CivilDateTime) where
     later-nearest c n =
         nearest_of_all c n (λ y r k is. record {
           scheduled = is;
-          within = reaches-trans dir (day_of_date y.date) (day_of_date c.date) (last_day dir from.date) (reach-date dir y c k) n.is.within;
+          within = omega (arith, signed_arith, reach-date dir y c k, n.is.within);
           move = λ lacks. absurd (false≢true (sym lacks ∙ has));
         })
