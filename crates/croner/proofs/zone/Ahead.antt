@@ -5,7 +5,7 @@ use Rattle.croner_base.specs.declared.time.Direction.{Direction}
 use Rattle.croner_pattern.specs.Directions.{along, one_on}
 use Rattle.croner.specs.search.Runs.{Precedes, Reaches}
 use Rattle.croner.specs.Private.search.Halves.{opposite_way}
-pub use Rattle.croner_pattern.proofs.civil.Ahead.{along-sum, along-along, along-offset, reaches-same, reaches-equal, reaches-trans, precedes-reaches, precedes-trans, reaches-precedes, not_both, either, same_or_ahead, both_ways, one_on-ahead, one_on-next, one_on-last}
+pub use Rattle.croner_pattern.proofs.civil.Ahead.{along-offset, reaches-same, reaches-equal, reaches-trans, precedes-reaches, precedes-trans, reaches-precedes, not_both, either, same_or_ahead, both_ways}
 
 pub along-opposite : (dir : Direction) (a : ℤ) → along (opposite_way dir) a ≡ neg_ℤ (along dir a)
 along-opposite dir a = grind (arith, ints)

@@ -100,14 +100,11 @@ twin_far Backward reads calm s (x, same, past) (y, same2, past2) =
 exactly_here : (z : Zone) (i : ℤ) (c : CivilDateTime) (r : _) → IsCalm z → wall_second c ≡ z.reads i → z.resolves c ≡ Some r → Exactly z.reads (z.reads i) r
 exactly_here z i c r calm e is = subst (λ (w : ℤ). Exactly z.reads w r) e (exact_of z calm c r is)
 
-earlier_test : (m l : Moment) (b : Bool) → m.fraction ≡ 0 → l.fraction ≡ 0 → (IsTrue b ↔ nanos_of m <ℤ nanos_of l) → IsTrue b ↔ m.instant <ℤ l.instant
-earlier_test m l b f g test = (λ t. let h = test.0 t in omega (arith, ints), λ h. test.1 (omega (arith, ints)))
-
 pub test_forward : (direction : Direction) (m l : Moment) (c : CivilDateTime) (e : ℤ) (b : Bool) → direction ≡ Forward → wall_second c ≡ reading m → m.zone.resolves c ≡ Some (Ambiguous e l.instant) → l.fraction ≡ 0 → (IsTrue b ↔ nanos_of m <ℤ nanos_of l) → IsCalmStart m.zone m.fraction → IsTrue b ↔ HasTwin direction m.zone.reads m.instant
 test_forward Backward m l c e b f at is whole test start = absurd (cc)
 test_forward Forward m l c e b f at is whole test start =
     let twin = twin_of_two Forward m.zone.reads m.instant e l.instant (exactly_here m.zone m.instant c (Ambiguous e l.instant) start.calm at is) in
-    let less = earlier_test m l b start.whole whole test in
+    let less = precedes_whole Forward m l b start.whole whole test in
     (λ t. twin.1 (less.0 t), λ t. less.1 (twin.0 t))
 
 true_of_not : (b : Bool) → (IsTrue b → ⊥) → IsTrue (not b)
@@ -133,7 +130,7 @@ test_backward Forward m l c e b f at is whole test start = absurd (cc)
 test_backward Backward m l c e b f at is whole test start =
     let exact = exactly_here m.zone m.instant c (Ambiguous e l.instant) start.calm at is in
     let twin = twin_of_two Backward m.zone.reads m.instant e l.instant exact in
-    let less = earlier_test m l b start.whole whole test in
+    let less = precedes_whole Forward m l b start.whole whole test in
     let lt = exact.0 in
     let here = exact.3 m.instant refl in (
       λ t.
@@ -188,10 +185,10 @@ holds_second_there direction m there n h same stuck start holds =
 
 -- ---- the bisection
 
-refuted : (P : Type 0) (b : Bool) → b ≡ false → IsTrue b ↔ P → P → ⊥
+pub refuted : (P : Type 0) (b : Bool) → b ≡ false → IsTrue b ↔ P → P → ⊥
 refuted P b e test p = let yes : IsTrue b = test.1 p in never_true (sym e ∙ yes)
 
-shown : (P : Type 0) (b : Bool) → b ≡ true → IsTrue b ↔ P → P
+pub shown : (P : Type 0) (b : Bool) → b ≡ true → IsTrue b ↔ P → P
 shown P b e test = test.0 e
 
 -- between these two offsets from s the half that s is on ends
@@ -235,8 +232,3 @@ edge_found moment direction m inside outside t found close at =
       λ start twin. subst (EdgeOf direction m.zone.reads m.instant) (sym here) (edge_between direction m.zone.reads (calm_of m.zone start.calm) m.instant inside outside (omega arith) (omega arith) (found.within start twin) (found.beyond start)),
       (outside, n, here),
     )
-
--- ---- tests
-
-pub is_so : (P : Type 0) (b : Bool) → b ≡ true → IsTrue b ↔ P → P
-is_so P b e test = shown P b e test

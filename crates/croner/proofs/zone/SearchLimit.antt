@@ -163,12 +163,10 @@ module _ {T : Type 0} (moment : T → Moment) (direction : Direction) (inclusive
   found_by left t walked nearest =
       record { nearest = λ h. nearest h (walked.walked h); zone = walked.zone_is; whole = walked.whole; shows = walked.shows; left = left }
 
-  pub first_one_half : (IsPast direction inclusive timetable.scheduled (reading start) → ⊥) → (t : T) (b halves : Bool) → b ≡ timetable.fixed_time → halves ≡ false → (IsTrue halves ↔ CountsBoth direction b) → IsWalked moment direction inclusive (job_in start.zone timetable) start t → IsFound direction inclusive timetable start (moment t)
-  first_one_half left t b halves same e test walked =
+  pub first_one_half : (IsPast direction inclusive timetable.scheduled (reading start) → ⊥) → (t : T) → (CountsBoth direction timetable.fixed_time → ⊥) → IsWalked moment direction inclusive (job_in start.zone timetable) start t → IsFound direction inclusive timetable start (moment t)
+  first_one_half left t one_half walked =
       found_by left t walked
-      (λ h w.
-      found_alone direction inclusive (job_in start.zone timetable) (calm_of start.zone h.calm) start.instant (moment t).instant
-      (inl (λ both. never_true (sym e ∙ test.1 (subst (CountsBoth direction) (sym same) both)))) w)
+      (λ h w. found_alone direction inclusive (job_in start.zone timetable) (calm_of start.zone h.calm) start.instant (moment t).instant (inl one_half) w)
 
   pub first_alone : (IsPast direction inclusive timetable.scheduled (reading start) → ⊥) → (t : T) (b : Bool) → b ≡ false → (StartsCalm start → IsTrue b ↔ HasTwin direction start.zone.reads start.instant) → IsWalked moment direction inclusive (job_in start.zone timetable) start t → IsFound direction inclusive timetable start (moment t)
   first_alone left t b e test walked =
@@ -184,14 +182,9 @@ module _ {T : Type 0} (moment : T → Moment) (direction : Direction) (inclusive
     pub fraction_is : (moment edge).fraction ≡ start.fraction
     pub edge_of : StartsCalm start → EdgeOf direction start.zone.reads start.instant (moment edge).instant
 
-  pub at_edge : (edge : T) (fixed halves twin : Bool) → fixed ≡ timetable.fixed_time → halves ≡ true → (IsTrue halves ↔ CountsBoth direction fixed) → twin ≡ true → (StartsCalm start → IsTrue twin ↔ HasTwin direction start.zone.reads start.instant) → IsEdge moment direction start (Some edge) → AtEdge edge
-  at_edge edge fixed halves twin same e test is_twin twin_test (zone_is, fraction_is, edge_of, far) =
-      record {
-        both = subst (CountsBoth direction) same (test.0 e);
-        zone_is = zone_is;
-        fraction_is = fraction_is;
-        edge_of = λ h. edge_of h ((twin_test h).0 is_twin);
-      }
+  pub at_edge : (edge : T) (twin : Bool) → CountsBoth direction timetable.fixed_time → twin ≡ true → (StartsCalm start → IsTrue twin ↔ HasTwin direction start.zone.reads start.instant) → IsEdge moment direction start (Some edge) → AtEdge edge
+  at_edge edge twin both is_twin twin_test (zone_is, fraction_is, edge_of, far) =
+      record { both = both; zone_is = zone_is; fraction_is = fraction_is; edge_of = λ h. edge_of h ((twin_test h).0 is_twin) }
 
   edge_whole : (edge : T) → AtEdge edge → StartsCalm start → (moment edge).fraction ≡ 0
   edge_whole edge at h = at.fraction_is ∙ h.whole
@@ -235,10 +228,9 @@ module _ {T : Type 0} (moment : T → Moment) (direction : Direction) (inclusive
 
   -- ---- after the first walk's limit
 
-  pub limit_one_half : (b halves : Bool) → b ≡ timetable.fixed_time → halves ≡ false → (IsTrue halves ↔ CountsBoth direction b) → (StartsCalm start → OutFrom direction inclusive (job_in start.zone timetable) start.instant) → StartsCalm start → NoneInSpan direction inclusive (job_in start.zone timetable) start.instant
-  limit_one_half b halves same e test out h =
-      out_alone direction inclusive (job_in start.zone timetable) (calm_of start.zone h.calm) start.instant
-      (inl (λ both. never_true (sym e ∙ test.1 (subst (CountsBoth direction) (sym same) both)))) (out h)
+  pub limit_one_half : (CountsBoth direction timetable.fixed_time → ⊥) → (StartsCalm start → OutFrom direction inclusive (job_in start.zone timetable) start.instant) → StartsCalm start → NoneInSpan direction inclusive (job_in start.zone timetable) start.instant
+  limit_one_half one_half out h =
+      out_alone direction inclusive (job_in start.zone timetable) (calm_of start.zone h.calm) start.instant (inl one_half) (out h)
 
   pub limit_alone : (StartsCalm start → HasTwin direction start.zone.reads start.instant → ⊥) → (StartsCalm start → OutFrom direction inclusive (job_in start.zone timetable) start.instant) → StartsCalm start → NoneInSpan direction inclusive (job_in start.zone timetable) start.instant
   limit_alone single out h =

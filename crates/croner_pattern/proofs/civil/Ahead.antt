@@ -1,17 +1,11 @@
--- What comes before what in a direction. Each fact about numbers along a direction is one call of `omega` for either direction: what
--- has a sum in it takes `along-offset` besides, and what speaks of the numbers themselves `along-along`.
-use Rattle.std.proofs.Common.{◌≡◌, ◌⊎◌, inl, inr, refl, arith, ℕ, ℤ, pos, ◌+ℤ◌}
+-- What comes before what in a direction. Where numbers lie along it, each such fact is one call of `omega` for either direction, with
+-- `along-offset` for each number that is so many on; these lemmas are for what needs no call of its own.
+use Rattle.std.proofs.Common.{◌≡◌, ◌⊎◌, inl, inr, arith, ℕ, ℤ, pos, ◌+ℤ◌}
 use Rattle.std.proofs.lemmas.Int.{by_lt_z}
 use Rattle.jiff_core.proofs.SignedLemmas.{signed_arith}
 use Rattle.croner_base.specs.declared.time.Direction.{Direction}
 use Rattle.croner_base.specs.declared.time.Direction.TheVariants.{Forward, Backward}
-use Rattle.croner_pattern.specs.Directions.{along, Precedes, Reaches, offset_from, one_on}
-
-pub along-sum : (dir : Direction) (a b : ℤ) → along dir (a +ℤ b) ≡ along dir a +ℤ along dir b
-along-sum dir a b = grind (arith, signed_arith)
-
-pub along-along : (dir : Direction) (a : ℤ) → along dir (along dir a) ≡ a
-along-along dir a = grind (arith, signed_arith)
+use Rattle.croner_pattern.specs.Directions.{along, Precedes, Reaches, offset_from}
 
 pub along-offset : (dir : Direction) (a : ℤ) (n : ℕ) → along dir (offset_from dir a n) ≡ along dir a +ℤ pos n
 along-offset dir a n = grind (arith, signed_arith)
@@ -45,13 +39,3 @@ both_ways dir a b h k = grind (arith, signed_arith)
 
 pub same_or_ahead : (dir : Direction) (a b : ℤ) → Reaches dir a b → (a ≡ b) ⊎ Precedes dir a b
 same_or_ahead dir a b h = by_lt_z (along dir a) (along dir b) (λ k. inr k) (λ k. inl (both_ways dir a b h k))
-
--- the next number
-pub one_on-ahead : (dir : Direction) (a : ℤ) → Precedes dir a (one_on dir a)
-one_on-ahead dir a = omega (arith, signed_arith, along-offset dir a 1)
-
-pub one_on-next : (dir : Direction) (a b : ℤ) → Precedes dir a b → Reaches dir (one_on dir a) b
-one_on-next dir a b h = omega (arith, signed_arith, along-offset dir a 1)
-
-pub one_on-last : (dir : Direction) (a b : ℤ) → Precedes dir a (one_on dir b) → Reaches dir a b
-one_on-last dir a b h = omega (arith, signed_arith, along-offset dir b 1)

@@ -1,12 +1,11 @@
-use Rattle.std.proofs.Common.{refl}
 use Rattle.croner.proofs.zone.ErrorsKept.{error_kept}
-use Rattle.croner.proofs.zone.HalfEdges.{is_so}
+use Rattle.croner.proofs.zone.HalfEdges.{refuted, shown}
 use Rattle.croner.proofs.zone.SearchLimit.{limit_one_half, limit_alone, limit_late, second_found, limit_twice, second_error, refused_limit, refused_backend, none_outside, not_past, start_within, start_outside}
 use Rattle.croner.proofs.search.after_limit.Goals as goal
 
 pub returns-then-not-counts_both-clause-refused : goal.returns-then-not-counts_both-clause-refused
 returns-then-not-counts_both-clause-refused g c =
-    refused_limit _ _ _ _ _ (limit_one_half g.T.CronDateTime.moment c.args.direction c.args.inclusive (g.T.CronDateTime.moment c.args.start.now) (g.S.Schedule.timetable c.args.schedule.now) _ _ refl c.if-not-counts_both.true c.counts_both.ensures c.requires.out)
+    refused_limit _ _ _ _ _ (limit_one_half g.T.CronDateTime.moment c.args.direction c.args.inclusive (g.T.CronDateTime.moment c.args.start.now) (g.S.Schedule.timetable c.args.schedule.now) (refuted _ _ c.if-not-counts_both.true c.counts_both.ensures) c.requires.out)
 
 pub returns-then-not-is_within-clause-refused : goal.returns-then-not-is_within-clause-refused
 returns-then-not-is_within-clause-refused g c =
@@ -26,20 +25,20 @@ returns-in-Ok-None-clause-refused g c =
 pub returns-then-not-is_within-2-clause-refused : goal.returns-then-not-is_within-2-clause-refused
 returns-then-not-is_within-2-clause-refused g c =
     let halves = rw (c.in-Ok-Some.is, c.in-Ok-Some.field-0-is) at c.edge_and_last.ensures in
-    refused_limit _ _ _ _ _ (limit_late g.T.CronDateTime.moment c.args.direction c.args.inclusive (g.T.CronDateTime.moment c.args.start.now) (g.S.Schedule.timetable c.args.schedule.now) c.in-Ok-Some.found.0 c.in-Ok-Some.found.1 _ _ (is_so _ _ c.if-not-counts_both.false c.counts_both.ensures) halves.value c.if-not-is_within-2.true c.to_civil.ensures c.is_within-2.ensures c.requires.out)
+    refused_limit _ _ _ _ _ (limit_late g.T.CronDateTime.moment c.args.direction c.args.inclusive (g.T.CronDateTime.moment c.args.start.now) (g.S.Schedule.timetable c.args.schedule.now) c.in-Ok-Some.found.0 c.in-Ok-Some.found.1 _ _ (shown _ _ c.if-not-counts_both.false c.counts_both.ensures) halves.value c.if-not-is_within-2.true c.to_civil.ensures c.is_within-2.ensures c.requires.out)
 
 pub returns-clause-found : goal.returns-clause-found
 returns-clause-found g c =
     let halves = rw (c.in-Ok-Some.is, c.in-Ok-Some.field-0-is) at c.edge_and_last.ensures in
     let there = rw c.in-Some.is at c.in_ok-run.ensures.value in
     let within = start_within _ (g.T.CronDateTime.moment c.args.start.now) _ _ c.if-not-is_within.false c.requires.shown c.is_within.ensures in
-    second_found g.T.CronDateTime.moment c.args.direction c.args.inclusive (g.T.CronDateTime.moment c.args.start.now) (g.S.Schedule.timetable c.args.schedule.now) (not_past _ _ _ _ within) c.in-Ok-Some.found.0 c.in-Ok-Some.found.1 _ _ _ (is_so _ _ c.if-not-counts_both.false c.counts_both.ensures) halves.value c.if-not-is_within-2.false c.to_civil.ensures c.is_within-2.ensures c.requires.out there
+    second_found g.T.CronDateTime.moment c.args.direction c.args.inclusive (g.T.CronDateTime.moment c.args.start.now) (g.S.Schedule.timetable c.args.schedule.now) (not_past _ _ _ _ within) c.in-Ok-Some.found.0 c.in-Ok-Some.found.1 _ _ _ (shown _ _ c.if-not-counts_both.false c.counts_both.ensures) halves.value c.if-not-is_within-2.false c.to_civil.ensures c.is_within-2.ensures c.requires.out there
 
 pub returns-in_default-clause-refused : goal.returns-in_default-clause-refused
 returns-in_default-clause-refused g c =
     let halves = rw (c.in-Ok-Some.is, c.in-Ok-Some.field-0-is) at c.edge_and_last.ensures in
     let there = rw c.in_default.is at c.in_ok-run.ensures.value in
-    refused_limit _ _ _ _ _ (limit_twice g.T.CronDateTime.moment c.args.direction c.args.inclusive (g.T.CronDateTime.moment c.args.start.now) (g.S.Schedule.timetable c.args.schedule.now) c.in-Ok-Some.found.0 c.in-Ok-Some.found.1 (is_so _ _ c.if-not-counts_both.false c.counts_both.ensures) halves.value c.requires.out there)
+    refused_limit _ _ _ _ _ (limit_twice g.T.CronDateTime.moment c.args.direction c.args.inclusive (g.T.CronDateTime.moment c.args.start.now) (g.S.Schedule.timetable c.args.schedule.now) c.in-Ok-Some.found.0 c.in-Ok-Some.found.1 (shown _ _ c.if-not-counts_both.false c.counts_both.ensures) halves.value c.requires.out there)
 
 pub returns-in_err-run-clause-refused : goal.returns-in_err-run-clause-refused
 returns-in_err-run-clause-refused g c =
