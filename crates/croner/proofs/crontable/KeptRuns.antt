@@ -1,5 +1,5 @@
 -- What an iterator over a table keeps stays so when a job is searched, when a run is taken, and over an item.
-use Rattle.std.proofs.Common.{◌≡◌, IsTrue, ◌⊎◌, inl, inr, ℕ, ◌+◌, ◌-◌, ◌<◌, ◌≤◌, ℤ, arith, refl, sym, ap, subst, ◌∙◌, Bool, true, false, List, [], ◌∷◌, ◌++◌, length, get_or, Option, Some, Result, Ok, Err, IfOk}
+use Rattle.std.proofs.Common.{◌≡◌, ◌&&◌, IsTrue, ◌⊎◌, inl, inr, ℕ, ◌+◌, ◌-◌, ◌<◌, ◌≤◌, ℤ, arith, refl, sym, ap, subst, ◌∙◌, Bool, true, false, List, [], ◌∷◌, ◌++◌, length, get_or, Option, Some, Result, Ok, Err, IfOk}
 use Rattle.std.proofs.Math.Logic.{∥∥₁_map}
 use Rattle.std.proofs.lemmas.Bool.{false≢true, cases_lt}
 use Rattle.std.proofs.lemmas.Bool.Decides.{nat_tests}
@@ -257,18 +257,17 @@ begun_either {T} {d} {c} moment patterns direction inclusive start old new jobs 
 ]
 
 -- what is kept behind an item
-pub kept_after : {T : Type 0} {d : _} {c : _} (moment : T → Moment) (patterns : List Meaning) (direction : Direction) (is_first : Bool) (start item : Moment) (old new : Kept T d c) (keeps : Bool)
-    → (keeps ≡ true → new ≡ old) → (keeps ≡ false → new.is_begun ≡ false) → (IsTrue keeps → IsWithin direction (reading item))
-    → (is_first ≡ true → old.is_begun ≡ false) → (is_first ≡ false → start.fraction ≡ 0) → LeadsTo direction start item → (old.is_begun ≡ true → LieAhead moment direction item (heap_items old.dues))
-    → (old.is_begun ≡ true → AreKept moment patterns direction false start (heap_items old.dues) old.waiting.items old.is_limited)
+pub kept_after : {T : Type 0} {d : _} {c : _} (moment : T → Moment) (patterns : List Meaning) (direction : Direction) (is_first inclusive : Bool) (start item : Moment) (old new : Kept T d c) (keeps : Bool)
+    → (keeps ≡ true → new ≡ old) → (keeps ≡ false → new.is_begun ≡ false) → (IsTrue keeps → is_first ≡ false) → (IsTrue keeps → IsWithin direction (reading item))
+    → (is_first ≡ false → start.fraction ≡ 0) → LeadsTo direction start item → LieAhead moment direction item (heap_items old.dues)
+    → (old.is_begun ≡ true → AreKept moment patterns direction (is_first && inclusive) start (heap_items old.dues) old.waiting.items old.is_limited)
     → new.is_begun ≡ true → AreKept moment patterns direction false item (heap_items new.dues) new.waiting.items new.is_limited
-kept_after moment patterns direction is_first start item old new false same gone within fresh whole leads ahead known begun = absurd (false≢true (sym (gone refl) ∙ begun))
-kept_after {T} {d} {c} moment patterns direction is_first start item old new true same gone within fresh whole leads ahead known begun =
+kept_after moment patterns direction is_first inclusive start item old new false same gone moved within whole leads ahead known begun = absurd (false≢true (sym (gone refl) ∙ begun))
+kept_after {T} {d} {c} moment patterns direction is_first inclusive start item old new true same gone moved within whole leads ahead known begun =
     let P : Kept T d c → Type 0 = λ k. AreKept moment patterns direction false item (heap_items k.dues) k.waiting.items k.is_limited in
     let B : Kept T d c → Type 0 = λ k. k.is_begun ≡ true in
-    let was : old.is_begun ≡ true = subst B (same refl) begun in
-    let at : is_first ≡ false = elim (true_or_false is_first) [ inl e ↦ absurd (false≢true (sym (fresh e) ∙ was)) | inr e ↦ e ] in
-    subst P (sym (same refl)) (item_kept moment patterns direction false start item (heap_items old.dues) old.waiting.items old.is_limited leads (whole at) (within refl) (ahead was) (known was))
+    subst P (sym (same refl)) (item_kept moment patterns direction (is_first && inclusive) start item (heap_items old.dues) old.waiting.items old.is_limited leads (whole (moved refl)) (within refl) ahead
+    (known (subst B (same refl) begun)))
 
 -- the same, whether there was room or not
 pub begun_by : {T : Type 0} {d : _} {c : _} (moment : T → Moment) (patterns : List Meaning) (direction : Direction) (inclusive : Bool) (start : Moment) (old new : Kept T d c) (jobs : ℕ) (result : Result (Unit {0}) CronError)

@@ -1,8 +1,6 @@
 //! The search of a table's jobs from a position of an iterator: only those that wait are searched.
-ghost use Rattle.std.specs.Prelude.{◌≡◌, false, IfOk, IfErr};
+ghost use Rattle.std.specs.Prelude.{◌≡◌, IfOk, IfErr};
 ghost use Rattle.std.specs.BinaryHeap.{heap_items};
-ghost use Rattle.croner_base.specs.Civil.{wall_second};
-ghost use Rattle.croner_base.specs.Zone.{reading};
 ghost use Rattle.croner.specs.crontable.Tables.{patterns_of, IsTableFound, IsTableRefused};
 ghost use Rattle.croner.specs.Private.crontable.Kept.{AreKept, LieAhead};
 
@@ -10,26 +8,25 @@ use super::CronTable;
 use super::kept::Kept;
 use super::nearest::Met;
 use croner_base::errors::CronError;
-use croner_base::time::{CivilDateTime, CronDateTime, Direction};
+use croner_base::time::{CronDateTime, Direction};
 
-/// The nearest run of all jobs behind the position, which reads `shown`, with its places, as a search of the table finds it. All
-/// that stand there wait from then on, and the other runs that are kept lie ahead of it.
+/// The nearest run of all jobs from the position, with its places, as a search of the table finds it. All that stand there wait
+/// from then on, and the other runs that are kept lie ahead of it.
 pub(super) fn search<T: CronDateTime>(
     table: &CronTable,
     kept: &mut Kept<T>,
     position: &T,
-    shown: CivilDateTime,
+    inclusive: bool,
     direction: Direction,
 ) -> Result<(T, Vec<usize>), CronError>
-    requires shown { wall_second shown ≡ reading (T.moment position.now) }
-    requires kept { AreKept T.moment (patterns_of table.now) direction false (T.moment position.now) (heap_items kept.old.dues) kept.old.waiting.items kept.old.is_limited }
-    ensures kept { AreKept T.moment (patterns_of table.now) direction false (T.moment position.now) (heap_items kept.new.dues) kept.new.waiting.items kept.new.is_limited }
+    requires { AreKept T.moment (patterns_of table.now) direction inclusive (T.moment position.now) (heap_items kept.old.dues) kept.old.waiting.items kept.old.is_limited }
+    ensures kept { AreKept T.moment (patterns_of table.now) direction inclusive (T.moment position.now) (heap_items kept.new.dues) kept.new.waiting.items kept.new.is_limited }
     ensures begun { kept.new.is_begun ≡ kept.old.is_begun }
     ensures ahead { IfOk result (λ r. LieAhead T.moment direction (T.moment r.0) (heap_items kept.new.dues)) }
-    ensures found { IfOk result (λ r. IsTableFound direction false (patterns_of table.now) (T.moment position.now) (T.moment r.0) r.1.items) }
-    ensures refused { IfErr result (IsTableRefused direction false (patterns_of table.now) (T.moment position.now)) }
+    ensures found { IfOk result (λ r. IsTableFound direction inclusive (patterns_of table.now) (T.moment position.now) (T.moment r.0) r.1.items) }
+    ensures refused { IfErr result (IsTableRefused direction inclusive (patterns_of table.now) (T.moment position.now)) }
 {
-    match kept.ask_all(table, position, shown, direction) {
+    match kept.ask_all(table, position, inclusive, direction) {
         Ok(()) => {}
         Err(refused) => return Err(refused),
     }

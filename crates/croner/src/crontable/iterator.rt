@@ -1,10 +1,7 @@
 //! Iterators over the runs of a table.
-ghost use Rattle.std.specs.Prelude.{◌≡◌, true, false, None, IfSome, IsTrue};
+ghost use Rattle.std.specs.Prelude.{◌≡◌, ◌&&◌, true, false, None, IsTrue};
 ghost use Rattle.std.specs.BinaryHeap.{heap_items};
-ghost use Rattle.std.proofs.Props.{props};
 ghost use Rattle.croner_base.specs.declared.time.Direction.{Direction};
-ghost use Rattle.croner_base.specs.Civil.{wall_second};
-ghost use Rattle.croner_base.specs.Zone.{reading};
 ghost use Rattle.croner.specs.crontable.Tables.{patterns_of};
 ghost use Rattle.croner.specs.iterator.Faults.{is_kept};
 ghost use Rattle.croner.specs.Private.crontable.Kept.{AreKept};
@@ -15,7 +12,7 @@ use super::kept::Kept;
 use crate::iterator::{copied, fault_of};
 use crate::search::wall::is_within;
 use croner_base::errors::CronError;
-use croner_base::time::{CivilDateTime, CronDateTime, Direction};
+use croner_base::time::{CronDateTime, Direction};
 use std::alloc::AllocError;
 
 /// The runs of a table's jobs from a start, in one direction: instants at which some job runs, each with the places of all jobs
@@ -33,19 +30,17 @@ pub struct CronTableIterator<'t, T: CronDateTime> {
     is_first: bool,
     inclusive: bool,
     direction: Direction,
-    shown: Option<CivilDateTime>,
     kept: Kept<T>,
     fault: Option<CronError>,
     ghost kept_fault: { IsTrue (is_kept fault) },
     ghost whole: { is_first ≡ false → (T.moment position).fraction ≡ 0 },
-    ghost read: { IfSome shown (λ c. wall_second c ≡ reading (T.moment position)) } by { Prim.hlevel props },
-    ghost fresh: { is_first ≡ true → kept.is_begun ≡ false },
     ghost known: { kept.is_begun ≡ true
-        → AreKept T.moment (patterns_of table.now) direction false (T.moment position) (heap_items kept.dues) kept.waiting.items kept.is_limited },
+        → AreKept T.moment (patterns_of table.now) direction (is_first && inclusive) (T.moment position) (heap_items kept.dues) kept.waiting.items kept.is_limited },
 }
 
 impl<'t, T: CronDateTime> CronTableIterator<'t, T> {
-    ghost use Rattle.std.specs.Prelude.{◌↔◌, IfOk, IfErr, IfNone, Some, option_map};
+    ghost use Rattle.std.specs.Prelude.{IfOk, IfErr, IfSome, IfNone, Some, option_map};
+    ghost use Rattle.croner_base.specs.Zone.{reading};
     ghost use Rattle.croner.specs.search.Limit.{IsWithin};
     ghost use Rattle.croner.specs.search.Refusal.{IsRefusal};
     ghost use Rattle.croner.specs.crontable.TableListing.{table_standing_of, new_table_standing, counts_table_position, table_moved, TableSettles};
@@ -67,7 +62,6 @@ impl<'t, T: CronDateTime> CronTableIterator<'t, T> {
             is_first: true,
             inclusive,
             direction,
-            shown: None,
             kept: Kept::new(table.alloc),
             fault: None,
         }
@@ -81,6 +75,13 @@ impl<'t, T: CronDateTime> CronTableIterator<'t, T> {
         self.fault.as_ref()
     }
 
+    // Whether the next search counts the position.
+    fn counts_position(&self) -> bool
+        ensures { result ≡ counts_table_position (table_standing_of T.moment self.now) }
+    {
+        self.is_first && self.inclusive
+    }
+
     // What the next search answers. What is kept of the jobs stays so.
     fn find(&mut self) -> Result<(T, Vec<usize>), CronError>
         ensures same { table_standing_of T.moment self.new ≡ table_standing_of T.moment self.old }
@@ -88,48 +89,6 @@ impl<'t, T: CronDateTime> CronTableIterator<'t, T> {
             (patterns_of self.old.table.now) (T.moment self.old.position) (T.moment r.0) r.1.items) }
         ensures refused { IfErr result (IsTableRefused self.old.direction (counts_table_position (table_standing_of T.moment self.old))
             (patterns_of self.old.table.now) (T.moment self.old.position)) }
-        ensures ahead { IfOk result (λ r. self.new.kept.is_begun ≡ true → LieAhead T.moment self.new.direction (T.moment r.0) (heap_items self.new.kept.dues)) }
-    {
-        if self.is_first {
-            self.find_first()
-        } else {
-            self.find_next()
-        }
-    }
-
-    // What the first search answers. It is the table's own: nothing of it is kept, since a start may have a fraction.
-    fn find_first(&self) -> Result<(T, Vec<usize>), CronError>
-        ensures found { IfOk result (λ r. IsTableFound self.now.direction self.now.inclusive (patterns_of self.now.table.now) (T.moment self.now.position) (T.moment r.0) r.1.items) }
-        ensures refused { IfErr result (IsTableRefused self.now.direction self.now.inclusive (patterns_of self.now.table.now) (T.moment self.now.position)) }
-    {
-        let answer = self
-            .table
-            .find_occurrence(&self.position, self.inclusive, self.direction);
-        match answer {
-            Ok((run, room)) => match room.clone() {
-                Ok(places) => Ok((run, places)),
-                Err(_) => Err(CronError::OutOfMemory),
-            },
-            Err(refused) => Err(refused),
-        }
-    }
-
-    // What the position reads, which was read when it was given as an item.
-    fn position_shown(&self) -> CivilDateTime
-        ensures { wall_second result ≡ reading (T.moment self.now.position) }
-    {
-        match self.shown {
-            Some(shown) => shown,
-            None => self.position.to_civil(),
-        }
-    }
-
-    // What a search behind an item answers: the jobs are searched of which nothing is kept.
-    fn find_next(&mut self) -> Result<(T, Vec<usize>), CronError>
-        requires { self.old.is_first ≡ false }
-        ensures same { table_standing_of T.moment self.new ≡ table_standing_of T.moment self.old }
-        ensures found { IfOk result (λ r. IsTableFound self.old.direction false (patterns_of self.old.table.now) (T.moment self.old.position) (T.moment r.0) r.1.items) }
-        ensures refused { IfErr result (IsTableRefused self.old.direction false (patterns_of self.old.table.now) (T.moment self.old.position)) }
         ensures ahead { IfOk result (λ r. LieAhead T.moment self.new.direction (T.moment r.0) (heap_items self.new.kept.dues)) }
     {
         if self.table.is_empty() {
@@ -139,27 +98,29 @@ impl<'t, T: CronDateTime> CronTableIterator<'t, T> {
             Ok(()) => {}
             Err(refused) => return Err(refused),
         }
-        let shown = self.position_shown();
+        let inclusive = self.counts_position();
         search(
             self.table,
             &mut self.kept,
             &self.position,
-            shown,
+            inclusive,
             self.direction,
         )
     }
 
-    // Whether what is kept is so from an item on, which reads `shown`: not where it lies outside the searched years.
-    fn keeps_over(&self, shown: CivilDateTime) -> bool
-        ensures { IsTrue result ↔ IsWithin self.now.direction (wall_second shown) }
+    // Whether what is kept is so from an item on: not behind a start, which may have a fraction, nor where the item lies outside
+    // the searched years.
+    fn keeps_over(&self, item: &T) -> bool
+        ensures moved { IsTrue result → self.now.is_first ≡ false }
+        ensures within { IsTrue result → IsWithin self.now.direction (reading (T.moment item.now)) }
     {
-        is_within(shown, self.direction)
+        !self.is_first && is_within(item.to_civil(), self.direction)
     }
 
     // Stands at the run that was found from now on, and gives it with its places; or keeps the want of memory for its copy.
     fn step_to(&mut self, found: T, places: Vec<usize>) -> Option<(T, Vec<usize>)>
         requires leads { LeadsTo self.old.direction (T.moment self.old.position) (T.moment found) }
-        requires ahead { self.old.kept.is_begun ≡ true → LieAhead T.moment self.old.direction (T.moment found) (heap_items self.old.kept.dues) }
+        requires ahead { LieAhead T.moment self.old.direction (T.moment found) (heap_items self.old.kept.dues) }
         ensures item { IfSome result (λ item. T.moment item.0 ≡ T.moment found) }
         ensures places { IfSome result (λ item. item.1 ≡ places) }
         ensures moved { IfSome result
@@ -170,10 +131,8 @@ impl<'t, T: CronDateTime> CronTableIterator<'t, T> {
     {
         match found.clone() {
             Ok(item) => {
-                let shown = found.to_civil();
-                let keeps = self.keeps_over(shown);
+                let keeps = self.keeps_over(&found);
                 self.kept.let_go_unless(keeps);
-                self.shown = Some(shown);
                 self.position = found;
                 self.is_first = false;
                 self.fault = None;
@@ -190,7 +149,7 @@ impl<'t, T: CronDateTime> CronTableIterator<'t, T> {
     fn settle(&mut self, answer: Result<(T, Vec<usize>), CronError>) -> Option<(T, Vec<usize>)>
         requires refusal { IfErr answer (IsRefusal true) }
         requires leads { IfOk answer (λ r. LeadsTo (table_standing_of T.moment self.old).direction (table_standing_of T.moment self.old).position (T.moment r.0)) }
-        requires ahead { IfOk answer (λ r. self.old.kept.is_begun ≡ true → LieAhead T.moment self.old.direction (T.moment r.0) (heap_items self.old.kept.dues)) }
+        requires ahead { IfOk answer (λ r. LieAhead T.moment self.old.direction (T.moment r.0) (heap_items self.old.kept.dues)) }
         ensures { TableSettles T.moment T.can_lack_memory (table_standing_of T.moment self.old) answer result (table_standing_of T.moment self.new) }
     {
         match answer {
@@ -217,7 +176,6 @@ impl<'t, T: CronDateTime> Clone for CronTableIterator<'t, T> {
             is_first: self.is_first,
             inclusive: self.inclusive,
             direction: self.direction,
-            shown: self.shown,
             kept: Kept::new(self.table.alloc),
             fault: copied(&self.fault),
         })

@@ -93,27 +93,28 @@ impl<T: CronDateTime> Kept<T> {
         }
     }
 
-    /// Searches the job that waits last behind a position, of which `shown` is the reading. A run that it finds is kept in its
-    /// place; a job that is refused by anything but the limit waits on.
+    /// Searches the job that waits last from a position, of which `shown` is the reading. A run that it finds is kept in its place;
+    /// a job that is refused by anything but the limit waits on.
     pub(super) fn ask(
         &mut self,
         table: &CronTable,
         position: &T,
         shown: CivilDateTime,
+        inclusive: bool,
         direction: Direction,
     ) -> Result<(), CronError>
         requires some { 0 < vec_len self.old.waiting }
         requires reads { wall_second shown ≡ reading (T.moment position.now) }
-        requires kept { AreKept T.moment (patterns_of table.now) direction false (T.moment position.now) (heap_items self.old.dues) self.old.waiting.items self.old.is_limited }
-        ensures kept { AreKept T.moment (patterns_of table.now) direction false (T.moment position.now) (heap_items self.new.dues) self.new.waiting.items self.new.is_limited }
+        requires kept { AreKept T.moment (patterns_of table.now) direction inclusive (T.moment position.now) (heap_items self.old.dues) self.old.waiting.items self.old.is_limited }
+        ensures kept { AreKept T.moment (patterns_of table.now) direction inclusive (T.moment position.now) (heap_items self.new.dues) self.new.waiting.items self.new.is_limited }
         ensures begun { self.new.is_begun ≡ self.old.is_begun }
         ensures fewer { OnOk result (vec_len self.new.waiting + 1 ≡ vec_len self.old.waiting) }
-        ensures refused { IfErr result (IsTableRefused direction false (patterns_of table.now) (T.moment position.now)) }
+        ensures refused { IfErr result (IsTableRefused direction inclusive (patterns_of table.now) (T.moment position.now)) }
     {
         let place = self.waiting[self.waiting.len() - 1];
         let answer = table
             .job_at(place)
-            .find_occurrence_with_reading(position, shown, false, direction);
+            .find_occurrence_with_reading(position, shown, inclusive, direction);
         match answer {
             Ok(run) => {
                 let due = Due {
@@ -143,18 +144,18 @@ impl<T: CronDateTime> Kept<T> {
         &mut self,
         table: &CronTable,
         position: &T,
-        shown: CivilDateTime,
+        inclusive: bool,
         direction: Direction,
     ) -> Result<(), CronError>
-        requires reads { wall_second shown ≡ reading (T.moment position.now) }
-        requires kept { AreKept T.moment (patterns_of table.now) direction false (T.moment position.now) (heap_items self.old.dues) self.old.waiting.items self.old.is_limited }
-        ensures kept { AreKept T.moment (patterns_of table.now) direction false (T.moment position.now) (heap_items self.new.dues) self.new.waiting.items self.new.is_limited }
+        requires kept { AreKept T.moment (patterns_of table.now) direction inclusive (T.moment position.now) (heap_items self.old.dues) self.old.waiting.items self.old.is_limited }
+        ensures kept { AreKept T.moment (patterns_of table.now) direction inclusive (T.moment position.now) (heap_items self.new.dues) self.new.waiting.items self.new.is_limited }
         ensures begun { self.new.is_begun ≡ self.old.is_begun }
         ensures none { OnOk result (vec_len self.new.waiting ≡ 0) }
-        ensures refused { IfErr result (IsTableRefused direction false (patterns_of table.now) (T.moment position.now)) }
+        ensures refused { IfErr result (IsTableRefused direction inclusive (patterns_of table.now) (T.moment position.now)) }
     {
+        let shown = position.to_civil();
         'asked: while !self.waiting.is_empty() {
-            match self.ask(table, position, shown, direction) {
+            match self.ask(table, position, shown, inclusive, direction) {
                 Ok(()) => {}
                 Err(refused) => return Err(refused),
             }

@@ -1,4 +1,4 @@
-use Rattle.std.proofs.Common.{◌≡◌, false, length, refl, ap, ◌∙◌, arith}
+use Rattle.std.proofs.Common.{◌≡◌, length, refl, ap, ◌∙◌, arith}
 use Rattle.std.specs.BinaryHeap.{heap_items, heap_len}
 use Rattle.std.specs.List.{each_same}
 use Rattle.croner.specs.Private.crontable.Met.{met_of}
@@ -12,7 +12,7 @@ pub returns-then-is_err-clause-kept : goal.returns-then-is_err-clause-kept
 returns-then-is_err-clause-kept g c =
     let moment = g.T.CronDateTime.moment in
     let all = c.ask_all.new.self in
-    same_kept moment (patterns_of c.args.table.now) c.args.direction false (moment c.args.position.now) (heap_items all.dues) (heap_items all.dues) all.waiting.items c.reserve.new.self.items
+    same_kept moment (patterns_of c.args.table.now) c.args.direction c.args.inclusive (moment c.args.position.now) (heap_items all.dues) (heap_items all.dues) all.waiting.items c.reserve.new.self.items
     all.is_limited all.is_limited refl c.reserve.ensures.items refl c.ask_all.ensures.kept
 
 pub returns-in-None-clause-kept : goal.returns-in-None-clause-kept
@@ -20,7 +20,7 @@ returns-in-None-clause-kept g c =
     let moment = g.T.CronDateTime.moment in
     let all = c.ask_all.new.self in
     let gone = c.pop.new.self in
-    same_kept moment (patterns_of c.args.table.now) c.args.direction false (moment c.args.position.now) (heap_items all.dues) (heap_items gone.dues) all.waiting.items gone.waiting.items
+    same_kept moment (patterns_of c.args.table.now) c.args.direction c.args.inclusive (moment c.args.position.now) (heap_items all.dues) (heap_items gone.dues) all.waiting.items gone.waiting.items
     all.is_limited gone.is_limited c.in-None.ensures.same.0 (ap (λ v. v.items) c.in-None.ensures.same.1 ∙ c.reserve.ensures.items) c.pop.ensures.limited c.ask_all.ensures.kept
 
 pub tied-init : goal.tied-init
@@ -28,11 +28,11 @@ tied-init g c =
     let moment = g.T.CronDateTime.moment in
     let all = c.ask_all.new.self in
     let one = c.pop.new.self in
-    let kept = same_kept moment (patterns_of c.args.table.now) c.args.direction false (moment c.args.position.now) (heap_items all.dues) (heap_items all.dues) all.waiting.items c.reserve.new.self.items
+    let kept = same_kept moment (patterns_of c.args.table.now) c.args.direction c.args.inclusive (moment c.args.position.now) (heap_items all.dues) (heap_items all.dues) all.waiting.items c.reserve.new.self.items
     all.is_limited one.is_limited refl c.reserve.ensures.items c.pop.ensures.limited c.ask_all.ensures.kept in
     let none : length c.reserve.new.self.items ≡ 0 = ap length c.reserve.ensures.items ∙ omega (arith, c.in-Ok.ensures.none, all.waiting.ok.0) in
     record {
-      taken = taken_first moment (patterns_of c.args.table.now) c.args.direction false (moment c.args.position.now) (shaped_at c.args.table.now.jobs.items) (heap_items all.dues) (heap_items one.dues)
+      taken = taken_first moment (patterns_of c.args.table.now) c.args.direction c.args.inclusive (moment c.args.position.now) (shaped_at c.args.table.now.jobs.items) (heap_items all.dues) (heap_items one.dues)
           c.reserve.new.self.items one.waiting.items one.is_limited c.in-Some.run' kept c.in-Some.ensures.popped none;
       room = c.pop.ensures.room;
       begun = refl;
@@ -42,7 +42,7 @@ pub returns-in-None-clause-refused : goal.returns-in-None-clause-refused
 returns-in-None-clause-refused g c =
     let moment = g.T.CronDateTime.moment in
     let all = c.ask_all.new.self in
-    nothing_found moment (patterns_of c.args.table.now) c.args.direction false (moment c.args.position.now) (shaped_at c.args.table.now.jobs.items) (heap_items all.dues) all.waiting.items all.is_limited
+    nothing_found moment (patterns_of c.args.table.now) c.args.direction c.args.inclusive (moment c.args.position.now) (shaped_at c.args.table.now.jobs.items) (heap_items all.dues) all.waiting.items all.is_limited
     c.ask_all.ensures.kept (omega (arith, c.in-None.ensures.none, all.dues.data.ok.0)) (omega (arith, c.in-Ok.ensures.none, all.waiting.ok.0))
 
 pub tied-preserved-in-tied : goal.tied-preserved-in-tied
@@ -51,7 +51,7 @@ tied-preserved-in-tied g c =
     let old = c.tied.kept in
     let more = c.pop-in-tied.new.self in
     record {
-      taken = taken_again moment (patterns_of c.args.table.now) c.args.direction false (moment c.args.position.now) (shaped_at c.args.table.now.jobs.items) (heap_items old.dues) (heap_items more.dues)
+      taken = taken_again moment (patterns_of c.args.table.now) c.args.direction c.args.inclusive (moment c.args.position.now) (shaped_at c.args.table.now.jobs.items) (heap_items old.dues) (heap_items more.dues)
           old.waiting.items more.waiting.items old.is_limited more.is_limited c.in-Some.run' (heap_len old.dues) c.pop-in-tied.result c.pop-in-tied.ensures.limited c.pop-in-tied.ensures.popped
           c.pop-in-tied.ensures.none (c.is_tied.ensures.some c.tied-test.true) c.tied.invariant.taken (c.is_tied.ensures.tied c.tied-test.true);
       room = c.pop-in-tied.ensures.room;
@@ -62,7 +62,7 @@ pub returns-clause-kept : goal.returns-clause-kept
 returns-clause-kept g c =
     let moment = g.T.CronDateTime.moment in
     let last = c.tied.kept in
-    turned_kept moment (patterns_of c.args.table.now) c.args.direction false (moment c.args.position.now) (heap_items last.dues) last.waiting.items c.reverse.new.self.items last.is_limited
+    turned_kept moment (patterns_of c.args.table.now) c.args.direction c.args.inclusive (moment c.args.position.now) (heap_items last.dues) last.waiting.items c.reverse.new.self.items last.is_limited
     c.tied.invariant.taken.kept c.reverse.ensures.permutation
 
 pub returns-clause-ahead : goal.returns-clause-ahead
@@ -74,10 +74,10 @@ returns-clause-ahead g c =
     let start = moment c.args.position.now in
     let run = c.in-Some.run' in
     let taken = c.tied.invariant.taken in
-    let apart = rest_ahead moment patterns c.args.direction false start shapes run (heap_items last.dues) last.waiting.items last.is_limited taken
+    let apart = rest_ahead moment patterns c.args.direction c.args.inclusive start shapes run (heap_items last.dues) last.waiting.items last.is_limited taken
     (λ some. c.is_tied.ensures.apart c.tied-test.false (omega (arith, some, last.dues.data.ok.0))) in
     ahead_decided moment g.T.CronDateTime.can_lack_memory c.args.direction (met_of c.found.result) run (heap_items last.dues) c.found.result.places c.decide.result (ap (λ m. m.nearest) c.found.ensures)
-    (lie_ahead moment patterns c.args.direction false start shapes run (heap_items last.dues) last.waiting.items last.is_limited taken apart) c.decide.ensures
+    (lie_ahead moment patterns c.args.direction c.args.inclusive start shapes run (heap_items last.dues) last.waiting.items last.is_limited taken apart) c.decide.ensures
 
 pub returns-clause-found : goal.returns-clause-found
 returns-clause-found g c =
@@ -88,12 +88,12 @@ returns-clause-found g c =
     let start = moment c.args.position.now in
     let run = c.in-Some.run' in
     let taken = c.tied.invariant.taken in
-    let apart = rest_ahead moment patterns c.args.direction false start shapes run (heap_items last.dues) last.waiting.items last.is_limited taken
+    let apart = rest_ahead moment patterns c.args.direction c.args.inclusive start shapes run (heap_items last.dues) last.waiting.items last.is_limited taken
     (λ some. c.is_tied.ensures.apart c.tied-test.false (omega (arith, some, last.dues.data.ok.0))) in
     let places = c.in-Ok-clone.places in
     let same = each_same last.waiting.items places.items c.in-Ok-clone.ensures.cases.0 in
-    decided_found moment g.T.CronDateTime.can_lack_memory c.args.direction false start patterns (met_of c.found.result)
-    (searched_met moment patterns c.args.direction false start shapes run (heap_items last.dues) last.waiting.items last.is_limited taken apart c.found.result places c.found.ensures same)
+    decided_found moment g.T.CronDateTime.can_lack_memory c.args.direction c.args.inclusive start patterns (met_of c.found.result)
+    (searched_met moment patterns c.args.direction c.args.inclusive start shapes run (heap_items last.dues) last.waiting.items last.is_limited taken apart c.found.result places c.found.ensures same)
     c.found.result.places c.decide.result refl c.decide.ensures
 
 pub returns-clause-refused : goal.returns-clause-refused
@@ -106,11 +106,11 @@ returns-clause-refused g c =
     let start = moment c.args.position.now in
     let run = c.in-Some.run' in
     let taken = c.tied.invariant.taken in
-    let apart = rest_ahead moment patterns c.args.direction false start shapes run (heap_items last.dues) last.waiting.items last.is_limited taken
+    let apart = rest_ahead moment patterns c.args.direction c.args.inclusive start shapes run (heap_items last.dues) last.waiting.items last.is_limited taken
     (λ some. c.is_tied.ensures.apart c.tied-test.false (omega (arith, some, last.dues.data.ok.0))) in
     let places = c.in-Ok-clone.places in
     let same = each_same last.waiting.items places.items c.in-Ok-clone.ensures.cases.0 in
-    answered_in_room lack c.args.direction false patterns start c.decide.result
-    (decided_refused moment lack c.args.direction false start patterns (met_of c.found.result)
-    (searched_met moment patterns c.args.direction false start shapes run (heap_items last.dues) last.waiting.items last.is_limited taken apart c.found.result places c.found.ensures same)
+    answered_in_room lack c.args.direction c.args.inclusive patterns start c.decide.result
+    (decided_refused moment lack c.args.direction c.args.inclusive start patterns (met_of c.found.result)
+    (searched_met moment patterns c.args.direction c.args.inclusive start shapes run (heap_items last.dues) last.waiting.items last.is_limited taken apart c.found.result places c.found.ensures same)
     c.found.result.places c.decide.result c.decide.ensures)

@@ -1,6 +1,4 @@
-use Rattle.std.proofs.Common.{subst}
 use Rattle.croner.specs.crontable.Tables.{patterns_of}
-use Rattle.croner.specs.search.Limit.{IsWithin}
 use Rattle.croner.proofs.crontable.KeptRuns.{kept_after}
 use Rattle.croner.proofs.crontable.iterator.CronTableIterator.step_to.Goals as goal
 
@@ -8,5 +6,5 @@ pub invariant_of-self-clause-known : goal.invariant_of-self-clause-known
 invariant_of-self-clause-known g c =
     let moment = g.T.CronDateTime.moment in
     let old = c.args.self.now in
-    kept_after moment (patterns_of old.table.now) old.direction old.is_first (moment old.position) (moment c.args.found) old.kept c.let_go_unless.new.self c.keeps_over-keeps.result
-    c.let_go_unless.ensures.stays c.let_go_unless.ensures.nothing (λ keeps. subst (IsWithin old.direction) c.to_civil-shown.ensures (c.keeps_over-keeps.ensures.0 keeps)) old.fresh old.whole c.requires.leads c.requires.ahead old.known
+    kept_after moment (patterns_of old.table.now) old.direction old.is_first old.inclusive (moment old.position) (moment c.args.found) old.kept c.let_go_unless.new.self c.keeps_over-keeps.result
+    c.let_go_unless.ensures.stays c.let_go_unless.ensures.nothing c.keeps_over-keeps.ensures.moved c.keeps_over-keeps.ensures.within old.whole c.requires.leads c.requires.ahead old.known

@@ -1,4 +1,4 @@
-use Rattle.std.proofs.Common.{◌≡◌, false, refl, ap, rules}
+use Rattle.std.proofs.Common.{◌≡◌, refl, ap, rules}
 use Rattle.std.specs.BinaryHeap.{heap_items}
 use Rattle.croner_base.specs.declared.errors.CronError.TheVariants.{TimeSearchLimitExceeded}
 use Rattle.croner.specs.crontable.Tables.{patterns_of}
@@ -12,7 +12,7 @@ returns-in-Err-TimeSearchLimitExceeded-clause-kept g c =
     let moment = g.T.CronDateTime.moment in
     let old = c.args.self.now in
     let popped = c.pop-in-Err-TimeSearchLimitExceeded in
-    limited_kept moment (patterns_of c.args.table.now) c.args.direction false (moment c.args.position.now) (heap_items old.dues) old.waiting.items popped.new.self.items old.is_limited
+    limited_kept moment (patterns_of c.args.table.now) c.args.direction c.args.inclusive (moment c.args.position.now) (heap_items old.dues) old.waiting.items popped.new.self.items old.is_limited
     c.index-place.result.now (job_of c.job_at.result.now) c.requires.kept
     (last_waits old.waiting old.waiting popped.new.self.items c.len.result c.index-place.result.now popped.result refl c.len.ensures c.requires.some popped.ensures.items popped.ensures.value c.index-place.ensures)
     c.job_at.ensures.stands (λ calm. c.in-Err-TimeSearchLimitExceeded.ensures.refused.limit calm c.in-Err-TimeSearchLimitExceeded.field-0-is)
@@ -24,7 +24,7 @@ returns-in-Err g c =
       kept = c.requires.kept;
       begun = refl;
       fewer = tt;
-      refused = place_refused g.T.CronDateTime.can_lack_memory c.args.direction false (patterns_of c.args.table.now) (g.T.CronDateTime.moment c.args.position.now) c.index-place.result.now
+      refused = place_refused g.T.CronDateTime.can_lack_memory c.args.direction c.args.inclusive (patterns_of c.args.table.now) (g.T.CronDateTime.moment c.args.position.now) c.index-place.result.now
           (job_of c.job_at.result.now) c.in-Err.refused c.job_at.ensures.stands c.in-Err.ensures.refused other;
     }
 
@@ -36,9 +36,9 @@ returns-in-Ok-keep-clause-kept g c =
     let popped = c.pop in
     let start = moment c.args.position.now in
     let patterns = patterns_of c.args.table.now in
-    let kept = same_kept moment patterns c.args.direction false start (heap_items old.dues) (heap_items old.dues) old.waiting.items mid.waiting.items old.is_limited mid.is_limited
+    let kept = same_kept moment patterns c.args.direction c.args.inclusive start (heap_items old.dues) (heap_items old.dues) old.waiting.items mid.waiting.items old.is_limited mid.is_limited
     refl (ap (λ v. v.items) c.keep.ensures.waiting) c.keep.ensures.limited c.requires.kept in
-    found_kept moment patterns c.args.direction false start (heap_items old.dues) (heap_items mid.dues) mid.waiting.items popped.new.self.items mid.is_limited
+    found_kept moment patterns c.args.direction c.args.inclusive start (heap_items old.dues) (heap_items mid.dues) mid.waiting.items popped.new.self.items mid.is_limited
     (record { run = c.in-Ok.run'; place = c.index-place.result.now; direction = c.args.direction }) (job_of c.job_at.result.now) kept
     (last_waits old.waiting mid.waiting popped.new.self.items c.len.result c.index-place.result.now popped.result c.keep.ensures.waiting c.len.ensures c.requires.some popped.ensures.items popped.ensures.value c.index-place.ensures)
     c.in-Ok-keep.ensures.kept refl c.job_at.ensures.stands c.in-Ok.ensures.found
@@ -48,5 +48,5 @@ returns-in-Err-keep-clause-kept g c =
     let moment = g.T.CronDateTime.moment in
     let old = c.args.self.now in
     let mid = c.keep.new.self in
-    same_kept moment (patterns_of c.args.table.now) c.args.direction false (moment c.args.position.now) (heap_items old.dues) (heap_items mid.dues) old.waiting.items mid.waiting.items
+    same_kept moment (patterns_of c.args.table.now) c.args.direction c.args.inclusive (moment c.args.position.now) (heap_items old.dues) (heap_items mid.dues) old.waiting.items mid.waiting.items
     old.is_limited mid.is_limited c.in-Err-keep.ensures.err.1 (ap (λ v. v.items) c.keep.ensures.waiting) c.keep.ensures.limited c.requires.kept

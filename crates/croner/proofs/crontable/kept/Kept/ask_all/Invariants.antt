@@ -1,4 +1,4 @@
-use Rattle.std.proofs.Common.{◌≡◌, false}
+use Rattle.std.proofs.Common.{◌≡◌}
 use Rattle.std.specs.Prelude.{vec_len}
 use Rattle.std.specs.BinaryHeap.{heap_items}
 use Rattle.croner.specs.crontable.Tables.{patterns_of}
@@ -7,7 +7,7 @@ use Rattle.croner.proofs.crontable.kept.Kept.ask_all.Given as goal
 
 abbrev pub invariant-asked : goal.invariant-asked
 invariant-asked g l = record {
-  kept : AreKept g.T.CronDateTime.moment (patterns_of l.table) l.direction false (g.T.CronDateTime.moment l.position) (heap_items l.self.dues) l.self.waiting.items l.self.is_limited;
+  kept : AreKept g.T.CronDateTime.moment (patterns_of l.table) l.direction l.inclusive (g.T.CronDateTime.moment l.position) (heap_items l.self.dues) l.self.waiting.items l.self.is_limited;
   begun : l.self.is_begun ≡ l.initial.self.is_begun;
 }
 
