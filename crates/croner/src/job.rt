@@ -140,7 +140,6 @@ impl Cron {
 
 /// A copy has the same pattern. The only error is want of memory.
 impl Clone for Cron {
-    ghost use Rattle.std.specs.Prelude.{◌≡◌};
     ghost use Rattle.croner.specs.Views.{job_of};
 
     ghost is_clone = { λ original copy. job_of copy ≡ job_of original };

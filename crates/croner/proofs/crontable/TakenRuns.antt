@@ -228,9 +228,6 @@ module _ {T : Type 0} (moment : T → Moment) (patterns : List Meaning) (directi
         ]
 
     module _ (apart : All (λ due. Precedes direction (nanos_of (moment first)) (nanos_due moment due)) dues) where
-      place_at : (k : ℕ) → All (λ p. p < length patterns) waiting → Contains waiting k → (m : Meaning) × (slice_get patterns k ≡ Some m)
-      place_at k below has = stands_there patterns k (All-contains (λ p. p < length patterns) waiting k below has)
-
       ahead_of : (due : Due T) → Own due → Precedes direction (nanos_of (moment first)) (nanos_due moment due) → Precedes direction (moment first).instant (moment due.run).instant
       ahead_of due is before =
           let (m, at) = stands_there patterns due.place is.1 in

@@ -1,6 +1,6 @@
 -- A text in which each name was replaced begins and ends with the white space with which the text before began and ended, and
 -- with no other: a number stands for a name, and every other byte for itself.
-use Rattle.std.proofs.Common.{◌≡◌, ℕ, zero, suc, ◌+◌, ◌<◌, Bool, true, false, cond, eqb, ltb, leb, ◌&&◌, ◌||◌, List, [], ◌∷◌, ◌++◌, length, get_or, drop, refl, ap, sym, ◌∙◌, subst, arith, inl, inr}
+use Rattle.std.proofs.Common.{◌≡◌, ℕ, zero, suc, ◌+◌, ◌<◌, Bool, true, false, cond, eqb, ltb, leb, ◌&&◌, ◌||◌, List, [], ◌∷◌, ◌++◌, length, get_or, take, take_at, drop, refl, ap, sym, ◌∙◌, subst, arith, inl, inr}
 use Rattle.std.proofs.lemmas.Bool.{false≢true, and_parts, and_from, or_parts, or_from, cases_Bool, cases_lt, cond_both, ltb-true, le-leb}
 use Rattle.std.proofs.lemmas.Bool.Decides.{nat_tests}
 use Rattle.std.proofs.lemmas.List.{append_assoc, append-nil, length-append}
@@ -8,7 +8,6 @@ use Rattle.std.proofs.lemmas.Str.{encode_ascii, encodes-append, encodes_same, co
 use Rattle.std.specs.Char.{encode_utf8, is_whitespace}
 use Rattle.std.specs.List.{flat_map, list_all}
 use Rattle.std.specs.Str.{IsUtf8, chars, encode_utf8_all, all_scalars}
-use Rattle.std.proofs.Common.{take, take_at}
 use lib.Utf8.{scalar}
 use Rattle.croner_base.specs.Part.{contains_byte}
 use Rattle.croner.specs.parser.Cut.{Piece, month, weekday, single, months, weekdays, letters, ArePieces, decimal_of, weekday_number, expansion}

@@ -4,10 +4,9 @@ use Rattle.std.proofs.lemmas.Bool.{not-false, lt-ltb, cases_Bool, and_parts}
 use Rattle.std.proofs.lemmas.List.{append_assoc, append-nil, length-append}
 use Rattle.std.proofs.lemmas.List.Splits.{slice_split-cons_yes, slice_split-cons_no}
 use Rattle.std.proofs.lemmas.Str.{encodes-append, cons_from_encodes, encodes_same, encode_same, length-encode, len_utf8_bounds, encodes-chars, scalars-chars, NoCharPasses-append, NoCharPasses-nil}
-use Rattle.std.specs.Char.{is_whitespace, is_not_whitespace}
+use Rattle.std.specs.Char.{encode_utf8, is_whitespace, is_not_whitespace}
 use Rattle.std.specs.List.{slice_split, onto_first, filter}
 use Rattle.std.specs.Str.{NoCharPasses, NonePass, EmptyOrStartsWithPassing, IsUtf8, chars, encode_utf8_all, all_scalars}
-use Rattle.std.specs.Char.{encode_utf8}
 use lib.Utf8.{scalar}
 use Rattle.croner.specs.parser.Words.{AreWords, words_of_chars, words}
 

@@ -4,7 +4,7 @@ use Rattle.std.proofs.lemmas.Int.{ints}
 use Rattle.croner_base.specs.declared.errors.CronError.{CronError}
 use Rattle.croner_base.specs.declared.time.Direction.{Direction}
 use Rattle.croner_base.specs.declared.time.Direction.TheVariants.{Forward, Backward}
-use Rattle.croner.proofs.zone.ZoneOrder.{cases_lt_z, put_back, put_back_once, before_break, after_break}
+use Rattle.croner.proofs.zone.ZoneOrder.{Calm, cases_lt_z, gains, loses, put_back, put_back_once, before_break, after_break}
 use Rattle.croner.proofs.zone.WalkLoop.{never_true}
 use Rattle.croner.proofs.zone.SearchLimit.{precedes_whole}
 use Rattle.croner.specs.search.Runs.{Precedes}
@@ -16,7 +16,6 @@ use Rattle.croner_pattern.specs.Directions.{along, one_on}
 use Rattle.croner.proofs.zone.Ahead.{along-offset, either, reaches-equal}
 use Rattle.croner.proofs.zone.GapSides.{zero_on}
 use Rattle.croner.proofs.zone.CalmZone.{Exactly, calm_of, exact_of}
-use Rattle.croner.proofs.zone.ZoneOrder.{Calm, gains, loses}
 use Rattle.croner_base.specs.declared.time.civil.CivilDateTime.{CivilDateTime}
 use Rattle.croner_base.specs.Civil.{wall_second}
 use Rattle.croner.specs.search.Premises.{IsCalmStart}

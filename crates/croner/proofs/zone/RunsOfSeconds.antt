@@ -1,10 +1,9 @@
 -- Each run is the run of a scheduled second, and each run of one is a run.
 use Rattle.std.proofs.Common.{◌≡◌, ℤ, pos, ◌+ℤ◌, ◌-ℤ◌, ◌<ℤ◌, ◌≤ℤ◌, ◌⊎◌, arith, refl, sym, ◌∙◌, inl, inr, ap, subst, Bool, true, false}
 use Rattle.std.proofs.lemmas.Int.{ints}
-use Rattle.croner.proofs.zone.ZoneOrder.{cases_lt_z, below_before}
+use Rattle.croner.proofs.zone.ZoneOrder.{Calm, cases_lt_z, below_before}
 use Rattle.croner.proofs.zone.FirstInstants.{first_if_least}
 use Rattle.croner.specs.Private.search.Halves.{Break}
-use Rattle.croner.proofs.zone.ZoneOrder.{Calm}
 use Rattle.croner.specs.Private.search.Walk.{First, RunOf}
 use Rattle.croner.specs.search.Runs.{Job, Run, OwnRun, StartCounts, Counts, Ahead, Reaches}
 use Rattle.croner_base.specs.declared.time.Direction.{Direction}

@@ -3,7 +3,7 @@ use Rattle.std.specs.Prelude.{ℕ, Bool, false, ◌&&◌, ◌||◌, ◌==◌, na
 use Rattle.std.specs.List.{list_all}
 use Rattle.std.specs.Str.{trim, bytes_eq, str_to_ascii_uppercase}
 use Rattle.croner_base.specs.Field.{Shape, Field, empty_field, with_sloppy, with_mark, without_mark, is_marked}
-use Rattle.croner_base.specs.Part.{contains_byte, field_of}
+use Rattle.croner_base.specs.Part.{contains_byte, field_of, plain_bit, last_bit}
 use Rattle.croner_base.specs.Reading.{Reading, applied}
 use Rattle.croner_pattern.specs.Meaning.{Meaning}
 use Rattle.croner_pattern.specs.Shapes.{sixty_shape, hour_shape, day_shape, month_shape, weekday_shape, year_shape}
@@ -24,6 +24,12 @@ question_mark = 63
 
 abbrev pub at_sign : ℕ
 at_sign = 64
+
+abbrev pub digit_0 : ℕ
+digit_0 = 48
+
+abbrev pub digit_9 : ℕ
+digit_9 = 57
 
 -- why a text has no meaning
 pub data Refusal : Type 0 where
@@ -91,7 +97,7 @@ settled t = record t { days = starred t.days; days_of_week = starred (without_pl
 
 -- digits, and the signs of lists, ranges and steps
 abbrev pub is_list_character : ℕ → Bool
-is_list_character c = (nat_le 48 c && nat_le c 57) || contains_byte c (codes "*/,-")
+is_list_character c = (nat_le digit_0 c && nat_le c digit_9) || contains_byte c (codes "*/,-")
 
 abbrev pub is_for_days : ℕ → Bool
 is_for_days c = is_list_character c || contains_byte c (codes "LW")
@@ -135,11 +141,15 @@ value_of s shape text = applied (reading_of s shape text).done (start_of s shape
 
 -- the modifiers of a weekday: plain, the first to the fifth of a month, and the last
 abbrev pub weekday_modifiers : List ℕ
-weekday_modifiers = 1 ∷ 2 ∷ 4 ∷ 8 ∷ 16 ∷ 32 ∷ 64 ∷ []
+weekday_modifiers = plain_bit ∷ 2 ∷ 4 ∷ 8 ∷ 16 ∷ 32 ∷ last_bit ∷ []
+
+-- Sunday behind Saturday
+abbrev pub sunday_as_seven : ℕ
+sunday_as_seven = 7
 
 -- a mark of weekday 7 with a modifier becomes a mark of weekday 0
 abbrev pub sunday_moved : Field → ℕ → Field
-sunday_moved f bit = if is_marked bit f 7 then with_mark (without_mark f 7 bit) 0 bit else f
+sunday_moved f bit = if is_marked bit f sunday_as_seven then with_mark (without_mark f sunday_as_seven bit) 0 bit else f
 
 -- by default 7 is Sunday, with every modifier; in Quartz mode 7 was Saturday, and only a star marks 7
 abbrev pub settled_weekdays : Settings → Field → Field

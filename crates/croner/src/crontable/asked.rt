@@ -40,9 +40,10 @@ pub(super) fn search<T: CronDateTime>(
     'tied: while kept.is_tied(&run) {
         kept.pop();
     }
-    let Ok(places) = kept.waiting.clone() else {
+    let copy: Result<_, _> = kept.waiting.clone();
+    kept.waiting.reverse();
+    let Ok(places) = copy else {
         return Err(CronError::OutOfMemory);
     };
-    kept.waiting.reverse();
     Met::found(run, places, kept.is_limited).decide(table.alloc, direction)
 }

@@ -1,5 +1,5 @@
 //! What an iterator over a table keeps of the searches of its jobs, from one item to the next.
-ghost use Rattle.std.specs.Prelude.{◌≡◌, ◌<◌, ◌≤◌, ◌+◌, true, false, [], ◌∷◌, IsPermutation, length, vec_len, vec_capacity, Bool, IfOk, IfErr, OnOk, IfSome, OnSome, IfNone, IsTrue, slice_index_or, ℕ};
+ghost use Rattle.std.specs.Prelude.{◌≡◌, ◌<◌, ◌≤◌, ◌+◌, true, false, [], ◌∷◌, IsPermutation, vec_len, vec_capacity, IfOk, IfErr, OnOk, IfSome, OnSome, IfNone, IsTrue, slice_index_or, ℕ};
 ghost use Rattle.std.specs.BinaryHeap.{IsHeap, heap_items, heap_len};
 ghost use Rattle.std.specs.List.{All, sum_by};
 ghost use Rattle.std.proofs.Props.{props};
@@ -68,15 +68,11 @@ impl<T: CronDateTime> Kept<T> {
         if self.dues.reserve(jobs).is_err() {
             return Err(CronError::OutOfMemory);
         }
-        match all_places(alloc, jobs) {
-            Ok(places) => {
-                self.waiting = places;
-                self.is_limited = false;
-                self.is_begun = true;
-                Ok(())
-            }
-            Err(refused) => Err(refused),
-        }
+        let places = all_places(alloc, jobs)?;
+        self.waiting = places;
+        self.is_limited = false;
+        self.is_begun = true;
+        Ok(())
     }
 
     // Keeps a run; the only error is `OutOfMemory`, and then nothing has changed.
@@ -155,10 +151,7 @@ impl<T: CronDateTime> Kept<T> {
     {
         let shown = position.to_civil();
         'asked: while !self.waiting.is_empty() {
-            match self.ask(table, position, shown, inclusive, direction) {
-                Ok(()) => {}
-                Err(refused) => return Err(refused),
-            }
+            self.ask(table, position, shown, inclusive, direction)?;
         }
         Ok(())
     }

@@ -32,13 +32,9 @@ pub fn found_and_matching<T: CronDateTime>(
     ensures single { HasOneInstantEach (T.moment start.now).zone → IfOk result (λ r. IsTrue r.1) }
     ensures refused { IfErr result (IsRefused T.can_lack_memory direction inclusive (timetable_of (job_of job.now)) (T.moment start.now)) }
 {
-    match job.find_occurrence(start, inclusive, direction) {
-        Ok(found) => match job.is_time_matching(&found) {
-            Ok(matching) => Ok((found, matching)),
-            Err(refused) => Err(refused),
-        },
-        Err(refused) => Err(refused),
-    }
+    let found = job.find_occurrence(start, inclusive, direction)?;
+    let matching = job.is_time_matching(&found)?;
+    Ok((found, matching))
 }
 
 /// What a search finds, and what its clock shows there.

@@ -16,9 +16,7 @@ use croner_base::errors::CronError;
 use std::alloc::{AllocError, Global};
 
 impl CronParser {
-    ghost use Rattle.std.specs.Prelude.{◌≡◌, IfOk};
     ghost use Rattle.croner.specs.parser.Faults.{for_any_count, field_at_fault, first_at_fault, time_at_fault, date_at_fault, is_at_fault, most_fields};
-    ghost use Rattle.croner.specs.Views.{texts_of};
 
     /// The field in which a fault of this kind lies. A text with `@` may get fields that are not written in it, so that no
     /// word of it is a field's.

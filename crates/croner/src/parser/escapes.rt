@@ -3,17 +3,48 @@
 use croner_base::excerpt::Excerpt;
 use std::alloc::{AllocError, Global};
 
-/// What stands at a place of a text, between quotes, and the part of a list in which it stands.
+/// What stands at a place of a text, between quotes, and the part of a list in which it stands. A character past ASCII has its
+/// number behind it, since it may look like another.
 pub fn found_at(alloc: Global, text: &str, start: usize, end: usize) -> Result<String, AllocError> {
     let (front, piece, rest) = cut(text, start, end);
     let part = part_around(text, front, rest);
+    let number = number_of(alloc, piece)?;
     if part.len() <= piece.len() {
         let piece = Excerpt::of(piece);
-        return format!(in alloc; "{piece}");
+        return format!(in alloc; "{piece}{number}");
     }
     let piece = Excerpt::of_one_of_two(piece);
     let part = Excerpt::of_one_of_two(part);
-    format!(in alloc; "{piece} in {part}")
+    format!(in alloc; "{piece}{number} in {part}")
+}
+
+/// The number of a text's lone character, as ` (U+2013)`; nothing where that is of ASCII, or is shown by its number.
+fn number_of(alloc: Global, piece: &str) -> Result<String, AllocError> {
+    let Some(c) = lone(piece) else {
+        return Ok(String::new(alloc));
+    };
+    if c.is_ascii() || is_escaped(alloc, piece)? {
+        return Ok(String::new(alloc));
+    }
+    let code = u32::from(c);
+    format!(in alloc; " (U+{code:04X})")
+}
+
+/// The character of a text that has one alone.
+fn lone(text: &str) -> Option<char> {
+    let mut chars = text.chars();
+    let c = chars.next()?;
+    match chars.next() {
+        None => Some(c),
+        Some(_) => None,
+    }
+}
+
+/// Whether a text's first character is shown by its number.
+fn is_escaped(alloc: Global, piece: &str) -> Result<bool, AllocError> {
+    let shown = Excerpt::of(piece);
+    let shown = format!(in alloc; "{shown}")?;
+    Ok(shown.starts_with("'\\"))
 }
 
 /// A text in three: what stands in front of a place, the place, and what stands behind it.

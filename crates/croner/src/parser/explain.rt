@@ -15,12 +15,8 @@ use croner_base::errors::CronError;
 use std::alloc::{AllocError, Global};
 
 impl CronParser {
-    ghost use Rattle.std.specs.Prelude.{◌≡◌, IfOk, IfSome, Result};
-    ghost use Rattle.croner_base.specs.declared.errors.CronError.TheVariants.{OutOfMemory};
-    ghost use Rattle.croner_pattern.specs.Meaning.{Meaning};
+    ghost use Rattle.std.specs.Prelude.{◌≡◌, IfOk, IfSome};
     ghost use Rattle.croner.specs.parser.Faults.{Explains, IsPlaced};
-    ghost use Rattle.croner.specs.parser.Gives.{Fails};
-    ghost use Rattle.croner.specs.parser.Grammar.{Refusal, outcome};
 
     /// Why a text is refused; nothing where [`CronParser::parse`] accepts it.
     ///
@@ -106,9 +102,10 @@ impl CronParser {
 fn repeated(text: &str, fault: &PatternFault) -> (usize, usize) {
     match fault.expected {
         Expected::Count {
-            hint: Hint::None,
+            hint: Hint::SpaceAfterComma | Hint::SpaceInPart | Hint::Command,
             ..
-        } => (0, text.len()),
+        } => (fault.start, fault.end),
+        Expected::Count { .. } => (0, text.len()),
         _ => (fault.start, fault.end),
     }
 }

@@ -97,6 +97,16 @@ pub enum Hint {
     Quotes,
     /// No setting stands in front of a pattern.
     Setting,
+    /// A comment is no pattern.
+    Comment,
+    /// A nickname begins with `@`.
+    AtSign { nickname: &'static str },
+    /// A dash is `-` alone.
+    Dash,
+    /// The name is one of months, and the field another.
+    MonthElsewhere,
+    /// The name is one of weekdays, and the field another.
+    WeekdayElsewhere,
     /// The hour of midnight is 0.
     Midnight,
 }
@@ -159,8 +169,12 @@ pub enum Expected {
     NicknameOfMidnight,
     /// One of the six nicknames; `@reboot` names no time.
     NicknameOfTime,
-    /// A step in the place of `@every`.
-    NicknameOfInterval,
+    /// A step in the place of `@every`, as in this pattern.
+    NicknameOfInterval {
+        pattern: &'static str,
+    },
+    /// Seven fields: the settings want a year.
+    NicknameWithoutYear,
     /// The pattern in seven fields: the nickname has too few for these settings.
     NicknameInFields {
         pattern: &'static str,
@@ -202,7 +216,9 @@ pub enum Expected {
         sign: char,
     },
     /// The step, a number from 1 on.
-    Step,
+    Step {
+        hint: Hint,
+    },
     /// A step that doesn't pass the greatest number.
     ShorterStep,
     /// A star or a range in front of the `/`.
@@ -211,6 +227,10 @@ pub enum Expected {
     },
     /// A star alone in its field.
     StarAlone,
+    /// A question mark alone in its field.
+    QuestionAlone,
+    /// One star.
+    OneStar,
     /// A number from 1 to 5 or `L` behind the `#`.
     Nth,
     /// `L` alone, or `LW`, in the day of month.
@@ -219,6 +239,8 @@ pub enum Expected {
     LastBehindWeekday,
     /// One day of the month in front of the `W`.
     NearestBehindDay,
+    /// `LW`.
+    LastNearest,
 }
 
 /// A fault of a text that [`CronParser::parse`](super::CronParser::parse) refuses: where it is, and what was expected there.

@@ -104,6 +104,13 @@ impl Expected {
                 f,
                 "these settings want a year, which a nickname has not: write {pattern}."
             ),
+            Expected::NicknameOfInterval { pattern } => write!(
+                f,
+                "no such nickname: an interval is a step, as in {pattern} for each fifth minute."
+            ),
+            Expected::Step { hint } => {
+                write!(f, "expected a step from 1 to 65535 behind the '/'.{hint}")
+            }
             other => f.write_str(other.sentence()),
         }
     }
@@ -121,19 +128,22 @@ impl Expected {
             Expected::NicknameOfTime => {
                 "@reboot names no time: the nicknames are @yearly, @annually, @monthly, @weekly, @daily and @hourly."
             }
-            Expected::NicknameOfInterval => {
-                "no such nickname: an interval is a step, as in */5 * * * * for each fifth minute."
+            Expected::NicknameWithoutYear => {
+                "these settings want a year, which a nickname has not: write seven fields."
             }
             Expected::NoAtSign => {
                 "a pattern has no '@': one stands in front of a nickname alone, as in @daily."
             }
-            Expected::Step => "expected a step from 1 to 65535 behind the '/'.",
             Expected::ShorterStep => {
                 "the step is too long: the value after the last one may be at most 65535."
             }
             Expected::StarAlone => {
                 "a '*' names every value, and stands alone in its field or in front of a '/': leave it out, or leave out the rest."
             }
+            Expected::QuestionAlone => {
+                "a '?' stands for '*', which names every value: leave it out, or leave out the rest."
+            }
+            Expected::OneStar => "expected one '*', which names every value.",
             Expected::Nth => "expected a number from 1 to 5 or L behind the '#'.",
             Expected::LastAlone => {
                 "L stands alone in a part, for the last day of the month, or as LW, for the last one from Monday to Friday."
@@ -144,6 +154,7 @@ impl Expected {
             Expected::NearestBehindDay => {
                 "W stands behind one day of the month: 15W is the day from Monday to Friday that is nearest to the 15th."
             }
+            Expected::LastNearest => "the last day of the month from Monday to Friday is LW.",
             _ => "expected a pattern.",
         }
     }
@@ -155,7 +166,12 @@ const NICKNAMES: &str =
 /// The hint as a sentence behind another, with a space in front; the empty text where there is none.
 impl fmt::Display for Hint {
     fn fmt<W: fmt::Write>(&self, f: &mut fmt::Formatter<W>) -> fmt::Result {
-        f.write_str(self.words())
+        match *self {
+            Hint::AtSign { nickname } => {
+                write!(f, " A nickname begins with '@': write {nickname}.")
+            }
+            other => f.write_str(other.words()),
+        }
     }
 }
 
@@ -182,7 +198,14 @@ impl Hint {
             Hint::TimeOfDay => " The minute and the hour are two fields, the minute first.",
             Hint::Quotes => " Leave out the quotes.",
             Hint::Setting => " A setting such as TZ=UTC is no part of a pattern: leave it out.",
+            Hint::Comment => " A comment is no pattern.",
             Hint::Midnight => " Midnight is 0.",
+            Hint::Dash => " A range is written with a dash (-).",
+            Hint::MonthElsewhere => " Names of months stand in the month, and have three letters.",
+            Hint::WeekdayElsewhere => {
+                " Names of weekdays stand in the weekday, and have three letters."
+            }
+            Hint::AtSign { .. } => "",
         }
     }
 }

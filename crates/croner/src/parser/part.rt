@@ -59,6 +59,15 @@ impl Rules {
         }
     }
 
+    /// A step was expected. A space in front of it or behind it is the only thing to add.
+    fn step(self) -> Expected {
+        let hint = match self.hint {
+            Hint::SpaceInPart => Hint::SpaceInPart,
+            _ => Hint::None,
+        };
+        Expected::Step { hint }
+    }
+
     /// How the values of the field may be written beside numbers.
     fn names(self) -> ValueNames {
         match self.field {
@@ -132,7 +141,7 @@ impl<'t> Part<'t> {
 pub fn fault_of_part(part: Part<'_>, rules: Rules) -> (Piece<'_>, Expected) {
     let head = head_of(part);
     let found = if part.read == "*" {
-        Some((part.written, Expected::StarAlone))
+        Some((part.written, alone(part)))
     } else if let Some(sides) = head.split('/') {
         fault_of_step(part, sides, rules)
     } else if let Some(sides) = head.split('-') {
@@ -146,6 +155,14 @@ pub fn fault_of_part(part: Part<'_>, rules: Rules) -> (Piece<'_>, Expected) {
         Some(found) => found,
         None => (part.written, rules.number()),
     }
+}
+
+/// What names every value stands alone: a `*`, or a `?` for it.
+fn alone(part: Part<'_>) -> Expected {
+    if part.written.text == "?" {
+        return Expected::QuestionAlone;
+    }
+    Expected::StarAlone
 }
 
 /// The part in front of its first `#`.
@@ -194,9 +211,15 @@ fn fault_of_value<'t>(value: Part<'t>, rules: Rules) -> Option<(Piece<'t>, Expec
         PatternField::DayOfMonth if value.read.contains('L') => Expected::LastAlone,
         PatternField::DayOfMonth if value.read.contains('W') => Expected::NearestBehindDay,
         PatternField::Weekday if value.read.contains('L') => Expected::LastBehindWeekday,
+        _ if is_stars(value.written.text) => Expected::OneStar,
         _ => rules.number(),
     };
     Some((value.written, expected))
+}
+
+/// Whether a text is two or more stars.
+fn is_stars(text: &str) -> bool {
+    text.len() > 1 && text.as_bytes().iter().all(|b| *b == b'*')
 }
 
 fn fault_of_range<'t>(
@@ -277,11 +300,11 @@ fn fault_of_step<'t>(
         return Some((second.sign, Expected::OneSign { sign: '/' }));
     }
     if sides.right.is_empty() {
-        return Some((sides.sign, Expected::Step));
+        return Some((sides.sign, rules.step()));
     }
     let step = match sides.right.number() {
         Some(step) if step > 0 => step,
-        _ => return Some((sides.right.written, Expected::Step)),
+        _ => return Some((sides.right.written, rules.step())),
     };
     let range = sides.left.split('-');
     let found = match range {
@@ -321,6 +344,9 @@ fn fault_of_start<'t>(
     if rules.sloppy {
         return None;
     }
+    if is_too_long(number, step, rules) {
+        return Some((part.written, Expected::ShorterStep));
+    }
     let suggestion = if part.read.contains('#') {
         Suggestion::None
     } else {
@@ -329,12 +355,21 @@ fn fault_of_start<'t>(
     Some((part.written, Expected::RangeToStep { suggestion }))
 }
 
+/// Whether a step from a number on, or from nothing, passes the greatest number behind its last value.
+fn is_too_long(number: Option<u16>, step: u16, rules: Rules) -> bool {
+    let (least, greatest) = rules.bounds();
+    let first = number.unwrap_or(least);
+    let behind = greatest
+        .saturating_sub(first)
+        .checked_rem(step)
+        .unwrap_or(0);
+    let last = greatest.saturating_sub(behind);
+    last.checked_add(step).is_none()
+}
+
 /// A step from a number on, or from nothing, as it may be written.
 fn stepped(number: Option<u16>, step: u16, rules: Rules) -> Suggestion {
     let (least, last) = rules.bounds();
-    if step > u16::MAX.saturating_sub(last) {
-        return Suggestion::None;
-    }
     match number {
         Some(first) if first != least => Suggestion::RangeStep { first, last, step },
         _ => Suggestion::StarStep { step },
@@ -343,6 +378,9 @@ fn stepped(number: Option<u16>, step: u16, rules: Rules) -> Suggestion {
 
 fn fault_of_nearest<'t>(sides: Sides<'t>, rules: Rules) -> Option<(Piece<'t>, Expected)> {
     if sides.left.is_empty() {
+        if sides.right.read == "L" {
+            return Some((sides.sign, Expected::LastNearest));
+        }
         return Some((sides.sign, rules.number_beside('W', false)));
     }
     fault_of_value(sides.left, rules)

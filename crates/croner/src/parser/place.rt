@@ -1,6 +1,6 @@
 //! The place of a fault in a text: it is tested before a fault is made of it.
 
-ghost use Rattle.std.specs.Prelude.{◌≡◌, ◌+◌, ◌∷◌, ◌<◌, ◌≤◌, [], true, length, map, take, IfOk, IfSome, slice_range, IsCharBoundary};
+ghost use Rattle.std.specs.Prelude.{◌≡◌, ◌+◌, ◌∷◌, ◌<◌, ◌≤◌, [], true, length, take, IfOk, IfSome, IsCharBoundary};
 ghost use Rattle.std.specs.Str.{chars};
 ghost use Rattle.croner.specs.parser.Faults.{IsCounted, IsInField, IsInNamed, IsLeast, IsPlaced, counted_word, is_whole, unwritten};
 ghost use Rattle.croner.specs.parser.Words.{words};

@@ -106,7 +106,7 @@ fn wrong_count(parser: &CronParser, text: &str, words: &[Piece<'_>]) -> Finding 
     let found = words.len();
     let (word, hint) = match words.get(most) {
         Some(word) => (Some(word), hint_of_many(words, most)),
-        None => (words.last(), Hint::None),
+        None => (words.last(), hint_of_few(words, year)),
     };
     let expected = Expected::Count {
         found,
@@ -116,12 +116,77 @@ fn wrong_count(parser: &CronParser, text: &str, words: &[Piece<'_>]) -> Finding 
     };
     match word {
         Some(word) if !text.contains('@') => word.found(expected),
-        _ => whole(text, nickname_fault(words, expected, year)),
+        _ => whole(text, nickname_fault(words, expected, parser)),
     }
+}
+
+/// Why there may be too few fields: a nickname without its sign, a time of day, or what is no pattern.
+fn hint_of_few(words: &[Piece<'_>], year: Year) -> Hint {
+    if let [word] = words {
+        if let Some(nickname) = nickname_of(word.text, year) {
+            return Hint::AtSign { nickname };
+        }
+    }
+    if words.iter().any(|word| is_time_of_day(word.text)) {
+        return Hint::TimeOfDay;
+    }
+    hint_of_no_pattern(words)
+}
+
+/// The nickname that a word would be with `@` in front, where the settings take one.
+fn nickname_of(word: &str, year: Year) -> Option<&'static str> {
+    if year == Year::Required {
+        return None;
+    }
+    NICKNAMES
+        .iter()
+        .copied()
+        .find(|nickname| is_nickname_of(nickname, word))
+}
+
+/// The nicknames of patterns.
+const NICKNAMES: [&str; 6] = [
+    "@yearly",
+    "@annually",
+    "@monthly",
+    "@weekly",
+    "@daily",
+    "@hourly",
+];
+
+fn is_nickname_of(nickname: &str, word: &str) -> bool {
+    match nickname.strip_prefix('@') {
+        Some(name) => word.eq_ignore_ascii_case(name),
+        None => false,
+    }
+}
+
+/// Whether a word is two numbers with a `:` between them.
+fn is_time_of_day(word: &str) -> bool {
+    match word.split_once(':') {
+        Some((hours, minutes)) => hours.ends_with(is_digit) && minutes.starts_with(is_digit),
+        None => false,
+    }
+}
+
+/// What a text may be that is no pattern: a setting, or a comment.
+fn hint_of_no_pattern(words: &[Piece<'_>]) -> Hint {
+    let first = text_at(words, 0);
+    if first.starts_with('#') {
+        return Hint::Comment;
+    }
+    if first.contains('=') {
+        return Hint::Setting;
+    }
+    Hint::None
 }
 
 /// Why there may be too many fields: a space beside a sign, or a command behind the pattern.
 fn hint_of_many(words: &[Piece<'_>], most: usize) -> Hint {
+    let hint = hint_of_no_pattern(words);
+    if hint != Hint::None {
+        return hint;
+    }
     for word in words.iter().take(most) {
         if word.text.ends_with(',') || word.text.starts_with(',') {
             return Hint::SpaceAfterComma;
@@ -134,16 +199,21 @@ fn hint_of_many(words: &[Piece<'_>], most: usize) -> Hint {
 }
 
 /// Why a text with `@` is refused for its count.
-fn nickname_fault(words: &[Piece<'_>], count: Expected, year: Year) -> Expected {
+fn nickname_fault(words: &[Piece<'_>], count: Expected, parser: &CronParser) -> Expected {
     let found = words.len();
     let first = match words {
         [first, ..] if first.text.starts_with('@') => first.text,
         _ => return count,
     };
-    if found == 1 && year == Year::Required {
-        if let Some(pattern) = nickname_in_fields(first) {
-            return Expected::NicknameInFields { pattern };
-        }
+    if first.eq_ignore_ascii_case("@every") {
+        let pattern = each_fifth_minute(parser);
+        return Expected::NicknameOfInterval { pattern };
+    }
+    if parser.year == Year::Required {
+        return match nickname_in_fields(first) {
+            Some(pattern) if found == 1 => Expected::NicknameInFields { pattern },
+            _ => Expected::NicknameWithoutYear,
+        };
     }
     if found == 1 && first.eq_ignore_ascii_case("@midnight") {
         return Expected::NicknameOfMidnight;
@@ -151,10 +221,18 @@ fn nickname_fault(words: &[Piece<'_>], count: Expected, year: Year) -> Expected 
     if first.eq_ignore_ascii_case("@reboot") {
         return Expected::NicknameOfTime;
     }
-    if first.eq_ignore_ascii_case("@every") {
-        return Expected::NicknameOfInterval;
-    }
     Expected::Nickname
+}
+
+/// The pattern for each fifth minute, with the fields that the settings want.
+fn each_fifth_minute(parser: &CronParser) -> &'static str {
+    if parser.year == Year::Required {
+        return "0 */5 * * * * *";
+    }
+    if parser.seconds == Seconds::Required {
+        return "0 */5 * * * *";
+    }
+    "*/5 * * * *"
 }
 
 /// The seven fields of a nickname, and of `@midnight`, which is none here.
@@ -201,15 +279,7 @@ fn illegal_character(
         let field = field_of(place, words.len());
         let found = illegal_in_word(alloc, *word, field)?;
         if let Some(illegal) = found {
-            let hint = if place >= LEAST_FIELDS && illegal.c != '?' {
-                Hint::Command
-            } else if place == 0 && word.text.contains('=') {
-                Hint::Setting
-            } else if illegal.is_in_word {
-                Hint::None
-            } else {
-                hint_of_character(illegal.c)
-            };
+            let hint = illegal.hint(place, words, field);
             return Ok(Some(illegal.found(field, parser.alternative_weekdays, hint)));
         }
     }
@@ -230,21 +300,67 @@ fn hint_of_character(c: char) -> Hint {
         'L' | 'W' | '?' | '#' | '+' => Hint::SignElsewhere { sign: c },
         ':' => Hint::TimeOfDay,
         '"' | '\'' | '`' => Hint::Quotes,
+        '\u{2010}'..='\u{2015}' | '\u{2212}' => Hint::Dash,
         _ => Hint::None,
     }
 }
 
-/// A character that is not legal in its field, in capitals, the name that stands right in front of it, and whether a letter
-/// stands beside it.
+/// A character that is not legal in its field, in capitals, the name that stands right in front of it, whether a value stands
+/// there, and whether a letter stands beside it.
 #[derive(Clone, Copy)]
 struct Illegal {
     c: char,
     start: usize,
     name: Option<&'static str>,
+    is_behind_value: bool,
     is_in_word: bool,
 }
 
 impl Illegal {
+    /// Why the character may stand in the word at a place.
+    fn hint(self, place: usize, words: &[Piece<'_>], field: PatternField) -> Hint {
+        let hint = hint_of_character(self.c);
+        if place >= LEAST_FIELDS && !self.is_sign_of_value(hint) {
+            return Hint::Command;
+        }
+        if place == 0 {
+            let no_pattern = hint_of_no_pattern(words);
+            if no_pattern != Hint::None {
+                return no_pattern;
+            }
+        }
+        match hint {
+            Hint::Quotes | Hint::Dash => hint,
+            _ if self.is_in_word => self.hint_of_name(field),
+            _ => hint,
+        }
+    }
+
+    /// Whether it is no command that begins here: a `?`, or a sign or a dash behind a value.
+    fn is_sign_of_value(self, hint: Hint) -> bool {
+        match hint {
+            Hint::SignElsewhere { .. } => {
+                self.c == '?' || self.is_behind_value && !self.is_in_word
+            }
+            Hint::Dash => self.is_behind_value,
+            _ => false,
+        }
+    }
+
+    /// That a name goes on, and is one of another field.
+    fn hint_of_name(self, field: PatternField) -> Hint {
+        match self.name {
+            Some(name) if self.c.is_ascii_uppercase() && !is_name_of(name, field) => {
+                if is_name_of(name, PatternField::Month) {
+                    Hint::MonthElsewhere
+                } else {
+                    Hint::WeekdayElsewhere
+                }
+            }
+            _ => Hint::None,
+        }
+    }
+
     fn found(self, field: PatternField, quartz: bool, hint: Hint) -> Finding {
         let expected = match self.name {
             Some(name) if self.c.is_ascii_uppercase() && is_name_of(name, field) => {
@@ -266,6 +382,16 @@ impl Illegal {
 
 fn is_letter(c: char) -> bool {
     c.is_ascii_alphabetic()
+}
+
+/// Whether a character in capitals ends a value that is no name.
+fn ends_value(c: char) -> bool {
+    c.is_ascii_digit() || c == 'L'
+}
+
+/// Whether a character and what stands behind it are `LW`.
+fn is_last(c: char, rest: &str) -> bool {
+    c == 'L' && rest == "W"
 }
 
 /// Whether a name is one of the field's values.
@@ -301,11 +427,13 @@ fn illegal_in_word(
             let start = word.start.saturating_add(at);
             let name = if at == behind_name { name } else { None };
             let rest = raised.get(at.saturating_add(c.len_utf8())..).unwrap_or("");
-            let is_in_word = name.is_some() || rest.starts_with(is_letter);
+            let front = raised.get(..at).unwrap_or("");
+            let is_in_word = name.is_some() || rest.starts_with(is_letter) && !is_last(c, rest);
             return Ok(Some(Illegal {
                 c,
                 start,
                 name,
+                is_behind_value: name.is_some() || front.ends_with(ends_value),
                 is_in_word,
             }));
         }
@@ -373,12 +501,16 @@ fn text_at<'t>(words: &[Piece<'t>], place: usize) -> &'t str {
     }
 }
 
-/// Whether a range or a step may go on from one word to the next: a number, a dash or a slash, and a number.
+/// Whether a range or a step may go on from one word to the next: a number or a name, a dash or a slash, and a number or a name.
 fn goes_on(word: &str, next: &str) -> bool {
     if word.ends_with(is_range_sign) {
-        return next.starts_with(is_digit);
+        return next.starts_with(is_of_value);
     }
-    next.starts_with(is_range_sign) && word.ends_with(is_digit)
+    next.starts_with(is_range_sign) && word.ends_with(is_of_value)
+}
+
+fn is_of_value(c: char) -> bool {
+    c.is_ascii_alphanumeric()
 }
 
 fn is_range_sign(c: char) -> bool {

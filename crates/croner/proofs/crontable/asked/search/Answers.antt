@@ -58,6 +58,13 @@ tied-preserved-in-tied g c =
       begun = c.pop-in-tied.ensures.begun ∙ c.tied.invariant.begun;
     }
 
+pub returns-in_default-clause-kept : goal.returns-in_default-clause-kept
+returns-in_default-clause-kept g c =
+    let moment = g.T.CronDateTime.moment in
+    let last = c.tied.kept in
+    turned_kept moment (patterns_of c.args.table.now) c.args.direction c.args.inclusive (moment c.args.position.now) (heap_items last.dues) last.waiting.items c.reverse.new.self.items last.is_limited
+    c.tied.invariant.taken.kept c.reverse.ensures.permutation
+
 pub returns-clause-kept : goal.returns-clause-kept
 returns-clause-kept g c =
     let moment = g.T.CronDateTime.moment in
@@ -90,8 +97,8 @@ returns-clause-found g c =
     let taken = c.tied.invariant.taken in
     let apart = rest_ahead moment patterns c.args.direction c.args.inclusive start shapes run (heap_items last.dues) last.waiting.items last.is_limited taken
     (λ some. c.is_tied.ensures.apart c.tied-test.false (omega (arith, some, last.dues.data.ok.0))) in
-    let places = c.in-Ok-clone.places in
-    let same = each_same last.waiting.items places.items c.in-Ok-clone.ensures.cases.0 in
+    let places = c.in-Ok-copy.places in
+    let same = each_same last.waiting.items places.items c.in-Ok-copy.ensures.cases.0 in
     decided_found moment g.T.CronDateTime.can_lack_memory c.args.direction c.args.inclusive start patterns (met_of c.found.result)
     (searched_met moment patterns c.args.direction c.args.inclusive start shapes run (heap_items last.dues) last.waiting.items last.is_limited taken apart c.found.result places c.found.ensures same)
     c.found.result.places c.decide.result refl c.decide.ensures
@@ -108,8 +115,8 @@ returns-clause-refused g c =
     let taken = c.tied.invariant.taken in
     let apart = rest_ahead moment patterns c.args.direction c.args.inclusive start shapes run (heap_items last.dues) last.waiting.items last.is_limited taken
     (λ some. c.is_tied.ensures.apart c.tied-test.false (omega (arith, some, last.dues.data.ok.0))) in
-    let places = c.in-Ok-clone.places in
-    let same = each_same last.waiting.items places.items c.in-Ok-clone.ensures.cases.0 in
+    let places = c.in-Ok-copy.places in
+    let same = each_same last.waiting.items places.items c.in-Ok-copy.ensures.cases.0 in
     answered_in_room lack c.args.direction c.args.inclusive patterns start c.decide.result
     (decided_refused moment lack c.args.direction c.args.inclusive start patterns (met_of c.found.result)
     (searched_met moment patterns c.args.direction c.args.inclusive start shapes run (heap_items last.dues) last.waiting.items last.is_limited taken apart c.found.result places c.found.ensures same)
