@@ -76,14 +76,13 @@ impl<'t> CronDateTime for BoxedTime<'t> {
         ensures kinds { IfErr result (λ e. (e ≡ CronError.OutOfMemory) ⊎ (e ≡ CronError.InvalidDate)) }
     {
         let room = BoxedTime::new(alloc, self.time())?;
-        match self.time().resolve_civil(alloc, civil) {
-            Ok(Resolution::Single(time)) => Ok(Resolution::Single(room.holding(time))),
-            Ok(Resolution::Ambiguous(earlier, later)) => match BoxedTime::new(alloc, later) {
-                Ok(other) => Ok(Resolution::Ambiguous(room.holding(earlier), other)),
-                Err(refused) => Err(refused),
-            },
-            Ok(Resolution::Gap) => Ok(Resolution::Gap),
-            Err(refused) => Err(refused),
+        match self.time().resolve_civil(alloc, civil)? {
+            Resolution::Single(time) => Ok(Resolution::Single(room.holding(time))),
+            Resolution::Ambiguous(earlier, later) => {
+                let other = BoxedTime::new(alloc, later)?;
+                Ok(Resolution::Ambiguous(room.holding(earlier), other))
+            }
+            Resolution::Gap => Ok(Resolution::Gap),
         }
     }
 
@@ -93,10 +92,9 @@ impl<'t> CronDateTime for BoxedTime<'t> {
         seconds: i64,
     ) -> Result<Option<BoxedTime<'t>>, CronError> {
         let room = BoxedTime::new(alloc, self.time())?;
-        match self.time().checked_add_seconds(alloc, seconds) {
-            Ok(Some(there)) => Ok(Some(room.holding(there))),
-            Ok(None) => Ok(None),
-            Err(refused) => Err(refused),
+        match self.time().checked_add_seconds(alloc, seconds)? {
+            Some(there) => Ok(Some(room.holding(there))),
+            None => Ok(None),
         }
     }
 

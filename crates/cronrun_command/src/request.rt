@@ -35,7 +35,7 @@ pub struct Listing<'w> {
 }
 
 impl<'w> Request<'w> {
-    ghost use Rattle.std.specs.Prelude.{◌≡◌, ◌∷◌, [], List, ℕ, codes, map, string_bytes, IsSome, IfSome};
+    ghost use Rattle.std.specs.Prelude.{◌∷◌, [], codes, map, string_bytes, IsSome};
     ghost use Rattle.croner_base.specs.declared.time.civil.CivilDateTime.{CivilDateTime};
     ghost use Rattle.cronrun_command.specs.Moment.{IsDateTimeText};
     ghost use Rattle.cronrun_command.specs.Call.{Ask};
@@ -102,12 +102,10 @@ impl<'w> Request<'w> {
 }
 
 impl<'w> Listing<'w> {
-    ghost use Rattle.std.specs.Prelude.{◌≡◌, ◌∷◌, ℕ, IsSome, IfSome};
-    ghost use Rattle.croner_base.specs.declared.time.Direction.{Direction};
+    ghost use Rattle.std.specs.Prelude.{ℕ, IsSome};
     ghost use Rattle.croner_base.specs.declared.time.civil.CivilDateTime.{CivilDateTime};
     ghost use Rattle.cronrun_command.specs.Count.{IsCountText};
     ghost use Rattle.cronrun_command.specs.Moment.{IsDateTimeText};
-    ghost use Rattle.cronrun_command.specs.Command.{command_of};
     ghost use Rattle.cronrun_command.specs.Call.{IsListingOf};
 
     // `next PATTERN DATETIME COUNT` or `prev PATTERN DATETIME COUNT`, in a zone or in civil time.

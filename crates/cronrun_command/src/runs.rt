@@ -1,6 +1,5 @@
 //! Listing the runs of a pattern.
-ghost use Rattle.std.specs.Prelude.{◌≡◌, ◌++◌, ◌∷◌, [], Some, false, is_some, option_map, IsTrue, IfOk, IfErr, OnOk, OnErr, string_bytes};
-ghost use Rattle.croner_base.specs.Zone.{at_instant};
+ghost use Rattle.std.specs.Prelude.{◌≡◌, ◌++◌, ◌∷◌, [], Some, is_some, option_map, IsTrue, IfOk, IfErr, OnOk, OnErr, string_bytes};
 ghost use Rattle.croner.specs.iterator.Faults.{is_kept};
 ghost use Rattle.croner.specs.parser.Grammar.{outcome};
 ghost use Rattle.croner.specs.iterator.Listing.{standing_of};
