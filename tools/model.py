@@ -6,12 +6,25 @@ It makes up searches at the edges of clocks, answers them, and prints them as li
     tools/model.py edges  SEED COUNT [LONGEST]     searches and iterators of one pattern
     tools/model.py tables SEED COUNT [LONGEST]     searches and iterators of tables of patterns
     tools/model.py ends   SEED COUNT [LONGEST]     the same about the first and the last of the searched years
+    tools/model.py gaps   SEED COUNT [LONGEST]     searches of interval jobs from beside gaps of 17 seconds to LONGEST
+    tools/model.py lists  SEED COUNT [LONGEST]     listings of tables, each in two lines: an iterator's items, and the
+                                                   table's own searches, each from the run before
+    tools/model.py held   SEED COUNT [LONGEST]     the same over backends that hold what lies between two instants
 
     tools/model.py edges 1 20000 >FILE
     crates/cronreplay/out/cronreplay <FILE
 
+    tools/model.py held 1 2000 >FILE
+    crates/cronreplay/out/cronreplay <FILE | tools/model.py judge FILE
+
 LONGEST is the longest gap in seconds: 7200 where it is left out, and at most 86400. The same words give the same
 lines. The last line, on standard error, says how many were printed, and how many of these met a run outside the span.
+
+A backend that holds little may refuse, and which questions a search asks of it is no matter of the definitions. So the
+lines of `held` want what the whole table answers, and the replay prints each that came to less. `judge` reads what it
+printed, and says of each listing what it is (`verdict`): its items and the table's own searches are runs of the whole
+table up to a refusal, and no item is refused that the search from the item before finds. An item may come where that
+search is refused, since an iterator keeps what its searches found. Its status is 0 where there is no other difference.
 
 How an answer comes about. The clock of a table shows at an instant i the second i + offset, and nothing else is known
 of it. Whether a job runs at i is decided for i by itself (`runs_at`): what is shown is scheduled, and where the job
@@ -45,7 +58,9 @@ import calendar
 import datetime
 import functools
 import json
+import pathlib
 import random
+import re
 import sys
 
 DAY = 86_400
@@ -716,22 +731,180 @@ def end_line(draw, clock):
     return draw.choice([edge_line, table_line])(draw, clock)
 
 
-# What is drawn, and how often about the ends of the searched years.
-MODES = {"edges": (edge_line, 0.12), "tables": (table_line, 0.12), "ends": (end_line, 1)}
+# ---- interval jobs beside gaps
+
+
+LEAST_GAP = 17  # a walk goes across a gap at its sixteenth pass
+GAPS = [17, 18, 32, 33, 60, 600, 1_799, 3_600, 7_200, 43_200, 86_399, 86_400]
+
+
+def drawn_gap_clock(draw, longest, ends):
+    """A clock with a gap, alone, or between two other changes."""
+    size = draw.choice([gap for gap in GAPS if gap <= longest] + [draw.randint(LEAST_GAP, longest)] * 6)
+    first = draw.choice([offset for offset in OFFSETS if offset + size <= DAY])
+    edge = drawn_edge(draw, ends)
+    instant = edge - draw.choice([0, 0, size, size // 2]) - first
+    changes = [(instant, first + size)]
+    if draw.random() < 0.5:
+        apart = LEAST_APART + draw.choice([0, 0, 1, DAY])
+        changes.append((instant + apart, first + size + drawn_shift(draw, first + size, longest)))
+    return Clock(first, changes)
+
+
+def drawn_interval(draw, clock):
+    """An interval job: many seconds, or some, about the gap."""
+    second = drawn_second(draw, clock)
+    year, month, day, hour, minute, second = parts(second)
+    times = draw.choice([
+        "* * *", "* * *", "*/2 * *", "*/10 * *", "0 * *", "0 */5 *", f"{second} * *", f"{second} {minute} *",
+        f"0,{second} {minute} *", f"* {minute} *", f"* {minute} {hour}", f"*/7 * {hour}", f"0 0,30 {hour}", "0 0 */3",
+    ])
+    dates = f"{drawn_dates(draw, year, month, day)}" if draw.random() < 0.4 else "* * *"
+    years = draw.choice(["", "", f" {year}"]) if FIRST_YEAR <= year <= LAST_YEAR else ""
+    return f"{times} {dates}{years}"
+
+
+def gap_line(draw, clock):
+    """A search of an interval job that comes to a gap, from a few seconds or a few minutes beside it."""
+    size = clock.offsets[1] - clock.offsets[0]
+    beside = draw.choice([0, 1, draw.randint(0, 20), draw.randint(0, 20), draw.randint(0, 900)])
+    text = drawn_interval(draw, clock)
+    op, direction = draw.choice([("next", FORWARD), ("prev", BACKWARD)])
+    start = clock.instants[0] - 1 - beside if direction == FORWARD else clock.instants[0] + beside
+    if draw.random() < 0.1:
+        start += direction * draw.choice([size, DAY, 40])
+    inclusive = draw.random() < 0.4
+    way = {"inclusive": inclusive, "count": draw.choice([1, 1, 2])}, direction, inclusive
+    question = {"op": op, "text": text, "zone": zone_of(clock), "start": start}
+    return asked(question, [Job(text)], clock, start, way, lambda run: run[0])
+
+
+# ---- listings, and searches from the run before
+
+
+def drawn_listed(draw, clock):
+    """The patterns of a table of which some run on every day."""
+    patterns = drawn_patterns(draw, clock)
+    for place in range(len(patterns)):
+        if draw.random() < 0.6:
+            patterns[place] = f"{drawn_times(draw, *parts(drawn_second(draw, clock))[3:])} * * *"
+    return patterns
+
+
+def list_lines(draw, clock, drawn_texts=drawn_listed, held=None):
+    """A listing of a table, and the table's own searches, each from the run before: both want the same runs."""
+    texts, start = drawn_texts(draw, clock), drawn_start(draw, clock)
+    how = draw.choice(list(HOW))
+    direction, inclusive = HOW[how]
+    count = draw.randint(3, 12)
+    found, outside = answers([Job(text) for text in texts], clock, start, direction, inclusive, count)
+    zone = zone_of(clock)
+    if held is not None:
+        zone["held"] = held(draw, start, [run[0] for run in found if run is not None])
+    question = {"patterns": [{"text": text} for text in texts], "zone": zone, "start": start, "count": count}
+    search = "table_next" if direction == FORWARD else "table_prev"
+    lines = [{"op": "table_iter", "how": how, **question}, {"op": search, "inclusive": inclusive, **question}]
+    return [{**line, "want": wanted(line, found, list)} for line in lines], outside
+
+
+def drawn_held(draw, start, runs):
+    """The first and the last instant that are held: somewhat beyond the start, and at one of the runs or beyond."""
+    about = draw.choice(runs) if runs else start
+    near = [0, 0, 1, 60, 1_800, 3_600, 7_200, DAY, 2 * DAY, 3 * DAY]
+    ends = [start, about, start - draw.choice(near), start + draw.choice(near), about - draw.choice(near), about + draw.choice(near)]
+    return [min(ends), max(ends)]
+
+
+def drawn_once(draw, clock):
+    """The patterns of a table of which many run on one day, so that their searches come to an end."""
+    patterns = drawn_listed(draw, clock)
+    for place in range(len(patterns)):
+        if draw.random() < 0.6:
+            year, month, day, hour, minute, second = parts(drawn_second(draw, clock) + draw.randint(-6, 6) * 1_800)
+            if FIRST_YEAR <= year <= LAST_YEAR:
+                patterns[place] = f"{draw.choice(['0', second])} {draw.choice([minute, f'{minute}-59'])} {hour} {day} {month} * {year}"
+    return patterns
+
+
+def held_lines(draw, clock):
+    return list_lines(draw, clock, drawn_once, drawn_held)
+
+
+REFUSED = ("InvalidTime", "InvalidDate")
+
+
+def until_refused(answered):
+    """The answers before the first refusal or the end of the runs, that end included, and whether a refusal is next."""
+    before = []
+    for one in answered:
+        if one in REFUSED:
+            return before, True
+        before.append(one)
+        if one is None or one == LIMIT:
+            break
+    return before, False
+
+
+def verdict(listing, items, runs):
+    """What a listing is: its line, the items that came, and what came of the table's own searches."""
+    whole, _ = until_refused(listing["want"])
+    items, is_refused = until_refused(items)
+    runs, is_search_refused = until_refused([None if run == LIMIT else run for run in runs])
+    if items != whole[:len(items)] or runs != whole[:len(runs)] or len(items) < len(runs):
+        return "other"
+    if len(items) > len(runs):
+        return "longer than its searches" if is_search_refused else "other"
+    if not is_refused:
+        return "whole" if len(items) == len(whole) else "other"
+    return "refused with its searches" if is_search_refused else "other"
+
+
+def judge(questions, printed):
+    """Counts the listings of a file of lines by what they are, from what the replay printed of them."""
+    lines = [json.loads(line) for line in questions]
+    got = {}
+    for line in printed:
+        differs = re.fullmatch(r"line (\d+): got (.*), want .*", line)
+        if differs:
+            got[int(differs[1])] = json.loads(differs[2])
+    counts = {}
+    for at in range(0, len(lines), 2):
+        listing, search = lines[at : at + 2]
+        what = verdict(listing, got.get(at + 1, listing["want"]), got.get(at + 2, search["want"]))
+        counts[what] = counts.get(what, 0) + 1
+        if what == "other":
+            print(f"lines {at + 1} and {at + 2}: {got.get(at + 1)} and {got.get(at + 2)}")
+    print(", ".join(f"{what}: {count}" for what, count in sorted(counts.items())))
+    return 1 if "other" in counts else 0
+
+
+# What is drawn, on which clocks, and how often about the ends of the searched years.
+MODES = {
+    "edges": (edge_line, drawn_clock, 0.12),
+    "tables": (table_line, drawn_clock, 0.12),
+    "ends": (end_line, drawn_clock, 1),
+    "gaps": (gap_line, drawn_gap_clock, 0.12),
+    "lists": (list_lines, drawn_clock, 0.12),
+    "held": (held_lines, drawn_clock, 0.12),
+}
 
 
 def main(words):
+    if len(words) == 2 and words[0] == "judge":
+        sys.exit(judge(pathlib.Path(words[1]).read_text(encoding="utf-8").splitlines(), sys.stdin.read().splitlines()))
     if len(words) not in (3, 4) or words[0] not in MODES:
         sys.exit(__doc__)
-    line, ends = MODES[words[0]]
+    line, clock, ends = MODES[words[0]]
     seed, count = int(words[1]), int(words[2])
     longest = int(words[3]) if len(words) == 4 else SIZES[-1]
-    draw, outside = random.Random(seed), 0
+    draw, printed, outside = random.Random(seed), 0, 0
     for _ in range(count):
-        question, is_outside = line(draw, drawn_clock(draw, longest, ends))
-        print(json.dumps(question, separators=(",", ":")))
+        questions, is_outside = line(draw, clock(draw, longest, ends))
+        for question in questions if isinstance(questions, list) else [questions]:
+            print(json.dumps(question, separators=(",", ":")))
+            printed += 1
         outside += is_outside
-    print(f"{count} printed, of which {outside} met a run outside the span", file=sys.stderr)
+    print(f"{printed} printed, of which {outside} met a run outside the span", file=sys.stderr)
 
 
 if __name__ == "__main__":

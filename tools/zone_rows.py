@@ -132,6 +132,10 @@ def zone_rows():
     whole(of_file("Pacific_Apia"), "Apia over December 2011, which lacks the 30th", 1_322_697_600, 1_328_054_400)
     readings(of_file("Antarctica_Casey"), FIRST, LAST, "Casey: back by three hours in 2010")
     whole(of_file("Antarctica_Casey"), "Casey from 2024, a window without a change", 1_704_067_200)
+    whole(of_file("Europe_Dublin"), "Dublin, whose rule has the winter as its second time")
+    whole(of_file("Africa_Casablanca"), "Casablanca, whose clock goes back for each Ramadan, to 2087")
+    whole(of_file("Pacific_Kwajalein"), "Kwajalein, which lacks 21 August 1993")
+    readings(of_file("Pacific_Kwajalein"), zones.window([1960, 1961])[0], LAST, "Kwajalein from 1960: back by 23 hours in 1969")
     second, same, last = 1_000_000_000, 1_050_000_000, 1_100_000_000
     shown_at(of_file("Two_rows_at_one_second"), 900_000_000, 1_200_000_000, [at + step for at in (second, same, last) for step in (-1, 0)],
              "two rows of a table at one second, and later one without a change")
@@ -220,6 +224,7 @@ def search_rows():
     search(howe, whole_window, "next", ["15 2 * * *", 1_728_100_000, 3], "a gap of half an hour")
     search(apia, (1_322_697_600, 1_328_054_400), "next", ["30 2 * * *", 1_325_000_000, 4], "a day that is left out")
     search(apia, (1_322_697_600, 1_328_054_400), "previous", ["0 12 30 * *", 1_328_000_000, 2], "no 30 December")
+    search(of_file("Pacific_Kwajalein"), whole_window, "next", ["30 2 * * *", 745_700_000, 4], "a gap of a whole day")
     search(nepal, whole_window, "next", ["10 0 1 1 *", 500_000_000, 2], "a gap of a quarter of an hour at New Year")
     search(of_file("America_Anchorage"), (-2_208_988_800, LAST), "next", ["30 2 * * *", 436_300_000, 4],
            "two hours that come twice in 1983")

@@ -6,6 +6,7 @@ use crate::passes::{
     compare, copy, describe, iterate, limit, matching, next, parse, previous, read_hostile,
 };
 use crate::subjects::Subjects;
+use crate::watch::Watch;
 use croner::describe::lang::english::English;
 use croner::describe::lang::swedish::Swedish;
 use croner::errors::CronError;
@@ -39,6 +40,7 @@ pub enum Group {
     NextOfEach,
     NextOfMany,
     IterateMany,
+    IterateManyLater,
     FirstOfMany,
     IterateDaily,
     IterateDailyLong,
@@ -51,7 +53,7 @@ pub enum Group {
 
 impl Group {
     /// Every group, in the order in which they are shown.
-    pub const ALL: [Group; 32] = [
+    pub const ALL: [Group; 33] = [
         Group::Parse,
         Group::MatchCivil,
         Group::NextCivil,
@@ -76,6 +78,7 @@ impl Group {
         Group::NextOfEach,
         Group::NextOfMany,
         Group::IterateMany,
+        Group::IterateManyLater,
         Group::FirstOfMany,
         Group::IterateDaily,
         Group::IterateDailyLong,
@@ -86,8 +89,13 @@ impl Group {
         Group::OftenOverAnHour,
     ];
 
-    /// Makes each call of the group once.
-    pub fn pass(self, alloc: Global, subjects: &Subjects<'_>) -> Result<Answers, CronError> {
+    /// Makes each call of the group once. What comes before a restart of the watch is not measured.
+    pub fn pass(
+        self,
+        alloc: Global,
+        subjects: &Subjects<'_>,
+        watch: &mut Watch<'_>,
+    ) -> Result<Answers, CronError> {
         let jobs = subjects.jobs.as_slice();
         let times = &subjects.times;
         let never = &subjects.never;
@@ -117,6 +125,9 @@ impl Group {
             Group::NextOfEach => many::next_each(jobs, times.civil.as_slice()),
             Group::NextOfMany => many::next(&subjects.table, times.civil.as_slice()),
             Group::IterateMany => many::iterate(&subjects.table, times.civil.as_slice()),
+            Group::IterateManyLater => {
+                many::iterate_later(&subjects.table, times.civil.as_slice(), watch)
+            }
             Group::FirstOfMany => many::first(&subjects.table, times.civil.as_slice()),
             Group::IterateDaily => many::iterate(&subjects.daily_table, times.civil.as_slice()),
             Group::IterateDailyLong => {
@@ -169,6 +180,7 @@ impl fmt::Display for Group {
             Group::NextOfEach => "next run of 1,000 patterns, each by itself",
             Group::NextOfMany => "next run of a table of 1,000 patterns",
             Group::IterateMany => "64 runs of a table of 1,000 patterns",
+            Group::IterateManyLater => "runs 3 to 64 of a table of 1,000 patterns",
             Group::FirstOfMany => "first run of an iterator over that table",
             Group::IterateDaily => "64 runs of a table of 1,000 patterns, one at a time",
             Group::IterateDailyLong => "10,000 runs of that table",

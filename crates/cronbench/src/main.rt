@@ -18,6 +18,7 @@ mod passes;
 mod starts;
 mod stop;
 mod subjects;
+mod watch;
 
 use group::Group;
 use measure::{Measured, measure};

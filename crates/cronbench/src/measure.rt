@@ -4,7 +4,7 @@ use crate::answers::Answers;
 use crate::group::Group;
 use crate::stop::Stop;
 use crate::subjects::Subjects;
-use std::rt::CpuClock;
+use crate::watch::Watch;
 use std::time::Duration;
 
 /// The answers of a group's calls, and the processor time that they took together.
@@ -45,8 +45,8 @@ pub fn measure(
 }
 
 fn measure_pass(rt: &HostRuntime, group: Group, subjects: &Subjects<'_>) -> Result<Measured, Stop> {
-    let begin = rt.thread_cpu_time()?;
-    let answers = group.pass(rt.alloc(), subjects)?;
-    let time = rt.thread_cpu_time()?.saturating_sub(begin);
+    let mut watch = Watch::start(rt);
+    let answers = group.pass(rt.alloc(), subjects, &mut watch)?;
+    let time = watch.time()?;
     Ok(Measured { answers, time })
 }

@@ -11,7 +11,7 @@ use crate::fields::new_field;
 use crate::iterators::{handed, listing};
 use crate::json::{from_json, to_json};
 use crate::pattern_calls::call_of_pattern;
-use crate::patterns::{new_pattern, parse, parser, questions};
+use crate::patterns::{explanation, new_pattern, parse, parser, questions};
 use crate::searches::{matching, search};
 use crate::texts::{description, words_of_language};
 use crate::time_calls::{reading, resolution, sum};
@@ -60,6 +60,7 @@ pub fn make_calls(rt: &HostRuntime, cells: &[&str]) -> Result<Outcome, Fault> {
         "new pattern" => new_pattern(rt, given),
         "pattern" => call_of_pattern(rt, given),
         "parse" => parse(rt, given),
+        "explain" => explanation(rt, given),
         "parser" => parser(rt, given),
         "questions" => questions(rt, given),
         "comparison of jobs" => comparisons::of_jobs(rt, given),
@@ -94,9 +95,12 @@ fn calls_with_times(rt: &HostRuntime, kind: &str, given: &[&str]) -> Result<Outc
 fn calls_of_tables(rt: &HostRuntime, kind: &str, given: &[&str]) -> Result<Outcome, Fault> {
     match kind {
         "push to a table" => tables::pushed(rt, given),
+        "change of a table" => tables::changed(rt, given),
+        "jobs of a table" => tables::jobs(rt, given),
         "questions of a table" => tables::asked(rt, given),
         "search of a table" => tables::search(rt, given),
         "list of a table" => tables::listing(rt, given),
+        "third item of a table" => tables::third_item(rt, given),
         "clone of a table" => tables::copied(rt, given),
         kind => copies(rt, kind, given),
     }

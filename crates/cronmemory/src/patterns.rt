@@ -7,7 +7,7 @@ use crate::marks::{begin, end};
 use crate::shown;
 use crate::times::civil;
 use croner::errors::CronError;
-use croner::parser::CronParser;
+use croner::parser::{CronParser, PatternFault};
 use croner::{Cron, CronPattern, JobType};
 use jiff::civil::DateTime;
 use std::alloc::Global;
@@ -25,6 +25,36 @@ pub fn parse(rt: &HostRuntime, given: &[&str]) -> Result<Outcome, Fault> {
     let answer = shown::job_or_refusal(rt.alloc(), &read);
     drop(read);
     Outcome::of_answer(rt.alloc(), answer)
+}
+
+/// Why the parser of some settings refuses a text: the bytes of the fault, and its words.
+pub fn explanation(rt: &HostRuntime, given: &[&str]) -> Result<Outcome, Fault> {
+    let [settings, text] = given else {
+        return Err(Fault::Malformed);
+    };
+    let parser = parser_of(settings)?;
+    begin(rt);
+    let explained = parser.explain(rt.alloc(), text);
+    end(rt);
+    let answer = fault_or_refusal(rt.alloc(), &explained);
+    drop(explained);
+    Outcome::of_answer(rt.alloc(), answer)
+}
+
+fn fault_or_refusal(
+    alloc: Global,
+    explained: &Result<Option<PatternFault>, CronError>,
+) -> Result<String, Fault> {
+    match explained {
+        Ok(Some(fault)) => shown_fault(alloc, fault),
+        Ok(None) => shown::word(alloc, "accepted"),
+        Err(error) => shown::refused(alloc, error),
+    }
+}
+
+fn shown_fault(alloc: Global, fault: &PatternFault) -> Result<String, Fault> {
+    let (start, end) = (fault.start, fault.end);
+    Ok(format!(in alloc; "{start}-{end} {fault}")?)
 }
 
 /// A parser that is built from settings: its order beside a new one.

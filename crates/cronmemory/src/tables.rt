@@ -1,4 +1,4 @@
-//! Tables of patterns: their making, their searches, their iterators and their copies.
+//! Tables of patterns: their making, their changes, their searches, their iterators and their copies.
 
 use crate::case::Outcome;
 use crate::cells::number;
@@ -9,9 +9,9 @@ use crate::marks::{begin, end};
 use crate::searches::{Way, read_way};
 use crate::shown::{add_item, refused, word};
 use crate::times::{OverTime, Place, Shown, civil, over_time};
-use croner::Direction;
 use croner::crontable::{CronTable, CronTableIterator};
 use croner::errors::CronError;
+use croner::{Cron, Direction};
 use jiff::civil::DateTime;
 use std::alloc::{AllocError, Global};
 
@@ -85,6 +85,91 @@ fn texts_and_truth(
 ) -> Result<String, Fault> {
     let texts = texts_of(alloc, table, count)?;
     Ok(format!(in alloc; "[{texts}] {truth}")?)
+}
+
+/// A change of a table: texts, the change, a place, and the text that comes in there. The answer is the text of the job that
+/// comes out, or none. Afterwards the texts of the jobs.
+pub fn changed(rt: &HostRuntime, given: &[&str]) -> Result<Outcome, Fault> {
+    let [texts, change, place, text] = given else {
+        return Err(Fault::Malformed);
+    };
+    let place = number(place)?;
+    let mut table = table_of(rt.alloc(), texts)?;
+    let out = match *change {
+        "replace" => replace_in(rt, &mut table, place, text),
+        "remove" => Ok(remove_from(rt, &mut table, place)),
+        "clear" => Ok(clear(rt, &mut table)),
+        _ => Err(Fault::Malformed),
+    };
+    let outcome = change_shown(rt.alloc(), out, &table);
+    drop(table);
+    outcome
+}
+
+fn replace_in(
+    rt: &HostRuntime,
+    table: &mut CronTable,
+    place: usize,
+    text: &str,
+) -> Result<Option<Cron>, Fault> {
+    let job = job(rt.alloc(), text)?;
+    begin(rt);
+    let out = table.replace(place, job);
+    end(rt);
+    Ok(out)
+}
+
+fn remove_from(rt: &HostRuntime, table: &mut CronTable, place: usize) -> Option<Cron> {
+    begin(rt);
+    let out = table.remove(place);
+    end(rt);
+    out
+}
+
+fn clear(rt: &HostRuntime, table: &mut CronTable) -> Option<Cron> {
+    begin(rt);
+    table.clear();
+    end(rt);
+    None
+}
+
+fn change_shown(
+    alloc: Global,
+    out: Result<Option<Cron>, Fault>,
+    table: &CronTable,
+) -> Result<Outcome, Fault> {
+    let answer = text_or_none(alloc, &out?);
+    Outcome::of_both(answer, texts_of(alloc, table, table.len()))
+}
+
+fn text_or_none(alloc: Global, job: &Option<Cron>) -> Result<String, Fault> {
+    match job {
+        Some(job) => word(alloc, job.as_str()),
+        None => word(alloc, "none"),
+    }
+}
+
+/// The jobs of a table in order: texts. The answer is how many there are, and how many bytes their texts have together.
+pub fn jobs(rt: &HostRuntime, given: &[&str]) -> Result<Outcome, Fault> {
+    let [texts] = given else {
+        return Err(Fault::Malformed);
+    };
+    let table = table_of(rt.alloc(), texts)?;
+    begin(rt);
+    let (count, bytes) = count_and_bytes(&table);
+    end(rt);
+    drop(table);
+    let answer = format!(in rt.alloc(); "{count} {bytes}")?;
+    Ok(Outcome::of(rt.alloc(), answer))
+}
+
+fn count_and_bytes(table: &CronTable) -> (usize, usize) {
+    let (mut count, mut bytes): (usize, usize) = (0, 0);
+    for job in table.iter() {
+        count = count.saturating_add(1);
+        bytes = bytes.saturating_add(job.as_str().len());
+    }
+    (count, bytes)
 }
 
 /// A new table, what is asked of a table, and the making of its iterators: texts, a place and a civil start.
@@ -203,21 +288,29 @@ fn shown_item<T: Shown>(alloc: Global, item: &Option<(T, Vec<usize>)>) -> Result
     }
 }
 
-// An item of an iterator over a table.
+// An item of an iterator over a table, and how many items are given before it.
 #[derive(Clone, Copy)]
 struct Listed<'t> {
     texts: &'t str,
     how: How,
+    before: u32,
 }
 
 impl<'t> OverTime for Listed<'t> {
     fn outcome<T: Shown>(&self, rt: &HostRuntime, start: T) -> Result<Outcome, Fault> {
         let table = table_of(rt.alloc(), self.texts)?;
         let mut runs = made(&table, start, self.how);
+        pass_over(&mut runs, self.before);
         let outcome = two_items(rt, &mut runs);
         drop(runs);
         drop(table);
         outcome
+    }
+}
+
+fn pass_over<T: Shown>(runs: &mut CronTableIterator<'_, T>, items: u32) {
+    for _ in 0..items {
+        let _passed = runs.next();
     }
 }
 
@@ -254,6 +347,15 @@ fn both_items(alloc: Global, first: &String, second: &String) -> Result<String, 
 /// The first item of an iterator over times of a backend: a backend, a clock, texts, a maker and a start. Afterwards that item,
 /// asked for again with memory where it was refused, and the next.
 pub fn listing(rt: &HostRuntime, given: &[&str]) -> Result<Outcome, Fault> {
+    item_behind(rt, given, 0)
+}
+
+/// The same of the third item: the first for which runs are kept, and not each job is searched.
+pub fn third_item(rt: &HostRuntime, given: &[&str]) -> Result<Outcome, Fault> {
+    item_behind(rt, given, 2)
+}
+
+fn item_behind(rt: &HostRuntime, given: &[&str], before: u32) -> Result<Outcome, Fault> {
     let [backend, clock, texts, maker, time] = given else {
         return Err(Fault::Malformed);
     };
@@ -263,7 +365,7 @@ pub fn listing(rt: &HostRuntime, given: &[&str]) -> Result<Outcome, Fault> {
         clock,
         time,
     };
-    over_time(rt, &Listed { texts, how }, place)
+    over_time(rt, &Listed { texts, how, before }, place)
 }
 
 /// A copy of a table: its texts. Afterwards those of the original.
