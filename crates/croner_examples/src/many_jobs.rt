@@ -51,7 +51,8 @@ impl Scheduler {
 
     /// Runs what is due up to a moment, in order of time.
     ///
-    /// The iterator borrows the table; it is made anew at the last moment at which jobs ran.
+    /// The iterator borrows the table; it is made anew at the last moment at which jobs ran. A search that is refused is an error:
+    /// what was due before it has run, and the next call goes on there.
     pub fn run_until(&mut self, rt: &HostRuntime, moment: &DateTime) -> anyhow::Result<()> {
         let mut runs = self.table.iter_after(self.last);
         for _item in 0..u64::MAX {
@@ -61,7 +62,10 @@ impl Scheduler {
             start(rt, &self.names, due, places.as_slice())?;
             self.last = due;
         }
-        Ok(())
+        match runs.fault() {
+            Some(fault) => Err(fault.clone()?.into()),
+            None => Ok(()),
+        }
     }
 
     /// Runs what is due up to each change's moment, and then makes the change.
@@ -78,7 +82,7 @@ impl Scheduler {
     }
 }
 
-/// The next moment at which jobs run, and their places; none behind the last moment.
+/// The next moment at which jobs run, and their places; none behind the last moment, and none where the search is refused.
 fn next_due(
     runs: &mut CronTableIterator<'_, DateTime>,
     last: &DateTime,

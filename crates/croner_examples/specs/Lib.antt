@@ -1,0 +1,2 @@
+pub mod OwnLanguage
+pub mod OwnTime
