@@ -1,3 +1,10 @@
 mod Examples
+mod HarmlessBytes
+mod Listings
+mod OwnRuns
 mod Parts
+mod Reports
+mod ShownBytes
+mod Stops
 mod TakenLines
+mod Years

@@ -1,7 +1,7 @@
 -- The bytes of a line of a crontab, and the cuts that cron(8) makes in it. Source: crontab(5) of Debian's cron 3.0pl1, and what that
 -- program does.
-use Rattle.std.specs.Prelude.{ℕ, Bool, false, not, ◌&&◌, ◌||◌, ◌==◌, nat_le, List, [], ◌∷◌, take, drop}
-use Rattle.std.specs.List.{prefix_len}
+use Rattle.std.specs.Prelude.{ℕ, Bool, false, not, ◌&&◌, ◌||◌, ◌==◌, nat_le, ◌-◌, List, [], ◌∷◌, length, take, drop}
+use Rattle.std.specs.List.{prefix_len, suffix_len}
 use Rattle.croncheck_command.specs.declared.bytes.Kind.{Kind}
 use Rattle.croncheck_command.specs.declared.bytes.Kind.TheVariants as kinds
 
@@ -49,3 +49,11 @@ begins_with c (b ∷ bs) = b == c
 abbrev pub rest_of : List ℕ → List ℕ
 rest_of [] = []
 rest_of (b ∷ bs) = bs
+
+-- the text up to what stands behind in it
+abbrev pub until : List ℕ → List ℕ → List ℕ
+until text behind = take (length text - length behind) text
+
+-- the text without the spaces behind it
+abbrev pub trimmed : List ℕ → List ℕ
+trimmed text = take (length text - suffix_len is_space text) text

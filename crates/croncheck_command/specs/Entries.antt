@@ -1,5 +1,5 @@
 -- What contracts see of an entry: the meaning of its line.
-use Rattle.std.specs.Prelude.{option_map, Result, Ok, Err, string_bytes}
+use Rattle.std.specs.Prelude.{ℕ, ◌≤◌, ⊤, option_map, Result, Ok, Err, string_bytes}
 use Rattle.croncheck_command.specs.declared.line.Fault.{Fault}
 use Rattle.croncheck_command.specs.declared.line.Times.{Times}
 use Rattle.croncheck_command.specs.declared.line.Times.TheVariants as times
@@ -8,7 +8,7 @@ use Rattle.croncheck_command.specs.declared.line.Entry.{Entry}
 use Rattle.croncheck_command.specs.declared.line.Entry.TheVariants as entries
 use Rattle.croncheck_command.specs.declared.line.Words.{Words}
 use Rattle.croncheck_command.specs.declared.line.Texts.{Texts}
-use Rattle.croncheck_command.specs.Line.{Timing, FiveTexts, reboot, never, named, Five, Task, Line, blank, comment, setting, job, refused}
+use Rattle.croncheck_command.specs.Line.{Timing, FiveTexts, reboot, never, named, Five, Task, Line, blank, comment, setting, job, pattern, refused}
 
 abbrev pub times_seen : Times → Timing
 times_seen times.Reboot = reboot
@@ -31,14 +31,25 @@ read_seen (Ok t) = Ok (times_seen t)
 read_seen (Err fault) = Err fault
 
 abbrev pub job_seen : Job → Task
-job_seen j = record { times = times_seen j.times; user = option_map (λ u. u.now) j.user; command = j.command.now }
+job_seen j = record { times = times_seen j.times; schedule = j.schedule.now; user = option_map (λ u. u.now) j.user; command = j.command.now }
 
 abbrev pub entry_seen : Entry → Line
 entry_seen entries.Blank = blank
 entry_seen entries.Comment = comment
-entry_seen entries.Setting = setting
+entry_seen (entries.Setting is_zone) = setting is_zone
 entry_seen (entries.Job j) = job (job_seen j)
-entry_seen (entries.Refused fault) = refused fault
+entry_seen (entries.Pattern text) = pattern text.now
+entry_seen (entries.Refused fault start end) = refused fault
+
+-- the place of a fault lies in a line of this length
+abbrev pub LiesIn : ℕ → Entry → Type 0
+LiesIn n (entries.Refused fault start end) = (start ≤ end) × (end ≤ n)
+LiesIn n other = ⊤
+
+-- a job, or the fault
+abbrev pub job_read : Result Job Fault → Line
+job_read (Ok j) = job (job_seen j)
+job_read (Err fault) = refused fault
 
 -- the texts, or the fault
 abbrev pub texts_read : Result Texts Fault → Result FiveTexts Fault

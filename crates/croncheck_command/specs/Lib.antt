@@ -1,9 +1,17 @@
 pub mod Bytes
 pub mod Checked
+pub mod Clock
 pub mod Entries
 pub mod Field
 pub mod Line
 pub mod Lines
 pub mod List
+pub mod Moment
 pub mod Parsed
+pub mod Problem
+pub mod Report
+pub mod Reported
+pub mod Runs
 pub mod Setting
+pub mod Shown
+pub mod Words

@@ -1,14 +1,16 @@
 -- What a line of a crontab is to cron(8), and the pattern that says when its job runs. A line is its bytes without the line feed.
-use Rattle.std.specs.Prelude.{ℕ, Bool, false, ◌||◌, ◌==◌, nat_lt, List, ◌∷◌, ◌++◌, length, codes, Option, Some, None, option_map, Result, Ok, Err, if◌then◌else◌}
+use Rattle.std.specs.Prelude.{ℕ, Bool, true, false, ◌||◌, ◌==◌, nat_lt, List, ◌∷◌, ◌++◌, length, codes, Option, Some, None, option_map, Result, Ok, Err, if◌then◌else◌}
 use Rattle.std.specs.Str.{bytes_eq}
 use Rattle.croncheck_command.specs.declared.bytes.Kind.TheVariants as kinds
 use Rattle.croncheck_command.specs.declared.field.Names.TheVariants as names
 use Rattle.croncheck_command.specs.declared.field.Place.{Place}
+use Rattle.croncheck_command.specs.declared.line.Dialect.{Dialect}
+use Rattle.croncheck_command.specs.declared.line.Dialect.TheVariants as dialects
 use Rattle.croncheck_command.specs.declared.line.Fault.{Fault}
 use Rattle.croncheck_command.specs.declared.line.Fault.TheVariants as faults
-use Rattle.croncheck_command.specs.Bytes.{front, behind, begins_with, rest_of}
+use Rattle.croncheck_command.specs.Bytes.{front, behind, begins_with, rest_of, until, trimmed}
 use Rattle.croncheck_command.specs.List.{field_text}
-use Rattle.croncheck_command.specs.Setting.{has, is_setting}
+use Rattle.croncheck_command.specs.Setting.{has, is_setting, sets_zone}
 
 -- ---- when a job runs
 
@@ -61,6 +63,10 @@ pub record Five : Type 0 where
 -- what stands behind the first word and the blanks after it
 abbrev pub next : List ℕ → List ℕ
 next text = behind kinds.Blank (behind kinds.Word text)
+
+-- what stands at once behind the fifth word
+abbrev pub behind_fields : List ℕ → List ℕ
+behind_fields text = behind kinds.Word (next (next (next (next text))))
 
 abbrev pub words_of : List ℕ → Five
 words_of text = record {
@@ -123,16 +129,19 @@ times_of w = times_of_texts w (texts_of w)
 
 -- ---- the line
 
--- a job: when it runs, the user's name where the file names one, and the command
+-- a job: when it runs, its times as they are written, the user's name where the file names one, and the command
 pub record Task : Type 0 where
   pub times : Timing
+  pub schedule : List ℕ
   pub user : Option (List ℕ)
   pub command : List ℕ
 
--- what a line is
+-- what a line is. Of a setting it says whether its variable is `CRON_TZ` or `TZ`; a pattern is a text for the crate's parser
 pub data Line : Type 0 where
-  blank comment setting : Line
+  blank comment : Line
+  setting : Bool → Line
   job : Task → Line
+  pattern : List ℕ → Line
   refused : Fault → Line
 
 -- the longest command
@@ -140,47 +149,63 @@ abbrev pub command_length : ℕ
 command_length = 998
 
 -- a job, unless its command is too long
-abbrev pub with_command : Timing → Option (List ℕ) → List ℕ → Line
-with_command times user command =
+abbrev pub with_command : Timing → List ℕ → Option (List ℕ) → List ℕ → Line
+with_command times schedule user command =
     if nat_lt command_length (length command) then refused faults.LongCommand
-    else job (record { times = times; user = user; command = command })
+    else job (record { times = times; schedule = schedule; user = user; command = command })
 
 -- behind the times stands the command, which may be empty and may not begin with a star
-abbrev pub commanded : Timing → List ℕ → Line
-commanded times rest = if begins_with 42 rest then refused faults.Command else with_command times None rest
+abbrev pub commanded : Timing → List ℕ → List ℕ → Line
+commanded times schedule rest = if begins_with 42 rest then refused faults.Command else with_command times schedule None rest
 
 -- or a user's name, one blank and the command
-abbrev pub commanded_by : Timing → List ℕ → Line
-commanded_by times rest =
+abbrev pub commanded_by : Timing → List ℕ → List ℕ → Line
+commanded_by times schedule rest =
     if length (front kinds.Word rest) == 0 || length (behind kinds.Word rest) == 0 then refused faults.User
-    else with_command times (Some (front kinds.Word rest)) (rest_of (behind kinds.Word rest))
+    else with_command times schedule (Some (front kinds.Word rest)) (rest_of (behind kinds.Word rest))
 
 -- the rest of a line whose times were read, in a crontab of the system or of a user
-abbrev pub timed : Bool → Timing → List ℕ → Line
-timed system times rest = if system then commanded_by times rest else commanded times rest
+abbrev pub timed : Bool → Timing → List ℕ → List ℕ → Line
+timed system times schedule rest = if system then commanded_by times schedule rest else commanded times schedule rest
 
--- a line with a nickname, of which the `@` is taken off
+-- a line with a nickname: its times are written as `@` and the word
 abbrev pub nicknamed : Bool → List ℕ → Option Timing → Line
 nicknamed system text None = refused faults.Nickname
-nicknamed system text (Some times) = timed system times (next text)
+nicknamed system text (Some times) = timed system times (front kinds.Word text) (next text)
 
--- a line with five fields
-abbrev pub fielded : Bool → Five → Result Timing Fault → Line
-fielded system w (Err fault) = refused fault
-fielded system w (Ok times) = timed system times w.rest
+-- a line with five fields: its times are written up to the end of the fifth
+abbrev pub fielded : Bool → List ℕ → Result Timing Fault → Line
+fielded system text (Err fault) = refused fault
+fielded system text (Ok times) = timed system times (until text (behind_fields text)) (words_of text).rest
+
+-- a line that is no setting
+abbrev pub job_of : Bool → List ℕ → Line
+job_of system text =
+    if begins_with 64 text then nicknamed system text (nickname_of (front kinds.Word (rest_of text)))
+    else fielded system text (times_of (words_of text))
 
 -- a line that begins with neither a blank nor a comment's sign
 abbrev pub entry_of_text : Bool → List ℕ → Line
 entry_of_text system text =
     if has 0 text then refused faults.Nul
-    else if is_setting text then setting
-    else if begins_with 64 text then nicknamed system (rest_of text) (nickname_of (front kinds.Word (rest_of text)))
-    else fielded system (words_of text) (times_of (words_of text))
+    else if is_setting text then setting (sets_zone text)
+    else job_of system text
 
--- a line, in a crontab of the system or of a user
-abbrev pub entry_of : Bool → List ℕ → Line
-entry_of system line =
+-- a crontab of the system
+abbrev pub is_system : Dialect → Bool
+is_system dialects.System = true
+is_system other = false
+
+-- a file of patterns, and no crontab
+abbrev pub are_patterns : Dialect → Bool
+are_patterns dialects.Patterns = true
+are_patterns other = false
+
+-- a line, in a dialect
+abbrev pub entry_of : Dialect → List ℕ → Line
+entry_of dialect line =
     let text = behind kinds.Blank line in
     if length text == 0 then blank
     else if begins_with 35 text then comment
-    else entry_of_text system text
+    else if are_patterns dialect then pattern (trimmed text)
+    else entry_of_text (is_system dialect) text

@@ -1,5 +1,6 @@
 -- Which lines set a variable: `NAME = value`, as cron(8) reads them. Each side may stand in quotes. It looks at the first 998 bytes.
-use Rattle.std.specs.Prelude.{ℕ, Bool, true, false, not, ◌&&◌, ◌==◌, nat_lt, List, [], ◌∷◌, take, length, Option, Some, None, if◌then◌else◌}
+use Rattle.std.specs.Prelude.{ℕ, Bool, true, false, not, ◌&&◌, ◌==◌, nat_lt, List, [], ◌∷◌, take, length, codes, ◌||◌, Option, Some, None, if◌then◌else◌}
+use Rattle.std.specs.Str.{bytes_eq}
 use Rattle.croncheck_command.specs.declared.bytes.Kind.TheVariants as kinds
 use Rattle.croncheck_command.specs.Bytes.{is_quote, front, behind, begins_with, rest_of}
 
@@ -36,3 +37,13 @@ is_assigned (Some text) =
 -- the text of a line, from its first byte that is no blank on, sets a variable
 abbrev pub is_setting : List ℕ → Bool
 is_setting text = is_assigned (behind_name (take setting_length text))
+
+-- the name that a setting begins with, without its quotes
+abbrev pub name_of : List ℕ → List ℕ
+name_of [] = []
+name_of (c ∷ cs) = if is_quote c then front (kinds.But c) cs else front kinds.Name (c ∷ cs)
+
+-- a setting's variable is one that says a zone elsewhere: `CRON_TZ` or `TZ`
+abbrev pub sets_zone : List ℕ → Bool
+sets_zone text =
+    let name = name_of (take setting_length text) in bytes_eq name (codes "CRON_TZ") || bytes_eq name (codes "TZ")

@@ -1,7 +1,7 @@
 //! The bytes of a line, and the cuts that cron makes in it.
 ghost use Rattle.std.specs.Prelude.{◌≡◌, ◌≤◌, ◌+◌, length};
-ghost use Rattle.std.specs.List.{prefix_len};
-ghost use Rattle.croncheck_command.specs.Bytes.{is_blank, is_space, is_quote, is_digit, is_alphanumeric, is_of, front, behind, begins_with, rest_of};
+ghost use Rattle.std.specs.List.{prefix_len, suffix_len};
+ghost use Rattle.croncheck_command.specs.Bytes.{is_blank, is_space, is_quote, is_digit, is_alphanumeric, is_of, front, behind, begins_with, rest_of, until, trimmed};
 
 /// A kind of bytes, to cut a text at its end.
 #[derive(Clone, Copy)]
@@ -97,4 +97,30 @@ pub fn rest_of(text: &[u8]) -> &[u8]
         [_, rest @ ..] => rest,
         [] => text,
     }
+}
+
+/// The text up to what stands behind in it.
+pub fn until<'l>(text: &'l [u8], behind: &[u8]) -> &'l [u8]
+    ensures { result.now ≡ until text.now behind.now }
+{
+    let (front, _) = text.split_at(text.len().saturating_sub(behind.len()));
+    front
+}
+
+fn back_len(text: &[u8]) -> usize
+    ensures len { result ≡ suffix_len is_space text.now }
+    ensures within { result ≤ length text.now }
+{
+    text.iter()
+        .rev()
+        .take_while(|byte| is_space(**byte))
+        .count()
+}
+
+/// The text without the spaces behind it.
+pub fn trimmed(text: &[u8]) -> &[u8]
+    ensures { result.now ≡ trimmed text.now }
+{
+    let (front, _) = text.split_at(text.len() - back_len(text));
+    front
 }

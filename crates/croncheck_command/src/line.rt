@@ -1,15 +1,17 @@
 //! What a line of a crontab is to cron.
-ghost use Rattle.std.specs.Prelude.{◌≡◌, Bool, false, None, Some, option_map, string_bytes, IfOk};
+ghost use Rattle.std.specs.Prelude.{◌≡◌, ◌≤◌, Bool, false, None, Some, length, option_map, string_bytes, IfOk};
 ghost use Rattle.std.specs.Str.{bytes_eq};
 ghost use Rattle.croncheck_command.specs.declared.bytes.Kind.TheVariants as kinds;
-ghost use Rattle.croncheck_command.specs.Bytes.{front};
-ghost use Rattle.croncheck_command.specs.Line.{named, pattern_of_nickname, nickname_of, next, words_of, are_both, spaced, scheduled, texts_of, times_of, with_command, commanded, commanded_by, timed, nicknamed, fielded, entry_of_text, entry_of};
-ghost use Rattle.croncheck_command.specs.Entries.{times_seen, words_seen, texts_read, read_seen, entry_seen};
+ghost use Rattle.croncheck_command.specs.Bytes.{front, until, rest_of};
+ghost use Rattle.croncheck_command.specs.Line.{named, pattern_of_nickname, nickname_of, next, behind_fields, words_of, are_both, spaced, scheduled, texts_of, times_of, with_command, commanded, commanded_by, timed, nicknamed, fielded, entry_of_text, job_of, is_system, are_patterns, entry_of};
+ghost use Rattle.croncheck_command.specs.Line as Spec;
+ghost use Rattle.croncheck_command.specs.Entries.{times_seen, words_seen, texts_read, read_seen, job_read, entry_seen, LiesIn};
 
-use crate::bytes::{Kind, begins_with, cut, rest_of};
+use crate::bytes::{Kind, begins_with, cut, rest_of, trimmed, until};
 use crate::field::{Names, Place};
 use crate::list::field_text;
-use crate::setting::{has, is_setting};
+use crate::place::{Span, place_of};
+use crate::setting::{has, is_setting, sets_zone};
 use std::alloc::{AllocError, Global};
 
 /// The longest command that cron takes.
@@ -47,6 +49,37 @@ const WEEKDAYS: Place = Place {
     last: 7,
     names: Names::Weekdays,
 };
+
+/// How the lines of a file are read.
+#[derive(Clone, Copy, PartialEq, Eq, Drop)]
+pub enum Dialect {
+    /// As a crontab of a user.
+    User,
+    /// As a crontab of the system, where a user stands before each command.
+    System,
+    /// Each line is a pattern for the crate's parser, and no command.
+    Patterns,
+}
+
+impl Dialect {
+    fn is_system(self) -> bool
+        ensures { result ≡ is_system self }
+    {
+        match self {
+            Dialect::System => true,
+            Dialect::User | Dialect::Patterns => false,
+        }
+    }
+
+    fn are_patterns(self) -> bool
+        ensures { result ≡ are_patterns self }
+    {
+        match self {
+            Dialect::Patterns => true,
+            Dialect::User | Dialect::System => false,
+        }
+    }
+}
 
 /// Why cron refuses a line, or this checker does.
 #[derive(Clone, Copy, Debug, PartialEq, Eq, Drop)]
@@ -87,6 +120,8 @@ pub enum Times {
 #[derive(Drop)]
 pub struct Job<'l> {
     pub times: Times,
+    /// The times as they are written: from the first word to the end of the fifth, or `@` and its word.
+    pub schedule: &'l [u8],
     /// The name of its user, where the file names one.
     pub user: Option<&'l [u8]>,
     pub command: &'l [u8],
@@ -97,9 +132,21 @@ pub struct Job<'l> {
 pub enum Entry<'l> {
     Blank,
     Comment,
-    Setting,
+    /// It sets a variable.
+    Setting {
+        /// The variable is `CRON_TZ` or `TZ`.
+        is_zone: bool,
+    },
     Job(Job<'l>),
-    Refused(Fault),
+    /// A pattern for the crate's parser, without the blanks in front of it and the spaces behind it.
+    Pattern(&'l [u8]),
+    Refused {
+        fault: Fault,
+        /// The byte of the line at which the fault begins, from 0.
+        start: usize,
+        /// The byte behind its last one.
+        end: usize,
+    },
 }
 
 /// The words of a line, and what stands behind them.
@@ -113,8 +160,8 @@ struct Words<'l> {
     rest: &'l [u8],
 }
 
-// The first word, and what stands behind it and the blanks after it.
-fn word(text: &[u8]) -> (&[u8], &[u8])
+/// The first word, and what stands behind it and the blanks after it.
+pub fn word(text: &[u8]) -> (&[u8], &[u8])
     ensures word { result.0.now ≡ front kinds.Word text.now }
     ensures rest { result.1.now ≡ next text.now }
 {
@@ -139,6 +186,18 @@ fn words_of(text: &[u8]) -> Words<'_>
         weekdays,
         rest,
     }
+}
+
+// What stands at once behind the fifth word.
+fn behind_fields(text: &[u8]) -> &[u8]
+    ensures { result.now ≡ behind_fields text.now }
+{
+    let (_, rest) = word(text);
+    let (_, rest) = word(rest);
+    let (_, rest) = word(rest);
+    let (_, rest) = word(rest);
+    let (_, behind) = cut(rest, Kind::Word);
+    behind
 }
 
 fn named(alloc: Global, text: &str) -> Result<Times, AllocError>
@@ -296,100 +355,146 @@ fn times_of(alloc: Global, words: Words<'_>) -> Result<Result<Times, Fault>, All
 }
 
 // A job, unless its command is too long.
-fn with_command<'l>(times: Times, user: Option<&'l [u8]>, command: &'l [u8]) -> Entry<'l>
-    ensures { entry_seen result ≡ with_command (times_seen times) (option_map (λ u. u.now) user.entry) command.now }
+fn with_command<'l>(
+    times: Times,
+    schedule: &'l [u8],
+    user: Option<&'l [u8]>,
+    command: &'l [u8],
+) -> Result<Job<'l>, Fault>
+    ensures { job_read result ≡ with_command (times_seen times) schedule.now (option_map (λ u. u.now) user.entry) command.now }
 {
     if COMMAND_LENGTH < command.len() {
-        return Entry::Refused(Fault::LongCommand);
+        return Err(Fault::LongCommand);
     }
-    Entry::Job(Job {
+    Ok(Job {
         times,
+        schedule,
         user,
         command,
     })
 }
 
 // What stands behind the times in a crontab of a user.
-fn commanded(times: Times, rest: &[u8]) -> Entry<'_>
-    ensures { entry_seen result ≡ commanded (times_seen times) rest.now }
+fn commanded<'l>(times: Times, schedule: &'l [u8], rest: &'l [u8]) -> Result<Job<'l>, Fault>
+    ensures { job_read result ≡ commanded (times_seen times) schedule.now rest.now }
 {
     if begins_with(rest, b'*') {
-        return Entry::Refused(Fault::Command);
+        return Err(Fault::Command);
     }
-    with_command(times, None, rest)
+    with_command(times, schedule, None, rest)
 }
 
 // What stands behind the times in a crontab of the system.
-fn commanded_by(times: Times, rest: &[u8]) -> Entry<'_>
-    ensures { entry_seen result ≡ commanded_by (times_seen times) rest.now }
+fn commanded_by<'l>(times: Times, schedule: &'l [u8], rest: &'l [u8]) -> Result<Job<'l>, Fault>
+    ensures { job_read result ≡ commanded_by (times_seen times) schedule.now rest.now }
 {
     let (user, behind) = cut(rest, Kind::Word);
     if user.is_empty() || behind.is_empty() {
-        return Entry::Refused(Fault::User);
+        return Err(Fault::User);
     }
-    with_command(times, Some(user), rest_of(behind))
+    with_command(times, schedule, Some(user), rest_of(behind))
 }
 
-fn timed(system: bool, times: Times, rest: &[u8]) -> Entry<'_>
-    ensures { entry_seen result ≡ timed system (times_seen times) rest.now }
+fn timed<'l>(
+    system: bool,
+    times: Times,
+    schedule: &'l [u8],
+    rest: &'l [u8],
+) -> Result<Job<'l>, Fault>
+    ensures { job_read result ≡ timed system (times_seen times) schedule.now rest.now }
 {
     if system {
-        commanded_by(times, rest)
+        commanded_by(times, schedule, rest)
     } else {
-        commanded(times, rest)
+        commanded(times, schedule, rest)
     }
 }
 
-// A line with a nickname, of which the `@` is taken off.
-fn nicknamed(alloc: Global, system: bool, text: &[u8]) -> Result<Entry<'_>, AllocError>
-    ensures { IfOk result (λ e. entry_seen e ≡ nicknamed system text.now (nickname_of (front kinds.Word text.now))) }
+// A line with a nickname.
+fn nicknamed(alloc: Global, system: bool, text: &[u8]) -> Result<Result<Job<'_>, Fault>, AllocError>
+    ensures { IfOk result (λ read. job_read read ≡ nicknamed system text.now (nickname_of (front kinds.Word (rest_of text.now)))) }
 {
-    let (name, rest) = word(text);
+    let (schedule, rest) = word(text);
+    let (name, _) = cut(rest_of(text), Kind::Word);
     match nickname_of(alloc, name)? {
-        Some(times) => Ok(timed(system, times, rest)),
-        None => Ok(Entry::Refused(Fault::Nickname)),
+        Some(times) => Ok(timed(system, times, schedule, rest)),
+        None => Ok(Err(Fault::Nickname)),
     }
 }
 
 // A line with five fields.
-fn fielded(alloc: Global, system: bool, text: &[u8]) -> Result<Entry<'_>, AllocError>
-    ensures { IfOk result (λ e. entry_seen e ≡ fielded system (words_of text.now) (times_of (words_of text.now))) }
+fn fielded(alloc: Global, system: bool, text: &[u8]) -> Result<Result<Job<'_>, Fault>, AllocError>
+    ensures { IfOk result (λ read. job_read read ≡ fielded system text.now (times_of (words_of text.now))) }
 {
     let words = words_of(text);
     match times_of(alloc, words)? {
-        Ok(times) => Ok(timed(system, times, words.rest)),
-        Err(fault) => Ok(Entry::Refused(fault)),
+        Ok(times) => {
+            let schedule = until(text, behind_fields(text));
+            Ok(timed(system, times, schedule, words.rest))
+        }
+        Err(fault) => Ok(Err(fault)),
     }
 }
 
-// A line that begins with neither a blank nor a comment's sign.
-fn entry_of_text(alloc: Global, system: bool, text: &[u8]) -> Result<Entry<'_>, AllocError>
-    ensures { IfOk result (λ e. entry_seen e ≡ entry_of_text system text.now) }
+// The job of a line that is no setting.
+fn job_of(alloc: Global, system: bool, text: &[u8]) -> Result<Result<Job<'_>, Fault>, AllocError>
+    ensures { IfOk result (λ read. job_read read ≡ job_of system text.now) }
 {
-    if has(text, 0) {
-        Ok(Entry::Refused(Fault::Nul))
-    } else if is_setting(text) {
-        Ok(Entry::Setting)
-    } else if begins_with(text, b'@') {
-        nicknamed(alloc, system, rest_of(text))
+    if begins_with(text, b'@') {
+        nicknamed(alloc, system, text)
     } else {
         fielded(alloc, system, text)
     }
 }
 
-/// What a line is, which is given without its line feed: in a crontab of the system, where a user stands before each command, or in
-/// that of a user.
+// A refused line, which is given with its text from the first byte on that is no blank.
+fn refused<'l>(line: &[u8], text: &[u8], system: bool, fault: Fault) -> Entry<'l>
+    ensures seen { entry_seen result ≡ Spec.refused fault }
+    ensures placed { LiesIn (length line.now) result }
+{
+    let Span { start, end } = place_of(line, text, system, fault);
+    Entry::Refused { fault, start, end }
+}
+
+// A line that begins with neither a blank nor a comment's sign.
+fn entry_of_text<'l>(
+    alloc: Global,
+    system: bool,
+    line: &[u8],
+    text: &'l [u8],
+) -> Result<Entry<'l>, AllocError>
+    ensures seen { IfOk result (λ e. entry_seen e ≡ entry_of_text system text.now) }
+    ensures placed { IfOk result (LiesIn (length line.now)) }
+{
+    if has(text, 0) {
+        return Ok(refused(line, text, system, Fault::Nul));
+    }
+    if is_setting(text) {
+        return Ok(Entry::Setting {
+            is_zone: sets_zone(text),
+        });
+    }
+    match job_of(alloc, system, text)? {
+        Ok(job) => Ok(Entry::Job(job)),
+        Err(fault) => Ok(refused(line, text, system, fault)),
+    }
+}
+
+/// What a line is, which is given without its line feed, in a dialect.
 ///
-/// The error comes where memory is lacking.
-pub fn entry_of(alloc: Global, system: bool, line: &[u8]) -> Result<Entry<'_>, AllocError>
-    ensures { IfOk result (λ e. entry_seen e ≡ entry_of system line.now) }
+/// A refused line has its fault in a place of the line. The error comes where memory is lacking.
+pub fn entry_of(alloc: Global, dialect: Dialect, line: &[u8]) -> Result<Entry<'_>, AllocError>
+    ensures seen { IfOk result (λ e. entry_seen e ≡ entry_of dialect line.now) }
+    ensures placed { IfOk result (LiesIn (length line.now)) }
 {
     let (_, text) = cut(line, Kind::Blank);
     if text.is_empty() {
         Ok(Entry::Blank)
     } else if begins_with(text, b'#') {
         Ok(Entry::Comment)
+    } else if dialect.are_patterns() {
+        Ok(Entry::Pattern(trimmed(text)))
     } else {
-        entry_of_text(alloc, system, text)
+        entry_of_text(alloc, dialect.is_system(), line, text)
     }
 }

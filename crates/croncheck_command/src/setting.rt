@@ -1,6 +1,6 @@
 //! Lines that set a variable.
 ghost use Rattle.std.specs.Prelude.{◌≡◌, ◌≤◌, length, take, option_map};
-ghost use Rattle.croncheck_command.specs.Setting.{setting_length, has, behind_quoted, behind_name, is_value, is_assigned, is_setting};
+ghost use Rattle.croncheck_command.specs.Setting.{setting_length, has, behind_quoted, behind_name, is_value, is_assigned, is_setting, name_of, sets_zone};
 
 use crate::bytes::{Kind, begins_with, cut, is_quote, rest_of};
 
@@ -12,6 +12,32 @@ pub fn is_setting(text: &[u8]) -> bool
     ensures { result ≡ is_setting text.now }
 {
     is_assigned(behind_name(start_of(text)))
+}
+
+/// Whether a setting's variable is `CRON_TZ` or `TZ`.
+pub fn sets_zone(text: &[u8]) -> bool
+    ensures { result ≡ sets_zone text.now }
+{
+    let name = name_of(start_of(text));
+    name == "CRON_TZ".as_bytes() || name == "TZ".as_bytes()
+}
+
+// The name, without its quotes.
+fn name_of(text: &[u8]) -> &[u8]
+    ensures { result.now ≡ name_of text.now }
+{
+    match text {
+        [] => text,
+        [first, rest @ ..] => {
+            if is_quote(*first) {
+                let (name, _) = cut(rest, Kind::But(*first));
+                name
+            } else {
+                let (name, _) = cut(text, Kind::Name);
+                name
+            }
+        }
+    }
 }
 
 // The bytes that cron looks at.

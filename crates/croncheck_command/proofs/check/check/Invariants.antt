@@ -4,5 +4,5 @@ use Rattle.croncheck_command.proofs.check.check.Given as goal
 
 abbrev pub invariant-loop-turn : goal.invariant-loop-turn
 invariant-loop-turn g l = record {
-  so_far : TakenSoFar (entry_of_line l.fn.system) (g.R.Read.remaining l.initial.reader) (g.R.Read.remaining l.reader) (g.S.Entries.taken l.initial.sink) (g.S.Entries.taken l.sink);
+  so_far : TakenSoFar (entry_of_line l.fn.dialect) g.S.Entries.takes (g.R.Read.remaining l.initial.reader) (g.R.Read.remaining l.reader) l.initial.sink l.sink;
 }

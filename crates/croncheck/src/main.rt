@@ -1,0 +1,165 @@
+//! `croncheck`: what each line of a crontab is to cron, what it means, and when it runs.
+#![tactic(auto)]
+
+use croncheck_command::clock::Clock;
+use croncheck_command::escaped::shown;
+use croncheck_command::moment::second_of;
+use croncheck_command::problem::Problem;
+use croncheck_command::report::Settings;
+use croncheck_command::reporter::{Reporter, status_of};
+use croncheck_command::runs::Listing;
+use croncheck_command::shown::Shared;
+use croncheck_command::words::{Call, NoCall, Span, USAGE, read_call};
+use croner::time::table::TableTime;
+use jiff::Timestamp;
+use jiff::tz::{SystemTimeZone, TimeZone, TimeZoneDatabase};
+use std::fs::File;
+use std::io::{BufReader, BufWriter, ErrorKind, Write};
+use std::process::ExitCode;
+use std::{env, io};
+
+const MISUSED: u8 = 2;
+
+fn main(rt: HostRuntime) -> ExitCode {
+    let status = match words(&rt) {
+        Ok(words) => status(&rt, words.as_slice()),
+        Err(error) if error.kind() == ErrorKind::InvalidData => misused(
+            &rt,
+            "error: a word of the call is not UTF-8\n",
+        ),
+        Err(error) => stopped(&rt, &Problem::Words(error)),
+    };
+    ExitCode::from(status)
+}
+
+fn words(rt: &HostRuntime) -> io::Result<Vec<String>> {
+    let mut words = Vec::new(rt.alloc());
+    for word in env::args(rt)? {
+        words.push(word)?;
+    }
+    Ok(words)
+}
+
+fn misused(rt: &HostRuntime, text: &str) -> u8 {
+    let _ = eprint!(rt; "{text}{USAGE}\n");
+    MISUSED
+}
+
+fn stopped(rt: &HostRuntime, problem: &Problem) -> u8 {
+    let _ = eprintln!(rt; "croncheck: {problem}");
+    problem.status()
+}
+
+fn status(rt: &HostRuntime, words: &[String]) -> u8 {
+    match read_call(rt.alloc(), words) {
+        Ok(call) => match in_zone(rt, &call) {
+            Ok(status) => status,
+            Err(problem) => stopped(rt, &problem),
+        },
+        Err(NoCall::Asked(text)) => match print!(rt; "{text}") {
+            Ok(()) => 0,
+            Err(error) => stopped(rt, &Problem::Unwritten(error)),
+        },
+        Err(NoCall::Misused(text)) => misused(rt, text.as_str()),
+        Err(NoCall::OutOfMemory) => stopped(rt, &Problem::OutOfMemory),
+    }
+}
+
+// Checks in the zone that the words name.
+fn in_zone(rt: &HostRuntime, call: &Call<'_>) -> Result<u8, Problem> {
+    if let Ok(zone) = TimeZone::posix(call.zone) {
+        return check(rt, call, zone);
+    }
+    let zones = TimeZoneDatabase::from_env(rt).map_err(Problem::Zone)?;
+    if call.zone == "local" {
+        let system = SystemTimeZone::read(rt).map_err(Problem::Zone)?;
+        let zone = system.time_zone(&zones).map_err(Problem::Zone)?;
+        return check(rt, call, zone);
+    }
+    let zone = zones.get(call.zone).map_err(Problem::Zone)?;
+    check(rt, call, zone)
+}
+
+fn check(rt: &HostRuntime, call: &Call<'_>, zone: TimeZone<'_>) -> Result<u8, Problem> {
+    let now = Timestamp::now(rt).map_err(Problem::Now)?.as_second();
+    let Some(start) = second_of(call.from, &zone, now) else {
+        return Err(Problem::SkippedFrom);
+    };
+    let listing = match call.span {
+        Span::Count(count) => Listing::Count(count),
+        Span::Until(moment) => match second_of(moment, &zone, now) {
+            Some(second) => Listing::Until(second),
+            None => return Err(Problem::SkippedUntil),
+        },
+    };
+    let clock = Clock::of(rt.alloc(), &zone, start).map_err(Problem::Clock)?;
+    let Ok(start) = TableTime::new(clock.table(), start) else {
+        return Err(Problem::OutOfMemory);
+    };
+    let settings = Settings {
+        dialect: call.dialect,
+        parser: call.parser,
+        language: call.language,
+        start,
+        listing,
+    };
+    let shared = Shared { zone, listing };
+    check_files(rt, call, &settings, &shared).map_err(Problem::Unwritten)
+}
+
+// Checks the files that the words name, or standard input.
+fn check_files(
+    rt: &HostRuntime,
+    call: &Call<'_>,
+    settings: &Settings<'_>,
+    shared: &Shared<'_>,
+) -> io::Result<u8> {
+    let out = BufWriter::new(rt.alloc(), rt.stdout())?;
+    let mut reporter = Reporter::new(rt.alloc(), settings, shared, out);
+    let mut is_failed = false;
+    if call.files.is_empty() {
+        is_failed = check_file(rt, "-", &mut reporter)?;
+    }
+    for file in call.files.iter() {
+        if check_file(rt, file, &mut reporter)? {
+            is_failed = true;
+        }
+    }
+    reporter.flush()?;
+    let tally = reporter.tally();
+    let (jobs, refused) = (tally.jobs, tally.refused);
+    let noun = if jobs == 1 { "job" } else { "jobs" };
+    let _ = eprintln!(rt; "{jobs} {noun}, {refused} refused");
+    Ok(status_of(tally, is_failed))
+}
+
+// Checks a file, and answers whether it failed. The error is that of the output.
+fn check_file<W: Write + Drop>(
+    rt: &HostRuntime,
+    file: &str,
+    reporter: &mut Reporter<'_, '_, W>,
+) -> io::Result<bool> {
+    match report(rt, file, reporter) {
+        Ok(()) => Ok(false),
+        Err(error) if reporter.is_refused() => Err(error),
+        Err(error) => {
+            let name = shown(rt.alloc(), file.as_bytes())?;
+            let _ = eprintln!(rt; "croncheck: {name}: {error}");
+            Ok(true)
+        }
+    }
+}
+
+fn report<W: Write + Drop>(
+    rt: &HostRuntime,
+    file: &str,
+    reporter: &mut Reporter<'_, '_, W>,
+) -> io::Result<()> {
+    if file == "-" {
+        let mut reader = BufReader::new(rt.alloc(), rt.stdin())?;
+        return reporter.report(file, &mut reader);
+    }
+    let opened = File::open(rt, file)?;
+    let mut reader = BufReader::new(rt.alloc(), opened)?;
+    reporter.report(file, &mut reader)
+}

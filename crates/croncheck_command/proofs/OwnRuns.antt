@@ -1,0 +1,35 @@
+-- Listings on the clock of a zone's window, and in the zone.
+use Rattle.std.proofs.Common.{ℤ, ◌<ℤ◌, ◌≤ℤ◌, false, List, [], ◌++◌, get_or, inl, inr, sym, subst, arith}
+use Rattle.std.proofs.lemmas.Bool.{false≢true}
+use Rattle.std.proofs.lemmas.Int.{ints}
+use Rattle.std.proofs.lemmas.List.{append-nil}
+use Rattle.std.specs.List.{All}
+use Rattle.jiff_tz.specs.declared.timezone.TimeZone.{TimeZone}
+use Rattle.croner_base.specs.declared.time.Direction.TheVariants.{Forward}
+use Rattle.croner_base.specs.declared.time.table.TableTime.{TableTime}
+use Rattle.croner_pattern.specs.Meaning.{Meaning}
+use Rattle.croner.specs.iterator.Listing.{BeginsRest, job_at}
+use Rattle.croner.specs.laws.Zones.{IsWellIn}
+use Rattle.croner.specs.search.Runs.{Job, Counts}
+use Rattle.croncheck_command.specs.Runs.{starts}
+
+-- a second behind one well in a window is well in it too, up to its last
+pub well_after : (tz : TimeZone) (first last s i : ℤ) → IsWellIn tz first last s → s <ℤ i → i ≤ℤ last → IsWellIn tz first last i
+well_after tz first last s i well after within =
+    (elim well.0 [ inl far ↦ inl (omega (arith, ints, far, after)) | inr day ↦ inr (day.0, omega (arith, ints, day.1, after)) ], within)
+
+pub well_after_le : (tz : TimeZone) (first last s i until : ℤ) → IsWellIn tz first last s → s <ℤ i → i ≤ℤ until → until ≤ℤ last → IsWellIn tz first last i
+well_after_le tz first last s i until well after le by = well_after tz first last s i well after (omega (arith, ints, le, by))
+
+-- what counts lies behind the start
+pub counts_after : (job : Job) (s i : ℤ) → Counts Forward false job s i → s <ℤ i
+counts_after job s i counts = elim counts [ inl own ↦ own.0 | inr at ↦ absurd (false≢true at.0) ]
+
+-- the items of a listing lie well in the window where they lie in it
+pub items_well : (tz : TimeZone) (first last : ℤ) (m : Meaning) (start : TableTime) (items : List ℤ) → IsWellIn tz first last start.second
+    → BeginsRest (starts m start) items → All (λ i. i ≤ℤ last) items → All (IsWellIn tz first last) items
+items_well tz first last m start items well begins within =
+    λ k d inside. well_after tz first last start.second (get_or items k d) well (counts_after (job_at (starts m start)) start.second (get_or items k d) (begins.counts k d inside)) (within k d inside)
+
+pub with_none : (m : Meaning) (start : TableTime) (items : List ℤ) → BeginsRest (starts m start) items → BeginsRest (starts m start) (items ++ [])
+with_none m start items begins = subst (λ (ys : List ℤ). BeginsRest (starts m start) ys) (sym (append-nil items)) begins

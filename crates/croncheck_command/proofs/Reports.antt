@@ -1,0 +1,36 @@
+-- What is told of a whole file.
+use Rattle.std.proofs.Common.{◌≡◌, ◌∙◌, ℕ, Bool, List, [], ◌∷◌, Option, Some, None, Result, Ok, Err, map, ap, subst, sym}
+use Rattle.std.specs.Prelude.{IfSome, OnOk}
+use Rattle.croncheck_command.specs.declared.report.Settings.{Settings}
+use Rattle.croncheck_command.specs.declared.report.Tally.{Tally}
+use Rattle.croncheck_command.specs.Checked.{entry_of_line, TakesInTurn, TakesAll}
+use Rattle.croncheck_command.specs.Line.{Line}
+use Rattle.croncheck_command.specs.Reported.{Tallies, IsChecked}
+
+-- an entry is told by settings that stay, and its report is added to a tally
+abbrev pub Tells : {S : Type 0} → (S → Tally) → (S → Settings) → S → (Line × Bool) → S → Type 0
+Tells tally_of settings_of old y new = Tallies (settings_of old) (tally_of old) y (tally_of new) × (settings_of new ≡ settings_of old)
+
+tallies_in_turn : {S : Type 0} (tally_of : S → Tally) (settings_of : S → Settings) (s : Settings) (ys : List (Line × Bool)) (old new : S)
+    → settings_of old ≡ s → TakesInTurn (Tells tally_of settings_of) old ys new → TakesInTurn (Tallies s) (tally_of old) ys (tally_of new)
+tallies_in_turn tally_of settings_of s [] old new e h = ap tally_of h
+tallies_in_turn tally_of settings_of s (y ∷ ys) old new e h =
+    let between = h.0 in
+    let told = h.1 in
+    let P : Settings → Type 0 = λ x. Tallies x (tally_of old) y (tally_of between) in
+    (tally_of between, subst P e told.0, tallies_in_turn tally_of settings_of s ys between new (told.1 ∙ e) h.2)
+
+-- what was told of each line of a file, one after the other
+pub checked : {S : Type 0} (new : S) (tally_of : S → Tally) (settings_of : S → Settings) (s : Settings) (remaining : Option (List ℕ)) (old : S)
+    (last : Tally) → settings_of old ≡ s → last ≡ tally_of new → TakesAll (Tells tally_of settings_of) s.dialect remaining old new
+    → IfSome remaining (λ text. IsChecked s text (tally_of old) last)
+checked new tally_of settings_of s None old last e k h = tt
+checked new tally_of settings_of s (Some text) old last e k h =
+    let ys = map (entry_of_line s.dialect) h.0 in
+    let P : Tally → Type 0 = λ t. TakesInTurn (Tallies s) (tally_of old) ys t in
+    (h.0, h.1, subst P (sym k) (tallies_in_turn tally_of settings_of s ys old new e h.2))
+
+-- what holds in any case
+pub always : {T E P : Type 0} (r : Result T E) → P → OnOk r P
+always (Ok x) h = h
+always (Err e) h = tt

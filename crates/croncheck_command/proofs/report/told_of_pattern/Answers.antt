@@ -1,0 +1,14 @@
+use Rattle.std.proofs.Common.{Result, refl, sym, subst}
+use Rattle.croner_pattern.specs.Meaning.{Meaning}
+use Rattle.croner.specs.parser.Grammar.{Refusal}
+use Rattle.croncheck_command.specs.Report.{TellsMeaning}
+use Rattle.croncheck_command.proofs.report.told_of_pattern.Goals as goal
+
+pub returns-in-Ok-clause-report : goal.returns-in-Ok-clause-report
+returns-in-Ok-clause-report c = record {
+  schedule_is = c.as_bytes.ensures.value;
+  user_is = refl;
+  command_is = refl;
+  tells_times = subst (λ (read : Result Meaning Refusal). TellsMeaning c.args.settings.now read c.in_ok-times-in-Ok.times) (sym c.in-Ok.ensures)
+      c.in_ok-times-in-Ok.ensures.told;
+}

@@ -1,0 +1,20 @@
+-- What is told of a whole file.
+use Rattle.std.specs.Prelude.{◌≡◌, ℕ, Bool, List, map}
+use Rattle.croncheck_command.specs.declared.line.Entry.{Entry}
+use Rattle.croncheck_command.specs.declared.report.Report.{Report}
+use Rattle.croncheck_command.specs.declared.report.Settings.{Settings}
+use Rattle.croncheck_command.specs.declared.report.Tally.{Tally}
+use Rattle.croncheck_command.specs.Checked.{entry_of_line, TakesInTurn}
+use Rattle.croncheck_command.specs.Entries.{entry_seen}
+use Rattle.croncheck_command.specs.Line.{Line}
+use Rattle.croncheck_command.specs.Lines.{AreLines}
+use Rattle.croncheck_command.specs.Report.{IsReport, added}
+
+-- an entry has a report, which is added to the tally
+abbrev pub Tallies : Settings → Tally → (Line × Bool) → Tally → Type 0
+Tallies s old y new = (entry : Entry) × (report : Report) × (entry_seen entry ≡ y.0) × IsReport s entry report × (new ≡ added old report)
+
+-- each line of a text has exactly one entry, whose report is added to the tally, in order
+abbrev pub IsChecked : Settings → List ℕ → Tally → Tally → Type 0
+IsChecked s text old new =
+    (lines : List (List ℕ)) × AreLines text lines × TakesInTurn (Tallies s) old (map (entry_of_line s.dialect) lines) new

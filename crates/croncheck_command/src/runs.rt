@@ -1,0 +1,272 @@
+//! The runs of a job from a start.
+ghost use Rattle.std.specs.Prelude.{◌≡◌, ◌≤◌, ◌<◌, ◌↔◌, ℤ, List, [], IsTrue, IfOk, IfErr, ◌≤ℤ◌, int_le, nat_lt, length, take, option_map};
+ghost use Rattle.std.specs.List.{All, Contains, prefix_len};
+ghost use Rattle.jiff_tz.specs.declared.timezone.TimeZone.{TimeZone};
+ghost use Rattle.croner_base.specs.TableZone.{table_zone, table_moment};
+ghost use Rattle.croner_base.specs.ZonedZone.{zoned_zone};
+ghost use Rattle.croner_pattern.specs.Meaning.{Meaning};
+ghost use Rattle.croner_base.specs.declared.time.Direction.{Direction};
+ghost use Rattle.croner.specs.iterator.Listing.{IsLeft, BeginsRest, GaveAll};
+ghost use Rattle.croner.specs.laws.Zones.{IsOnClockOf, in_zone};
+ghost use Rattle.croner.specs.search.Limit.{InSpan};
+ghost use Rattle.croner.specs.Views.{job_of};
+ghost use Rattle.croncheck_command.specs.Runs.{starts, most_runs, end_of_refusal, cut_end, EndsBy, IsEnd, IsListed, GaveUntil};
+
+use crate::clock::Clock;
+use croner::Cron;
+use croner::errors::CronError;
+use croner::laws::listing::next_runs;
+use croner::laws::zones::listing_of_a_window;
+use croner::time::table::TableTime;
+use std::alloc::Global;
+
+/// The most runs that are listed up to a second.
+pub const MOST_RUNS: u32 = 100_000;
+
+/// How many are searched first, and then, to come to a second.
+const FEW_RUNS: u32 = 64;
+
+const MANY_RUNS: u32 = 2_048;
+
+/// Which runs are listed.
+#[derive(Clone, Copy, Drop)]
+pub enum Listing {
+    /// So many.
+    Count(u32),
+    /// All up to this second, and that one too; in seconds since 1970-01-01T00:00:00 UTC.
+    Until(i64),
+}
+
+/// How a listing ends.
+#[derive(Drop)]
+pub enum End {
+    /// There may be runs behind those that were listed. Up to a second, all were listed that come no later.
+    More,
+    /// No run is left in the years that are searched: every run of these was listed.
+    Over,
+    /// The most runs were listed, and more may come up to the second.
+    Cut,
+    /// A search was refused, though not by the end of the years.
+    Failed(CronError),
+}
+
+/// The runs of a listing, the nearest first.
+#[derive(Drop)]
+pub struct Runs<'t> {
+    pub items: Vec<TableTime<'t>>,
+    pub end: End,
+}
+
+/// The runs of a job after a start, which is no run itself.
+///
+/// The only error is `OutOfMemory`.
+pub fn runs_of<'t>(
+    alloc: Global,
+    job: &Cron,
+    start: TableTime<'t>,
+    listing: Listing,
+) -> Result<Runs<'t>, CronError>
+    ensures listed { IfOk result (IsListed (job_of job.now) start.entry listing) }
+    ensures err { IfErr result (λ e. e ≡ CronError.OutOfMemory) }
+{
+    match listing {
+        Listing::Count(0) => Ok(no_runs(alloc, job, start)),
+        Listing::Count(count) => some_runs(alloc, job, start, count),
+        Listing::Until(until) => runs_until(alloc, job, start, until),
+    }
+}
+
+// No run, and whether none is left.
+fn no_runs<'t>(alloc: Global, job: &Cron, start: TableTime<'t>) -> Runs<'t>
+    ensures { IsListed (job_of job.now) start.entry (Listing.Count 0) result }
+{
+    Runs {
+        items: Vec::new(alloc),
+        end: end_of_none(job, start),
+    }
+}
+
+// Whether no run is left.
+fn end_of_none(job: &Cron, start: TableTime<'_>) -> End
+    ensures { IsEnd (starts (job_of job.now) start.entry) (Listing.Count 0) [] result }
+{
+    match job.find_next_occurrence(&start, false) {
+        Ok(_) => End::More,
+        Err(refusal) => end_of_refusal(refusal),
+    }
+}
+
+// What the refusal of a search says.
+fn end_of_refusal(refusal: CronError) -> End
+    ensures { result ≡ end_of_refusal refusal }
+{
+    match refusal {
+        CronError::TimeSearchLimitExceeded => End::Over,
+        other => End::Failed(other),
+    }
+}
+
+// So many runs, one at least.
+fn some_runs<'t>(
+    alloc: Global,
+    job: &Cron,
+    start: TableTime<'t>,
+    count: u32,
+) -> Result<Runs<'t>, CronError>
+    requires { 0 < count }
+    ensures listed { IfOk result (IsListed (job_of job.now) start.entry (Listing.Count count)) }
+    ensures err { IfErr result (λ e. e ≡ CronError.OutOfMemory) }
+{
+    let mut iterator = job.iter_after(start)?;
+    let (items, is_over) = next_runs(alloc, &mut iterator, count)?;
+    let end = end_of(is_over, iterator.fault())?;
+    Ok(Runs { items, end })
+}
+
+// How a listing of so many runs ends, of which the last call has this mark and leaves this fault.
+fn end_of(is_over: bool, fault: Option<&CronError>) -> Result<End, CronError>
+    ensures ends { IfOk result (EndsBy is_over (option_map (λ e. e.now) fault.entry)) }
+    ensures err { IfErr result (λ e. e ≡ CronError.OutOfMemory) }
+{
+    if is_over {
+        return Ok(End::Over);
+    }
+    match fault {
+        Some(fault) => {
+            let fault = fault.clone()?;
+            Ok(End::Failed(fault))
+        }
+        None => Ok(End::More),
+    }
+}
+
+// All runs up to a second, or the most. Few are searched first.
+fn runs_until<'t>(
+    alloc: Global,
+    job: &Cron,
+    start: TableTime<'t>,
+    until: i64,
+) -> Result<Runs<'t>, CronError>
+    ensures listed { IfOk result (IsListed (job_of job.now) start.entry (Listing.Until until)) }
+    ensures err { IfErr result (λ e. e ≡ CronError.OutOfMemory) }
+{
+    let runs = some_runs_until(alloc, job, start, FEW_RUNS, until)?;
+    if is_cut(&runs) {
+        return many_runs_until(alloc, job, start, until);
+    }
+    Ok(runs)
+}
+
+// The same where they are not few.
+fn many_runs_until<'t>(
+    alloc: Global,
+    job: &Cron,
+    start: TableTime<'t>,
+    until: i64,
+) -> Result<Runs<'t>, CronError>
+    ensures listed { IfOk result (IsListed (job_of job.now) start.entry (Listing.Until until)) }
+    ensures err { IfErr result (λ e. e ≡ CronError.OutOfMemory) }
+{
+    let runs = some_runs_until(alloc, job, start, MANY_RUNS, until)?;
+    if is_cut(&runs) {
+        return all_runs_until(alloc, job, start, until);
+    }
+    Ok(runs)
+}
+
+// The same of as many as are listed at all.
+fn all_runs_until<'t>(
+    alloc: Global,
+    job: &Cron,
+    start: TableTime<'t>,
+    until: i64,
+) -> Result<Runs<'t>, CronError>
+    ensures listed { IfOk result (IsListed (job_of job.now) start.entry (Listing.Until until)) }
+    ensures err { IfErr result (λ e. e ≡ CronError.OutOfMemory) }
+{
+    some_runs_until(alloc, job, start, MOST_RUNS, until)
+}
+
+// Those of so many runs, one at least, that come no later than a second.
+fn some_runs_until<'t>(
+    alloc: Global,
+    job: &Cron,
+    start: TableTime<'t>,
+    count: u32,
+    until: i64,
+) -> Result<Runs<'t>, CronError>
+    requires { 0 < count }
+    ensures listed { IfOk result (λ r. (r.end ≡ End.Cut → count ≡ most_runs) → IsListed (job_of job.now) start.entry (Listing.Until until) r) }
+    ensures err { IfErr result (λ e. e ≡ CronError.OutOfMemory) }
+{
+    let runs = some_runs(alloc, job, start, count)?;
+    Ok(cut_off(runs, until))
+}
+
+fn is_cut(runs: &Runs<'_>) -> bool
+    ensures { IsTrue result ↔ (runs.now.end ≡ End.Cut) }
+{
+    match runs.end {
+        End::Cut => true,
+        End::More | End::Over | End::Failed(_) => false,
+    }
+}
+
+// How many runs come no later than a second, of runs in order.
+fn count_until(items: &[TableTime<'_>], until: i64) -> usize
+    ensures count { result ≡ prefix_len (λ t. int_le t.second until) items.now }
+    ensures within { result ≤ length items.now }
+{
+    items.iter().take_while(|run| run.second() <= until).count()
+}
+
+// A listing without the runs behind a second.
+fn cut_off<'t>(runs: Runs<'t>, until: i64) -> Runs<'t>
+    ensures items { result.items.items ≡ take (prefix_len (λ t. int_le t.second until) runs.entry.items.items) runs.entry.items.items }
+    ensures end { result.end ≡ cut_end (nat_lt (prefix_len (λ t. int_le t.second until) runs.entry.items.items) (length runs.entry.items.items)) runs.entry.end }
+{
+    let Runs { mut items, end } = runs;
+    let count = count_until(items.as_slice(), until);
+    let is_less = count < items.len();
+    items.truncate(count);
+    Runs {
+        items,
+        end: cut_end(is_less, end),
+    }
+}
+
+// How a listing ends of which runs were left out, or none.
+fn cut_end(is_less: bool, end: End) -> End
+    ensures { result ≡ cut_end is_less end }
+{
+    if is_less {
+        return End::More;
+    }
+    match end {
+        End::More => End::Cut,
+        other => other,
+    }
+}
+
+/// What is listed on the clock of a zone is listed in the zone itself, as far as it lies in the clock's window.
+///
+/// For every pattern, from a start well in the window:
+///
+/// - items that begin the listing on the clock, none behind the window's last second, begin that of the zone;
+/// - where none is left out on the clock up to a second of the window, none of the zone's runs is;
+/// - where the items are all that is left on the clock in the years that are searched, each run of the zone is among them that
+///   lies in the window and in these years.
+pub fn runs_are_the_zones(clock: &Clock)
+    ensures begins { (zone : TimeZone) (first last : ℤ) (m : Meaning) (start : TableTime) →
+        IsOnClockOf zone first last (table_zone clock.now.table) (table_moment start) → (items : List ℤ) → BeginsRest (starts m start) items →
+        All (λ i. i ≤ℤ last) items → BeginsRest (in_zone (zoned_zone zone) (starts m start)) items }
+    ensures until { (zone : TimeZone) (first last : ℤ) (m : Meaning) (start : TableTime) →
+        IsOnClockOf zone first last (table_zone clock.now.table) (table_moment start) → (items : List ℤ) (until : ℤ) → until ≤ℤ last →
+        GaveUntil (starts m start) until items → GaveUntil (in_zone (zoned_zone zone) (starts m start)) until items }
+    ensures all { (zone : TimeZone) (first last : ℤ) (m : Meaning) (start : TableTime) →
+        IsOnClockOf zone first last (table_zone clock.now.table) (table_moment start) → (items : List ℤ) (i : ℤ) → i ≤ℤ last →
+        GaveAll (starts m start) items → IsLeft (in_zone (zoned_zone zone) (starts m start)) i →
+        InSpan Direction.Forward (zoned_zone zone).reads i → Contains items i }
+{
+    listing_of_a_window(clock.table());
+}

@@ -1,0 +1,319 @@
+//! The words of a call.
+ghost use Rattle.std.specs.Prelude.{◌≡◌, ◌≤◌, IfOk};
+ghost use Rattle.croncheck_command.specs.Moment.{moment_text};
+ghost use Rattle.croncheck_command.specs.Words.{IsInRange};
+
+use crate::escaped::push_shown;
+use crate::line::Dialect;
+use crate::moment::{Moment, read_moment};
+use crate::report::Tongue;
+use clap::error::ErrorKind;
+use clap::{Arg, ArgAction, ArgMatches, Command, value_parser};
+use croner::parser::{CronParser, Seconds, Year};
+use std::alloc::{AllocError, Global};
+
+/// The last line of what is told where the words of a call are not of its form.
+pub const USAGE: &str = "usage: croncheck [OPTIONS] [FILE]... (croncheck --help lists the options)";
+
+/// How the options of moments are written.
+const FROM: &str = "--from <DATETIME|@SECONDS|now>";
+
+const UNTIL: &str = "--until <DATETIME|@SECONDS>";
+
+/// The most runs of a line that are asked for.
+const MOST_RUNS: u32 = 1_000;
+
+const VERSION: &str = "4.0.3";
+
+const ABOUT: &str =
+    "Says what each line of a crontab is to Debian's cron: what it means, when it runs, or why it is refused";
+
+const AFTER_HELP: &str =
+    "DATETIME is YYYY-MM-DDTHH:MM:SS on the zone's clock, SECONDS are since 1970-01-01T00:00:00 UTC.
+With no FILE, or where FILE is -, standard input is read.
+
+Status: 0 all jobs were read, 1 a line is refused, 2 the words are not of this form, 3 a file, the zone or the output failed.";
+
+/// What the words of a call ask for.
+#[derive(Drop)]
+pub struct Call<'w> {
+    /// `local`, a POSIX rule, or the name of a zone.
+    pub zone: &'w str,
+    /// Where runs are listed from.
+    pub from: Moment,
+    pub span: Span,
+    pub dialect: Dialect,
+    /// The parser of the lines of a file of patterns.
+    pub parser: CronParser,
+    pub language: Tongue,
+    /// The files, in order; none is standard input.
+    pub files: Vec<&'w str>,
+}
+
+/// Up to where runs are listed.
+#[derive(Clone, Copy, Debug, PartialEq, Eq, Drop)]
+pub enum Span {
+    /// So many, from 0 to 1000.
+    Count(u32),
+    Until(Moment),
+}
+
+/// Why there is nothing to check.
+#[derive(Debug, Drop)]
+pub enum NoCall {
+    /// The words ask for this text: help, or the version.
+    Asked(String),
+    /// A word is not of its form: what is told of it.
+    Misused(String),
+    OutOfMemory,
+}
+
+impl From<AllocError> for NoCall {
+    fn from(_error: AllocError) -> NoCall {
+        NoCall::OutOfMemory
+    }
+}
+
+/// Reads the words of a call, the first of which is the program's name.
+pub fn read_call<'w>(alloc: Global, words: &'w [String]) -> Result<Call<'w>, NoCall>
+    ensures { IfOk result (λ call. IsInRange call.span) }
+{
+    let command = command(alloc)?;
+    match command.try_get_matches_from(words) {
+        Ok(matches) => call_of(alloc, &matches),
+        Err(error) => Err(told(alloc, &error)?),
+    }
+}
+
+// What is told where there are no matches.
+fn told(alloc: Global, error: &clap::Error) -> Result<NoCall, AllocError> {
+    let text = format!(in alloc; "{error}")?;
+    match error.kind() {
+        ErrorKind::DisplayHelp | ErrorKind::DisplayVersion => Ok(NoCall::Asked(text)),
+        ErrorKind::OutOfMemory => Ok(NoCall::OutOfMemory),
+        _ => Ok(NoCall::Misused(head(alloc, text.as_str())?)),
+    }
+}
+
+// The paragraphs of a message up to the one on the usage, as they are shown.
+fn head(alloc: Global, message: &str) -> Result<String, AllocError> {
+    let end = message.find("\n\nUsage:").unwrap_or(message.len());
+    let end = message.find("\n\nFor more").unwrap_or(end).min(end);
+    let mut text = String::new(alloc);
+    for line in message.get(..end).unwrap_or(message).lines() {
+        push_shown(&mut text, line.as_bytes())?;
+        text.push('\n')?;
+    }
+    Ok(text)
+}
+
+fn command<'w>(alloc: Global) -> Result<Command<'w>, AllocError> {
+    let command = Command::new(alloc, "croncheck")
+        .version(VERSION)
+        .about(ABOUT)
+        .after_help(AFTER_HELP);
+    let command = with_times(alloc, command)?;
+    let command = with_forms(alloc, command)?;
+    let command = with_parser(alloc, command)?;
+    command.arg(
+        Arg::new(alloc, "file")
+            .value_name("FILE")
+            .num_args(0..)
+            .help("The files to check; - is standard input"),
+    )
+}
+
+fn with_times<'w>(alloc: Global, command: Command<'w>) -> Result<Command<'w>, AllocError> {
+    command
+        .arg(
+            value(alloc, "zone", "NAME|RULE|local")
+                .default_value("local")
+                .help("The zone: by its name, as a POSIX rule, or the machine's"),
+        )?
+        .arg(
+            value(alloc, "from", "DATETIME|@SECONDS|now")
+                .default_value("now")
+                .help("Lists runs from here on, this second left out"),
+        )?
+        .arg(
+            value(alloc, "runs", "N")
+                .value_parser(value_parser!(u32).range(0..=1000))
+                .default_value("3")
+                .help("How many runs of each line, 0 to 1000"),
+        )?
+        .arg(
+            value(alloc, "until", "DATETIME|@SECONDS")
+                .conflicts_with("runs")?
+                .help("In place of --runs: all runs up to here"),
+        )
+}
+
+fn with_forms<'w>(alloc: Global, command: Command<'w>) -> Result<Command<'w>, AllocError> {
+    command
+        .arg(flag(alloc, "system").help("A user stands before each command, as in /etc/crontab"))?
+        .arg(
+            flag(alloc, "patterns").conflicts_with("system")?.help(
+                "Each line is a pattern of five to seven fields, and no command",
+            ),
+        )?
+        .arg(
+            value(alloc, "language", "LANGUAGE")
+                .value_parser(["en", "sv"].as_slice())
+                .default_value("en")
+                .help("The language of descriptions"),
+        )
+}
+
+fn with_parser<'w>(alloc: Global, command: Command<'w>) -> Result<Command<'w>, AllocError> {
+    command
+        .arg(setting(flag(alloc, "alternative-weekdays"))?.help(
+            "With --patterns: weekdays are 1 to 7 from Sunday",
+        ))?
+        .arg(setting(flag(alloc, "dom-and-dow"))?.help(
+            "With --patterns: both day fields must match",
+        ))?
+        .arg(setting(flag(alloc, "sloppy-ranges"))?.help(
+            "With --patterns: a step may follow a number, as 5/10",
+        ))?
+        .arg(field(alloc, "seconds")?.help("With --patterns: whether there is a field of seconds"))?
+        .arg(field(alloc, "year")?.help("With --patterns: whether there is a field of years"))
+}
+
+fn value<'w>(alloc: Global, id: &'w str, name: &'w str) -> Arg<'w> {
+    Arg::new(alloc, id)
+        .long(id)
+        .value_name(name)
+        .action(ArgAction::Set)
+}
+
+fn flag<'w>(alloc: Global, id: &'w str) -> Arg<'w> {
+    Arg::new(alloc, id).long(id).action(ArgAction::SetTrue)
+}
+
+fn setting(arg: Arg<'_>) -> Result<Arg<'_>, AllocError> {
+    arg.requires_arg("patterns")
+}
+
+fn field<'w>(alloc: Global, id: &'w str) -> Result<Arg<'w>, AllocError> {
+    let arg = value(alloc, id, "USE")
+        .value_parser(["optional", "required", "disallowed"].as_slice())
+        .default_value("optional");
+    setting(arg)
+}
+
+// What matches ask for.
+fn call_of<'w>(alloc: Global, matches: &ArgMatches<'w>) -> Result<Call<'w>, NoCall>
+    ensures { IfOk result (λ call. IsInRange call.span) }
+{
+    let from = moment(alloc, FROM, matches.get_str("from").unwrap_or("now"))?;
+    let span = read_span(alloc, matches)?;
+    Ok(Call {
+        zone: matches.get_str("zone").unwrap_or("local"),
+        from,
+        span,
+        dialect: dialect(matches),
+        parser: parser(matches),
+        language: language(matches),
+        files: files(alloc, matches)?,
+    })
+}
+
+fn files<'w>(alloc: Global, matches: &ArgMatches<'w>) -> Result<Vec<&'w str>, AllocError> {
+    let mut files = Vec::new(alloc);
+    if let Some(given) = matches.get_strs("file") {
+        files.extend_from_slice(given)?;
+    }
+    Ok(files)
+}
+
+// Up to where runs are listed.
+fn read_span(alloc: Global, matches: &ArgMatches<'_>) -> Result<Span, NoCall>
+    ensures { IfOk result IsInRange }
+{
+    match matches.get_str("until") {
+        Some("now") => Err(misused(alloc, UNTIL, "now")),
+        Some(word) => {
+            let until = moment(alloc, UNTIL, word)?;
+            Ok(Span::Until(until))
+        }
+        None => read_count(alloc, matches.get_str("runs").unwrap_or("3")),
+    }
+}
+
+// A count of runs.
+fn read_count(alloc: Global, word: &str) -> Result<Span, NoCall>
+    ensures { IfOk result IsInRange }
+{
+    match word.parse::<u32>() {
+        Ok(count) if count <= MOST_RUNS => Ok(Span::Count(count)),
+        _ => Err(misused(alloc, "--runs <N>", word)),
+    }
+}
+
+// The moment that the word of an option names.
+fn moment(alloc: Global, option: &str, word: &str) -> Result<Moment, NoCall>
+    ensures { IfOk result (λ moment. moment_text moment ≡ word.now) }
+{
+    match read_moment(alloc, word)? {
+        Some(moment) => Ok(moment),
+        None => Err(misused(alloc, option, word)),
+    }
+}
+
+// What is told of the word of an option that is not of its form.
+fn misused(alloc: Global, option: &str, word: &str) -> NoCall {
+    match misuse(alloc, option, word) {
+        Ok(text) => NoCall::Misused(text),
+        Err(_) => NoCall::OutOfMemory,
+    }
+}
+
+fn misuse(alloc: Global, option: &str, word: &str) -> Result<String, AllocError> {
+    let mut text = String::from_str(alloc, "error: invalid value '")?;
+    push_shown(&mut text, word.as_bytes())?;
+    write!(&mut text, "' for '{option}'\n")?;
+    Ok(text)
+}
+
+fn dialect(matches: &ArgMatches<'_>) -> Dialect {
+    if matches.get_flag("system") {
+        Dialect::System
+    } else if matches.get_flag("patterns") {
+        Dialect::Patterns
+    } else {
+        Dialect::User
+    }
+}
+
+fn language(matches: &ArgMatches<'_>) -> Tongue {
+    match matches.get_str("language") {
+        Some("sv") => Tongue::Swedish,
+        _ => Tongue::English,
+    }
+}
+
+fn parser(matches: &ArgMatches<'_>) -> CronParser {
+    CronParser::builder()
+        .alternative_weekdays(matches.get_flag("alternative-weekdays"))
+        .dom_and_dow(matches.get_flag("dom-and-dow"))
+        .sloppy_ranges(matches.get_flag("sloppy-ranges"))
+        .seconds(seconds(matches.get_str("seconds")))
+        .year(year(matches.get_str("year")))
+        .build()
+}
+
+fn seconds(word: Option<&str>) -> Seconds {
+    match word {
+        Some("required") => Seconds::Required,
+        Some("disallowed") => Seconds::Disallowed,
+        _ => Seconds::Optional,
+    }
+}
+
+fn year(word: Option<&str>) -> Year {
+    match word {
+        Some("required") => Year::Required,
+        Some("disallowed") => Year::Disallowed,
+        _ => Year::Optional,
+    }
+}
