@@ -2,9 +2,16 @@
 # What the scripts at the top share about a program of this repository: what it stands on, and whether it is proved and built.
 # They source this file with two names set: top, the folder of the repository, and program, the program's name.
 
-# shellcheck disable=SC2154
-built=$top/crates/$program/out/$program stamp=$top/crates/$program/out/build.stamp
 unset CDPATH
+
+# Takes up a program by its name.
+take_program() {
+    # shellcheck disable=SC2154
+    program=$1 built=$top/crates/$1/out/$1 stamp=$top/crates/$1/out/build.stamp
+}
+
+# shellcheck disable=SC2154
+take_program "$program"
 
 # The lines of crates.txt of the program and of all crates that it stands on, lowest first: by what each names, in whatever
 # order the lines come, and without comments.
@@ -35,7 +42,7 @@ crates_of() {
 }
 
 # Each source of the crates that are named, with its size and its time, so that one that was changed, added, removed or put back
-# shows. The folders take the place of the names.
+# shows, and behind a link what it leads to. The folders take the place of the names.
 sources_of() (
     cd "$top" || exit
     for each in "$@"; do
@@ -44,11 +51,12 @@ sources_of() (
         done
         shift
     done
-    [ $# = 0 ] || find "$@" ! -type d -printf '%p %s %T@\n' | LC_ALL=C sort
+    [ $# = 0 ] || find -L "$@" ! -type d -printf '%p %s %T@\n' | LC_ALL=C sort
 )
 
 # The identity of the kit whose rt is in PATH, without a call of rt: it stands in a file of the kit. Where that isn't found, the
-# file rt itself is the identity. Fails where there is no rt.
+# file rt itself is the identity: behind a script of one's own that is named rt, another kit shows only once that script is
+# changed, as only a call would tell. Fails where there is no rt.
 kit() {
     rt=$(command -v rt) && rt=$(readlink -f -- "$rt") || return 1
     if [ -f "${rt%/*/*}/KIT-ID" ]; then
@@ -78,7 +86,7 @@ is_current() {
 }
 
 # Records that the program was built from the state $1.
-record() {
+record_built() {
     { printf '%s\n' "$1" && program_file; } >"$stamp.new" && mv -f -- "$stamp.new" "$stamp"
 }
 
@@ -86,13 +94,15 @@ record() {
 
 room='' is_behind=no
 
+# The signals that end a script, by the numbers of Linux: HUP INT QUIT USR1 USR2 PIPE ALRM TERM XCPU XFSZ VTALRM PROF.
+signals='1 2 3 10 12 13 14 15 24 25 26 27'
+
 trap_signals() {
     trap clean_up EXIT
-    trap 'exit 129' HUP
-    trap 'exit 130' INT
-    trap 'exit 131' QUIT
-    trap 'exit 141' PIPE
-    trap 'exit 143' TERM
+    for number in $signals; do
+        # shellcheck disable=SC2064
+        trap "exit $((128 + number))" "$number"
+    done
 }
 
 make_room() {
@@ -128,7 +138,8 @@ stop_behind() {
 
 # A second signal would cut it short.
 clean_up() {
-    trap '' HUP INT QUIT PIPE TERM
+    # shellcheck disable=SC2086
+    trap '' $signals
     stop_behind
     [ -z "$room" ] || rm -rf -- "$room"
 }
