@@ -288,19 +288,22 @@ fn shown_item<T: Shown>(alloc: Global, item: &Option<(T, Vec<usize>)>) -> Result
     }
 }
 
-// An item of an iterator over a table, and how many items are given before it.
+// The first item of an iterator over a table, or the third, before which two are given.
 #[derive(Clone, Copy)]
 struct Listed<'t> {
     texts: &'t str,
     how: How,
-    before: u32,
+    is_third: bool,
 }
 
 impl<'t> OverTime for Listed<'t> {
     fn outcome<T: Shown>(&self, rt: &HostRuntime, start: T) -> Result<Outcome, Fault> {
         let table = table_of(rt.alloc(), self.texts)?;
         let mut runs = made(&table, start, self.how);
-        pass_over(&mut runs, self.before);
+        if self.is_third {
+            pass_over(&mut runs);
+            pass_over(&mut runs);
+        }
         let outcome = two_items(rt, &mut runs);
         drop(runs);
         drop(table);
@@ -308,10 +311,8 @@ impl<'t> OverTime for Listed<'t> {
     }
 }
 
-fn pass_over<T: Shown>(runs: &mut CronTableIterator<'_, T>, items: u32) {
-    for _ in 0..items {
-        let _passed = runs.next();
-    }
+fn pass_over<T: Shown>(runs: &mut CronTableIterator<'_, T>) {
+    let _item = runs.next();
 }
 
 fn two_items<T: Shown>(
@@ -347,15 +348,15 @@ fn both_items(alloc: Global, first: &String, second: &String) -> Result<String, 
 /// The first item of an iterator over times of a backend: a backend, a clock, texts, a maker and a start. Afterwards that item,
 /// asked for again with memory where it was refused, and the next.
 pub fn listing(rt: &HostRuntime, given: &[&str]) -> Result<Outcome, Fault> {
-    item_behind(rt, given, 0)
+    item_at(rt, given, false)
 }
 
 /// The same of the third item: the first for which runs are kept, and not each job is searched.
 pub fn third_item(rt: &HostRuntime, given: &[&str]) -> Result<Outcome, Fault> {
-    item_behind(rt, given, 2)
+    item_at(rt, given, true)
 }
 
-fn item_behind(rt: &HostRuntime, given: &[&str], before: u32) -> Result<Outcome, Fault> {
+fn item_at(rt: &HostRuntime, given: &[&str], is_third: bool) -> Result<Outcome, Fault> {
     let [backend, clock, texts, maker, time] = given else {
         return Err(Fault::Malformed);
     };
@@ -365,7 +366,15 @@ fn item_behind(rt: &HostRuntime, given: &[&str], before: u32) -> Result<Outcome,
         clock,
         time,
     };
-    over_time(rt, &Listed { texts, how, before }, place)
+    over_time(
+        rt,
+        &Listed {
+            texts,
+            how,
+            is_third,
+        },
+        place,
+    )
 }
 
 /// A copy of a table: its texts. Afterwards those of the original.
