@@ -6,7 +6,7 @@
     tools/crontab_model.py warnings [--system | --patterns] FILE ZONE FROM what is to be said of each line that is taken
 
 ZONE is a name of the machine's database or a POSIX rule; FROM and UNTIL are seconds since 1970. One line of JSON is
-printed for each line of the file.
+printed for each line of the file; of warnings, for each line that has some.
 
 How a line is read. Byte after byte, as cron's own reader goes over it: what is a setting is decided first, by its
 states; then a nickname or five fields; then a user, where the crontab is the system's; and what is left is the
@@ -17,8 +17,8 @@ How runs come about. The clock of a zone is its spans of one offset. In each spa
 looked at: it is named, or not. A job of one plain minute and one plain hour runs only where no earlier instant shows
 the same minute; and at the first instant behind a gap that holds a named minute, if the date there is named.
 
-How warnings come about: by looking at each date of 400 years, at each named minute, at each change of the clock; that
-a job never runs, by looking for its first run to the end of year 5000.
+How warnings come about: by the words of docs/CRONTAB.md over what the fields name, each month of each named year, each
+second that a change of the clock skips or repeats; that a job never runs, by looking for a run to the end of year 5000.
 """
 import bisect
 import functools
@@ -509,123 +509,278 @@ def first_run(job, zone, start):
         return None
     if not any(job.matches_date(number) for number in range(model.DAYS_OF_CYCLE)):
         return None
-    end = model.wall(LAST_YEAR + 1) - 1
-    near = min(end, start + 9 * YEAR_AND_A_DAY)
-    found = next(runs_of(job, Clock(zone, start, near), start, near), None)
-    if found is None and near < end:
-        found = next(runs_of(job, Clock(zone, near, end), near, end), None)
-    return found
+    last, first = model.wall(LAST_YEAR + 1) - 1, start
+    for days in (2, 40, 400, 9 * 366, last // DAY):
+        end = min(last, start + days * DAY)
+        found = next(runs_of(job, Clock(zone, first, end), first, end), None)
+        if found is not None or end == last:
+            return found
+        first = end
+    return None
 
 
 # ---- warnings
 
+ORDER = [
+    "either-day", "uneven-step", "step-beyond", "whole-hour", "short-months", "gone", "never", "looks-like-field", "percent",
+    "no-newline", "no-zone", "carriage-return", "empty-item", "gap", "twice", "cron-change",
+]
+FIELD_NAMES = ["seconds", "minutes", "hours", "days of the month", "months", "weekdays", "years"]
+MOST_LINES = 10_000
+SMALL_CHANGE = 3 * 3600
 
-def dates_by(job, month_days):
-    """Of the numbers of days: those whose day of the month is named, and those whose weekday is."""
-    months = [number for number in month_days if model.date_at(number)[1] in job.months.values]
-    by_day = [number for number in months if model.date_at(number)[2] in job.days.values]
-    by_weekday = [number for number in months if model.weekday_of(number) in job.weekdays.values]
-    return by_day, by_weekday
+
+class Times:
+    """What is looked at of a line's times: a crontab's job, or a pattern."""
+
+    def __init__(self, job, written, is_pattern):
+        self.job, self.written, self.is_pattern = job, written, is_pattern
+        self.minutes, self.hours = self.named("minutes"), self.named("hours")
+        self.days, self.months, self.weekdays = self.named("days"), self.named("months"), self.named("weekdays")
+        self.years = set(job.years.plain) if is_pattern else set(range(model.FIRST_YEAR, model.LAST_YEAR + 1))
+
+    def named(self, name):
+        field = getattr(self.job, name)
+        return set(field.plain if self.is_pattern else field.values)
+
+    def names_nothing(self):
+        """No date or no time of day is named: what a crontab's job may be, and a pattern never is."""
+        if self.is_pattern:
+            return False
+        days = self.days and self.weekdays if self.job.needs_both else self.days or self.weekdays
+        return not (self.minutes and self.hours and self.months and days)
+
+    def is_either_day(self):
+        """Either day field alone decides, and they aren't both of each day. A field that names nothing decides nothing."""
+        if self.is_pattern:
+            job = self.job
+            if job.days.is_star or job.weekdays.is_star or job.is_and:
+                return False
+        elif self.job.needs_both or not self.days or not self.weekdays:
+            return False
+        return not (len(self.days) == 31 and len(self.weekdays) == 7)
+
+    def has_short_months(self):
+        """Each named day lies above 28, and a named month of a named year is over before one of them."""
+        if self.is_pattern and (self.job.days.has_last_day or self.job.days.has_last_weekday or self.job.days.near):
+            return False
+        if not self.days or min(self.days) <= 28:
+            return False
+        ends = {model.month_at(year, month)[1] for year in self.years for month in self.months}
+        return min(ends, default=31) < max(self.days)
+
+    def is_fixed(self):
+        return self.job.is_fixed
+
+    def second_in(self, first, end):
+        """The first scheduled wall second from one to the last before another."""
+        return next((second for second in range(first, end) if self.job.is_scheduled(second)), None)
 
 
-def is_either_day(job):
-    """Neither day field begins with a star, and by the one other dates are named than by the other."""
-    if job.needs_both:
+def parts_of_word(word, place):
+    """The parts of a field's word by cron's reader; none of a word that it refuses."""
+    if place == "years":
+        least, most, names = 1, LAST_YEAR, []
+    else:
+        at = ["minutes", "hours", "days of the month", "months", "weekdays"].index({"seconds": "minutes"}.get(place, place))
+        least, most, names = FIELDS[at][1:]
+    line, parts = Bytes(word), []
+    try:
+        parts.append(part_at(line, least, most, names))
+        while line.now() == b",":
+            line.step()
+            parts.append(part_at(line, least, most, names))
+    except Refused:
+        return [], most
+    return ([] if line.now() == END else parts), most
+
+
+def warnings_of_steps(written):
+    """A star's step that leaves a last piece of another length; a step that never takes a second value."""
+    uneven, beyond = [], []
+    for name, word in written.items():
+        parts, most = parts_of_word(word, name)
+        turn = {"seconds": 60, "minutes": 60, "hours": 24}.get(name)
+        if turn and len(parts) == 1 and parts[0].is_star and turn % parts[0].step:
+            uneven.append(f"uneven-step {name}")
+        if any(part.step > most for part in parts):
+            beyond.append(f"step-beyond {name}")
+    return uneven + beyond
+
+
+def has_run(times, zone, start):
+    """Whether a pattern has a run behind a start: date after date, and second after second of each that is named."""
+    job = times.job
+    last = model.wall(LAST_YEAR + 1) - 1
+    for first, end in ((start, min(last, start + 2 * YEAR_AND_A_DAY)), (start, last)):
+        clock = Clock(zone, first, end)
+        if any(is_met(times, clock, start, number) for number in dates_of(times, clock, start, end)):
+            return True
+        if job.is_fixed and any(is_carried_to(times, before, after) and start < at for at, before, after in clock.changes()):
+            return True
+    return False
+
+
+def dates_of(times, clock, start, end):
+    first, last = clock.reads(start) // DAY - 1, end // DAY + 1
+    for year in sorted(times.years):
+        if model.year_of(first * DAY) <= year <= min(model.year_of(last * DAY), LAST_YEAR):
+            begin = model.day_number(year, 1, 1)
+            yield from (number for number in range(max(begin, first), begin + 366) if times.job.matches_date(number))
+
+
+def is_met(times, clock, start, number):
+    """Whether the clock shows a scheduled second of a date behind the start."""
+    job = times.job
+    for hour in job.hours.in_order():
+        for minute in job.minutes.in_order():
+            for second in job.seconds.in_order():
+                wall = number * DAY + hour * 3600 + minute * 60 + second
+                shown = sorted(wall - offset for offset in clock.offsets if clock.reads(wall - offset) == wall)
+                if any(start < instant for instant in (shown[:1] if job.is_fixed else shown)):
+                    return True
+    return False
+
+
+def is_carried_to(times, before, after):
+    """Whether a run of a gap is moved to its end: that of a fixed time, where the date there fits."""
+    job = times.job
+    if not (before < after and job.is_fixed and job.matches_date(after // DAY)):
         return False
-    by_day, by_weekday = dates_by(job, range(model.DAYS_OF_CYCLE))
-    return by_day != by_weekday
+    return times.second_in(before, after) is not None
 
 
-def uneven_steps(job):
-    """The fields of minutes and hours that are one star with a step that doesn't divide an hour or a day."""
-    found = []
-    for name, field, whole in (("minutes", job.minutes, 60), ("hours", job.hours, 24)):
-        if len(field.parts) == 1 and field.parts[0].is_star and whole % field.parts[0].step != 0:
-            found.append(name)
-    return found
-
-
-def steps_beyond(job):
-    """The fields with a step that is larger than the field's last value."""
-    return [name for (name, *_), field in zip(FIELDS, job.fields) if any(part.step > field.most for part in field.parts)]
-
-
-def is_whole_hour(job):
-    """Each minute of one hour."""
-    return len(job.minutes.values) == 60 and len(job.hours.values) == 1
-
-
-def lacks(month, day):
-    """Whether the month is without the day in some year."""
-    return any(day > model.month_at(year, month)[1] for year in range(2000, 2400))
-
-
-def is_short_months(job):
-    """Each named day lies above 28, and a named month lacks one in some year."""
-    days = job.days.values
-    return bool(days) and min(days) > 28 and any(lacks(month, day) for month in job.months.values for day in days)
-
-
-def at_changes(job, clock, start):
-    """What becomes of the job's runs at each change of the clock in the year and the day behind the start.
-
-    At a change, in this order: the name of what is said, what becomes of the runs here, and what cron does with them.
-    """
-    if len(job.hours.values) == 24:
-        return []
-    found = []
-    for instant, before, after in clock.changes():
-        if not start < instant <= start + YEAR_AND_A_DAY:
-            continue
-        if not any(job.is_scheduled(second) for second in minutes_between(min(before, after), max(before, after))):
-            continue
-        is_small = abs(after - before) < 3 * 3600
-        makes_up = is_small and not job.is_repeated_by_cron
-        if before < after:
-            here = "moved" if is_carried(job, before, after) else "left out"
-            cron = "moved" if makes_up else "left out"
-            found.append(("gap", instant, here, cron))
-        else:
-            here = "once of two" if job.is_fixed else "twice"
-            cron = "once of two" if makes_up else "twice"
-            found.append(("twice", instant, here, cron))
-    return found
-
-
-FIELD_SIGNS = re.compile(rb"[0-9*,/-]+")
-PERCENT = re.compile(rb"(?<!\\)%")
-
-
-def warnings_of_command(job):
-    """What a command alone shows."""
-    found = []
-    word = job.command.split(b" ")[0].split(b"\t")[0]
-    if FIELD_SIGNS.fullmatch(word):
-        found.append("looks-like-field")
-    if PERCENT.search(job.command):
-        found.append("percent")
-    if job.command.endswith(b"\r"):
-        found.append("carriage-return")
-    return found
-
-
-def warnings_of(job, zone, start):
-    """The names of what is to be said of a job, in order; at changes with what becomes of the runs."""
-    found = warnings_of_command(job)
-    if job.fields is None:
+def warnings_of_changes(times, zone, start):
+    """The first change behind the start that puts the clock forward over a scheduled second, and the first that repeats one."""
+    found, told = [], set()
+    if len(times.hours) == 24:
         return found
-    found += ["either-day"] if is_either_day(job) else []
-    found += [f"uneven-step {name}" for name in uneven_steps(job)]
-    found += [f"step-beyond {name}" for name in steps_beyond(job)]
-    found += ["whole-hour"] if is_whole_hour(job) else []
-    found += ["short-months"] if is_short_months(job) else []
-    if first_run(job, zone, start) is None:
-        return found + ["never"]
-    for name, instant, here, cron in at_changes(job, Clock(zone, start, start + YEAR_AND_A_DAY), start):
-        found.append(f"{name} @{instant} {here}")
-        if here != cron:
-            found.append(f"cron-change @{instant} {cron}")
+    for instant, before, after in Clock(zone, start, start + YEAR_AND_A_DAY).changes():
+        name = "gap" if before < after else "twice"
+        if name in told or not start < instant <= start + YEAR_AND_A_DAY:
+            continue
+        if times.second_in(min(before, after), max(before, after)) is None:
+            continue
+        told.add(name)
+        if name == "gap":
+            here = "moved" if is_carried_to(times, before, after) else "left out"
+        else:
+            here = "once" if times.is_fixed() else "twice"
+        found.append(f"{name} {here}")
+        if not times.is_pattern and here != fate_by_cron(times.job, name, abs(after - before)):
+            found.append(f"cron-change {fate_by_cron(times.job, name, abs(after - before))}")
     return found
+
+
+def fate_by_cron(job, name, size):
+    """cron(8): changes of less than three hours, and jobs whose minutes and hours are no wildcards."""
+    if size < SMALL_CHANGE and not job.is_repeated_by_cron:
+        return "moved" if name == "gap" else "once"
+    return "left out" if name == "gap" else "twice"
+
+
+def warnings_of_times(times, zone, start):
+    found = warnings_of_steps(times.written)
+    if times.names_nothing():
+        return found + ["never"]
+    found += ["either-day"] if times.is_either_day() else []
+    found += ["whole-hour"] if len(times.minutes) == 60 and len(times.hours) == 1 else []
+    if times.is_pattern:
+        year = model.year_of(Clock(zone, start, start).reads(start))
+        if all(named < year for named in times.years):
+            return found + ["gone"]
+        runs = has_run(times, zone, start)
+    else:
+        runs = first_run(times.job, zone, start) is not None
+    if not runs:
+        return found + ["never"]
+    found += ["short-months"] if times.has_short_months() else []
+    return found + warnings_of_changes(times, zone, start)
+
+
+def has_open_percent(command):
+    """Byte after byte as cron copies a command: what stands behind a backslash is copied, and a percent sign else ends it."""
+    at = 0
+    while at < len(command):
+        if command[at:at + 1] == b"%":
+            return True
+        at += 2 if command[at:at + 1] == b"\\" else 1
+    return False
+
+
+def warnings_of_command(command):
+    word = re.split(rb"[ \t]", command)[0]
+    found = ["looks-like-field"] if re.fullmatch(rb"[0-9*,/-]+", word) else []
+    found += ["percent"] if has_open_percent(command) else []
+    return found + (["carriage-return"] if command.endswith(b"\r") else [])
+
+
+def variable_of(text):
+    """The name of a setting, without its quotes."""
+    text = text.lstrip(b" \t")
+    name = text[:quoted_or_bare(text[:SETTING_BYTES], b"=" + SPACES, True)]
+    return name[1:-1] if name[:1] in (b'"', b"'") and name else name
+
+
+def in_order(found):
+    """The warnings of a line in the order in which they are given."""
+    return sorted(found, key=lambda said: ORDER.index(said.split(" ")[0]))
+
+
+def warnings_of_line(text, is_fed, is_system, zone, start):
+    """What is to be said of a line of a crontab."""
+    kind, job = line_of(text, is_system)
+    found = ["no-newline"] if kind in ("setting", "job") and not is_fed else []
+    if kind == "setting" and variable_of(text) in (b"CRON_TZ", b"TZ"):
+        found.append("no-zone")
+    if kind == "job":
+        found += warnings_of_command(job.command)
+        if job.fields is not None:
+            words = [] if job.schedule.startswith(b"@") else re.split(rb"[ \t]+", job.schedule)
+            found += warnings_of_times(Times(job, dict(zip(FIELD_NAMES[1:], words)), False), zone, start)
+    return in_order(found)
+
+
+def pattern_of(text):
+    """A pattern's job by the model of patterns, and its fields as they are written; nothing of what isn't one."""
+    nickname = NICKNAMES.get(text[1:].lower().encode("ascii")) if text.startswith("@") else None
+    read = (nickname or text).upper()
+    for names, least in ((MONTHS, 1), (WEEKDAYS, 0)):
+        for at, name in enumerate(names):
+            read = read.replace(name.upper(), str(least + at))
+    words = text.split()
+    words = words if len(words) > 5 else ["0"] + words
+    words = words if len(words) > 6 else words + ["*"]
+    written = {} if nickname else {name: word.encode("ascii") for name, word in zip(FIELD_NAMES, words)}
+    return model.Job(read), written
+
+
+def warnings_of_pattern(text, zone, start):
+    """What is to be said of a line of a file of patterns, which has to be one that the parser takes."""
+    text = text.decode("ascii").strip(" \t\r\v\f")
+    if not text or text.startswith("#"):
+        return []
+    job, written = pattern_of(text)
+    found = ["empty-item"] if any(b"" in word.split(b",") for word in written.values()) else []
+    return in_order(found + warnings_of_times(Times(job, written, True), zone, start))
+
+
+def warnings_of_file(data, is_system, is_pattern, zone, start):
+    """The warnings of all lines of a file, one after another, and that of the file."""
+    lines, found = lines_of(data), []
+    for text, is_fed in lines:
+        if is_pattern:
+            found.append(warnings_of_pattern(text, zone, start))
+        else:
+            found.append(warnings_of_line(text, is_fed, is_system, zone, start))
+    return found, ["many-lines"] if len(lines) > MOST_LINES and not is_pattern else []
+
+
+def warnings_of_row(row):
+    """The warnings of a row of crontab_warnings.txt."""
+    data = row["text"].encode("latin-1") * row.get("times", 1)
+    lines, file = warnings_of_file(data, row.get("system", False), row.get("patterns", False), row["zone"], row["from"])
+    return [said for found in lines for said in found] + file
 
 
 # ---- the program
@@ -639,26 +794,30 @@ def told_runs(text, is_system, zone, start, until):
     return told
 
 
-def told_warnings(text, is_system, zone, start):
-    kind, job = line_of(text, is_system)
-    told = {"kind": kind}
-    if kind == "job":
-        told["warnings"] = warnings_of(job, zone, start)
-    return told
+def print_warnings(path, is_system, is_pattern, zone, start):
+    """The warnings of each line of a file that has some, and those of the file."""
+    data = pathlib.Path(path).read_bytes()
+    lines, file = warnings_of_file(data, is_system, is_pattern, zone, start)
+    for at, found in enumerate(lines, 1):
+        if found:
+            print(json.dumps({"line": at, "warnings": found}))
+    if file:
+        print(json.dumps({"warnings": file}))
 
 
 def main(words):
-    is_system = "--system" in words
-    words = [word for word in words if word != "--system"]
+    is_system, is_pattern = "--system" in words, "--patterns" in words
+    words = [word for word in words if word not in ("--system", "--patterns")]
     if len(words) < 2:
         sys.exit(__doc__)
+    if words[0] == "warnings" and len(words) == 4:
+        print_warnings(words[1], is_system, is_pattern, words[2], int(words[3]))
+        return
     for text, is_fed in lines_of(pathlib.Path(words[1]).read_bytes()):
         if words[0] == "lines" and len(words) == 2:
             told = told_line(text, is_fed, is_system)
         elif words[0] == "runs" and len(words) == 5:
             told = told_runs(text, is_system, words[2], int(words[3]), int(words[4]))
-        elif words[0] == "warnings" and len(words) == 4:
-            told = told_warnings(text, is_system, words[2], int(words[3]))
         else:
             sys.exit(__doc__)
         print(json.dumps(told))

@@ -97,59 +97,74 @@ impl Group {
         watch: &mut Watch<'_>,
     ) -> Result<Answers, CronError> {
         let jobs = subjects.jobs.as_slice();
-        let times = &subjects.times;
-        let never = &subjects.never;
-        let hostile = &subjects.hostile;
         match self {
             Group::Parse => parse(alloc, subjects.patterns.as_slice()),
-            Group::MatchCivil => matching(jobs, times.civil.as_slice()),
+            Group::HostileShort => read_hostile(alloc, subjects.hostile.short.as_slice()),
+            Group::HostileMiddle => read_hostile(alloc, subjects.hostile.middle.as_slice()),
+            Group::HostileLong => read_hostile(alloc, subjects.hostile.long.as_slice()),
+            Group::MatchCivil => matching(jobs, subjects.times.civil.as_slice()),
+            Group::DescribeEnglish => describe(jobs, English),
+            Group::DescribeSwedish => describe(jobs, Swedish),
+            Group::Compare => compare(jobs),
+            Group::Copy => copy(jobs),
+            _ => self.search(subjects, watch),
+        }
+    }
+
+    // The searches of one job at a time.
+    fn search(self, subjects: &Subjects<'_>, watch: &mut Watch<'_>) -> Result<Answers, CronError> {
+        let jobs = subjects.jobs.as_slice();
+        let (times, never) = (&subjects.times, &subjects.never);
+        match self {
             Group::NextCivil => next(jobs, times.civil.as_slice()),
             Group::PreviousCivil => previous(jobs, times.civil.as_slice()),
             Group::NextTable => next(jobs, times.table.as_slice()),
             Group::NextZoned => next(jobs, times.zoned.as_slice()),
             Group::IterateCivil => iterate(jobs, times.civil.as_slice()),
             Group::IterateTable => iterate(jobs, times.table.as_slice()),
-            Group::DescribeEnglish => describe(jobs, English),
-            Group::DescribeSwedish => describe(jobs, Swedish),
-            Group::Compare => compare(jobs),
-            Group::Copy => copy(jobs),
             Group::LeapMonday => next(subjects.rare.as_slice(), times.civil.as_slice()),
             Group::NoDate => limit(&never.no_date, &never.first),
             Group::NoDateInOddYears => limit(&never.no_date_in_odd_years, &never.first),
             Group::NoMinute => limit(&never.no_minute, &never.first),
             Group::NextLongTable => next(jobs, times.long_table.as_slice()),
             Group::NextFarOnLongTable => next(jobs, times.far_on_long_table.as_slice()),
-            Group::HostileShort => read_hostile(alloc, hostile.short.as_slice()),
-            Group::HostileMiddle => read_hostile(alloc, hostile.middle.as_slice()),
-            Group::HostileLong => read_hostile(alloc, hostile.long.as_slice()),
-            Group::NextOfEach => many::next_each(jobs, times.civil.as_slice()),
-            Group::NextOfMany => many::next(&subjects.table, times.civil.as_slice()),
-            Group::IterateMany => many::iterate(&subjects.table, times.civil.as_slice()),
-            Group::IterateManyLater => {
-                many::iterate_later(&subjects.table, times.civil.as_slice(), watch)
-            }
-            Group::FirstOfMany => many::first(&subjects.table, times.civil.as_slice()),
-            Group::IterateDaily => many::iterate(&subjects.daily_table, times.civil.as_slice()),
-            Group::IterateDailyLong => {
-                many::iterate_long(&subjects.daily_table, times.civil.as_slice())
-            }
-            Group::IterateMore => many::iterate(&subjects.larger_table, times.civil.as_slice()),
-            Group::OverAnHour => next(
-                subjects.each_second.as_slice(),
-                times.before_an_hour.as_slice(),
-            ),
-            Group::OverADay => next(
-                subjects.each_second.as_slice(),
-                times.before_a_day.as_slice(),
-            ),
-            Group::HourlyOverAnHour => next(
-                subjects.hourly.as_slice(),
-                times.before_an_hour.as_slice(),
-            ),
-            Group::OftenOverAnHour => {
-                next(subjects.often.as_slice(), times.before_an_hour.as_slice())
-            }
+            _ => self.search_many(subjects, watch),
         }
+    }
+
+    // The searches of many jobs.
+    fn search_many(
+        self,
+        subjects: &Subjects<'_>,
+        watch: &mut Watch<'_>,
+    ) -> Result<Answers, CronError> {
+        let starts = subjects.times.civil.as_slice();
+        match self {
+            Group::NextOfEach => many::next_each(subjects.jobs.as_slice(), starts),
+            Group::NextOfMany => many::next(&subjects.table, starts),
+            Group::IterateMany => many::iterate(&subjects.table, starts),
+            Group::IterateManyLater => many::iterate_later(&subjects.table, starts, watch),
+            Group::FirstOfMany => many::first(&subjects.table, starts),
+            Group::IterateDaily => many::iterate(&subjects.daily_table, starts),
+            Group::IterateDailyLong => many::iterate_long(&subjects.daily_table, starts),
+            Group::IterateMore => many::iterate(&subjects.larger_table, starts),
+            _ => self.search_over_gap(subjects),
+        }
+    }
+
+    // The searches from a second before a gap: those of every second where no other job is named, and over an hour where no
+    // day is.
+    fn search_over_gap(self, subjects: &Subjects<'_>) -> Result<Answers, CronError> {
+        let jobs = match self {
+            Group::HourlyOverAnHour => subjects.hourly.as_slice(),
+            Group::OftenOverAnHour => subjects.often.as_slice(),
+            _ => subjects.each_second.as_slice(),
+        };
+        let starts = match self {
+            Group::OverADay => subjects.times.before_a_day.as_slice(),
+            _ => subjects.times.before_an_hour.as_slice(),
+        };
+        next(jobs, starts)
     }
 }
 

@@ -2,19 +2,21 @@
 #![tactic(auto)]
 
 use croncheck_command::clock::Clock;
-use croncheck_command::escaped::shown;
+use croncheck_command::files::{Sources, check_files, tell_files};
+use croncheck_command::json::JsonReporter;
 use croncheck_command::moment::second_of;
+use croncheck_command::plan::Planner;
 use croncheck_command::problem::Problem;
 use croncheck_command::report::Settings;
-use croncheck_command::reporter::{Reporter, status_of};
 use croncheck_command::runs::Listing;
 use croncheck_command::shown::Shared;
-use croncheck_command::words::{Call, NoCall, Span, USAGE, read_call};
+use croncheck_command::words::{Call, Form, NoCall, Span, USAGE, read_call};
 use croner::time::table::TableTime;
+use either::{Either, Left, Right};
 use jiff::Timestamp;
 use jiff::tz::{SystemTimeZone, TimeZone, TimeZoneDatabase};
 use std::fs::File;
-use std::io::{BufReader, BufWriter, ErrorKind, Write};
+use std::io::{BufReader, BufWriter, ErrorKind, Stdin};
 use std::process::ExitCode;
 use std::{env, io};
 
@@ -104,62 +106,56 @@ fn check(rt: &HostRuntime, call: &Call<'_>, zone: TimeZone<'_>) -> Result<u8, Pr
         listing,
     };
     let shared = Shared { zone, listing };
-    check_files(rt, call, &settings, &shared).map_err(Problem::Unwritten)
+    check_in(rt, call, &settings, &shared).map_err(Problem::Unwritten)
 }
 
-// Checks the files that the words name, or standard input.
-fn check_files(
+// The files of the machine, and its standard input.
+#[derive(Drop)]
+struct Machine<'r> {
+    rt: &'r HostRuntime,
+}
+
+impl Sources for Machine<'_> {
+    type Reader = Either<BufReader<Stdin>, BufReader<File>>;
+
+    ghost holds = { λ machine name remaining. Unit {0} };
+
+    fn open(&self, name: &str) -> io::Result<Either<BufReader<Stdin>, BufReader<File>>> {
+        if name == "-" {
+            let reader = BufReader::new(self.rt.alloc(), self.rt.stdin())?;
+            return Ok(Left(reader));
+        }
+        let opened = File::open(self.rt, name)?;
+        let reader = BufReader::new(self.rt.alloc(), opened)?;
+        Ok(Right(reader))
+    }
+}
+
+fn check_in(
     rt: &HostRuntime,
     call: &Call<'_>,
     settings: &Settings<'_>,
     shared: &Shared<'_>,
 ) -> io::Result<u8> {
     let out = BufWriter::new(rt.alloc(), rt.stdout())?;
-    let mut reporter = Reporter::new(rt.alloc(), settings, shared, out);
-    let mut is_failed = false;
-    if call.files.is_empty() {
-        is_failed = check_file(rt, "-", &mut reporter)?;
-    }
-    for file in call.files.iter() {
-        if check_file(rt, file, &mut reporter)? {
-            is_failed = true;
+    let (names, machine) = (call.files.as_slice(), Machine { rt });
+    match call.form {
+        Form::Report => check_files(
+            rt.alloc(),
+            settings,
+            shared,
+            &machine,
+            names,
+            out,
+            &mut rt.stderr(),
+        ),
+        Form::Plan => {
+            let planner = Planner::new(rt.alloc(), settings, shared, out);
+            tell_files(rt.alloc(), &machine, names, planner, &mut rt.stderr())
+        }
+        Form::Json => {
+            let reporter = JsonReporter::new(rt.alloc(), settings, shared, out);
+            tell_files(rt.alloc(), &machine, names, reporter, &mut rt.stderr())
         }
     }
-    reporter.flush()?;
-    let tally = reporter.tally();
-    let (jobs, refused) = (tally.jobs, tally.refused);
-    let noun = if jobs == 1 { "job" } else { "jobs" };
-    let _ = eprintln!(rt; "{jobs} {noun}, {refused} refused");
-    Ok(status_of(tally, is_failed))
-}
-
-// Checks a file, and answers whether it failed. The error is that of the output.
-fn check_file<W: Write + Drop>(
-    rt: &HostRuntime,
-    file: &str,
-    reporter: &mut Reporter<'_, '_, W>,
-) -> io::Result<bool> {
-    match report(rt, file, reporter) {
-        Ok(()) => Ok(false),
-        Err(error) if reporter.is_refused() => Err(error),
-        Err(error) => {
-            let name = shown(rt.alloc(), file.as_bytes())?;
-            let _ = eprintln!(rt; "croncheck: {name}: {error}");
-            Ok(true)
-        }
-    }
-}
-
-fn report<W: Write + Drop>(
-    rt: &HostRuntime,
-    file: &str,
-    reporter: &mut Reporter<'_, '_, W>,
-) -> io::Result<()> {
-    if file == "-" {
-        let mut reader = BufReader::new(rt.alloc(), rt.stdin())?;
-        return reporter.report(file, &mut reader);
-    }
-    let opened = File::open(rt, file)?;
-    let mut reader = BufReader::new(rt.alloc(), opened)?;
-    reporter.report(file, &mut reader)
 }

@@ -3,33 +3,35 @@ use Rattle.std.proofs.Common.{◌≡◌, ◌<◌, ◌≤◌, ◌∙◌, ◌∷�
 use Rattle.std.proofs.lemmas.Bool.{cases_lt, false≢true}
 use Rattle.std.proofs.lemmas.Bool.Decides.{nat_tests}
 use Rattle.std.proofs.lemmas.Int.{ints}
-use Rattle.std.proofs.lemmas.List.{get_or-take, get_or-map, length-take, length-map, length_push, take-map, take_all}
+use Rattle.std.proofs.lemmas.List.{get_or-take, get_or-map, length-take, length-map, take-map, take_all}
 use Rattle.std.proofs.lemmas.List.Elements.{All-nil, All-take}
 use Rattle.std.proofs.lemmas.List.Sums.{prefix_len_passes, prefix_len_stops}
 use Rattle.std.specs.List.{All, Contains, prefix_len}
-use Rattle.std.specs.Prelude.{◌⊎◌, ◌↔◌, int_le, nat_lt, IsTrue, ◌≤ℤ◌, ◌<ℤ◌}
+use Rattle.std.specs.Prelude.{◌⊎◌, ◌↔◌, ◌&&◌, pos, neg_ℤ, int_le, nat_lt, IsTrue, ◌≤ℤ◌, ◌<ℤ◌}
 use Rattle.croner_base.specs.declared.errors.CronError.{CronError}
 use Rattle.croner_base.specs.declared.errors.CronError.TheVariants as errors
 use Rattle.croner_base.specs.declared.time.Direction.TheVariants.{Forward}
 use Rattle.croner_base.specs.declared.time.table.TableTime.{TableTime}
 use Rattle.croner_base.specs.Calm.{IsStart}
+use Rattle.croner_base.specs.Civil.{wall_second}
+use Rattle.croner_base.specs.declared.time.civil.CivilDateTime.{CivilDateTime}
 use Rattle.croner_base.specs.TableZone.{table_moment}
 use Rattle.croner_base.specs.Zone.{reading}
 use Rattle.croner_base.proofs.TableCalm.{clock_calm, table_holds}
-use Rattle.croner_base.proofs.TableTests.{le_of}
+use Rattle.croner_base.proofs.Chronology.{start_years}
+use Rattle.croner_base.proofs.TableTests.{both_parts, le_of, le_test}
 use Rattle.croner_pattern.specs.Meaning.{Meaning}
-use Rattle.croner.specs.declared.iterator.CronIterator.{CronIterator}
 use Rattle.croner.specs.iterator.Faults.{IsMemoryAlone}
-use Rattle.croner.specs.iterator.Listing.{Standing, standing_of, BeginsWhere, BeginsRest, IsLeft, GaveAll, TakesInTurn}
+use Rattle.croner.specs.iterator.Listing.{Standing, BeginsWhere, BeginsRest, IsLeft, GaveAll}
 use Rattle.croner.specs.laws.Neighbours.{IsWholeIn}
 use Rattle.croner.specs.search.PatternJob.{timetable_of}
 use Rattle.croner.specs.search.Premises.{StartsCalm, IsSearchable}
-use Rattle.croner.specs.search.Searches.{IsRefused}
+use Rattle.croner.specs.search.Searches.{IsFound, IsRefused}
 use Rattle.croncheck_command.specs.declared.runs.End.{End}
 use Rattle.croncheck_command.specs.declared.runs.End.TheVariants as ends
 use Rattle.croncheck_command.specs.declared.runs.Listing.TheVariants as listings
 use Rattle.croncheck_command.specs.declared.runs.Runs.{Runs}
-use Rattle.croncheck_command.specs.Runs.{starts, seconds_of, most_runs, GaveUntil, GaveMany, StartsWell, IsEnd, EndsBy, end_of_refusal, cut_end, IsListedFrom, IsListed}
+use Rattle.croncheck_command.specs.Runs.{starts, seconds_of, most_runs, GaveUntil, LeavesOne, LeavesBehind, StartsWell, IsEnd, EndsBy, end_of_refusal, cut_end, IsListedFrom, IsListed}
 
 -- ---- the start
 
@@ -66,72 +68,84 @@ refused_end m start (errors.IllegalCharacters text) is = refused m start (errors
 refused_end m start (errors.ComponentError text) is = refused m start (errors.ComponentError text) is (λ e. cc)
 refused_end m start errors.OutOfMemory is = refused m start errors.OutOfMemory is (λ e. cc)
 
--- ---- so many
+-- a run that was found is left
+pub found_left : (m : Meaning) (start found : TableTime) → IsFound Forward false (timetable_of m) (table_moment start) (table_moment found) → LeavesOne (starts m start)
+found_left m start found is = (found.second, (is.nearest (starts_calm start)).counts)
 
--- a last call that gave nothing else gave an item
-some_item : (calls : ℕ) (old new : CronIterator TableTime) (items : List TableTime) → 0 < calls → TakesInTurn table_moment false calls old new items false
-    → (standing_of table_moment new).fault ≡ None → 0 < length items
-some_item zero old new items some taken none = absurd (omega (arith, some))
-some_item (suc calls) old new items some taken none = elim taken.4 [
-  | inl gave_none ↦ absurd (gave_none.1 none)
-  | inr gave ↦ omega (arith, ap length gave.2, length_push taken.1 gave.0)
-]
+-- ---- so many
 
 none_alone : (fault : Option CronError) (e : CronError) → IsMemoryAlone false fault → fault ≡ Some e → ⊥
 none_alone fault e alone is = elim alone [ inl none ↦ (cc) | inr (memory, can) ↦ false≢true can ]
 
--- what the end of so many calls says, by the mark and the fault of the last one
-count_end : (s : Standing) (old new : CronIterator TableTime) (calls : ℕ) (items : List TableTime) (end : End) (mark : Bool) (fault : Option CronError)
-    → (standing_of table_moment new).fault ≡ fault → (StartsWell s → IsSearchable s.position) → 0 < calls
+-- what the end of so many calls says, by whether there are as many items, the fault and the mark of the last call, and the start
+count_end : (s : Standing) (calls : ℕ) (items : List TableTime) (end : End) (full : Bool) (fault : Option CronError) (mark well : Bool)
+    → (StartsWell s → IsSearchable s.position) → 0 < calls → IsTrue full ↔ (length items ≡ calls) → IsTrue well ↔ StartsWell s
     → (IsTrue mark → GaveAll s (seconds_of items))
     → (IsSearchable s.position → (length items ≡ calls) ⊎ GaveAll s (seconds_of items))
     → (IsSearchable s.position → IsMemoryAlone false fault)
-    → TakesInTurn table_moment false calls old new items mark → EndsBy mark fault end → IsEnd s (listings.Count calls) (seconds_of items) end
-count_end s old new calls items end true fault is well some all counted memory taken ends_so =
-    subst (λ (e : End). IsEnd s (listings.Count calls) (seconds_of items) e) (sym ends_so) (all refl)
-count_end s old new calls items end false None is well some all counted memory taken ends_so =
+    → EndsBy full fault mark well end → IsEnd s (listings.Count calls) (seconds_of items) end
+count_end s calls items end true fault mark well held some is_full is_well all counted memory ends_so =
     let same : length (seconds_of items) ≡ length items = length-map items (λ (t : TableTime). (table_moment t).instant) in
-    let item : 0 < length items = some_item calls old new items some taken is in
     subst (λ (e : End). IsEnd s (listings.Count calls) (seconds_of items) e) (sym ends_so)
-    (λ more. omega (arith, same, item), λ starts_well. elim (counted (well starts_well)) [ inl as_many ↦ inl (same ∙ as_many) | inr given ↦ inr given ])
-count_end s old new calls items end false (Some e) is well some all counted memory taken ends_so =
+    (same ∙ is_full.0 refl, λ none. absurd (omega (arith, some, none)))
+count_end s calls items end false (Some e) mark well held some is_full is_well all counted memory ends_so =
     subst (λ (e : End). IsEnd s (listings.Count calls) (seconds_of items) e) (sym ends_so.1)
-    (λ starts_well. none_alone (Some e) e (memory (well starts_well)) refl)
+    (λ starts_well. none_alone (Some e) e (memory (held starts_well)) refl)
+count_end s calls items end false None true well held some is_full is_well all counted memory ends_so =
+    subst (λ (e : End). IsEnd s (listings.Count calls) (seconds_of items) e) (sym ends_so) (all refl)
+count_end s calls items end false None false true held some is_full is_well all counted memory ends_so =
+    let given : GaveAll s (seconds_of items) = elim (counted (held (is_well.0 refl))) [ inl as_many ↦ absurd (false≢true (is_full.1 as_many)) | inr given ↦ given ] in
+    subst (λ (e : End). IsEnd s (listings.Count calls) (seconds_of items) e) (sym ends_so) given
+count_end s calls items end false None false false held some is_full is_well all counted memory ends_so =
+    subst (λ (e : End). IsEnd s (listings.Count calls) (seconds_of items) e) (sym ends_so) (λ starts_well. false≢true (is_well.1 starts_well))
 
-pub some_listed : (s : Standing) (old new : CronIterator TableTime) (calls : ℕ) (r : Runs) (mark : Bool)
-    → StartsCalm s.position → (StartsWell s → IsSearchable s.position) → 0 < calls
+pub some_listed : (s : Standing) (calls : ℕ) (r : Runs) (full : Bool) (fault : Option CronError) (mark well : Bool)
+    → StartsCalm s.position → (StartsWell s → IsSearchable s.position) → 0 < calls → IsTrue full ↔ (length r.items.items ≡ calls)
+    → IsTrue well ↔ StartsWell s
     → (StartsCalm s.position → BeginsRest s (seconds_of r.items.items))
     → (StartsCalm s.position → IsTrue mark → GaveAll s (seconds_of r.items.items))
     → (IsSearchable s.position → (length r.items.items ≡ calls) ⊎ GaveAll s (seconds_of r.items.items))
-    → (IsSearchable s.position → IsMemoryAlone false (standing_of table_moment new).fault)
-    → TakesInTurn table_moment false calls old new r.items.items mark
+    → (IsSearchable s.position → IsMemoryAlone false fault)
     → All (λ t. IsWholeIn s.position.zone (table_moment t)) r.items.items → length r.items.items ≤ calls
-    → EndsBy mark (standing_of table_moment new).fault r.end → IsListedFrom s (listings.Count calls) r
-some_listed s old new calls r mark calm well some begins all counted memory taken whole most ends_so =
+    → EndsBy full fault mark well r.end → IsListedFrom s (listings.Count calls) r
+some_listed s calls r full fault mark well calm held some is_full is_well begins all counted memory whole most ends_so =
     let same : length (seconds_of r.items.items) ≡ length r.items.items = length-map r.items.items (λ (t : TableTime). (table_moment t).instant) in
     record {
       begins = begins calm;
       asked = omega (arith, same, most);
       on_clock = whole;
-      end = count_end s old new calls r.items.items r.end mark (standing_of table_moment new).fault refl well some (all calm) counted memory taken ends_so;
+      end = count_end s calls r.items.items r.end full fault mark well held some is_full is_well (all calm) counted memory ends_so;
     }
 
 -- the same of an iterator that is new at the start
-pub some_listed_at : (m : Meaning) (start : TableTime) (old new : CronIterator TableTime) (calls : ℕ) (r : Runs) (mark : Bool)
-    → standing_of table_moment old ≡ starts m start → 0 < calls
-    → (StartsCalm (standing_of table_moment old).position → BeginsRest (standing_of table_moment old) (seconds_of r.items.items))
-    → (StartsCalm (standing_of table_moment old).position → IsTrue mark → GaveAll (standing_of table_moment old) (seconds_of r.items.items))
-    → (IsSearchable (standing_of table_moment old).position → (length r.items.items ≡ calls) ⊎ GaveAll (standing_of table_moment old) (seconds_of r.items.items))
-    → (IsSearchable (standing_of table_moment old).position → IsMemoryAlone false (standing_of table_moment new).fault)
-    → TakesInTurn table_moment false calls old new r.items.items mark
-    → All (λ t. IsWholeIn (standing_of table_moment old).position.zone (table_moment t)) r.items.items → length r.items.items ≤ calls
-    → EndsBy mark (standing_of table_moment new).fault r.end → IsListed m start (listings.Count calls) r
-some_listed_at m start old new calls r mark same some begins all counted memory taken whole most ends_so =
-    let calm : StartsCalm (standing_of table_moment old).position = subst (λ (s : Standing). StartsCalm s.position) (sym same) (starts_calm start) in
-    let well : StartsWell (standing_of table_moment old) → IsSearchable (standing_of table_moment old).position =
+pub some_listed_at : (m : Meaning) (start : TableTime) (at : Standing) (calls : ℕ) (r : Runs) (full : Bool) (fault : Option CronError) (mark well : Bool)
+    → at ≡ starts m start → 0 < calls → IsTrue full ↔ (length r.items.items ≡ calls) → IsTrue well ↔ IsStart (reading (table_moment start))
+    → (StartsCalm at.position → BeginsRest at (seconds_of r.items.items))
+    → (StartsCalm at.position → IsTrue mark → GaveAll at (seconds_of r.items.items))
+    → (IsSearchable at.position → (length r.items.items ≡ calls) ⊎ GaveAll at (seconds_of r.items.items))
+    → (IsSearchable at.position → IsMemoryAlone false fault)
+    → All (λ t. IsWholeIn at.position.zone (table_moment t)) r.items.items → length r.items.items ≤ calls
+    → EndsBy full fault mark well r.end → IsListed m start (listings.Count calls) r
+some_listed_at m start at calls r full fault mark well same some is_full is_well begins all counted memory whole most ends_so =
+    let calm : StartsCalm at.position = subst (λ (s : Standing). StartsCalm s.position) (sym same) (starts_calm start) in
+    let held : StartsWell at → IsSearchable at.position =
     λ w. subst (λ (s : Standing). IsSearchable s.position) (sym same) (searchable start (subst (λ (s : Standing). StartsWell s) same w)) in
+    let is_well' : IsTrue well ↔ StartsWell at = subst (λ (s : Standing). IsTrue well ↔ StartsWell s) (sym same) is_well in
     subst (λ (s : Standing). IsListedFrom s (listings.Count calls) r) same
-    (some_listed (standing_of table_moment old) old new calls r mark calm well some begins all counted memory taken whole most ends_so)
+    (some_listed at calls r full fault mark well calm held some is_full is_well' begins all counted memory whole most ends_so)
+
+-- the years from which no search fails
+pub well_years : (c : CivilDateTime) (b : Bool) (w : ℤ) → wall_second c ≡ w → b ≡ (int_le (neg_ℤ (pos 9997)) c.date.year && int_le c.date.year (pos 9997)) → IsTrue b ↔ IsStart w
+well_years c b w shows is =
+    let years = start_years c in
+    let y = c.date.year in
+    subst (λ (x : ℤ). IsTrue b ↔ IsStart x) shows (
+      λ t. let parts = both_parts (int_le (neg_ℤ (pos 9997)) y) (int_le y (pos 9997)) (sym is ∙ t) in
+          years.1 (le_of (neg_ℤ (pos 9997)) y parts.0, le_of y (pos 9997) parts.1),
+      λ h. let low = le_test (neg_ℤ (pos 9997)) y (years.0 h).0 in
+          let high = le_test y (pos 9997) (years.0 h).1 in
+          is ∙ ap (λ (x : Bool). x && int_le y (pos 9997)) low ∙ high,
+    )
 
 -- a test that is false says that a fact isn't so
 pub not_so : (P : Type 0) (b : Bool) → IsTrue b ↔ P → b ≡ false → P → ⊥
@@ -140,7 +154,7 @@ not_so P b iff isnt p = absurd (false≢true (sym isnt ∙ iff.1 p))
 -- ---- cut off behind a second
 
 -- what is taken of a list is what stands at its first places
-taken_at : {X : Type 0} (n : ℕ) (xs : List X) (k : ℕ) (d : X) → k < length (take n xs) → (k < n) × (k < length xs) × (get_or (take n xs) k d ≡ get_or xs k d)
+pub taken_at : {X : Type 0} (n : ℕ) (xs : List X) (k : ℕ) (d : X) → k < length (take n xs) → (k < n) × (k < length xs) × (get_or (take n xs) k d ≡ get_or xs k d)
 taken_at n xs k d within =
     let short : length (take n xs) ≡ min n (length xs) = length-take n xs in
     let first : k < n = omega (arith, short, within) in
@@ -228,12 +242,12 @@ all_until start until xs = λ k d within.
     let passes : int_le (get_or xs k start).second until ≡ true = prefix_len_passes (λ (t : TableTime). int_le t.second until) xs k start at.0 in
     subst (λ (y : ℤ). y ≤ℤ until) (sym is) (le_of (get_or xs k start).second until passes)
 
-not_le : (a b : ℤ) → int_le a b ≡ false → b <ℤ a
+pub not_le : (a b : ℤ) → int_le a b ≡ false → b <ℤ a
 not_le a b h = grind (arith, ints)
 
 -- none is left out up to the second where one behind it is cut off
 cut_complete : (m : Meaning) (start : TableTime) (until : ℤ) (xs : List TableTime) → BeginsRest (starts m start) (seconds_of xs) → kept until xs < length xs
-    → GaveUntil (starts m start) until (seconds_of (take (kept until xs) xs))
+    → GaveUntil (starts m start) until (seconds_of (take (kept until xs) xs)) × LeavesBehind (starts m start) until
 cut_complete m start until xs begins less =
     let n = kept until xs in
     let x = (get_or xs n start).second in
@@ -241,18 +255,20 @@ cut_complete m start until xs begins less =
     let at : get_or (seconds_of xs) n x ≡ x = at_second xs n start x less in
     let stops : int_le x until ≡ false = prefix_len_stops (λ (t : TableTime). int_le t.second until) xs start less in
     let past : until <ℤ x = not_le x until stops in
-    λ i left le.
-    subst (λ (ys : List ℤ). Contains ys i) (take-map (λ (t : TableTime). (table_moment t).instant) n xs)
-    (first_complete (IsLeft (starts m start)) n (seconds_of xs) until x begins (omega (arith, same, less)) at past i left le)
+    let inside : n < length (seconds_of xs) = omega (arith, same, less) in (
+      λ i left le.
+          subst (λ (ys : List ℤ). Contains ys i) (take-map (λ (t : TableTime). (table_moment t).instant) n xs)
+          (first_complete (IsLeft (starts m start)) n (seconds_of xs) until x begins inside at past i left le),
+      (x, subst (IsLeft (starts m start)) at (begins.counts n x inside), past),
+    )
 
 -- what the end says once runs were cut off, or none
 cut_is_end : (s : Standing) (until : ℤ) (count : ℕ) (end cut : End) (all some : List ℤ) (b : Bool) → IsEnd s (listings.Count count) all end
-    → cut ≡ cut_end b end → (cut ≡ ends.Cut → count ≡ most_runs) → (b ≡ true → GaveUntil s until some) → (b ≡ false → some ≡ all)
+    → cut ≡ cut_end b end → (cut ≡ ends.Cut → count ≡ most_runs) → (b ≡ true → GaveUntil s until some × LeavesBehind s until) → (b ≡ false → some ≡ all)
     → IsEnd s (listings.Until until) some cut
 cut_is_end s until count end cut all some true is cut_so most gave same = subst (λ (e : End). IsEnd s (listings.Until until) some e) (sym cut_so) (gave refl)
 cut_is_end s until count ends.More cut all some false is cut_so most gave same =
-    let many : GaveMany s most_runs all = subst (λ (k : ℕ). GaveMany s k all) (most cut_so) is.1 in
-    subst (λ (e : End). IsEnd s (listings.Until until) some e) (sym cut_so) (subst (λ (ys : List ℤ). GaveMany s most_runs ys) (sym (same refl)) many)
+    subst (λ (e : End). IsEnd s (listings.Until until) some e) (sym cut_so) (ap length (same refl) ∙ is.0 ∙ most cut_so)
 cut_is_end s until count ends.Over cut all some false is cut_so most gave same =
     subst (λ (e : End). IsEnd s (listings.Until until) some e) (sym cut_so) (subst (λ (ys : List ℤ). GaveAll s ys) (sym (same refl)) is)
 cut_is_end s until count ends.Cut cut all some false is cut_so most gave same = absurd is
@@ -277,6 +293,6 @@ cut_listed m start until count r cut l items_are end_is most =
       on_clock = subst (λ (ys : List TableTime). All (λ t. IsWholeIn s.position.zone (table_moment t)) ys) (sym items_are)
           (All-take (λ t. IsWholeIn s.position.zone (table_moment t)) n xs l.on_clock);
       end = cut_is_end s until count r.end cut.end (seconds_of xs) (seconds_of cut.items.items) (nat_lt n (length xs)) l.end end_is most
-          (λ test. subst (λ (ys : List TableTime). GaveUntil s until (seconds_of ys)) (sym items_are)
+          (λ test. subst (λ (ys : List TableTime). GaveUntil s until (seconds_of ys) × LeavesBehind s until) (sym items_are)
           (cut_complete m start until xs l.begins (grind (arith, nat_tests)))) whole;
     }

@@ -12,23 +12,27 @@ abbrev pub Tells : {S : Type 0} → (S → Tally) → (S → Settings) → S →
 Tells tally_of settings_of old y new = Tallies (settings_of old) (tally_of old) y (tally_of new) × (settings_of new ≡ settings_of old)
 
 tallies_in_turn : {S : Type 0} (tally_of : S → Tally) (settings_of : S → Settings) (s : Settings) (ys : List (Line × Bool)) (old new : S)
-    → settings_of old ≡ s → TakesInTurn (Tells tally_of settings_of) old ys new → TakesInTurn (Tallies s) (tally_of old) ys (tally_of new)
-tallies_in_turn tally_of settings_of s [] old new e h = ap tally_of h
+    → settings_of old ≡ s → TakesInTurn (Tells tally_of settings_of) old ys new
+    → TakesInTurn (Tallies s) (tally_of old) ys (tally_of new) × (settings_of new ≡ s)
+tallies_in_turn tally_of settings_of s [] old new e h = (ap tally_of h, ap settings_of h ∙ e)
 tallies_in_turn tally_of settings_of s (y ∷ ys) old new e h =
     let between = h.0 in
     let told = h.1 in
     let P : Settings → Type 0 = λ x. Tallies x (tally_of old) y (tally_of between) in
-    (tally_of between, subst P e told.0, tallies_in_turn tally_of settings_of s ys between new (told.1 ∙ e) h.2)
+    let rest = tallies_in_turn tally_of settings_of s ys between new (told.1 ∙ e) h.2 in
+    ((tally_of between, subst P e told.0, rest.0), rest.1)
 
--- what was told of each line of a file, one after the other
+-- what was told of each line of a file, one after the other, by settings that stay
 pub checked : {S : Type 0} (new : S) (tally_of : S → Tally) (settings_of : S → Settings) (s : Settings) (remaining : Option (List ℕ)) (old : S)
-    (last : Tally) → settings_of old ≡ s → last ≡ tally_of new → TakesAll (Tells tally_of settings_of) s.dialect remaining old new
-    → IfSome remaining (λ text. IsChecked s text (tally_of old) last)
-checked new tally_of settings_of s None old last e k h = tt
-checked new tally_of settings_of s (Some text) old last e k h =
+    (last : Tally) (end : Settings) → settings_of old ≡ s → last ≡ tally_of new → end ≡ settings_of new
+    → TakesAll (Tells tally_of settings_of) s.dialect remaining old new
+    → IfSome remaining (λ text. IsChecked s text (tally_of old) last × (end ≡ s))
+checked new tally_of settings_of s None old last end e k m h = tt
+checked new tally_of settings_of s (Some text) old last end e k m h =
     let ys = map (entry_of_line s.dialect) h.0 in
     let P : Tally → Type 0 = λ t. TakesInTurn (Tallies s) (tally_of old) ys t in
-    (h.0, h.1, subst P (sym k) (tallies_in_turn tally_of settings_of s ys old new e h.2))
+    let all = tallies_in_turn tally_of settings_of s ys old new e h.2 in
+    ((h.0, h.1, subst P (sym k) all.0), m ∙ all.1)
 
 -- what holds in any case
 pub always : {T E P : Type 0} (r : Result T E) → P → OnOk r P

@@ -18,7 +18,7 @@ something_left [] h = h
 something_left (x ∷ xs) h = omega arith
 
 -- one more was taken
-in_turn_push : {S Y : Type 0} (takes : S → Y → S → Type 0) (old now new : S) (ys : List Y) (y : Y) → TakesInTurn takes old ys now → takes now y new
+pub in_turn_push : {S Y : Type 0} (takes : S → Y → S → Type 0) (old now new : S) (ys : List Y) (y : Y) → TakesInTurn takes old ys now → takes now y new
     → TakesInTurn takes old (ys ++ y ∷ []) new
 in_turn_push {S} takes old now new [] y same one = let P : S → Type 0 = λ s. takes s y new in (new, subst P same one, refl)
 in_turn_push takes old now new (x ∷ xs) y all one = (all.0, all.1, in_turn_push takes all.0 now new xs y all.2 one)

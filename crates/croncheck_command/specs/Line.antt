@@ -201,11 +201,15 @@ abbrev pub are_patterns : Dialect → Bool
 are_patterns dialects.Patterns = true
 are_patterns other = false
 
+-- a line of a file of patterns: its text without the spaces behind it, where any is left
+abbrev pub entry_of_pattern : List ℕ → Line
+entry_of_pattern text = if length (trimmed text) == 0 then blank else pattern (trimmed text)
+
 -- a line, in a dialect
 abbrev pub entry_of : Dialect → List ℕ → Line
 entry_of dialect line =
     let text = behind kinds.Blank line in
     if length text == 0 then blank
     else if begins_with 35 text then comment
-    else if are_patterns dialect then pattern (trimmed text)
+    else if are_patterns dialect then entry_of_pattern text
     else entry_of_text (is_system dialect) text

@@ -1,7 +1,9 @@
 -- What a line is told. Source: this crate's documentation of `Report`.
-use Rattle.std.specs.Prelude.{◌≡◌, ◌↔◌, ◌&&◌, ◌==◌, ◌≤ℤ◌, ℕ, ◌+◌, Bool, true, false, IsTrue, IsErr, ℤ, List, length, Option, Some, None, option_map, Result, Ok, Err, string_bytes, IsUtf8, if◌then◌else◌}
+use Rattle.std.specs.Prelude.{◌≡◌, ◌↔◌, ◌&&◌, ◌==◌, ◌≤ℤ◌, ℕ, ◌+◌, Bool, true, false, IsTrue, ℤ, List, length, Option, Some, None, option_map, Result, Ok, Err, string_bytes, IsUtf8, if◌then◌else◌}
 use Rattle.std.specs.declared.string.String.{String}
 use Rattle.std.specs.declared.alloc.Global.{Global}
+use Rattle.croner_base.specs.declared.errors.CronError.{CronError}
+use Rattle.croner_base.specs.declared.errors.CronError.TheVariants.{OutOfMemory}
 use Rattle.croner_base.specs.declared.time.civil.CivilDateTime.{CivilDateTime}
 use Rattle.croner_base.specs.Civil.{wall_second}
 use Rattle.croner_base.specs.TableZone.{table_moment}
@@ -12,8 +14,11 @@ use Rattle.croner_pattern.specs.Schedule.{is_year_matching}
 use Rattle.croner_words.specs.English.{english}
 use Rattle.croner_words.specs.Swedish.{swedish}
 use Rattle.croner_words.specs.Wording.{Wording}
+use Rattle.croner.specs.declared.parser.fault.PatternFault.{PatternFault}
 use Rattle.croner.specs.parser.Faults.{refusal_of, IsPlaced}
-use Rattle.croner.specs.parser.Grammar.{Refusal, outcome}
+use Rattle.croner.specs.parser.Gives.{Fails}
+use Rattle.croner.specs.parser.Grammar.{Refusal, outcome, Texts}
+use Rattle.croncheck_command.specs.declared.bytes.Kind.TheVariants as kinds
 use Rattle.croncheck_command.specs.declared.line.Entry.{Entry}
 use Rattle.croncheck_command.specs.declared.line.Entry.TheVariants as entries
 use Rattle.croncheck_command.specs.declared.report.JobReport.{JobReport}
@@ -30,11 +35,14 @@ use Rattle.croncheck_command.specs.declared.report.Why.TheVariants as whys
 use Rattle.croncheck_command.specs.declared.runs.End.{End}
 use Rattle.croncheck_command.specs.declared.runs.End.TheVariants as ends
 use Rattle.croncheck_command.specs.declared.runs.Runs.{Runs}
+use Rattle.croncheck_command.specs.declared.warnings.Warning.{Warning}
+use Rattle.croncheck_command.specs.Bytes.{front}
 use Rattle.croncheck_command.specs.Entries.{job_seen}
 use Rattle.croncheck_command.specs.Field.{smaller}
 use Rattle.croncheck_command.specs.Line.{Timing, reboot, never, named, Task}
 use Rattle.croncheck_command.specs.Parsed.{crontab_settings}
 use Rattle.croncheck_command.specs.Runs.{IsListed}
+use Rattle.croncheck_command.specs.Warnings.{fields_of_schedule, AreFieldsOfPattern, Subject, warnings_of}
 
 -- ---- a job
 
@@ -71,60 +79,6 @@ TellsTiming s reboot told = told ≡ tolds.Reboot
 TellsTiming s never told = told ≡ tolds.Nothing
 TellsTiming s (named text both) told = TellsMeaning s (outcome (crontab_settings both) text) told
 
--- a job's report has these texts, and its times are told so
-pub record IsJobTold (schedule : List ℕ) (user command : Option (List ℕ)) (tells : Told → Type 0) (j : JobReport) : Type 0 where
-  pub schedule_is : j.schedule.now ≡ schedule
-  pub user_is : option_map (λ u. u.now) j.user ≡ user
-  pub command_is : option_map (λ c. c.now) j.command ≡ command
-  pub tells_times : tells j.times
-
--- the parser refuses the text that a job's times were made into
-abbrev pub IsUnreadTiming : Timing → Type 0
-IsUnreadTiming reboot = ⊥
-IsUnreadTiming never = ⊥
-IsUnreadTiming (named text both) = IsErr (outcome (crontab_settings both) text)
-
--- why a job of a crontab is refused
-abbrev pub IsJobRefused : Task → Why → Type 0
-IsJobRefused task (whys.Cron fault) = ⊥
-IsJobRefused task (whys.Pattern fault) = ⊥
-IsJobRefused task (whys.Crate e) = IsUnreadTiming task.times
-IsJobRefused task whys.NotText = ⊥
-
--- the report of a job of a crontab
-abbrev pub IsReportOfJob : Settings → Task → Report → Type 0
-IsReportOfJob s task reports.Silent = ⊥
-IsReportOfJob s task (reports.Setting is_zone) = ⊥
-IsReportOfJob s task (reports.Job j) = IsJobTold task.schedule task.user (Some task.command) (TellsTiming s task.times) j
-IsReportOfJob s task (reports.Refused start end why) = IsJobRefused task why
-
--- ---- a pattern
-
--- why a pattern is refused: it is no text, or the parser refuses it, and then its fault is of that refusal's kind and in its place
-abbrev pub IsPatternRefused : Settings → List ℕ → Why → Type 0
-IsPatternRefused s text (whys.Cron fault) = ⊥
-IsPatternRefused s text (whys.Pattern fault) = (outcome s.parser text ≡ Err (refusal_of fault.kind)) × IsPlaced s.parser text fault
-IsPatternRefused s text (whys.Crate e) = ⊥
-IsPatternRefused s text whys.NotText = ¬ (IsUtf8 text)
-
--- the report of a pattern
-abbrev pub IsReportOfPattern : Settings → List ℕ → Report → Type 0
-IsReportOfPattern s text reports.Silent = ⊥
-IsReportOfPattern s text (reports.Setting is_zone) = ⊥
-IsReportOfPattern s text (reports.Job j) = IsJobTold text None None (TellsMeaning s (outcome s.parser text)) j
-IsReportOfPattern s text (reports.Refused start end why) = IsPatternRefused s text why
-
--- ---- a line
-
--- the report of an entry
-abbrev pub IsReport : Settings → Entry → Report → Type 0
-IsReport s entries.Blank r = r ≡ reports.Silent
-IsReport s entries.Comment r = r ≡ reports.Silent
-IsReport s (entries.Setting is_zone) r = r ≡ reports.Setting is_zone
-IsReport s (entries.Job j) r = IsReportOfJob s (job_seen j) r
-IsReport s (entries.Pattern text) r = IsReportOfPattern s text.now r
-IsReport s (entries.Refused fault start end) r = r ≡ reports.Refused start end (whys.Cron fault)
-
 -- ---- never
 
 abbrev pub is_over : End → Bool
@@ -133,11 +87,138 @@ is_over ends.Over = true
 is_over ends.Cut = false
 is_over (ends.Failed e) = false
 
--- the listing is over, and has no run
+-- a field names nothing, or the listing is over and has no run
 abbrev pub is_never : Told → Bool
 is_never tolds.Reboot = false
-is_never tolds.Nothing = false
+is_never tolds.Nothing = true
 is_never (tolds.Runs text runs is_past) = is_over runs.end && length runs.items.items == 0
+
+-- no year that it names is left at the start
+abbrev pub is_told_past : Told → Bool
+is_told_past tolds.Reboot = false
+is_told_past tolds.Nothing = false
+is_told_past (tolds.Runs text runs is_past) = is_past
+
+-- ---- warnings
+
+-- the meaning that was read
+abbrev pub meaning_read : Result Meaning Refusal → Option Meaning
+meaning_read (Ok m) = Some m
+meaning_read (Err refusal) = None
+
+-- the meaning of a job's times, where they have one
+abbrev pub meaning_of_timing : Timing → Option Meaning
+meaning_of_timing reboot = None
+meaning_of_timing never = None
+meaning_of_timing (named text both) = meaning_read (outcome (crontab_settings both) text)
+
+-- what is looked at of a job or a pattern that was told so
+abbrev pub subject_of : Option Texts → Option Meaning → Option (List ℕ) → Bool → Bool → Told → Subject
+subject_of fields meaning command is_crontab is_fed told = record {
+  fields = fields;
+  meaning = meaning;
+  command = command;
+  is_crontab = is_crontab;
+  is_fed = is_fed;
+  is_zone = false;
+  is_past = is_told_past told;
+  is_never = is_never told;
+}
+
+-- the warnings of a job of a crontab, with these texts and this meaning, that was told so
+pub record IsWarned (is_fed : Bool) (schedule command : List ℕ) (meaning : Option Meaning) (told : Told) (found : List Warning) : Type 0 where
+  pub are : found ≡ warnings_of (subject_of (fields_of_schedule schedule) meaning (Some command) true is_fed told)
+
+abbrev pub WarnsJob : Bool → Task → Told → List Warning → Type 0
+WarnsJob is_fed task told found = IsWarned is_fed task.schedule task.command (meaning_of_timing task.times) told found
+
+-- the warnings of a pattern of this meaning that was told so
+pub record WarnsPattern (is_fed : Bool) (text : List ℕ) (meaning : Option Meaning) (told : Told) (found : List Warning) : Type 0 where
+  pub fields : Option Texts
+  pub fields_are : AreFieldsOfPattern text fields
+  pub are : found ≡ warnings_of (subject_of fields meaning None false is_fed told)
+
+-- ---- the report of a job
+
+-- a job's report has these texts, its times are told so, and these are its warnings
+pub record IsJobTold (schedule : List ℕ) (user command : Option (List ℕ)) (tells : Told → Type 0) (warns : Told → List Warning → Type 0)
+    (j : JobReport) : Type 0 where
+  pub schedule_is : j.schedule.now ≡ schedule
+  pub user_is : option_map (λ u. u.now) j.user ≡ user
+  pub command_is : option_map (λ c. c.now) j.command ≡ command
+  pub tells_times : tells j.times
+  pub warned : warns j.times j.warnings.items
+
+-- the parser refuses a text with an error of this kind
+abbrev pub IsRefusalOf : CronError → Result Meaning Refusal → Type 0
+IsRefusalOf e read = Fails e read × ¬ (e ≡ OutOfMemory)
+
+-- so it refuses the text that a job's times were made into
+abbrev pub IsUnreadTiming : Timing → CronError → Type 0
+IsUnreadTiming reboot e = ⊥
+IsUnreadTiming never e = ⊥
+IsUnreadTiming (named text both) e = IsRefusalOf e (outcome (crontab_settings both) text)
+
+-- why a job of a crontab is refused
+abbrev pub IsJobRefused : Task → Why → Type 0
+IsJobRefused task (whys.Cron fault) = ⊥
+IsJobRefused task (whys.Pattern fault) = ⊥
+IsJobRefused task (whys.Crate e) = IsUnreadTiming task.times e
+IsJobRefused task whys.NotText = ⊥
+
+-- a place is the whole of a text behind so many blanks
+abbrev pub IsWholeBehind : ℕ → List ℕ → ℕ → ℕ → Type 0
+IsWholeBehind blanks text start end = (start ≡ blanks) × (end ≡ blanks + length text)
+
+-- a place is that of a fault in a text behind so many blanks
+abbrev pub IsFaultBehind : ℕ → PatternFault → ℕ → ℕ → Type 0
+IsFaultBehind blanks fault start end = (start ≡ blanks + fault.start) × (end ≡ blanks + fault.end)
+
+-- the report of a job of a crontab, behind so many blanks; the place of a refusal is that of its times
+abbrev pub IsReportOfJob : Bool → Settings → ℕ → Task → Report → Type 0
+IsReportOfJob is_fed s blanks task reports.Silent = ⊥
+IsReportOfJob is_fed s blanks task (reports.Setting is_zone) = ⊥
+IsReportOfJob is_fed s blanks task (reports.Job j) =
+    IsJobTold task.schedule task.user (Some task.command) (TellsTiming s task.times) (WarnsJob is_fed task) j
+IsReportOfJob is_fed s blanks task (reports.Refused start end why) = IsWholeBehind blanks task.schedule start end × IsJobRefused task why
+
+-- ---- a pattern
+
+-- why and where a pattern behind so many blanks is refused: the parser refuses it, and its fault is of that refusal's kind and in its place;
+-- or the whole of it is no text
+abbrev pub IsPatternRefused : Settings → ℕ → List ℕ → ℕ → ℕ → Why → Type 0
+IsPatternRefused s blanks text start end (whys.Cron fault) = ⊥
+IsPatternRefused s blanks text start end (whys.Pattern fault) =
+    (outcome s.parser text ≡ Err (refusal_of fault.kind)) × IsPlaced s.parser text fault × IsFaultBehind blanks fault start end
+IsPatternRefused s blanks text start end (whys.Crate e) = ⊥
+IsPatternRefused s blanks text start end whys.NotText = ¬ (IsUtf8 text) × IsWholeBehind blanks text start end
+
+-- the report of a pattern behind so many blanks
+abbrev pub IsReportOfPattern : Bool → Settings → ℕ → List ℕ → Report → Type 0
+IsReportOfPattern is_fed s blanks text reports.Silent = ⊥
+IsReportOfPattern is_fed s blanks text (reports.Setting is_zone) = ⊥
+IsReportOfPattern is_fed s blanks text (reports.Job j) =
+    IsJobTold text None None (TellsMeaning s (outcome s.parser text)) (WarnsPattern is_fed text (meaning_read (outcome s.parser text))) j
+IsReportOfPattern is_fed s blanks text (reports.Refused start end why) = IsPatternRefused s blanks text start end why
+
+-- ---- a line
+
+-- how many blanks stand in front of a line
+abbrev pub blanks_of : List ℕ → ℕ
+blanks_of line = length (front kinds.Blank line)
+
+-- the report of the entry of a line, which has its line feed or hasn't
+abbrev pub IsReportOfLine : Bool → Settings → List ℕ → Entry → Report → Type 0
+IsReportOfLine is_fed s line entries.Blank r = r ≡ reports.Silent
+IsReportOfLine is_fed s line entries.Comment r = r ≡ reports.Silent
+IsReportOfLine is_fed s line (entries.Setting is_zone) r = r ≡ reports.Setting is_zone
+IsReportOfLine is_fed s line (entries.Job j) r = IsReportOfJob is_fed s (blanks_of line) (job_seen j) r
+IsReportOfLine is_fed s line (entries.Pattern text) r = IsReportOfPattern is_fed s (blanks_of line) text.now r
+IsReportOfLine is_fed s line (entries.Refused fault start end) r = r ≡ reports.Refused start end (whys.Cron fault)
+
+-- the same of a line that has it
+abbrev pub IsReport : Settings → List ℕ → Entry → Report → Type 0
+IsReport s line entry r = IsReportOfLine true s line entry r
 
 -- ---- the tally
 

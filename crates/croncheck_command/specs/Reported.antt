@@ -8,11 +8,12 @@ use Rattle.croncheck_command.specs.Checked.{entry_of_line, TakesInTurn}
 use Rattle.croncheck_command.specs.Entries.{entry_seen}
 use Rattle.croncheck_command.specs.Line.{Line}
 use Rattle.croncheck_command.specs.Lines.{AreLines}
-use Rattle.croncheck_command.specs.Report.{IsReport, added}
+use Rattle.croncheck_command.specs.Report.{IsReportOfLine, added}
 
 -- an entry has a report, which is added to the tally
 abbrev pub Tallies : Settings → Tally → (Line × Bool) → Tally → Type 0
-Tallies s old y new = (entry : Entry) × (report : Report) × (entry_seen entry ≡ y.0) × IsReport s entry report × (new ≡ added old report)
+Tallies s old y new =
+    (line : List ℕ) × (entry : Entry) × (report : Report) × (entry_seen entry ≡ y.0) × IsReportOfLine y.1 s line entry report × (new ≡ added old report)
 
 -- each line of a text has exactly one entry, whose report is added to the tally, in order
 abbrev pub IsChecked : Settings → List ℕ → Tally → Tally → Type 0

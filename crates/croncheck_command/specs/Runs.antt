@@ -1,8 +1,8 @@
 -- Listings of the runs of a job after a start. Source: this crate's documentation of `Listing` and `End`.
-use Rattle.std.specs.Prelude.{◌≡◌, ◌⊎◌, ◌<◌, ◌≤◌, ℕ, Bool, true, false, ℤ, ◌≤ℤ◌, List, length, Option, Some, None}
+use Rattle.std.specs.Prelude.{◌≡◌, ◌≤◌, ℕ, Bool, true, false, ℤ, ◌<ℤ◌, ◌≤ℤ◌, List, length, Option, Some, None}
 use Rattle.std.specs.List.{All, Contains}
 use Rattle.croner_base.specs.declared.errors.CronError.{CronError}
-use Rattle.croner_base.specs.declared.errors.CronError.TheVariants.{TimeSearchLimitExceeded}
+use Rattle.croner_base.specs.declared.errors.CronError.TheVariants.{InvalidTime, TimeSearchLimitExceeded}
 use Rattle.croner_base.specs.declared.time.Direction.TheVariants.{Forward}
 use Rattle.croner_base.specs.declared.time.table.TableTime.{TableTime}
 use Rattle.croner_base.specs.Calm.{IsStart}
@@ -37,19 +37,24 @@ GaveUntil s until items = (i : ℤ) → IsLeft s i → i ≤ℤ until → Contai
 abbrev pub StartsWell : Standing → Type 0
 StartsWell s = IsStart (reading s.position)
 
--- there are as many items as that, or they are all that is left in the years that are searched
-abbrev pub GaveMany : Standing → ℕ → List ℤ → Type 0
-GaveMany s count items = StartsWell s → (length items ≡ count) ⊎ GaveAll s items
+-- a run is left
+abbrev pub LeavesOne : Standing → Type 0
+LeavesOne s = (i : ℤ) × IsLeft s i
 
--- more runs may come: there are as many items as were asked, and one at least; or none is left out up to the second
+-- a run is left behind a second
+abbrev pub LeavesBehind : Standing → ℤ → Type 0
+LeavesBehind s until = (i : ℤ) × IsLeft s i × (until <ℤ i)
+
+-- more runs may come: there are as many items as were asked, and of none that a run is left; or a run is left behind the second, and none is
+-- left out up to it
 abbrev pub IsMore : Standing → Listing → List ℤ → Type 0
-IsMore s (listings.Count count) items = (0 < count → 0 < length items) × GaveMany s count items
-IsMore s (listings.Until until) items = GaveUntil s until items
+IsMore s (listings.Count count) items = (length items ≡ count) × (count ≡ 0 → LeavesOne s)
+IsMore s (listings.Until until) items = GaveUntil s until items × LeavesBehind s until
 
 -- the most runs were listed
 abbrev pub IsCut : Standing → Listing → List ℤ → Type 0
 IsCut s (listings.Count count) items = ⊥
-IsCut s (listings.Until until) items = GaveMany s most_runs items
+IsCut s (listings.Until until) items = length items ≡ most_runs
 
 -- what the end of a listing says
 abbrev pub IsEnd : Standing → Listing → List ℤ → End → Type 0
@@ -58,11 +63,19 @@ IsEnd s listing items ends.Over = GaveAll s items
 IsEnd s listing items ends.Cut = IsCut s listing items
 IsEnd s listing items (ends.Failed e) = ¬ (StartsWell s)
 
--- how a listing ends where its last call has this mark and leaves this fault
-abbrev pub EndsBy : Bool → Option CronError → End → Type 0
-EndsBy true fault end = end ≡ ends.Over
-EndsBy false None end = end ≡ ends.More
-EndsBy false (Some e) end = (f : CronError) × (end ≡ ends.Failed f)
+-- how a listing of so many runs ends that has fewer, and no fault: none is left where the last call says so by its mark, or where no search
+-- fails from the start
+abbrev pub end_of_fewer : Bool → Bool → End
+end_of_fewer true well = ends.Over
+end_of_fewer false true = ends.Over
+end_of_fewer false false = ends.Failed InvalidTime
+
+-- how a listing of so many runs ends, by whether it has as many, the fault and the mark of its last call, and whether no search fails from
+-- its start
+abbrev pub EndsBy : Bool → Option CronError → Bool → Bool → End → Type 0
+EndsBy true fault mark well end = end ≡ ends.More
+EndsBy false (Some e) mark well end = (f : CronError) × (end ≡ ends.Failed f)
+EndsBy false None mark well end = end ≡ end_of_fewer mark well
 
 -- what the refusal of a search says of a listing: over at the limit, else failed
 abbrev pub end_of_refusal : CronError → End

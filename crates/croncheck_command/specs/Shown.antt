@@ -1,9 +1,11 @@
 -- Bytes of a file as they are shown.
-use Rattle.std.specs.Prelude.{ℕ, zero, suc, Bool, not, ◌&&◌, ◌==◌, nat_le, List, [], ◌∷◌, ◌++◌, length, take, drop, Option, Some, None}
+use Rattle.std.specs.Prelude.{◌≡◌, ℕ, zero, suc, Bool, true, false, not, ◌&&◌, ◌==◌, nat_le, List, [], ◌∷◌, ◌++◌, length, take, drop, Option, Some, None}
 use Rattle.std.specs.Str.{encode_utf8_all}
 use Rattle.bstr.specs.Escape.{escaped}
 use Rattle.bstr.specs.Utf8.{decoded}
 use Rattle.croner_base.specs.Excerpt.{shown}
+use Rattle.croncheck_command.specs.declared.report.Report.{Report}
+use Rattle.croncheck_command.specs.declared.report.Report.TheVariants as reports
 
 -- what is shown of the front of some bytes: the character that it is, or where there is none its first byte as `\xFF`
 abbrev pub front_shown : Option ℕ → List ℕ → List ℕ
@@ -32,3 +34,16 @@ is_harmless b = nat_le 32 b && not (b == 127)
 -- ASCII that is printed
 abbrev pub is_printed : ℕ → Bool
 is_printed b = nat_le 32 b && nat_le b 126
+
+-- ---- the text of a report
+
+-- there is something to tell of a line: it is a job, is refused, or sets a variable that says a zone elsewhere
+abbrev pub is_told : Report → Bool
+is_told reports.Silent = false
+is_told (reports.Setting is_zone) = is_zone
+is_told (reports.Job j) = true
+is_told (reports.Refused start end why) = true
+
+-- the text is lines, one at least, the last of which has its line feed
+abbrev pub AreLines : List ℕ → Type 0
+AreLines text = (front : List ℕ) × (text ≡ front ++ 10 ∷ [])

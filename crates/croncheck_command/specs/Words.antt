@@ -1,5 +1,5 @@
 -- The words of a call.
-use Rattle.std.specs.Prelude.{ℕ, ◌≤◌, ⊤}
+use Rattle.std.specs.Prelude.{◌≤◌, ⊤}
 use Rattle.croncheck_command.specs.declared.words.Span.{Span}
 use Rattle.croncheck_command.specs.declared.words.Span.TheVariants as spans
 

@@ -50,7 +50,7 @@ fn is_alphanumeric(byte: u8) -> bool
     is_digit(byte) || (b'A' <= byte && byte <= b'Z') || (b'a' <= byte && byte <= b'z')
 }
 
-fn is_of(kind: Kind, byte: u8) -> bool
+pub fn is_of(kind: Kind, byte: u8) -> bool
     ensures { result ≡ is_of kind byte }
 {
     match kind {

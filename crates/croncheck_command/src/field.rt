@@ -52,7 +52,7 @@ fn with_digit(number: u64, digit: u8) -> u64
     number.saturating_mul(10).saturating_add(digit).min(MOST)
 }
 
-fn digits(word: &[u8]) -> u64
+pub fn digits(word: &[u8]) -> u64
     ensures { result ≡ fold with_digit 0 word.now }
 {
     word.iter()
@@ -65,14 +65,14 @@ fn number_of(word: &[u8]) -> u64
     digits(word) % NUMBERS
 }
 
-fn all_digits(word: &[u8]) -> bool
+pub fn all_digits(word: &[u8]) -> bool
     ensures { result ≡ list_all is_digit word.now }
 {
     word.iter().all(|byte| is_digit(*byte))
 }
 
 // Whether a word is a name, which is given small.
-fn is_name(word: &[u8], name: &str) -> bool
+pub fn is_name(word: &[u8], name: &str) -> bool
     ensures { result ≡ bytes_eq (map to_ascii_lowercase word.now) (map to_ascii_lowercase name.now) }
 {
     word.eq_ignore_ascii_case(name.as_bytes())
@@ -132,7 +132,7 @@ fn weekday(word: &[u8]) -> Option<u64>
     }
 }
 
-fn name_of(names: Names, word: &[u8]) -> Option<u64>
+pub fn name_of(names: Names, word: &[u8]) -> Option<u64>
     ensures { result ≡ name_of names word.now }
 {
     match names {

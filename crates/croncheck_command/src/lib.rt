@@ -2,20 +2,26 @@
 #![tactic(auto)]
 
 mod bytes;
+pub mod changes;
 pub mod check;
 pub mod clock;
 pub mod escaped;
 mod field;
+pub mod files;
+pub mod json;
 pub mod line;
 pub mod lines;
 mod list;
 pub mod moment;
+pub mod notes;
 pub mod parsed;
 mod place;
+pub mod plan;
 pub mod problem;
 pub mod report;
 pub mod reporter;
 pub mod runs;
 mod setting;
 pub mod shown;
+pub mod warnings;
 pub mod words;

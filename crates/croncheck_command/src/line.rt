@@ -1,11 +1,12 @@
 //! What a line of a crontab is to cron.
-ghost use Rattle.std.specs.Prelude.{◌≡◌, ◌≤◌, Bool, false, None, Some, length, option_map, string_bytes, IfOk};
+ghost use Rattle.std.specs.Prelude.{◌≡◌, ◌≤◌, ℕ, List, Bool, false, None, Some, length, option_map, string_bytes, IfOk};
 ghost use Rattle.std.specs.Str.{bytes_eq};
 ghost use Rattle.croncheck_command.specs.declared.bytes.Kind.TheVariants as kinds;
-ghost use Rattle.croncheck_command.specs.Bytes.{front, until, rest_of};
-ghost use Rattle.croncheck_command.specs.Line.{named, pattern_of_nickname, nickname_of, next, behind_fields, words_of, are_both, spaced, scheduled, texts_of, times_of, with_command, commanded, commanded_by, timed, nicknamed, fielded, entry_of_text, job_of, is_system, are_patterns, entry_of};
+ghost use Rattle.croncheck_command.specs.Bytes.{front, behind, until, rest_of};
+ghost use Rattle.croncheck_command.specs.Line.{named, pattern_of_nickname, nickname_of, next, behind_fields, words_of, are_both, spaced, scheduled, texts_of, times_of, with_command, commanded, commanded_by, timed, nicknamed, fielded, entry_of_text, entry_of_pattern, job_of, is_system, are_patterns, entry_of};
 ghost use Rattle.croncheck_command.specs.Line as Spec;
 ghost use Rattle.croncheck_command.specs.Entries.{times_seen, words_seen, texts_read, read_seen, job_read, entry_seen, LiesIn};
+ghost use Rattle.croncheck_command.specs.Place.{NamesPlace};
 
 use crate::bytes::{Kind, begins_with, cut, rest_of, trimmed, until};
 use crate::field::{Names, Place};
@@ -20,31 +21,31 @@ const COMMAND_LENGTH: usize = 998;
 /// The byte that cron takes for the end of the file, where it stands first behind the fields.
 const END_OF_FILE: u8 = 255;
 
-const MINUTES: Place = Place {
+pub(crate) const MINUTES: Place = Place {
     first: 0,
     last: 59,
     names: Names::None,
 };
 
-const HOURS: Place = Place {
+pub(crate) const HOURS: Place = Place {
     first: 0,
     last: 23,
     names: Names::None,
 };
 
-const DAYS: Place = Place {
+pub(crate) const DAYS: Place = Place {
     first: 1,
     last: 31,
     names: Names::None,
 };
 
-const MONTHS: Place = Place {
+pub(crate) const MONTHS: Place = Place {
     first: 1,
     last: 12,
     names: Names::Months,
 };
 
-const WEEKDAYS: Place = Place {
+pub(crate) const WEEKDAYS: Place = Place {
     first: 0,
     last: 7,
     names: Names::Weekdays,
@@ -151,12 +152,12 @@ pub enum Entry<'l> {
 
 /// The words of a line, and what stands behind them.
 #[derive(Clone, Copy)]
-struct Words<'l> {
-    minutes: &'l [u8],
-    hours: &'l [u8],
-    days: &'l [u8],
-    months: &'l [u8],
-    weekdays: &'l [u8],
+pub(crate) struct Words<'l> {
+    pub(crate) minutes: &'l [u8],
+    pub(crate) hours: &'l [u8],
+    pub(crate) days: &'l [u8],
+    pub(crate) months: &'l [u8],
+    pub(crate) weekdays: &'l [u8],
     rest: &'l [u8],
 }
 
@@ -170,7 +171,7 @@ pub fn word(text: &[u8]) -> (&[u8], &[u8])
     (word, rest)
 }
 
-fn words_of(text: &[u8]) -> Words<'_>
+pub(crate) fn words_of(text: &[u8]) -> Words<'_>
     ensures { words_seen result ≡ words_of text.now }
 {
     let (minutes, rest) = word(text);
@@ -251,7 +252,7 @@ fn text_of_nickname(word: &[u8]) -> Option<&'static str>
     }
 }
 
-fn are_both(words: Words<'_>) -> bool
+pub(crate) fn are_both(words: Words<'_>) -> bool
     ensures { result ≡ are_both (words_seen words.entry) }
 {
     begins_with(words.days, b'*') || begins_with(words.weekdays, b'*')
@@ -451,6 +452,7 @@ fn job_of(alloc: Global, system: bool, text: &[u8]) -> Result<Result<Job<'_>, Fa
 fn refused<'l>(line: &[u8], text: &[u8], system: bool, fault: Fault) -> Entry<'l>
     ensures seen { entry_seen result ≡ Spec.refused fault }
     ensures placed { LiesIn (length line.now) result }
+    ensures exact { text.now ≡ behind kinds.Blank line.now → NamesPlace system line.now result }
 {
     let Span { start, end } = place_of(line, text, system, fault);
     Entry::Refused { fault, start, end }
@@ -465,6 +467,7 @@ fn entry_of_text<'l>(
 ) -> Result<Entry<'l>, AllocError>
     ensures seen { IfOk result (λ e. entry_seen e ≡ entry_of_text system text.now) }
     ensures placed { IfOk result (LiesIn (length line.now)) }
+    ensures exact { text.now ≡ behind kinds.Blank line.now → IfOk result (NamesPlace system line.now) }
 {
     if has(text, 0) {
         return Ok(refused(line, text, system, Fault::Nul));
@@ -480,12 +483,27 @@ fn entry_of_text<'l>(
     }
 }
 
+// A line of a file of patterns.
+fn entry_of_pattern(text: &[u8]) -> Entry<'_>
+    ensures seen { entry_seen result ≡ entry_of_pattern text.now }
+    ensures placed { (n : ℕ) → LiesIn n result }
+    ensures exact { (system : Bool) → (line : List ℕ) → NamesPlace system line result }
+{
+    let pattern = trimmed(text);
+    if pattern.is_empty() {
+        Entry::Blank
+    } else {
+        Entry::Pattern(pattern)
+    }
+}
+
 /// What a line is, which is given without its line feed, in a dialect.
 ///
-/// A refused line has its fault in a place of the line. The error comes where memory is lacking.
+/// A refused line names the place of its fault, which lies in the line. The error comes where memory is lacking.
 pub fn entry_of(alloc: Global, dialect: Dialect, line: &[u8]) -> Result<Entry<'_>, AllocError>
     ensures seen { IfOk result (λ e. entry_seen e ≡ entry_of dialect line.now) }
     ensures placed { IfOk result (LiesIn (length line.now)) }
+    ensures exact { IfOk result (NamesPlace (is_system dialect) line.now) }
 {
     let (_, text) = cut(line, Kind::Blank);
     if text.is_empty() {
@@ -493,7 +511,7 @@ pub fn entry_of(alloc: Global, dialect: Dialect, line: &[u8]) -> Result<Entry<'_
     } else if begins_with(text, b'#') {
         Ok(Entry::Comment)
     } else if dialect.are_patterns() {
-        Ok(Entry::Pattern(trimmed(text)))
+        Ok(entry_of_pattern(text))
     } else {
         entry_of_text(alloc, dialect.is_system(), line, text)
     }

@@ -32,7 +32,7 @@ pub fn parts_of(alloc: Global, place: Place, field: &[u8]) -> Result<Option<Vec<
     Ok(Some(parts))
 }
 
-fn names_nothing(part: &Part) -> bool
+pub fn names_nothing(part: &Part) -> bool
     ensures { result ≡ names_nothing part.now }
 {
     part.last < part.first

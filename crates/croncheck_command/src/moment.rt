@@ -1,9 +1,12 @@
 //! The moments that the words of a call name.
-ghost use Rattle.std.specs.Prelude.{◌≡◌, IfOk, IfSome};
+ghost use Rattle.std.specs.Prelude.{◌≡◌, ◌↔◌, ℤ, None, IsTrue, IfOk, IfSome};
+ghost use Rattle.std.proofs.Common.{w64, FitsSigned};
 ghost use Rattle.std.specs.Fmt.{signed_decimal};
 ghost use Rattle.jiff.specs.Names.{iso_datetime_text};
 ghost use Rattle.jiff.specs.ZoneView.{plain_zone};
-ghost use Rattle.croncheck_command.specs.Moment.{moment_text, IsShownIn, IsSecondOf};
+ghost use Rattle.jiff_core.specs.declared.Offset.{Offset};
+ghost use Rattle.jiff_tz.specs.Ambiguous.{IsInstantAt, instant_of};
+ghost use Rattle.croncheck_command.specs.Moment.{moment_text, IsNamed, IsRead, IsShownAt, IsShownIn, IsSecondOf};
 
 use jiff::civil::DateTime;
 use jiff::tz::TimeZone;
@@ -24,18 +27,16 @@ pub enum Moment {
     Civil(DateTime),
 }
 
-/// The moment that a word names, if it is of one of these forms: `now`, `@SECONDS`, `YYYY-MM-DDTHH:MM:SS`.
+/// The moment that a word names: of one of the forms `now`, `@SECONDS`, `YYYY-MM-DDTHH:MM:SS`, where the second is held and the date and
+/// time exists. There is none exactly where the word is of none of these forms.
 pub fn read_moment(alloc: Global, word: &str) -> Result<Option<Moment>, AllocError>
-    ensures { IfOk result (λ found. IfSome found (λ moment. moment_text moment ≡ word.now)) }
+    ensures { IfOk result (IsRead word.now) }
 {
     if word == "now" {
         return Ok(Some(Moment::Now));
     }
-    match word.strip_prefix('@') {
-        Some(digits) => match read_second(alloc, digits)? {
-            Some(second) => Ok(Some(Moment::Second(second))),
-            None => Ok(None),
-        },
+    match read_second(alloc, word)? {
+        Some(second) => Ok(Some(Moment::Second(second))),
         None => match read_civil(alloc, word)? {
             Some(civil) => Ok(Some(Moment::Civil(civil))),
             None => Ok(None),
@@ -43,15 +44,27 @@ pub fn read_moment(alloc: Global, word: &str) -> Result<Option<Moment>, AllocErr
     }
 }
 
+// The second of a word that is `@` and one.
+fn read_second(alloc: Global, word: &str) -> Result<Option<i64>, AllocError>
+    ensures found { IfOk result (λ found. IfSome found (λ second. moment_text (Moment.Second second) ≡ word.now)) }
+    ensures none { IfOk result (λ found. found ≡ None → (second : ℤ) → FitsSigned w64 second → ¬ (moment_text (Moment.Second second) ≡ word.now)) }
+{
+    match word.strip_prefix('@') {
+        Some(digits) => second_of_digits(alloc, digits),
+        None => Ok(None),
+    }
+}
+
 // A second as it is printed: without a plus, or zeros in front.
-fn read_second(alloc: Global, digits: &str) -> Result<Option<i64>, AllocError>
-    ensures { IfOk result (λ found. IfSome found (λ second. signed_decimal second ≡ digits.now)) }
+fn second_of_digits(alloc: Global, digits: &str) -> Result<Option<i64>, AllocError>
+    ensures found { IfOk result (λ found. IfSome found (λ second. signed_decimal second ≡ digits.now)) }
+    ensures none { IfOk result (λ found. found ≡ None → (second : ℤ) → FitsSigned w64 second → ¬ (signed_decimal second ≡ digits.now)) }
 {
     let Ok(second) = digits.parse::<i64>() else {
         return Ok(None);
     };
     let printed = format!(in alloc; "{second}")?;
-    if printed.as_str() == digits {
+    if is_same(printed.as_str(), digits) {
         Ok(Some(second))
     } else {
         Ok(None)
@@ -60,7 +73,8 @@ fn read_second(alloc: Global, digits: &str) -> Result<Option<i64>, AllocError>
 
 // A date and time as it is printed, with no fraction and no sign.
 fn read_civil(alloc: Global, word: &str) -> Result<Option<DateTime>, AllocError>
-    ensures { IfOk result (λ found. IfSome found (λ civil. iso_datetime_text civil ≡ word.now)) }
+    ensures found { IfOk result (λ found. IfSome found (λ civil. IsNamed (Moment.Civil civil) × (iso_datetime_text civil ≡ word.now))) }
+    ensures none { IfOk result (λ found. found ≡ None → (civil : DateTime) → IsNamed (Moment.Civil civil) → ¬ (iso_datetime_text civil ≡ word.now)) }
 {
     if word.len() != DATETIME_LENGTH {
         return Ok(None);
@@ -69,17 +83,24 @@ fn read_civil(alloc: Global, word: &str) -> Result<Option<DateTime>, AllocError>
         return Ok(None);
     };
     let printed = format!(in alloc; "{civil}")?;
-    if printed.as_str() == word {
+    if is_same(printed.as_str(), word) {
         Ok(Some(civil))
     } else {
         Ok(None)
     }
 }
 
+fn is_same(text: &str, other: &str) -> bool
+    ensures { IsTrue result ↔ (text.now ≡ other.now) }
+{
+    text == other
+}
+
 /// The second of a moment in a zone, where `now` is the second given. Of two seconds at which the zone's clock shows a date and time it is
-/// the earlier one; where the clock skips it there is none.
+/// the earlier one. There is none exactly where the clock shows it at neither of the two instants that the zone's rules give it: the clock
+/// skips it, or no timestamp holds it.
 pub fn second_of(moment: Moment, zone: &TimeZone<'_>, now: i64) -> Option<i64>
-    ensures { IfSome result (IsSecondOf (plain_zone zone.now) now moment) }
+    ensures { IsSecondOf (plain_zone zone.now) now moment result }
 {
     match moment {
         Moment::Now => Some(now),
@@ -89,7 +110,7 @@ pub fn second_of(moment: Moment, zone: &TimeZone<'_>, now: i64) -> Option<i64>
 }
 
 fn second_shown(civil: DateTime, zone: &TimeZone<'_>) -> Option<i64>
-    ensures { IfSome result (IsShownIn (plain_zone zone.now) civil) }
+    ensures { IsShownIn (plain_zone zone.now) civil result }
 {
     let found = zone.to_ambiguous_timestamp(civil);
     match if_shown(civil, zone, found.earlier()) {
@@ -100,7 +121,7 @@ fn second_shown(civil: DateTime, zone: &TimeZone<'_>) -> Option<i64>
 
 // The second of an instant at which the zone's clock shows a date and time.
 fn if_shown(civil: DateTime, zone: &TimeZone<'_>, instant: Result<Timestamp, Error>) -> Option<i64>
-    ensures { IfSome result (IsShownIn (plain_zone zone.now) civil) }
+    ensures { (offset : Offset) → IsInstantAt civil offset instant → IsShownAt (plain_zone zone.now) civil (instant_of civil offset) result }
 {
     match instant {
         Ok(instant) if zone.to_datetime(instant) == civil => Some(instant.as_second()),

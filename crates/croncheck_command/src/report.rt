@@ -1,5 +1,5 @@
 //! What a line is told: values, and no text but the description.
-ghost use Rattle.std.specs.Prelude.{◌≡◌, ◌↔◌, ◌&&◌, ◌≤◌, Ok, ℕ, pos, int_le, IsTrue, IsErr, IfOk, IfErr, OnOk, OnErr, Result};
+ghost use Rattle.std.specs.Prelude.{◌≡◌, ◌↔◌, ◌&&◌, ◌+◌, ◌≤◌, Ok, ℕ, pos, int_le, length, true, false, IsTrue, IfOk, IfErr, None, Some, option_map, Result};
 ghost use Rattle.croner_base.specs.Limits.{last_year};
 ghost use Rattle.croner_base.specs.Zone.{reading};
 ghost use Rattle.croner_base.specs.TableZone.{table_moment};
@@ -8,15 +8,19 @@ ghost use Rattle.croner_pattern.specs.Meaning.{Meaning};
 ghost use Rattle.croner_pattern.specs.Schedule.{is_year_matching};
 ghost use Rattle.croner_words.specs.Writes.{Writes};
 ghost use Rattle.croner.specs.parser.Gives.{Fails};
-ghost use Rattle.croner.specs.parser.Grammar.{Refusal, outcome};
+ghost use Rattle.croner.specs.parser.Grammar.{Refusal};
 ghost use Rattle.croner.specs.Views.{job_of as meaning_of_job};
 ghost use Rattle.croncheck_command.specs.Entries.{job_seen, times_seen};
-ghost use Rattle.croncheck_command.specs.Report.{wording_of, NamesNoneFrom, IsPastAt, IsTold, TellsMeaning, TellsTiming, IsUnreadTiming, IsReportOfJob, IsPatternRefused, IsReportOfPattern, IsReport, is_over, is_never, one_more, added, status_of};
+ghost use Rattle.croncheck_command.specs.Report.{wording_of, NamesNoneFrom, IsPastAt, IsTold, TellsMeaning, TellsTiming, IsRefusalOf, IsUnreadTiming, IsReportOfJob, IsPatternRefused, IsReportOfPattern, blanks_of, IsReport, IsReportOfLine, is_over, is_never, is_told_past, subject_of, IsWarned, WarnsJob, WarnsPattern, one_more, added, status_of};
+ghost use Rattle.croncheck_command.specs.Warnings.{fields_seen, subject_seen};
 
 use crate::bytes::{Kind, cut};
 use crate::line::{Dialect, Entry, Fault, Job, Times};
 use crate::parsed::job_of;
 use crate::runs::{End, Listing, Runs, runs_of};
+use crate::warnings::{
+    Fields, Subject, Warning, fields_of_pattern, fields_of_schedule, warnings_of,
+};
 use croner::Cron;
 use croner::describe::lang::english::English;
 use croner::describe::lang::swedish::Swedish;
@@ -80,6 +84,8 @@ pub struct JobReport<'l, 't> {
     /// Its command, where the line is no pattern alone.
     pub command: Option<&'l [u8]>,
     pub times: Told<'t>,
+    /// In the order of the table in docs/CRONTAB.md.
+    pub warnings: Vec<Warning>,
 }
 
 /// When a job runs.
@@ -124,28 +130,53 @@ impl End {
 }
 
 impl Told<'_> {
-    /// No run is left before year 5000, of a job that has times.
+    /// The job never runs: a field names nothing, or no run is left before year 5000. One that runs as the machine starts does run.
     pub fn is_never(&self) -> bool
         ensures { result ≡ is_never self.now }
     {
         match self {
             Told::Runs { runs, .. } => runs.end.is_over() && runs.items.is_empty(),
+            Told::Nothing => true,
+            Told::Reboot => false,
+        }
+    }
+
+    // No year that the job names is left at the start.
+    fn is_past(&self) -> bool
+        ensures { result ≡ is_told_past self.now }
+    {
+        match self {
+            Told::Runs { is_past, .. } => *is_past,
             Told::Reboot | Told::Nothing => false,
         }
     }
 }
 
-/// The report of the entry of a line, which is given without its line feed.
+/// The report of the entry of a line that has its line feed, and is given without it.
 ///
 /// A job is refused exactly where the crate's parser refuses the text of its times, and a pattern where the parser refuses it or it is no
-/// UTF-8. The only error is `OutOfMemory`.
+/// UTF-8. The place of such a refusal lies behind the blanks in front of the line. The only error is `OutOfMemory`.
 pub fn report_of<'l, 't>(
     alloc: Global,
     settings: &Settings<'t>,
     line: &[u8],
     entry: Entry<'l>,
 ) -> Result<Report<'l, 't>, CronError>
-    ensures report { IfOk result (IsReport settings.now entry.entry) }
+    ensures report { IfOk result (IsReport settings.now line.now entry.entry) }
+    ensures err { IfErr result (λ e. e ≡ CronError.OutOfMemory) }
+{
+    report_of_line(alloc, settings, line, entry, true)
+}
+
+/// The report of the entry of a line that has its line feed or hasn't, and is given without it. The only error is `OutOfMemory`.
+pub fn report_of_line<'l, 't>(
+    alloc: Global,
+    settings: &Settings<'t>,
+    line: &[u8],
+    entry: Entry<'l>,
+    is_fed: bool,
+) -> Result<Report<'l, 't>, CronError>
+    ensures report { IfOk result (IsReportOfLine is_fed settings.now line.now entry.entry) }
     ensures err { IfErr result (λ e. e ≡ CronError.OutOfMemory) }
 {
     match entry {
@@ -156,55 +187,74 @@ pub fn report_of<'l, 't>(
             end,
             why: Why::Cron(fault),
         }),
-        Entry::Job(job) => report_of_job(alloc, settings, blanks(line), job),
-        Entry::Pattern(text) => report_of_pattern(alloc, settings, blanks(line), text),
+        Entry::Job(job) => report_of_job(alloc, settings, line, job, is_fed),
+        Entry::Pattern(text) => report_of_pattern(alloc, settings, line, text, is_fed),
     }
 }
 
-// How many blanks stand in front of a line.
-fn blanks(line: &[u8]) -> usize {
+// The blanks in front of a line.
+fn blanks(line: &[u8]) -> &[u8]
+    ensures { length result.now ≡ blanks_of line.now }
+{
     let (blanks, _) = cut(line, Kind::Blank);
-    blanks.len()
+    blanks
 }
 
-// The report of a job behind so many blanks.
+// The report of the job of a line.
 fn report_of_job<'l, 't>(
     alloc: Global,
     settings: &Settings<'t>,
-    blanks: usize,
+    line: &[u8],
     job: Job<'l>,
+    is_fed: bool,
 ) -> Result<Report<'l, 't>, CronError>
-    ensures report { IfOk result (IsReportOfJob settings.now (job_seen job.entry)) }
+    ensures report { IfOk result (IsReportOfJob is_fed settings.now (blanks_of line.now) (job_seen job.entry)) }
     ensures err { IfErr result (λ e. e ≡ CronError.OutOfMemory) }
 {
-    match told_of_times(alloc, settings, job.times)? {
-        Ok(times) => Ok(Report::Job(JobReport {
+    match told_of_times(alloc, settings, &job, is_fed)? {
+        Ok(warned) => Ok(Report::Job(JobReport {
             schedule: job.schedule,
             user: job.user,
             command: Some(job.command),
-            times,
+            times: warned.times,
+            warnings: warned.warnings,
         })),
-        Err(refusal) => Ok(refused(blanks, job.schedule, Why::Crate(refusal))),
+        Err(refusal) => Ok(refused(line, job.schedule, Why::Crate(refusal))),
     }
 }
 
-// What a job's times are told, or why the crate's parser refuses the text that they were made into.
+// What a job's times are told, and its warnings.
+#[derive(Drop)]
+struct Warned<'t> {
+    times: Told<'t>,
+    warnings: Vec<Warning>,
+}
+
+// What a job's times are told, and its warnings; or why the crate's parser refuses the text that they were made into.
 fn told_of_times<'t>(
     alloc: Global,
     settings: &Settings<'t>,
-    times: Times,
-) -> Result<Result<Told<'t>, CronError>, CronError>
-    ensures told { IfOk result (λ read. IfOk read (TellsTiming settings.now (times_seen times))) }
-    ensures refused { IfOk result (λ read. OnErr read (IsUnreadTiming (times_seen times))) }
+    job: &Job<'_>,
+    is_fed: bool,
+) -> Result<Result<Warned<'t>, CronError>, CronError>
+    ensures told { IfOk result (λ read. IfOk read (λ w. TellsTiming settings.now (job_seen job.now).times w.times)) }
+    ensures warned { IfOk result (λ read. IfOk read (λ w. WarnsJob is_fed (job_seen job.now) w.times w.warnings.items)) }
+    ensures refused { IfOk result (λ read. IfErr read (IsUnreadTiming (job_seen job.now).times)) }
     ensures err { IfErr result (λ e. e ≡ CronError.OutOfMemory) }
 {
-    match times {
-        Times::Reboot => Ok(Ok(Told::Reboot)),
-        Times::Never => Ok(Ok(Told::Nothing)),
-        Times::Named { text, both_days } => match job_of(alloc, text.as_str(), both_days) {
-            Ok(job) => {
-                let told = told_of(alloc, settings, &job)?;
-                Ok(Ok(told))
+    match &job.times {
+        Times::Reboot => {
+            let warned = with_warnings(alloc, job, None, Told::Reboot, is_fed)?;
+            Ok(Ok(warned))
+        }
+        Times::Never => {
+            let warned = with_warnings(alloc, job, None, Told::Nothing, is_fed)?;
+            Ok(Ok(warned))
+        }
+        Times::Named { text, both_days } => match job_of(alloc, text.as_str(), *both_days) {
+            Ok(cron) => {
+                let warned = told_of_job(alloc, settings, job, &cron, is_fed)?;
+                Ok(Ok(warned))
             }
             Err(refusal) => {
                 let cause = refusal_of_text(refusal)?;
@@ -214,9 +264,73 @@ fn told_of_times<'t>(
     }
 }
 
+// What a job is told of which the parser made this one.
+fn told_of_job<'t>(
+    alloc: Global,
+    settings: &Settings<'t>,
+    job: &Job<'_>,
+    cron: &Cron,
+    is_fed: bool,
+) -> Result<Warned<'t>, CronError>
+    ensures told { IfOk result (λ w. TellsMeaning settings.now (Ok (meaning_of_job cron.now)) w.times) }
+    ensures warnings { IfOk result (λ w.
+        IsWarned is_fed job.now.schedule.now job.now.command.now (Some (meaning_of_job cron.now)) w.times w.warnings.items) }
+    ensures err { IfErr result (λ e. e ≡ CronError.OutOfMemory) }
+{
+    let told = told_of(alloc, settings, cron)?;
+    let warned = with_warnings(alloc, job, Some(cron), told, is_fed)?;
+    Ok(warned)
+}
+
+// What a job of a crontab is told, with its warnings.
+fn with_warnings<'t>(
+    alloc: Global,
+    job: &Job<'_>,
+    cron: Option<&Cron>,
+    times: Told<'t>,
+    is_fed: bool,
+) -> Result<Warned<'t>, CronError>
+    ensures times { IfOk result (λ w. w.times ≡ times.entry) }
+    ensures warnings { IfOk result (λ w. IsWarned is_fed job.now.schedule.now job.now.command.now
+        (option_map (λ j. meaning_of_job j.now) cron.entry) w.times w.warnings.items) }
+    ensures err { IfErr result (λ e. e ≡ CronError.OutOfMemory) }
+{
+    let fields = fields_of_schedule(job.schedule);
+    let command = Some(job.command);
+    let warnings = warnings_of(
+        alloc,
+        &subject_of(fields, cron, command, true, is_fed, &times),
+    )?;
+    Ok(Warned { times, warnings })
+}
+
+// What is looked at of a job or a pattern for its warnings.
+fn subject_of<'s, 'j>(
+    fields: Option<Fields<'s>>,
+    job: Option<&'j Cron>,
+    command: Option<&'s [u8]>,
+    is_crontab: bool,
+    is_fed: bool,
+    told: &Told<'_>,
+) -> Subject<'s, 'j>
+    ensures { subject_seen result ≡ subject_of (option_map fields_seen fields.entry) (option_map (λ j. meaning_of_job j.now) job.entry)
+        (option_map (λ c. c.now) command.entry) is_crontab is_fed told.now }
+{
+    Subject {
+        fields,
+        job,
+        command,
+        is_crontab,
+        is_fed,
+        is_zone: false,
+        is_past: told.is_past(),
+        is_never: told.is_never(),
+    }
+}
+
 // A refusal of a text, but for want of memory.
 fn refusal_of_text(refusal: CronError) -> Result<CronError, CronError>
-    ensures refused { OnOk result ((read : Result Meaning Refusal) → Fails refusal read → IsErr read) }
+    ensures refused { IfOk result (λ e. (read : Result Meaning Refusal) → Fails refusal read → IsRefusalOf e read) }
     ensures err { IfErr result (λ e. e ≡ CronError.OutOfMemory) }
 {
     match refusal {
@@ -228,37 +342,49 @@ fn refusal_of_text(refusal: CronError) -> Result<CronError, CronError>
     }
 }
 
-// The whole of a text behind so many blanks is refused.
-fn refused<'l, 't>(blanks: usize, text: &[u8], why: Why) -> Report<'l, 't>
-    ensures { (start : ℕ) × (end : ℕ) × (result ≡ Report.Refused start end why) }
+// The whole of a text behind the blanks of a line is refused.
+fn refused<'l, 't>(line: &[u8], text: &[u8], why: Why) -> Report<'l, 't>
+    ensures { result ≡ Report.Refused (blanks_of line.now) (blanks_of line.now + length text.now) why }
 {
+    let blanks = blanks(line);
     Report::Refused {
-        start: blanks,
-        end: blanks.saturating_add(text.len()),
+        start: blanks.len(),
+        end: blanks.len() + text.len(),
         why,
     }
 }
 
-// The report of a pattern behind so many blanks.
+// A text behind the blanks of a line is refused for a fault in it.
+fn pattern_refused<'l, 't>(line: &[u8], text: &str, fault: PatternFault) -> Report<'l, 't>
+    requires start { fault.start ≤ length text.now }
+    requires end { fault.end ≤ length text.now }
+    ensures { result ≡ Report.Refused (blanks_of line.now + fault.start) (blanks_of line.now + fault.end) (Why.Pattern fault) }
+{
+    let blanks = blanks(line);
+    Report::Refused {
+        start: blanks.len() + fault.start,
+        end: blanks.len() + fault.end,
+        why: Why::Pattern(fault),
+    }
+}
+
+// The report of the pattern of a line.
 fn report_of_pattern<'l, 't>(
     alloc: Global,
     settings: &Settings<'t>,
-    blanks: usize,
+    line: &[u8],
     bytes: &'l [u8],
+    is_fed: bool,
 ) -> Result<Report<'l, 't>, CronError>
-    ensures report { IfOk result (IsReportOfPattern settings.now bytes.now) }
+    ensures report { IfOk result (IsReportOfPattern is_fed settings.now (blanks_of line.now) bytes.now) }
     ensures err { IfErr result (λ e. e ≡ CronError.OutOfMemory) }
 {
     let Ok(text) = std::str::from_utf8(bytes) else {
-        return Ok(refused(blanks, bytes, Why::NotText));
+        return Ok(refused(line, bytes, Why::NotText));
     };
     match settings.parser.explain(alloc, text)? {
-        Some(fault) => Ok(Report::Refused {
-            start: blanks.saturating_add(fault.start),
-            end: blanks.saturating_add(fault.end),
-            why: Why::Pattern(fault),
-        }),
-        None => told_of_pattern(alloc, settings, text),
+        Some(fault) => Ok(pattern_refused(line, text, fault)),
+        None => told_of_pattern(alloc, settings, text, is_fed),
     }
 }
 
@@ -267,22 +393,44 @@ fn told_of_pattern<'l, 't>(
     alloc: Global,
     settings: &Settings<'t>,
     text: &'l str,
+    is_fed: bool,
 ) -> Result<Report<'l, 't>, CronError>
-    ensures report { IfOk result (IsReportOfPattern settings.now text.now) }
+    ensures report { (blanks : ℕ) → IfOk result (IsReportOfPattern is_fed settings.now blanks text.now) }
     ensures err { IfErr result (λ e. e ≡ CronError.OutOfMemory) }
 {
     match settings.parser.parse(alloc, text) {
         Ok(job) => {
             let times = told_of(alloc, settings, &job)?;
+            let warnings = warnings_of_pattern(alloc, text, &job, &times, is_fed)?;
             Ok(Report::Job(JobReport {
                 schedule: text.as_bytes(),
                 user: None,
                 command: None,
                 times,
+                warnings,
             }))
         }
         Err(_) => Err(CronError::OutOfMemory),
     }
+}
+
+// The warnings of a pattern that the parser takes.
+fn warnings_of_pattern(
+    alloc: Global,
+    text: &str,
+    job: &Cron,
+    told: &Told<'_>,
+    is_fed: bool,
+) -> Result<Vec<Warning>, CronError>
+    ensures warnings { IfOk result (λ found. WarnsPattern is_fed text.now (Some (meaning_of_job job.now)) told.now found.items) }
+    ensures err { IfErr result (λ e. e ≡ CronError.OutOfMemory) }
+{
+    let fields = fields_of_pattern(alloc, text)?;
+    let warnings = warnings_of(
+        alloc,
+        &subject_of(fields, Some(job), None, false, is_fed, told),
+    )?;
+    Ok(warnings)
 }
 
 // The description and the runs of a job.

@@ -1,19 +1,17 @@
 //! What takes the entries of files and writes what each is told.
 ghost use Rattle.std.specs.Prelude.{◌≡◌, OnOk, IfSome, if◌then◌else◌, ◌||◌, is_err};
-ghost use Rattle.croncheck_command.specs.Report.{IsReport, added, status_of};
+ghost use Rattle.croncheck_command.specs.Report.{IsReportOfLine, added, status_of};
 ghost use Rattle.croncheck_command.specs.Reported.{IsChecked};
 
 use crate::check::{Entries, check};
 use crate::escaped::shown;
 use crate::line::{Dialect, Entry};
-use crate::report::{Report, Settings, Tally, report_of};
+use crate::report::{Report, Settings, Tally, report_of_line};
 use crate::shown::{Place, Shared, text_of};
+use crate::warnings::are_many_lines;
 use std::alloc::{AllocError, Global};
 use std::io;
 use std::io::{BufRead, ErrorKind, Write};
-
-/// How many lines cron takes of a file.
-const MOST_LINES: u64 = 10_000;
 
 /// The status of a call of which a file failed.
 const FAILED: u8 = 3;
@@ -108,8 +106,8 @@ impl<'s, 't, W: Write + Drop> Reporter<'s, 't, W> {
     ///
     /// The error is that of the reader or of what is written to, or says that memory is lacking.
     pub fn report<R: BufRead>(&mut self, name: &str, reader: &mut R) -> io::Result<()>
-        ensures { OnOk result (IfSome (R.remaining reader.old)
-            (λ text. IsChecked self.old.settings.now text self.old.tally self.new.tally)) }
+        ensures { OnOk result (IfSome (R.remaining reader.old) (λ text.
+            IsChecked self.old.settings.now text self.old.tally self.new.tally × (self.new.settings.now ≡ self.old.settings.now))) }
     {
         let name = shown(self.alloc, name.as_bytes())?;
         self.file = FileSeen::new(name);
@@ -119,7 +117,8 @@ impl<'s, 't, W: Write + Drop> Reporter<'s, 't, W> {
 
     /// Passes on what was written.
     pub fn flush(&mut self) -> io::Result<()>
-        ensures { self.new.tally ≡ self.old.tally }
+        ensures tally { self.new.tally ≡ self.old.tally }
+        ensures settings { self.new.settings.now ≡ self.old.settings.now }
     {
         let flushed = self.out.flush();
         self.noted(flushed)
@@ -127,7 +126,8 @@ impl<'s, 't, W: Write + Drop> Reporter<'s, 't, W> {
 
     // Writes what cron makes of a file as a whole.
     fn end_file(&mut self) -> io::Result<()>
-        ensures { self.new.tally ≡ self.old.tally }
+        ensures tally { self.new.tally ≡ self.old.tally }
+        ensures settings { self.new.settings.now ≡ self.old.settings.now }
     {
         if self.settings.dialect == Dialect::Patterns {
             return Ok(());
@@ -204,10 +204,10 @@ fn ending(alloc: Global, file: &FileSeen) -> Result<String, AllocError> {
             "{name}: cron ignores the whole file: its last line has no line feed\n"
         )?;
     }
-    if MOST_LINES < file.lines {
+    if are_many_lines(file.lines) {
         write!(
             &mut text,
-            "{name}: cron ignores the whole file: it has more than {MOST_LINES} lines\n"
+            "{name}: cron ignores the whole file: it has more than 10000 lines\n"
         )?;
     }
     Ok(text)
@@ -229,7 +229,7 @@ impl<'s, 't, W: Write + Drop> Entries for Reporter<'s, 't, W> {
 
     fn take(&mut self, line: &[u8], entry: Entry<'_>, is_fed: bool) -> io::Result<()> {
         let is_unfed = !is_fed && counts(&entry);
-        match report_of(self.alloc, self.settings, line, entry) {
+        match report_of_line(self.alloc, self.settings, line, entry, is_fed) {
             Ok(report) => self.tell(line, &report, is_unfed),
             Err(_) => Err(io::Error::from(ErrorKind::OutOfMemory)),
         }

@@ -1,7 +1,9 @@
 //! The runs of a job from a start.
-ghost use Rattle.std.specs.Prelude.{◌≡◌, ◌≤◌, ◌<◌, ◌↔◌, ℤ, List, [], IsTrue, IfOk, IfErr, ◌≤ℤ◌, int_le, nat_lt, length, take, option_map};
+ghost use Rattle.std.specs.Prelude.{◌≡◌, ◌≤◌, ◌<◌, ◌↔◌, ◌&&◌, ℤ, pos, neg_ℤ, List, [], IsTrue, IfOk, IfErr, ◌≤ℤ◌, int_le, nat_lt, length, take, option_map};
 ghost use Rattle.std.specs.List.{All, Contains, prefix_len};
 ghost use Rattle.jiff_tz.specs.declared.timezone.TimeZone.{TimeZone};
+ghost use Rattle.croner_base.specs.Calm.{IsStart};
+ghost use Rattle.croner_base.specs.Zone.{reading};
 ghost use Rattle.croner_base.specs.TableZone.{table_zone, table_moment};
 ghost use Rattle.croner_base.specs.ZonedZone.{zoned_zone};
 ghost use Rattle.croner_pattern.specs.Meaning.{Meaning};
@@ -18,6 +20,7 @@ use croner::errors::CronError;
 use croner::laws::listing::next_runs;
 use croner::laws::zones::listing_of_a_window;
 use croner::time::table::TableTime;
+use croner::time::{CivilDateTime, CronDateTime};
 use std::alloc::Global;
 
 /// The most runs that are listed up to a second.
@@ -27,6 +30,9 @@ pub const MOST_RUNS: u32 = 100_000;
 const FEW_RUNS: u32 = 64;
 
 const MANY_RUNS: u32 = 2_048;
+
+/// The last year of a start from which no search fails, and less one that of the first.
+const LAST_START_YEAR: i32 = 9_997;
 
 /// Which runs are listed.
 #[derive(Clone, Copy, Drop)]
@@ -40,7 +46,7 @@ pub enum Listing {
 /// How a listing ends.
 #[derive(Drop)]
 pub enum End {
-    /// There may be runs behind those that were listed. Up to a second, all were listed that come no later.
+    /// As many as were asked were listed, and of none a run is left. Or all that come no later than a second, and a run is left behind it.
     More,
     /// No run is left in the years that are searched: every run of these was listed.
     Over,
@@ -91,7 +97,7 @@ fn end_of_none(job: &Cron, start: TableTime<'_>) -> End
     ensures { IsEnd (starts (job_of job.now) start.entry) (Listing.Count 0) [] result }
 {
     match job.find_next_occurrence(&start, false) {
-        Ok(_) => End::More,
+        Ok(_run) => End::More,
         Err(refusal) => end_of_refusal(refusal),
     }
 }
@@ -119,24 +125,54 @@ fn some_runs<'t>(
 {
     let mut iterator = job.iter_after(start)?;
     let (items, is_over) = next_runs(alloc, &mut iterator, count)?;
-    let end = end_of(is_over, iterator.fault())?;
+    let is_full = are_so_many(items.as_slice(), count);
+    let is_well = starts_well(start);
+    let end = end_of(is_full, iterator.fault(), is_over, is_well)?;
     Ok(Runs { items, end })
 }
 
-// How a listing of so many runs ends, of which the last call has this mark and leaves this fault.
-fn end_of(is_over: bool, fault: Option<&CronError>) -> Result<End, CronError>
-    ensures ends { IfOk result (EndsBy is_over (option_map (λ e. e.now) fault.entry)) }
+fn are_so_many(items: &[TableTime<'_>], count: u32) -> bool
+    ensures { IsTrue result ↔ (length items.now ≡ count) }
+{
+    items.len() == count as usize
+}
+
+// Whether no search from a start fails.
+fn starts_well(start: TableTime<'_>) -> bool
+    ensures { IsTrue result ↔ IsStart (reading (table_moment start.entry)) }
+{
+    is_in_years(start.to_civil())
+}
+
+// Whether a date is of the years from which no search fails.
+fn is_in_years(shown: CivilDateTime) -> bool
+    ensures { result ≡ (int_le (neg_ℤ (pos 9_997)) shown.date.year && int_le shown.date.year (pos 9_997)) }
+{
+    let year = shown.year();
+    -LAST_START_YEAR <= year && year <= LAST_START_YEAR
+}
+
+// How a listing of so many runs ends, by whether it has as many, the fault and the mark of its last call, and whether no search fails
+// from its start.
+fn end_of(
+    is_full: bool,
+    fault: Option<&CronError>,
+    is_over: bool,
+    is_well: bool,
+) -> Result<End, CronError>
+    ensures ends { IfOk result (EndsBy is_full (option_map (λ e. e.now) fault.entry) is_over is_well) }
     ensures err { IfErr result (λ e. e ≡ CronError.OutOfMemory) }
 {
-    if is_over {
-        return Ok(End::Over);
+    if is_full {
+        return Ok(End::More);
     }
     match fault {
         Some(fault) => {
             let fault = fault.clone()?;
             Ok(End::Failed(fault))
         }
-        None => Ok(End::More),
+        None if is_over || is_well => Ok(End::Over),
+        None => Ok(End::Failed(CronError::InvalidTime)),
     }
 }
 
@@ -236,7 +272,7 @@ fn cut_off<'t>(runs: Runs<'t>, until: i64) -> Runs<'t>
 }
 
 // How a listing ends of which runs were left out, or none.
-fn cut_end(is_less: bool, end: End) -> End
+pub(crate) fn cut_end(is_less: bool, end: End) -> End
     ensures { result ≡ cut_end is_less end }
 {
     if is_less {

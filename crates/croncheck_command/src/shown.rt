@@ -1,11 +1,17 @@
 //! The text of a report.
-ghost use Rattle.std.specs.Prelude.{◌≤◌, length};
+ghost use Rattle.std.specs.Prelude.{◌≡◌, ◌≤◌, [], length, true, false, IfOk, string_bytes};
+ghost use Rattle.croncheck_command.specs.Shown.{is_told, AreLines};
 
-use crate::bytes::{Kind, cut};
+use crate::bytes::{Kind, begins_with, cut, is_quote, rest_of, trimmed};
 use crate::escaped::push_shown;
-use crate::line::Fault;
+use crate::line::{Fault, WEEKDAYS};
+use crate::notes;
+use crate::notes::{Note, is_nickname, is_noted, takes};
 use crate::report::{JobReport, Report, Told, Why};
 use crate::runs::{End, Listing, MOST_RUNS, Runs};
+use crate::setting::has;
+use crate::warnings::Warning;
+use croner::parser::PatternField;
 use croner::time::table::TableTime;
 use croner::time::{CronDateTime, Weekday};
 use jiff::tz::TimeZone;
@@ -20,7 +26,10 @@ const SHOWN_BYTES: usize = 72;
 const BYTES_BEFORE: usize = 24;
 
 /// How many bytes of a command are shown at most.
-const COMMAND_BYTES: usize = 40;
+pub(crate) const COMMAND_BYTES: usize = 40;
+
+/// The byte that cron takes for the end of the file.
+const END_OF_FILE: u8 = 255;
 
 /// What stands where something is left out.
 const LEFT_OUT: &str = "..";
@@ -42,33 +51,92 @@ pub struct Place<'n> {
     pub line: u64,
 }
 
-/// The text of the report of a line; it is empty where there is nothing to tell.
+/// The text of the report of a line: whole lines, or nothing where there is nothing to tell.
+///
+/// The line is given without its line feed. The error comes where memory is lacking.
 pub fn text_of(
     alloc: Global,
     shared: &Shared<'_>,
     place: Place<'_>,
     line: &[u8],
     report: &Report<'_, '_>,
-) -> Result<String, AllocError> {
+) -> Result<String, AllocError>
+    ensures silent { is_told report.now ≡ false → IfOk result (λ text. string_bytes text ≡ []) }
+    ensures told { is_told report.now ≡ true → IfOk result (λ text. AreLines (string_bytes text)) }
+{
     let mut text = String::new(alloc);
-    match report {
-        Report::Silent | Report::Setting { is_zone: false } => {}
-        Report::Setting { is_zone: true } => push_setting(&mut text, place, line)?,
-        Report::Job(job) => push_job(&mut text, shared, place, job)?,
-        Report::Refused { start, end, why } => {
-            let view = View::of(line, *start, *end);
-            push_view(&mut text, place, view)?;
-            push_why(&mut text, why)?;
-        }
+    if !is_told(report) {
+        return Ok(text);
     }
+    push_report(alloc, &mut text, shared, place, line, report)?;
+    text.push('\n')?;
     Ok(text)
 }
 
-fn push_setting(text: &mut String, place: Place<'_>, line: &[u8]) -> Result<(), AllocError> {
+// Whether there is something to tell of a line.
+fn is_told(report: &Report<'_, '_>) -> bool
+    ensures { result ≡ is_told report.now }
+{
+    match report {
+        Report::Silent => false,
+        Report::Setting { is_zone } => *is_zone,
+        Report::Job(_) | Report::Refused { .. } => true,
+    }
+}
+
+// What is told of a line, without the last line feed.
+fn push_report(
+    alloc: Global,
+    text: &mut String,
+    shared: &Shared<'_>,
+    place: Place<'_>,
+    line: &[u8],
+    report: &Report<'_, '_>,
+) -> Result<(), AllocError> {
     push_place(text, place)?;
+    match report {
+        Report::Silent => Ok(()),
+        Report::Setting { .. } => push_setting(text, line),
+        Report::Job(job) => push_job(alloc, text, shared, line, job),
+        Report::Refused { start, end, why } => {
+            let view = View::of(line, *start, *end);
+            push_view(text, view)?;
+            push_why(alloc, text, line, at_fault(line, *start, *end), why)
+        }
+    }
+}
+
+fn push_setting(text: &mut String, line: &[u8]) -> Result<(), AllocError> {
     let (_, setting) = cut(line, Kind::Blank);
     push_front(text, setting, SHOWN_BYTES)?;
-    text.push_str("\n  changes no time: this cron runs all jobs by the machine's zone\n")
+    text.push_str("\n  changes no time: this cron runs all jobs by the machine's zone")
+}
+
+// The notes of a line of a crontab, which is a job or is refused for this fault, below it.
+fn push_notes(
+    alloc: Global,
+    text: &mut String,
+    fault: Option<Fault>,
+    line: &[u8],
+) -> Result<(), AllocError> {
+    for note in Note::ALL {
+        push_note(alloc, text, note, fault, line)?;
+    }
+    Ok(())
+}
+
+fn push_note(
+    alloc: Global,
+    text: &mut String,
+    note: Note,
+    fault: Option<Fault>,
+    line: &[u8],
+) -> Result<(), AllocError> {
+    if is_noted(alloc, note, fault, line)? {
+        let said = notes::text(note);
+        write!(text, "\n  note: {said}")?;
+    }
+    Ok(())
 }
 
 fn push_place(text: &mut String, place: Place<'_>) -> Result<(), AllocError> {
@@ -92,7 +160,7 @@ fn push_spaced(text: &mut String, bytes: &[u8]) -> Result<(), AllocError> {
 }
 
 // The first bytes of a text, so many at most, and a mark where there are more.
-fn push_front(text: &mut String, bytes: &[u8], most: usize) -> Result<(), AllocError> {
+pub(crate) fn push_front(text: &mut String, bytes: &[u8], most: usize) -> Result<(), AllocError> {
     let (front, rest) = bytes.split_at(cut_at(bytes, most));
     push_spaced(text, front)?;
     push_left_out(text, !rest.is_empty())
@@ -175,8 +243,7 @@ fn front_at(front: &[u8], piece: &[u8]) -> usize
 }
 
 // The line of a fault, and below it marks at its place.
-fn push_view(text: &mut String, place: Place<'_>, view: View<'_>) -> Result<(), AllocError> {
-    push_place(text, place)?;
+fn push_view(text: &mut String, view: View<'_>) -> Result<(), AllocError> {
     push_left_out(text, view.is_begun)?;
     push_spaced(text, view.front)?;
     let indent = text.as_str().width();
@@ -186,8 +253,7 @@ fn push_view(text: &mut String, place: Place<'_>, view: View<'_>) -> Result<(), 
     push_left_out(text, view.is_cut)?;
     text.push('\n')?;
     push_repeated(text, ' ', indent)?;
-    push_repeated(text, '^', marks)?;
-    text.push('\n')
+    push_repeated(text, '^', marks)
 }
 
 fn push_repeated(text: &mut String, c: char, count: usize) -> Result<(), AllocError> {
@@ -197,20 +263,154 @@ fn push_repeated(text: &mut String, c: char, count: usize) -> Result<(), AllocEr
     Ok(())
 }
 
-fn push_why(text: &mut String, why: &Why) -> Result<(), AllocError> {
+// The bytes of a line that are at fault.
+fn at_fault(line: &[u8], start: usize, end: usize) -> &[u8] {
+    let (front, _) = line.split_at(end.min(line.len()));
+    let (_, piece) = front.split_at(start.min(front.len()));
+    piece
+}
+
+// Why a line is refused, of which these bytes are at fault.
+fn push_why(
+    alloc: Global,
+    text: &mut String,
+    line: &[u8],
+    piece: &[u8],
+    why: &Why,
+) -> Result<(), AllocError> {
     match why {
         Why::Cron(fault) => {
-            let reason = reason_of(*fault);
-            write!(text, "  {reason}\n")
+            text.push_str("\n  ")?;
+            push_reason(alloc, text, *fault, line, piece)?;
+            push_notes(alloc, text, Some(*fault), line)
         }
-        Why::Pattern(fault) => write!(text, "  {fault}\n"),
-        Why::Crate(refusal) => write!(text, "  {refusal}\n"),
-        Why::NotText => text.push_str("  a pattern is text in UTF-8\n"),
+        Why::Pattern(fault) => write!(text, "\n  {fault}"),
+        Why::Crate(refusal) => write!(text, "\n  {refusal}"),
+        Why::NotText => text.push_str("\n  a pattern is text in UTF-8"),
     }
 }
 
-// Why cron refuses a line: its own words first, where it has some.
-fn reason_of(fault: Fault) -> &'static str {
+// Why cron refuses a line, of which these bytes are at fault: its own words first, where it has some.
+pub(crate) fn push_reason(
+    alloc: Global,
+    text: &mut String,
+    fault: Fault,
+    line: &[u8],
+    piece: &[u8],
+) -> Result<(), AllocError> {
+    match fault {
+        Fault::Minutes | Fault::Hours | Fault::Days | Fault::Months | Fault::Weekdays =>
+            push_field_reason(alloc, text, fault, line, piece),
+        Fault::Nickname if is_cut_nickname(piece) => text.push_str(
+            "bad time specifier: a carriage return ends the word: save the file with Unix line ends",
+        ),
+        _ => text.push_str(reason_of(fault)),
+    }
+}
+
+// Why cron refuses a field.
+fn push_field_reason(
+    alloc: Global,
+    text: &mut String,
+    fault: Fault,
+    line: &[u8],
+    piece: &[u8],
+) -> Result<(), AllocError> {
+    let said = said_by_cron(fault);
+    if piece.is_empty() {
+        let count = fields_before(fault);
+        return write!(
+            text,
+            "{said}: the line has only {count} of the five fields, behind which the command stands"
+        );
+    }
+    if has(piece, END_OF_FILE) {
+        return write!(
+            text,
+            "{said}: cron takes the byte 255 for the end of the file"
+        );
+    }
+    match fault {
+        Fault::Minutes => push_minute_reason(text, line),
+        Fault::Weekdays if takes(alloc, WEEKDAYS, piece)? => write!(
+            text,
+            "{said}: the command begins with the byte 255, which cron takes for the end of the file"
+        ),
+        _ => text.push_str(reason_of(fault)),
+    }
+}
+
+// Why cron refuses the first word of a line, which it takes for minutes.
+fn push_minute_reason(text: &mut String, line: &[u8]) -> Result<(), AllocError> {
+    let (_, content) = cut(line, Kind::Blank);
+    if is_carriage_return(content) {
+        return text.push_str(
+            "bad minute: the line is a carriage return, which is no blank to cron: save the file with Unix line ends",
+        );
+    }
+    match value_of(content) {
+        Some([]) => push_unset(text, content),
+        Some([first, ..]) if is_quote(*first) => text.push_str(
+            "bad minute: this is no setting to cron: a value that begins with a quote ends with the same one, and only spaces follow",
+        ),
+        _ => text.push_str(reason_of(Fault::Minutes)),
+    }
+}
+
+// Why a name and a `=` without a value are refused.
+fn push_unset(text: &mut String, content: &[u8]) -> Result<(), AllocError> {
+    let (name, _) = cut(content, Kind::Name);
+    text.push_str("bad minute: a setting has a value, and an empty one stands in quotes: write ")?;
+    push_front(text, name, COMMAND_BYTES)?;
+    text.push_str("=\"\"")
+}
+
+// How many fields stand in front of the one at fault.
+fn fields_before(fault: Fault) -> u8 {
+    match fault {
+        Fault::Hours => 1,
+        Fault::Days => 2,
+        Fault::Months => 3,
+        Fault::Weekdays => 4,
+        _ => 0,
+    }
+}
+
+// Whether a nickname's word is one but for a carriage return behind it.
+fn is_cut_nickname(piece: &[u8]) -> bool {
+    let name = trimmed(rest_of(piece));
+    name.len() < rest_of(piece).len() && is_nickname(name)
+}
+
+// Whether a text has nothing but carriage returns and other spaces.
+fn is_carriage_return(text: &[u8]) -> bool {
+    has(text, b'\r') && trimmed(text).is_empty()
+}
+
+// What stands behind a name and a `=`, without the spaces in front of it.
+fn value_of(text: &[u8]) -> Option<&[u8]> {
+    let (name, behind) = cut(text, Kind::Name);
+    let (_, sign) = cut(behind, Kind::Space);
+    if name.is_empty() || !begins_with(sign, b'=') {
+        return None;
+    }
+    let (_, value) = cut(rest_of(sign), Kind::Space);
+    Some(value)
+}
+
+// What cron itself says of a field that it refuses.
+fn said_by_cron(fault: Fault) -> &'static str {
+    match fault {
+        Fault::Hours => "bad hour",
+        Fault::Days => "bad day-of-month",
+        Fault::Months => "bad month",
+        Fault::Weekdays => "bad day-of-week",
+        _ => "bad minute",
+    }
+}
+
+// Why cron refuses a line, by the fault alone: its own words first, where it has some.
+pub(crate) fn reason_of(fault: Fault) -> &'static str {
     match fault {
         Fault::Nul =>
             "bad line: cron ends it at the byte 0, and reads what follows as a further one",
@@ -226,7 +426,7 @@ fn reason_of(fault: Fault) -> &'static str {
         Fault::Nickname => {
             "bad time specifier: write @yearly, @monthly, @weekly, @daily, @hourly or @reboot, in small letters"
         }
-        Fault::User => "bad username: a user's name stands here, and the command behind it",
+        Fault::User => "bad command: a user's name stands here, then one blank and the command",
         Fault::Command =>
             "bad command: it may not begin with *; a line has five fields in front of the command",
         Fault::LongCommand => "command too long: cron takes up to 998 characters",
@@ -236,12 +436,12 @@ fn reason_of(fault: Fault) -> &'static str {
 // ---- a job and its runs
 
 fn push_job(
+    alloc: Global,
     text: &mut String,
     shared: &Shared<'_>,
-    place: Place<'_>,
+    line: &[u8],
     job: &JobReport<'_, '_>,
 ) -> Result<(), AllocError> {
-    push_place(text, place)?;
     push_front(text, job.schedule, SHOWN_BYTES)?;
     if let Some(user) = job.user {
         text.push_str("  (")?;
@@ -250,9 +450,44 @@ fn push_job(
     }
     if let Some(command) = job.command {
         push_command(text, command)?;
+        push_notes(alloc, text, None, line)?;
     }
-    text.push('\n')?;
-    push_told(text, shared, &job.times)
+    push_told(text, shared, &job.times)?;
+    push_warnings(text, job.warnings.as_slice())
+}
+
+// The warnings of a job below it. That its line feed is missing is said at the end of its file.
+fn push_warnings(text: &mut String, warnings: &[Warning]) -> Result<(), AllocError> {
+    for warning in warnings {
+        if *warning != Warning::NoNewline {
+            push_warning(text, *warning)?;
+        }
+    }
+    Ok(())
+}
+
+fn push_warning(text: &mut String, warning: Warning) -> Result<(), AllocError> {
+    let (name, said) = (warning.name(), warning.text());
+    match warning.field() {
+        Some(field) => {
+            let field = field_name(field);
+            write!(text, "\n  warning: {name}: {field}: {said}")
+        }
+        None => write!(text, "\n  warning: {name}: {said}"),
+    }
+}
+
+// The name of a field as warnings have it.
+pub(crate) fn field_name(field: PatternField) -> &'static str {
+    match field {
+        PatternField::Seconds => "seconds",
+        PatternField::Minutes => "minutes",
+        PatternField::Hours => "hours",
+        PatternField::DayOfMonth => "days of the month",
+        PatternField::Month => "months",
+        PatternField::Weekday => "weekdays",
+        PatternField::Year => "years",
+    }
 }
 
 fn push_command(text: &mut String, command: &[u8]) -> Result<(), AllocError> {
@@ -266,30 +501,48 @@ fn push_command(text: &mut String, command: &[u8]) -> Result<(), AllocError> {
 
 fn push_told(text: &mut String, shared: &Shared<'_>, times: &Told<'_>) -> Result<(), AllocError> {
     match times {
-        Told::Reboot => text.push_str("  Runs as the machine starts.\n"),
-        Told::Nothing => text.push_str("  never runs: a range that goes down names nothing\n"),
+        Told::Reboot => text.push_str("\n  Runs as the machine starts."),
+        Told::Nothing => text.push_str("\n  never runs: a field names nothing"),
         Told::Runs {
             description,
             runs,
             is_past,
         } => {
-            write!(text, "  {description}\n")?;
+            write!(text, "\n  {description}")?;
             for run in runs.items.iter() {
                 push_run(text, shared, run)?;
             }
-            push_end(text, shared.listing, runs, *is_past)
+            if *is_past && times.is_never() {
+                return text.push_str("\n  is past: no year that it names is left");
+            }
+            if times.is_never() {
+                return text.push_str(
+                    "\n  never runs: no run is left from the start on, up to year 5000",
+                );
+            }
+            push_end(text, shared.listing, runs)
         }
     }
 }
 
 fn push_run(text: &mut String, shared: &Shared<'_>, run: &TableTime<'_>) -> Result<(), AllocError> {
+    text.push_str("\n  ")?;
+    push_clock(text, shared, run)
+}
+
+// What the zone's clock shows at a run, and its second.
+pub(crate) fn push_clock(
+    text: &mut String,
+    shared: &Shared<'_>,
+    run: &TableTime<'_>,
+) -> Result<(), AllocError> {
     let civil = run.to_civil();
     let (weekday, date, time) = (name_of(run.civil_weekday()), civil.date(), civil.time());
     let ahead = Ahead {
         seconds: ahead_of(shared, run),
     };
     let second = run.second();
-    write!(text, "  {weekday} {date} {time} {ahead}  @{second}\n")
+    write!(text, "{weekday} {date} {time} {ahead}  @{second}")
 }
 
 fn name_of(weekday: Weekday) -> &'static str {
@@ -305,7 +558,7 @@ fn name_of(weekday: Weekday) -> &'static str {
 }
 
 // How many seconds the zone's clock is ahead of UTC at a run.
-fn ahead_of(shared: &Shared<'_>, run: &TableTime<'_>) -> i32 {
+pub(crate) fn ahead_of(shared: &Shared<'_>, run: &TableTime<'_>) -> i32 {
     match run.timestamp() {
         Ok(instant) => shared.zone.to_offset(instant).seconds(),
         Err(_) => 0,
@@ -331,22 +584,14 @@ impl fmt::Display for Ahead {
     }
 }
 
-// What stands behind the runs.
-fn push_end(
-    text: &mut String,
-    listing: Listing,
-    runs: &Runs<'_>,
-    is_past: bool,
-) -> Result<(), AllocError> {
-    let is_empty = runs.items.is_empty();
+// What stands behind the runs of a job that has some, or may have some.
+fn push_end(text: &mut String, listing: Listing, runs: &Runs<'_>) -> Result<(), AllocError> {
     match &runs.end {
-        End::Over if is_past => text.push_str("  is past: no year that it names is left\n"),
-        End::Over if is_empty => text.push_str("  never runs: no run is left before year 5000\n"),
-        End::Over => text.push_str("  no more: no run is left before year 5000\n"),
-        End::Cut => write!(text, "  and more: a list ends after {MOST_RUNS} runs\n"),
-        End::Failed(refusal) => write!(text, "  and more, which were not found: {refusal}\n"),
+        End::Over => text.push_str("\n  no more: no run is left before year 5000"),
+        End::Cut => write!(text, "\n  and more: a list ends after {MOST_RUNS} runs"),
+        End::Failed(refusal) => write!(text, "\n  and more, which were not found: {refusal}"),
         End::More => match listing {
-            Listing::Until(_) if is_empty => text.push_str("  no run up to then\n"),
+            Listing::Until(_) if runs.items.is_empty() => text.push_str("\n  no run up to then"),
             _ => Ok(()),
         },
     }

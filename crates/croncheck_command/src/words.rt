@@ -25,6 +25,11 @@ const MOST_RUNS: u32 = 1_000;
 
 const VERSION: &str = "4.0.3";
 
+/// How the word of a moment is written.
+const MOMENT_FORM: &str = "write 2024-10-27T00:00:00 or @1729980000";
+
+const NAME: &str = "croncheck";
+
 const ABOUT: &str =
     "Says what each line of a crontab is to Debian's cron: what it means, when it runs, or why it is refused";
 
@@ -46,8 +51,20 @@ pub struct Call<'w> {
     /// The parser of the lines of a file of patterns.
     pub parser: CronParser,
     pub language: Tongue,
+    pub form: Form,
     /// The files, in order; none is standard input.
     pub files: Vec<&'w str>,
+}
+
+/// What is written.
+#[derive(Clone, Copy, Debug, PartialEq, Eq, Drop)]
+pub enum Form {
+    /// What each line is told, as text.
+    Report,
+    /// The runs of all jobs in one list, in order of time.
+    Plan,
+    /// An object for each line, as JSON.
+    Json,
 }
 
 /// Up to where runs are listed.
@@ -108,11 +125,13 @@ fn head(alloc: Global, message: &str) -> Result<String, AllocError> {
 }
 
 fn command<'w>(alloc: Global) -> Result<Command<'w>, AllocError> {
-    let command = Command::new(alloc, "croncheck")
+    let command = Command::new(alloc, NAME)
         .version(VERSION)
         .about(ABOUT)
         .after_help(AFTER_HELP);
+    let command = command.bin_name(NAME)?;
     let command = with_times(alloc, command)?;
+    let command = with_output(alloc, command)?;
     let command = with_forms(alloc, command)?;
     let command = with_parser(alloc, command)?;
     command.arg(
@@ -145,6 +164,18 @@ fn with_times<'w>(alloc: Global, command: Command<'w>) -> Result<Command<'w>, Al
             value(alloc, "until", "DATETIME|@SECONDS")
                 .conflicts_with("runs")?
                 .help("In place of --runs: all runs up to here"),
+        )
+}
+
+fn with_output<'w>(alloc: Global, command: Command<'w>) -> Result<Command<'w>, AllocError> {
+    command
+        .arg(flag(alloc, "plan").help(
+            "One list of the runs of all lines of all files, in order of time; --runs and --until count its moments",
+        ))?
+        .arg(
+            flag(alloc, "json")
+                .conflicts_with("plan")?
+                .help("One JSON object a line of input"),
         )
 }
 
@@ -214,6 +245,7 @@ fn call_of<'w>(alloc: Global, matches: &ArgMatches<'w>) -> Result<Call<'w>, NoCa
         dialect: dialect(matches),
         parser: parser(matches),
         language: language(matches),
+        form: output_form(matches),
         files: files(alloc, matches)?,
     })
 }
@@ -231,7 +263,7 @@ fn read_span(alloc: Global, matches: &ArgMatches<'_>) -> Result<Span, NoCall>
     ensures { IfOk result IsInRange }
 {
     match matches.get_str("until") {
-        Some("now") => Err(misused(alloc, UNTIL, "now")),
+        Some("now") => Err(misused(alloc, UNTIL, "now", MOMENT_FORM)),
         Some(word) => {
             let until = moment(alloc, UNTIL, word)?;
             Ok(Span::Until(until))
@@ -246,7 +278,7 @@ fn read_count(alloc: Global, word: &str) -> Result<Span, NoCall>
 {
     match word.parse::<u32>() {
         Ok(count) if count <= MOST_RUNS => Ok(Span::Count(count)),
-        _ => Err(misused(alloc, "--runs <N>", word)),
+        _ => Err(misused(alloc, "--runs <N>", word, "write a number from 0 to 1000")),
     }
 }
 
@@ -256,22 +288,22 @@ fn moment(alloc: Global, option: &str, word: &str) -> Result<Moment, NoCall>
 {
     match read_moment(alloc, word)? {
         Some(moment) => Ok(moment),
-        None => Err(misused(alloc, option, word)),
+        None => Err(misused(alloc, option, word, MOMENT_FORM)),
     }
 }
 
 // What is told of the word of an option that is not of its form.
-fn misused(alloc: Global, option: &str, word: &str) -> NoCall {
-    match misuse(alloc, option, word) {
+fn misused(alloc: Global, option: &str, word: &str, form: &str) -> NoCall {
+    match misuse(alloc, option, word, form) {
         Ok(text) => NoCall::Misused(text),
         Err(_) => NoCall::OutOfMemory,
     }
 }
 
-fn misuse(alloc: Global, option: &str, word: &str) -> Result<String, AllocError> {
+fn misuse(alloc: Global, option: &str, word: &str, form: &str) -> Result<String, AllocError> {
     let mut text = String::from_str(alloc, "error: invalid value '")?;
     push_shown(&mut text, word.as_bytes())?;
-    write!(&mut text, "' for '{option}'\n")?;
+    write!(&mut text, "' for '{option}': {form}\n")?;
     Ok(text)
 }
 
@@ -282,6 +314,16 @@ fn dialect(matches: &ArgMatches<'_>) -> Dialect {
         Dialect::Patterns
     } else {
         Dialect::User
+    }
+}
+
+fn output_form(matches: &ArgMatches<'_>) -> Form {
+    if matches.get_flag("plan") {
+        Form::Plan
+    } else if matches.get_flag("json") {
+        Form::Json
+    } else {
+        Form::Report
     }
 }
 

@@ -37,6 +37,14 @@ impl<T: CronDateTime> CronIterator<T> {
 
     /// An iterator from a start, which counts as that of a search does: where `inclusive` says so, and forward not where a run is
     /// only carried to it.
+    ///
+    /// ```
+    /// let job = Cron::from_str(alloc, "0 0 1 * *")?;
+    /// let start = DateTime::new(2024, 7, 1, 0, 0, 0, 0)?;
+    /// let mut runs = CronIterator::new(job, start, true, Direction::Forward);
+    /// let first = runs.next(); // 2024-07-01T00:00:00
+    /// let second = runs.next(); // 2024-08-01T00:00:00
+    /// ```
     pub fn new(cron: Cron, start: T, inclusive: bool, direction: Direction) -> Self
         ensures { standing_of T.moment result ≡ new_standing (meaning_of cron.pattern) (T.moment start) inclusive direction }
     {
@@ -52,6 +60,13 @@ impl<T: CronDateTime> CronIterator<T> {
 
     /// The error, other than the limit, that ended the last call of `next`; none where that call gave an item or came to the
     /// limit, and none before the first call.
+    ///
+    /// ```
+    /// let job = Cron::from_str(alloc, "0 0 0 1 1 * 2024")?;
+    /// let mut runs = job.iter_after(DateTime::new(2024, 1, 1, 0, 0, 0, 0)?)?;
+    /// let none = runs.next(); // None: no run is left
+    /// let fault = runs.fault(); // None
+    /// ```
     pub fn fault(&self) -> Option<&CronError>
         ensures { option_map (λ e. e.now) result ≡ (standing_of T.moment self.now).fault }
     {

@@ -61,6 +61,11 @@ impl Cron {
     }
 
     /// The text of the pattern: in capitals, trimmed, with numbers in the place of nicknames and names.
+    ///
+    /// ```
+    /// let job = Cron::from_str(alloc, "@weekly")?;
+    /// let text = job.as_str(); // 0 0 * * 0
+    /// ```
     pub fn as_str(&self) -> &str
         ensures { result.now ≡ (job_of self.now).text }
     {
@@ -127,6 +132,11 @@ impl Cron {
     }
 
     /// Which kind of job it is.
+    ///
+    /// ```
+    /// let daily = Cron::from_str(alloc, "30 9 * * *")?.determine_job_type(); // JobType::FixedTime
+    /// let hourly = Cron::from_str(alloc, "30 * * * *")?.determine_job_type(); // JobType::IntervalWildcard
+    /// ```
     pub fn determine_job_type(&self) -> JobType
         ensures { result ≡ (if is_fixed_time (job_of self.now) then JobType.FixedTime else JobType.IntervalWildcard) }
     {

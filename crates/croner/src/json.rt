@@ -30,14 +30,18 @@ impl Cron {
         ensures ok { IfOk result (λ v. view v ≡ string (job_of self.now).text) }
         ensures err { IfErr result (λ e. e ≡ CronError.OutOfMemory) }
     {
-        match String::from_str(self.pattern.allocator(), self.as_str()) {
-            Ok(text) => Ok(Value::String(text)),
-            Err(_) => Err(CronError::OutOfMemory),
-        }
+        let text = String::from_str(self.pattern.allocator(), self.as_str())?;
+        Ok(Value::String(text))
     }
 
     /// Reads a job from a JSON string, with the default settings; see [`CronParser::parse`](crate::parser::CronParser::parse)
     /// for the errors. Any other value is `InvalidPattern`. `OutOfMemory` where memory runs out.
+    ///
+    /// ```
+    /// let value = Value::String(String::from_str(alloc, "0 0 * * MON")?);
+    /// let job = Cron::from_json(alloc, &value)?; // the job of Mondays
+    /// let refused = Cron::from_json(alloc, &Value::Null); // InvalidPattern
+    /// ```
     pub fn from_json(alloc: Global, value: &Value) -> Result<Cron, CronError>
         ensures { Gives job_of result (json_outcome (view value.now)) }
     {

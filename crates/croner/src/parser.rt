@@ -145,6 +145,11 @@ impl CronParser {
     ghost use Rattle.croner.specs.Views.{job_of, texts_of};
 
     /// A parser with the default settings: seconds and year optional, and the three switches off.
+    ///
+    /// ```
+    /// let parser = CronParser::new();
+    /// let job = parser.parse(alloc, "*/10 9-17 * * MON-FRI")?; // the text that is kept: */10 9-17 * * 1-5
+    /// ```
     pub fn new() -> Self
         ensures { result ≡ default_settings }
     {
@@ -352,6 +357,11 @@ impl Model for CronParserBuilder {
 
 impl CronParserBuilder {
     /// Whether patterns have a field for seconds.
+    ///
+    /// ```
+    /// let parser = CronParser::builder().seconds(Seconds::Required).build();
+    /// let refused = parser.parse(alloc, "30 9 * * *"); // InvalidPattern: the seconds are missing
+    /// ```
     pub fn seconds(self, seconds: Seconds) -> Self
         ensures { result ≡ record self { seconds_field = seconds } }
     {
@@ -361,6 +371,11 @@ impl CronParserBuilder {
     }
 
     /// Whether patterns have a field for the year.
+    ///
+    /// ```
+    /// let parser = CronParser::builder().year(Year::Disallowed).build();
+    /// let refused = parser.parse(alloc, "0 30 9 * * * 2024"); // InvalidPattern: there is a year
+    /// ```
     pub fn year(self, year: Year) -> Self
         ensures { result ≡ record self { year_field = year } }
     {
@@ -370,6 +385,11 @@ impl CronParserBuilder {
     }
 
     /// Whether a day has to fit the day of month and the weekday both, where neither is `*`.
+    ///
+    /// ```
+    /// let parser = CronParser::builder().dom_and_dow(true).build();
+    /// let job = parser.parse(alloc, "0 0 13 * FRI")?; // each Friday the 13th
+    /// ```
     pub fn dom_and_dow(self, dom_and_dow: bool) -> Self
         ensures { result ≡ record self { both_days = dom_and_dow } }
     {
@@ -379,6 +399,11 @@ impl CronParserBuilder {
     }
 
     /// Whether weekdays are counted as in Quartz: from 1 for Sunday to 7 for Saturday.
+    ///
+    /// ```
+    /// let parser = CronParser::builder().alternative_weekdays(true).build();
+    /// let job = parser.parse(alloc, "0 0 * * 2")?; // each Monday
+    /// ```
     pub fn alternative_weekdays(self, alternative_weekdays: bool) -> Self
         ensures { result ≡ record self { quartz = alternative_weekdays } }
     {
@@ -388,6 +413,11 @@ impl CronParserBuilder {
     }
 
     /// Whether a step may follow a number, as in `5/10`, or nothing, as in `/10`.
+    ///
+    /// ```
+    /// let parser = CronParser::builder().sloppy_ranges(true).build();
+    /// let job = parser.parse(alloc, "5/20 * * * *")?; // at minutes 5, 25 and 45
+    /// ```
     pub fn sloppy_ranges(self, sloppy_ranges: bool) -> Self
         ensures { result ≡ record self { sloppy = sloppy_ranges } }
     {
@@ -397,6 +427,10 @@ impl CronParserBuilder {
     }
 
     /// The parser with the settings chosen.
+    ///
+    /// ```
+    /// let parser = CronParser::builder().build(); // equal to CronParser::new()
+    /// ```
     pub fn build(self) -> CronParser
         ensures { result ≡ self }
     {

@@ -1,8 +1,8 @@
 -- A language of the tests: English, whose times of day are told on a clock of twelve hours.
 use Rattle.std.specs.Prelude.{ℕ, ◌%◌, ◌==◌, nat_lt, List, ◌++◌, codes, Option, if◌then◌else◌}
-use Rattle.croner_words.specs.English.{english}
-use Rattle.croner_words.specs.Numbers.{clock_text}
-use Rattle.croner_words.specs.Wording.{Wording}
+use Rattle.croner.specs.English.{english}
+use Rattle.croner.specs.Numbers.{clock_text}
+use Rattle.croner.specs.Wording.{Wording}
 
 -- the hour that the clock shows: 12 at midnight and at noon
 abbrev pub dial_hour : ℕ → ℕ

@@ -5,8 +5,8 @@ ghost use Rattle.croner_backends.specs.TwelveHours.{dial_hour, half_of_day};
 
 use croner::describe::Language;
 use croner::describe::lang::english::English;
+use croner::english_form;
 use croner::errors::CronError;
-use croner_words::english_form;
 use std::alloc::Global;
 
 // The hour as the clock shows it, from 1 to 12.

@@ -1,11 +1,11 @@
 -- The order of civil date-times is that of their wall seconds, and a wall second has one date and time.
-use Rattle.std.proofs.Common.{◌≡◌, ◌↔◌, ℕ, ◌+◌, ◌-◌, ◌%◌, ◌<◌, refl, sym, subst, ◌∙◌, arith, ℤ, pos, neg_ℤ, ◌+ℤ◌, ◌*ℤ◌, ◌<ℤ◌, ◌≤ℤ◌, nat_cmp, int_cmp}
+use Rattle.std.proofs.Common.{◌≡◌, ◌↔◌, ℕ, ◌+◌, ◌-◌, ◌%◌, ◌<◌, true, refl, ap, sym, ◌∙◌, arith, ℤ, pos, neg_ℤ, ◌+ℤ◌, ◌*ℤ◌, ◌<ℤ◌, ◌≤ℤ◌, nat_cmp, int_cmp}
 use Rattle.std.proofs.lemmas.Int.{by_lt_z}
 use Rattle.std.proofs.Props.{props}
 use mathlib.Core.HLevel.{is_prop→PathP}
 use Rattle.std.specs.declared.cmp.Ordering.{Ordering}
 use Rattle.std.specs.declared.cmp.Ordering.TheVariants.{Less, Equal, Greater}
-use Rattle.std.specs.Ordering.{MatchOrdering, ordering_then}
+use Rattle.std.specs.Ordering.{MatchOrdering, ordering_then, is_eq}
 use Rattle.std.specs.Cmp.{int_ranks, ranks, int_cmp_is, nat_cmp_is}
 use Rattle.jiff_core.proofs.CalendarLemmas.{days_of_months-zero}
 use Rattle.jiff_core.proofs.SignedLemmas.{signed_arith}
@@ -16,6 +16,7 @@ use Rattle.croner_base.specs.Calendar.{IsRealDate, day_number, weekday_of_day, d
 use Rattle.croner_base.specs.Civil.{wall_second, day_of_date, seconds_of_time}
 use Rattle.croner_base.specs.Limits.{first_year, last_year, year_limit}
 use Rattle.croner_base.specs.Calm.{IsSearched, IsInReach, IsStart}
+use Rattle.croner_base.specs.Written.{tie, nat_tie}
 use Rattle.croner_base.proofs.ExamplesCalendar.{year_0, year_1, year_5001, year_5002, year_before_9996, year_9998}
 use Rattle.croner_base.proofs.Days.{day_number-parts, day_number-lt_year, day_number-lt_month}
 use Rattle.croner_base.proofs.JiffSeconds.{wall_second-parts}
@@ -99,20 +100,8 @@ second_ranks a b =
 pub parts_cmp-chronological : (a b : CivilDateTime) → parts_cmp a b ≡ int_cmp (wall_second a) (wall_second b)
 parts_cmp-chronological a b = int_cmp_is (wall_second a) (wall_second b) (parts_cmp a b) (second_ranks a b)
 
--- two comparisons that tie in turn
-both_equal : (a b : Ordering) → ordering_then a b ≡ Equal → (a ≡ Equal) × (b ≡ Equal)
-both_equal Less b h = absurd (cc)
-both_equal Equal b h = (refl, h)
-both_equal Greater b h = absurd (cc)
-
-same_nat : (m n : ℕ) → nat_cmp m n ≡ Equal → m ≡ n
-same_nat m n h = subst (λ o. MatchOrdering o (m < n) (m ≡ n) (n < m)) h (ranks m n)
-
-same_int : (m n : ℤ) → int_cmp m n ≡ Equal → m ≡ n
-same_int m n h = subst (λ o. MatchOrdering o (m <ℤ n) (m ≡ n) (n <ℤ m)) h (int_ranks m n)
-
-tie : (m n : ℤ) → m ≡ n → int_cmp m n ≡ Equal
-tie m n e = sym (int_cmp_is m n Equal e)
+int_tie : (m n : ℤ) → is_eq (int_cmp m n) ≡ true → m ≡ n
+int_tie m n h = grind (arith, signed_arith)
 
 -- dates with the same parts are the same, and so are times
 same_date : (a b : CivilDate) → a.year ≡ b.year → a.month ≡ b.month → a.day ≡ b.day → a ≡ b
@@ -136,13 +125,13 @@ same_time a b h m s = λ i. record {
 -- a wall second has one date and time
 pub wall_second-injective : (a b : CivilDateTime) → wall_second a ≡ wall_second b → a ≡ b
 wall_second-injective a b e =
-    let all = both_equal _ _ (parts_cmp-chronological a b ∙ tie (wall_second a) (wall_second b) e) in
-    let date = both_equal (int_cmp a.date.year b.date.year) _ all.0 in
-    let days = both_equal (nat_cmp a.date.month b.date.month) (nat_cmp a.date.day b.date.day) date.1 in
-    let time = both_equal (nat_cmp a.time.hour b.time.hour) _ all.1 in
-    let seconds = both_equal (nat_cmp a.time.minute b.time.minute) (nat_cmp a.time.second b.time.second) time.1 in
-    let d : a.date ≡ b.date = same_date a.date b.date (same_int _ _ date.0) (same_nat _ _ days.0) (same_nat _ _ days.1) in
-    let t : a.time ≡ b.time = same_time a.time b.time (same_nat _ _ time.0) (same_nat _ _ seconds.0) (same_nat _ _ seconds.1) in
+    let all = tie _ _ (ap is_eq (parts_cmp-chronological a b ∙ sym (int_cmp_is (wall_second a) (wall_second b) Equal e))) in
+    let date = tie (int_cmp a.date.year b.date.year) _ all.0 in
+    let days = tie (nat_cmp a.date.month b.date.month) (nat_cmp a.date.day b.date.day) date.1 in
+    let time = tie (nat_cmp a.time.hour b.time.hour) _ all.1 in
+    let seconds = tie (nat_cmp a.time.minute b.time.minute) (nat_cmp a.time.second b.time.second) time.1 in
+    let d : a.date ≡ b.date = same_date a.date b.date (int_tie _ _ date.0) (nat_tie _ _ days.0) (nat_tie _ _ days.1) in
+    let t : a.time ≡ b.time = same_time a.time b.time (nat_tie _ _ time.0) (nat_tie _ _ seconds.0) (nat_tie _ _ seconds.1) in
     λ i. record { date = d i; time = t i }
 
 first_of_year : (y : ℤ) (d : CivilDate) → y ≡ d.year → day_number y 1 1 ≤ℤ day_of_date d

@@ -1,5 +1,5 @@
 -- How long an excerpt is, and what a loop over the characters of a text has written.
-use Rattle.std.proofs.Common.{◌≡◌, ℕ, zero, suc, ◌+◌, ◌-◌, ◌*◌, ◌/◌, ◌%◌, ◌^◌, ◌<◌, ◌≤◌, ◌==◌, ◌||◌, true, false, leb, List, [], ◌∷◌, ◌++◌, length, take, IsUtf8, arith, inl, inr, cond, Bool, ap, sym, ◌∙◌, refl, subst}
+use Rattle.std.proofs.Common.{◌≡◌, ℕ, zero, suc, ◌+◌, ◌-◌, ◌*◌, ◌/◌, ◌%◌, ◌^◌, ◌<◌, ◌≤◌, ◌==◌, ◌||◌, true, false, leb, List, [], ◌∷◌, ◌++◌, length, take, IsUtf8, arith, inl, inr, cond, Bool, ap, sym, ◌∙◌, refl}
 use Rattle.std.proofs.lemmas.Bool.{cases_lt, and_parts}
 use Rattle.std.proofs.lemmas.Fmt.{length-decimal-le}
 use Rattle.std.proofs.lemmas.List.{length-take, length-append, append_assoc, append-nil}
@@ -8,7 +8,7 @@ use Rattle.std.proofs.lemmas.Str.{encodes-chars, length-encode, len_utf8_bounds,
 use Rattle.std.specs.Char.{encode_utf8}
 use Rattle.std.specs.Str.{chars, encode_utf8_all}
 use Rattle.std.specs.Fmt.{decimal, digits, digits_onto, digit_glyph}
-use Rattle.std.specs.Prelude.{codes, nat_le}
+use Rattle.std.specs.Prelude.{codes}
 use Rattle.croner_base.specs.Excerpt.{excerpt, excerpt_end, shown, all_shown, is_among, is_control, ends_a_line, turns_round, has_no_width, has_no_width_above, is_unseen}
 
 one_of_two : (b : Bool) (xs ys : List ℕ) (n : ℕ) → length xs ≤ n → length ys ≤ n → length (cond b xs ys) ≤ n
@@ -135,9 +135,6 @@ none_more_shown done all cs left rest e n h =
     let none : cs ≡ [] = encodes_same cs [] (e ∙ no_bytes rest n) in
     let taken : take left cs ≡ [] = take_none left cs none in
     sym (append-nil done) ∙ sym (ap (λ x. done ++ all_shown x) taken) ∙ h
-
-pub no_more_shown : (done all cs : List ℕ) (left : ℕ) → left ≡ 0 → done ++ all_shown (take left cs) ≡ all → done ≡ all
-no_more_shown done all cs left e h = sym (append-nil done) ∙ sym (ap (λ n. done ++ all_shown (take n cs)) e) ∙ h
 
 -- the text of a long excerpt
 pub long_written : (most : ℕ) (text : List ℕ) (count : ℕ) → count ≡ length (chars text) → most < count

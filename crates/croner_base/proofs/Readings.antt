@@ -1,10 +1,9 @@
 -- One reading after another.
 use Rattle.std.proofs.Common.{◌≡◌, ℕ, ◌+◌, ◌-◌, ◌≤◌, true, false, List, [], ◌∷◌, ◌++◌, Result, Ok, Err, OnOk, OnErr, refl, ap, sym, ◌∙◌, subst}
 use Rattle.croner_base.specs.declared.errors.CronError.{CronError}
-use Rattle.croner_base.specs.Field.{Shape, Field, with_mark, can_mark}
+use Rattle.croner_base.specs.Field.{Shape, Field, with_mark, can_mark, values_between}
 use Rattle.croner_base.specs.Answers.{SucceedsIff, IsFieldError}
 use Rattle.croner_base.specs.Part.{marked, all_marked}
-use Rattle.croner_base.specs.Field.{values_between}
 use Rattle.croner_base.proofs.Ranges.{range_more}
 use Rattle.croner_base.specs.Reading.{Effect, marks, enables, steps, stars, Reading, nothing, ◌then◌, applied, applied_one, Reads}
 

@@ -3,7 +3,7 @@ use Rattle.std.specs.Prelude.{◌≡◌, ℕ, ◌+◌, ◌*◌, ◌^◌, ◌<◌
 use Rattle.std.specs.List.{list_any}
 use Rattle.std.specs.List.Sorted.{IsStrictlyIncreasing}
 use Rattle.std.specs.Str.{trim}
-use Rattle.croner_base.specs.Field.{Shape, Field, has_any, has_all, is_in_bounds, can_ask, is_marked, with_mark, without_mark, marked_values, room, values_between}
+use Rattle.croner_base.specs.Field.{plain_bit, Shape, Field, has_any, has_all, is_in_bounds, can_ask, is_marked, with_mark, without_mark, marked_values, room, values_between}
 use Rattle.croner_base.specs.Part.{all_marked, stepped_marks, part_of, parts_of}
 use Rattle.croner_base.specs.Reading.{Effect, marks, Reading, applied}
 
@@ -88,7 +88,7 @@ pub record ListsSet (bits : ℕ) (f : Field) : Type 0 where
 
 -- the field holds the value, supports plain values, and the value is marked plain
 abbrev pub is_plain_value : Field → ℕ → Bool
-is_plain_value f value = can_ask f.shape value 1 && is_marked 1 f value
+is_plain_value f value = can_ask f.shape value plain_bit && is_marked plain_bit f value
 
 -- from the value on there is no plain one
 abbrev pub HasNoPlainFrom : Field → ℕ → Type 0

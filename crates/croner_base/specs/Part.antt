@@ -4,9 +4,10 @@ use Rattle.std.specs.List.{range_with_len, list_any, slice_split, before_first, 
 use Rattle.std.specs.Str.{all_ascii_digits, trim, bytes_eq}
 use Rattle.std.specs.Str.Parse.{digits_value, without_leading_plus}
 use Rattle.croner_base.specs.Field.{Shape, can_mark, has_all, is_in_bounds, values_between}
+pub use Rattle.croner_base.specs.Field.{plain_bit, nth_bits, last_bit, nearest_bit}
 use Rattle.croner_base.specs.Reading.{marks, enables, steps, stars, Reading, nothing, did, ◌then◌, wants, with}
 
--- ---- the signs of a part, and the bits of the modifiers that it can name
+-- ---- the signs of a part
 
 abbrev pub hash : ℕ
 hash = 35
@@ -25,18 +26,6 @@ letter_l = 76
 
 abbrev pub letter_w : ℕ
 letter_w = 87
-
-abbrev pub plain_bit : ℕ
-plain_bit = 1
-
-abbrev pub nth_bits : ℕ
-nth_bits = 62
-
-abbrev pub last_bit : ℕ
-last_bit = 64
-
-abbrev pub nearest_bit : ℕ
-nearest_bit = 128
 
 -- one or more decimal digits that write at most 65535, after at most one plus
 abbrev pub number_of : List ℕ → Option ℕ

@@ -3,10 +3,10 @@
 //! A value can be marked plain, as one of the first five such weekdays of a month, as the last one, or as the day
 //! whose nearest weekday is meant. Each modifier is one bit, so that the bits of several are asked for at once.
 
-ghost use Rattle.std.specs.Prelude.{◌≡◌, ◌+◌, ◌-◌, ◌≤◌, ◌<◌, ◌==◌, ℕ, true, length, OnOk, OnErr, IfOk, IfErr, MatchOption};
+ghost use Rattle.std.specs.Prelude.{◌≡◌, ◌+◌, ◌-◌, ◌≤◌, ◌<◌, ◌==◌, ◌^◌, ℕ, true, length, OnOk, OnErr, IfOk, IfErr, MatchOption};
 ghost use Rattle.std.specs.Int.{bit_at};
 ghost use Rattle.croner_base.specs.Answers.{SucceedsIff};
-ghost use Rattle.croner_base.specs.Field.{with_mark, without_mark, with_sloppy, is_marked, can_mark, can_ask, is_of_one_word, default_field, empty_field, new_shape, has_all, has_modifiers, marked_values};
+ghost use Rattle.croner_base.specs.Field.{Field, room, with_mark, without_mark, with_sloppy, is_marked, can_mark, can_ask, is_of_one_word, default_field, empty_field, new_shape, has_all, has_modifiers, marked_values};
 ghost use Rattle.croner_base.specs.Marks.{IsWellFormed, HasNoPlainFrom, IsLeastPlainValue, HasNoPlainTo, IsGreatestPlainValue};
 ghost use Rattle.croner_base.specs.Part.{enabled};
 ghost use Rattle.croner_base.specs.Reading.{Reads};
@@ -58,6 +58,12 @@ pub const CLOSEST_WEEKDAY_BIT: u8 = 128;
 /// [`set_bit`](Self::set_bit). The component keeps the allocator that its maker took: room for every mark is taken
 /// by [`new`](Self::new). Later calls take memory for the message of a refusal, for the lists that they answer, and
 /// for a clone whose values do not fit one word, and for nothing else.
+///
+/// ```
+/// let mut minutes = CronComponent::new(alloc, 0, 59, NONE_BIT, 0)?;
+/// minutes.parse("*/20,5")?;
+/// let values = minutes.values()?; // [0, 5, 20, 40]
+/// ```
 #[derive(Debug)]
 pub struct CronComponent {
     marks: Marks,
@@ -71,9 +77,6 @@ pub struct CronComponent {
 }
 
 impl Model for CronComponent {
-    ghost use Rattle.std.specs.Prelude.{◌≡◌, ◌+◌, ◌≤◌, ◌<◌, ◌^◌, length};
-    ghost use Rattle.croner_base.specs.Field.{Field, room};
-
     ghost Value = { Field };
 
     ghost view = { λ c. record { shape = record { min = c.min; max = c.marks.max; supported = c.marks.supported; offset = c.input_offset; sloppy = c.sloppy_ranges }; marks = c.marks.marks; enabled = c.enabled_features; step = c.step; wildcard = c.from_wildcard } };
@@ -103,6 +106,11 @@ impl CronComponent {
     /// It supports the modifiers in `features`, and plain values and `LAST_BIT` besides. `input_offset` is taken off
     /// each number that a text names. A component whose `max` is 0 holds no value at all. The only error is
     /// `OutOfMemory`.
+    ///
+    /// ```
+    /// // The days of a month, of which the nearest weekday may be asked, as in 15W.
+    /// let days = CronComponent::new(alloc, 1, 31, CLOSEST_WEEKDAY_BIT, 0)?;
+    /// ```
     pub fn new(
         alloc: Global,
         min: u16,
@@ -129,6 +137,11 @@ impl CronComponent {
     }
 
     /// A component of which each part is zero: it holds no value and supports nothing. Takes no memory.
+    ///
+    /// ```
+    /// let none = CronComponent::default(alloc);
+    /// let bits = none.features(); // 0
+    /// ```
     pub fn default(alloc: Global) -> Self
         ensures { result ≡ default_field }
     {
@@ -145,6 +158,12 @@ impl CronComponent {
     }
 
     /// Whether its values fit one word of 64 bits: a clone of such a component takes no memory.
+    ///
+    /// ```
+    /// let minutes = CronComponent::new(alloc, 0, 59, NONE_BIT, 0)?;
+    /// let years = CronComponent::new(alloc, 1, 5000, NONE_BIT, 0)?;
+    /// let (small, large) = (minutes.is_of_one_word(), years.is_of_one_word()); // true, false
+    /// ```
     #[inline(always)]
     pub fn is_of_one_word(&self) -> bool
         ensures { result ≡ is_of_one_word self.now.shape }
@@ -153,6 +172,12 @@ impl CronComponent {
     }
 
     /// What a clone of a component of one word gives. Takes no memory.
+    ///
+    /// ```
+    /// if minutes.is_of_one_word() {
+    ///     let copy = minutes.clone_in_place(); // equal to minutes
+    /// }
+    /// ```
     #[inline(always)]
     pub fn clone_in_place(&self) -> Self
         requires { is_of_one_word self.now.shape ≡ true }
@@ -171,6 +196,11 @@ impl CronComponent {
     }
 
     /// The least value that the component may hold.
+    ///
+    /// ```
+    /// let minutes = CronComponent::new(alloc, 0, 59, NONE_BIT, 0)?;
+    /// let least = CronComponent::min(&minutes); // 0; minutes.min() is the method of Ord
+    /// ```
     pub fn min(&self) -> u16
         ensures { result ≡ self.now.shape.min }
     {
@@ -178,6 +208,11 @@ impl CronComponent {
     }
 
     /// The greatest value that the component may hold. Where it is 0 there is none.
+    ///
+    /// ```
+    /// let minutes = CronComponent::new(alloc, 0, 59, NONE_BIT, 0)?;
+    /// let greatest = CronComponent::max(&minutes); // 59; minutes.max() is the method of Ord
+    /// ```
     pub fn max(&self) -> u16
         ensures value { result ≡ self.now.shape.max }
         ensures whole { IsWellFormed self.now }
@@ -187,6 +222,12 @@ impl CronComponent {
 
     /// The step of the last part with a `/` whose step was read, also of one that was refused for another reason then. Before
     /// any it is 1, and 0 in a default component.
+    ///
+    /// ```
+    /// let mut minutes = CronComponent::new(alloc, 0, 59, NONE_BIT, 0)?;
+    /// minutes.parse("*/20")?;
+    /// let step = minutes.step(); // 20
+    /// ```
     pub fn step(&self) -> u16
         ensures { result ≡ self.now.step }
     {
@@ -194,6 +235,12 @@ impl CronComponent {
     }
 
     /// Whether a `*` was read: as the whole field, or before a `/`, where with sloppy ranges nothing stands for one too (`/10`).
+    ///
+    /// ```
+    /// let mut minutes = CronComponent::new(alloc, 0, 59, NONE_BIT, 0)?;
+    /// minutes.parse("*/20")?;
+    /// let has_star = minutes.from_wildcard(); // true
+    /// ```
     pub fn from_wildcard(&self) -> bool
         ensures { result ≡ self.now.wildcard }
     {
@@ -201,6 +248,11 @@ impl CronComponent {
     }
 
     /// The bits of the modifiers that are supported.
+    ///
+    /// ```
+    /// let days = CronComponent::new(alloc, 1, 31, CLOSEST_WEEKDAY_BIT, 0)?;
+    /// let bits = days.features(); // ALL_BIT | LAST_BIT | CLOSEST_WEEKDAY_BIT
+    /// ```
     pub fn features(&self) -> u8
         ensures { result ≡ self.now.shape.supported }
     {
@@ -208,6 +260,13 @@ impl CronComponent {
     }
 
     /// What is taken off each number that a text names.
+    ///
+    /// ```
+    /// // Weekdays that count from 1 for Sunday.
+    /// let mut weekdays = CronComponent::new(alloc, 0, 7, NTH_ALL, 1)?;
+    /// weekdays.parse("2")?;
+    /// let values = weekdays.values()?; // [1]
+    /// ```
     pub fn input_offset(&self) -> u16
         ensures { result ≡ self.now.shape.offset }
     {
@@ -215,6 +274,13 @@ impl CronComponent {
     }
 
     /// Sets whether the start of a stepped range may stand alone or be left out, as in `5/10` and `/10`.
+    ///
+    /// ```
+    /// let mut minutes = CronComponent::new(alloc, 0, 59, NONE_BIT, 0)?;
+    /// minutes.set_sloppy_ranges(true);
+    /// minutes.parse("5/20")?;
+    /// let values = minutes.values()?; // [5, 25, 45]
+    /// ```
     pub fn set_sloppy_ranges(&mut self, sloppy: bool)
         ensures { self.new ≡ with_sloppy self.old sloppy }
     {
@@ -225,6 +291,12 @@ impl CronComponent {
     ///
     /// `ComponentError` where `pos` is below the offset, the value is out of bounds, a bit isn't supported or the
     /// maximum is 0; `OutOfMemory` where its message finds no memory. An error leaves the component as it was.
+    ///
+    /// ```
+    /// let mut weekdays = CronComponent::new(alloc, 0, 7, NTH_ALL, 0)?;
+    /// weekdays.set_bit(5, NTH_2ND_BIT)?; // the second Friday, as 5#2
+    /// let refused = weekdays.set_bit(8, ALL_BIT); // Err(ComponentError): 8 is out of bounds
+    /// ```
     pub fn set_bit(&mut self, pos: u16, bit: u8) -> Result<(), CronError>
         ensures answer { SucceedsIff (can_mark self.old.shape pos bit) result }
         ensures ok { OnOk result (self.new ≡ with_mark self.old (pos - self.old.shape.offset) bit) }
@@ -238,6 +310,13 @@ impl CronComponent {
     /// Takes the modifiers of `bit` off the value `pos` minus the input offset, and changes nothing else.
     ///
     /// The errors are those of [`set_bit`](Self::set_bit), and leave the component as it was.
+    ///
+    /// ```
+    /// let mut minutes = CronComponent::new(alloc, 0, 59, NONE_BIT, 0)?;
+    /// minutes.parse("0-3")?;
+    /// minutes.unset_bit(2, ALL_BIT)?;
+    /// let values = minutes.values()?; // [0, 1, 3]
+    /// ```
     pub fn unset_bit(&mut self, pos: u16, bit: u8) -> Result<(), CronError>
         ensures answer { SucceedsIff (can_mark self.old.shape pos bit) result }
         ensures ok { OnOk result (self.new ≡ without_mark self.old (pos - self.old.shape.offset) bit) }
@@ -252,6 +331,13 @@ impl CronComponent {
     ///
     /// `ComponentError` where the value is out of bounds, a bit isn't supported or the maximum is 0; `OutOfMemory`
     /// where its message finds no memory.
+    ///
+    /// ```
+    /// let mut weekdays = CronComponent::new(alloc, 0, 7, NTH_ALL, 0)?;
+    /// weekdays.parse("5#2")?;
+    /// let is_second = weekdays.is_bit_set(5, NTH_2ND_BIT)?; // true
+    /// let is_plain = weekdays.is_bit_set(5, ALL_BIT)?; // false
+    /// ```
     #[inline]
     pub fn is_bit_set(&self, value: u16, bit: u8) -> Result<bool, CronError>
         ensures answer { SucceedsIff (can_ask self.now.shape value bit) result }
@@ -266,6 +352,11 @@ impl CronComponent {
     ///
     /// `ComponentError` where one of them isn't supported, `OutOfMemory` where its message finds no memory. An error
     /// leaves the component as it was.
+    ///
+    /// ```
+    /// let mut days = CronComponent::new(alloc, 1, 31, CLOSEST_WEEKDAY_BIT, 0)?;
+    /// days.enable_feature(LAST_BIT)?; // as the text L
+    /// ```
     pub fn enable_feature(&mut self, feature: u8) -> Result<(), CronError>
         ensures { Reads (enabled self.old.shape feature) self.old self.new result }
     {
@@ -277,6 +368,12 @@ impl CronComponent {
     }
 
     /// Whether each of the features is supported.
+    ///
+    /// ```
+    /// let days = CronComponent::new(alloc, 1, 31, CLOSEST_WEEKDAY_BIT, 0)?;
+    /// let nearest = days.is_feature_allowed(CLOSEST_WEEKDAY_BIT); // true
+    /// let nth = days.is_feature_allowed(NTH_1ST_BIT); // false
+    /// ```
     #[inline]
     pub fn is_feature_allowed(&self, feature: u8) -> bool
         ensures { result ≡ has_all self.now.shape.supported feature }
@@ -285,6 +382,12 @@ impl CronComponent {
     }
 
     /// Whether each of the features is enabled.
+    ///
+    /// ```
+    /// let mut days = CronComponent::new(alloc, 1, 31, CLOSEST_WEEKDAY_BIT, 0)?;
+    /// days.parse("LW")?;
+    /// let is_last_weekday = days.is_feature_enabled(LAST_BIT | CLOSEST_WEEKDAY_BIT); // true
+    /// ```
     pub fn is_feature_enabled(&self, feature: u8) -> bool
         ensures { result ≡ has_all self.now.enabled feature }
     {
@@ -293,6 +396,14 @@ impl CronComponent {
 
     /// Whether a feature is enabled, or a value marked with a modifier other than plain: what such a field names
     /// depends on the month.
+    ///
+    /// ```
+    /// let mut days = CronComponent::new(alloc, 1, 31, CLOSEST_WEEKDAY_BIT, 0)?;
+    /// days.parse("1,15")?;
+    /// let before = days.has_modifiers(); // false
+    /// days.parse("L")?;
+    /// let after = days.has_modifiers(); // true
+    /// ```
     pub fn has_modifiers(&self) -> bool
         ensures { result ≡ has_modifiers self.now }
     {
@@ -300,6 +411,12 @@ impl CronComponent {
     }
 
     /// The plain values, in ascending order. The only error is `OutOfMemory`.
+    ///
+    /// ```
+    /// let mut minutes = CronComponent::new(alloc, 0, 59, NONE_BIT, 0)?;
+    /// minutes.parse("10-12,3")?;
+    /// let values = minutes.values()?; // [3, 10, 11, 12]
+    /// ```
     pub fn values(&self) -> Result<Vec<u16>, CronError>
         ensures ok { IfOk result (λ vs. vs.items ≡ marked_values ALL_BIT self.now) }
         ensures err { IfErr result (λ e. e ≡ CronError.OutOfMemory) }
@@ -309,6 +426,13 @@ impl CronComponent {
 
     /// The values that have any of the modifiers of `bit`, in ascending order; none where one of these isn't
     /// supported. The only error is `OutOfMemory`.
+    ///
+    /// ```
+    /// let mut weekdays = CronComponent::new(alloc, 0, 7, NTH_ALL, 0)?;
+    /// weekdays.parse("1#1,5#L")?;
+    /// let first = weekdays.get_set_values(NTH_1ST_BIT)?; // [1]
+    /// let last = weekdays.get_set_values(LAST_BIT)?; // [5]
+    /// ```
     pub fn get_set_values(&self, bit: u8) -> Result<Vec<u16>, CronError>
         ensures ok { IfOk result (λ vs. vs.items ≡ marked_values bit self.now) }
         ensures err { IfErr result (λ e. e ≡ CronError.OutOfMemory) }
@@ -320,6 +444,12 @@ impl CronComponent {
     }
 
     /// How many values [`get_set_values`](Self::get_set_values) lists.
+    ///
+    /// ```
+    /// let mut minutes = CronComponent::new(alloc, 0, 59, NONE_BIT, 0)?;
+    /// minutes.parse("*/20")?;
+    /// let count = minutes.count_set_values(ALL_BIT); // 3
+    /// ```
     #[inline(always)]
     pub fn count_set_values(&self, bit: u8) -> usize
         ensures { result ≡ length (marked_values bit self.now) }
@@ -331,6 +461,13 @@ impl CronComponent {
     }
 
     /// The least plain value from the given one on; `None` where there is none. Refuses nothing and takes no memory.
+    ///
+    /// ```
+    /// let mut minutes = CronComponent::new(alloc, 0, 59, NONE_BIT, 0)?;
+    /// minutes.parse("*/20")?;
+    /// let next = minutes.least_from(21); // Some(40)
+    /// let none = minutes.least_from(41); // None
+    /// ```
     #[inline(always)]
     pub fn least_from(&self, value: u16) -> Option<u16>
         ensures { MatchOption result (HasNoPlainFrom self.now value) (λ least. IsLeastPlainValue self.now value least) }
@@ -342,6 +479,12 @@ impl CronComponent {
     }
 
     /// The greatest plain value up to the given one; `None` where there is none. Refuses nothing and takes no memory.
+    ///
+    /// ```
+    /// let mut minutes = CronComponent::new(alloc, 0, 59, NONE_BIT, 0)?;
+    /// minutes.parse("*/20")?;
+    /// let last = minutes.greatest_to(39); // Some(20)
+    /// ```
     #[inline(always)]
     pub fn greatest_to(&self, value: u16) -> Option<u16>
         ensures { MatchOption result (HasNoPlainTo self.now value) (λ greatest. IsGreatestPlainValue self.now value greatest) }
@@ -359,6 +502,12 @@ impl CronComponent {
     ///
     /// Each modifier is asked by itself: one that isn't supported adds no value, and keeps out none that another adds.
     /// [`get_set_values`](Self::get_set_values) lists nothing at all where one isn't supported.
+    ///
+    /// ```
+    /// let mut minutes = CronComponent::new(alloc, 0, 59, NONE_BIT, 0)?;
+    /// minutes.parse("0,3")?;
+    /// let word = minutes.low_word(ALL_BIT); // 9: bits 0 and 3
+    /// ```
     #[inline(always)]
     pub fn low_word(&self, bit: u8) -> u64
         ensures { (value : ℕ) → value < 64 → (bit_at result value == 1) ≡ is_marked bit self.now value }
@@ -394,9 +543,6 @@ impl CronComponent {
 
 /// A copy is equal in all its parts. The only error is want of memory, and a component of one word takes none.
 impl Clone for CronComponent {
-    ghost use Rattle.std.specs.Prelude.{◌≡◌, true};
-    ghost use Rattle.croner_base.specs.Field.{is_of_one_word};
-
     ghost is_clone = { λ original copy. copy ≡ original };
 
     ghost is_infallible = { λ original. is_of_one_word original.shape ≡ true };

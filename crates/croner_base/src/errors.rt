@@ -8,6 +8,13 @@ use std::error::Error;
 use std::fmt;
 
 /// Why a pattern, a date, a time or a search is refused. A message inside names what was wrong and what was expected.
+///
+/// ```
+/// let blank = Cron::from_str(alloc, " "); // Err(EmptyPattern)
+/// let short = Cron::from_str(alloc, "0 12"); // Err(InvalidPattern): two fields
+/// let sign = Cron::from_str(alloc, "0 $ * * *"); // Err(IllegalCharacters)
+/// let hour = Cron::from_str(alloc, "0 25 * * *"); // Err(ComponentError): no hour is 25
+/// ```
 #[derive(Debug, Clone, Drop)]
 pub enum CronError {
     /// The pattern has nothing but white space.

@@ -1,9 +1,8 @@
 //! What a message repeats of a text: enough to find the place, and no more.
 
-ghost use Rattle.std.specs.Prelude.{◌≡◌, ◌≤◌, ◌<◌, ◌^◌, ◌==◌, length};
+ghost use Rattle.std.specs.Prelude.{◌≡◌, ◌≤◌, ◌<◌, ◌^◌, length, take, Some};
 ghost use Rattle.std.specs.Str.{chars};
-ghost use Rattle.croner_base.specs.Excerpt.{excerpt, excerpt_characters, half_excerpt_characters};
-ghost use Rattle.croner_base.specs.Excerpt.{is_among, is_control, ends_a_line, turns_round, has_no_width, has_no_width_above, is_unseen};
+ghost use Rattle.croner_base.specs.Excerpt.{excerpt, excerpt_characters, half_excerpt_characters, shown, all_shown, is_among, is_control, ends_a_line, turns_round, has_no_width, has_no_width_above, is_unseen};
 
 use std::fmt;
 
@@ -65,9 +64,6 @@ impl<'t> Excerpt<'t> {
 
 /// `'0-60'`, or for a text of 100 characters its first 64 in quotes and ` (characters left out: 36)`.
 impl fmt::Display for Excerpt<'_> {
-    ghost use Rattle.std.specs.Prelude.{Some};
-    ghost use Rattle.croner_base.specs.Excerpt.{excerpt};
-
     ghost output = { λ e. Some (excerpt e.most e.text.now) };
 
     fn fmt<W: fmt::Write>(&self, f: &mut fmt::Formatter<W>) -> fmt::Result {
@@ -105,10 +101,6 @@ impl<'t> Shown<'t> {
 }
 
 impl fmt::Display for Shown<'_> {
-    ghost use Rattle.std.specs.Prelude.{Some, take};
-    ghost use Rattle.std.specs.Str.{chars};
-    ghost use Rattle.croner_base.specs.Excerpt.{all_shown};
-
     ghost output = { λ s. Some (all_shown (take s.most (chars s.text.now))) };
 
     fn fmt<W: fmt::Write>(&self, f: &mut fmt::Formatter<W>) -> fmt::Result {
@@ -134,9 +126,6 @@ struct ShownCharacter {
 }
 
 impl fmt::Display for ShownCharacter {
-    ghost use Rattle.std.specs.Prelude.{Some};
-    ghost use Rattle.croner_base.specs.Excerpt.{shown};
-
     ghost output = { λ s. Some (shown s.c) };
 
     fn fmt<W: fmt::Write>(&self, f: &mut fmt::Formatter<W>) -> fmt::Result {

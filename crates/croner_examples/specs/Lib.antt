@@ -1,2 +1,1 @@
-pub mod OwnLanguage
 pub mod OwnTime

@@ -5,7 +5,6 @@ mod guide;
 mod many_jobs;
 mod named_job;
 mod next_run;
-mod own_language;
 mod own_pattern;
 mod own_time;
 mod wake_ups;
@@ -18,7 +17,6 @@ use jiff::civil::DateTime;
 use jiff::tz::TimeZoneDatabase;
 use many_jobs::{Change, Scheduler};
 use named_job::Job;
-use own_language::UtcEnglish;
 use own_time::OfficeTime;
 
 // The next run of a job in a named zone, and the runs of a day on which that clock goes back from 3 to 2.
@@ -65,10 +63,9 @@ fn show_own(rt: &HostRuntime) -> anyhow::Result<()> {
     Ok(())
 }
 
-// A job in a language of this crate, and its next run at a time of this crate.
-fn show_own_types(rt: &HostRuntime) -> anyhow::Result<()> {
+// The next run of a job at a time of this crate.
+fn show_own_time(rt: &HostRuntime) -> anyhow::Result<()> {
     let cron = Cron::from_str(rt.alloc(), "5 9 * * MON")?;
-    println!(rt; "{}", cron.describe_lang(UtcEnglish)?)?; // At 09:05 UTC, on Monday.
     let table = ClockTable::new(3600, Vec::new(rt.alloc()))?;
     let time = TableTime::new(&table, 1_719_576_000)?; // 2024-06-28T12:00:00 UTC
     let start = OfficeTime {
@@ -119,7 +116,7 @@ fn main(rt: HostRuntime) -> anyhow::Result<()> {
     show_in_paris(&rt)?;
     show_changed(&rt, &now)?;
     show_own(&rt)?;
-    show_own_types(&rt)?;
+    show_own_time(&rt)?;
     show_many(&rt)?;
     show_guide(&rt)?;
     wake_ups::main(rt)

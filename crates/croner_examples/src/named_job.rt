@@ -1,7 +1,8 @@
 //! A job with a name, and its runs of a day.
 use croner::{Cron, Direction};
+use jiff::Zoned;
+use jiff::civil::DateTime;
 use jiff::tz::TimeZoneDatabase;
-use jiff::{Timestamp, Zoned};
 
 #[derive(Debug, Drop)]
 pub struct Job {
@@ -23,7 +24,8 @@ pub fn show_day(rt: &HostRuntime, job: &Job, time: &Zoned<'_>) -> anyhow::Result
 
 pub fn main(rt: HostRuntime) -> anyhow::Result<()> {
     let zones = TimeZoneDatabase::from_env(&rt)?;
-    let day = Timestamp::new(1_729_980_000, 0)?.to_zoned(zones.get("Europe/Paris")?); // 2024-10-27
+    let noon = DateTime::new(2024, 10, 27, 12, 0, 0, 0)?;
+    let day = noon.to_zoned(zones.get("Europe/Paris")?)?;
     let name = String::from_str(rt.alloc(), "sample")?;
     let cron = Cron::from_str(rt.alloc(), "*/30 2 * * *")?;
     show_day(&rt, &Job { name, cron }, &day)

@@ -1,6 +1,5 @@
 -- Tables over the 28 kinds of month.
-use Rattle.std.proofs.Common.{◌≡◌, ℕ, zero, suc, ◌+◌, ◌-◌, ◌/◌, ◌<◌, ◌≤◌, Bool, true, false, not, ◌&&◌, eqb, ltb, refl, arith, sym, inl, inr}
-use Rattle.std.proofs.Common.{subst, ◌^◌, if◌then◌else◌, ◌==◌}
+use Rattle.std.proofs.Common.{◌≡◌, ℕ, zero, suc, ◌+◌, ◌-◌, ◌/◌, ◌<◌, ◌≤◌, Bool, true, false, not, ◌&&◌, eqb, ltb, refl, arith, sym, inl, inr, subst, ◌^◌, if◌then◌else◌, ◌==◌}
 use Rattle.std.proofs.lemmas.Bool.Decides.{nat_tests}
 use Rattle.std.proofs.lemmas.Bool.{and_parts, cases_eq, eqb-true}
 use Rattle.croner_pattern.specs.Days.{weekday_of, is_nearest, is_last_weekday, is_last_day, is_last_working, occurrence, resolved_day}

@@ -3,7 +3,7 @@ use Rattle.std.specs.Prelude.{ℕ, ◌%◌, ◌-◌, nat_lt, Bool, false, not, �
 use Rattle.std.specs.Char.{to_ascii_uppercase}
 use Rattle.std.specs.List.{filter, flat_map, list_all}
 use Rattle.std.specs.Str.{bytes_eq}
-use Rattle.croner_base.specs.Field.{Field, has_all, marked_values, values_between}
+use Rattle.croner_base.specs.Field.{plain_bit, last_bit, nearest_bit, Field, has_all, marked_values, values_between}
 use Rattle.croner_words.specs.Wording.{Wording}
 use Rattle.croner_pattern.specs.Lists.{joined, text_list, number_list}
 use Rattle.croner_pattern.specs.Meaning.{Meaning}
@@ -11,7 +11,7 @@ use Rattle.croner_pattern.specs.Schedule.{bit_of_nth, is_plain}
 
 -- the plain values of a field, in ascending order
 abbrev pub plain_values : Field → List ℕ
-plain_values f = marked_values 1 f
+plain_values f = marked_values plain_bit f
 
 -- step 1, and every value from the least to the greatest is plain
 abbrev pub is_all : Field → Bool
@@ -125,8 +125,8 @@ where_any values text = if length values == 0 then [] else (text ∷ [])
 abbrev pub day_parts : Wording → Field → List (List ℕ)
 day_parts w days =
     where_any (plain_values days) (w.day_phrase (numbers w (plain_values days)))
-    ++ ((if has_all days.enabled 64 then (w.the_last_day_of_the_month ∷ []) else [])
-    ++ where_any (marked_values 128 days) (w.the_weekday_nearest_day (numbers w (marked_values 128 days))))
+    ++ ((if has_all days.enabled last_bit then (w.the_last_day_of_the_month ∷ []) else [])
+    ++ where_any (marked_values nearest_bit days) (w.the_weekday_nearest_day (numbers w (marked_values nearest_bit days))))
 
 abbrev pub days_text : Wording → Field → List ℕ
 days_text w days = texts w (day_parts w days)
@@ -145,7 +145,7 @@ month_names w months = texts w (map (λ month. cyclic_name w.month_names (month 
 -- the weekdays: the last of the month, the first to the fifth, and plain ones
 abbrev pub last_weekdays : Wording → Field → List (List ℕ)
 last_weekdays w weekdays =
-    where_any (marked_values 64 weekdays) (w.the_last_weekday_of_the_month (weekday_names w (marked_values 64 weekdays)))
+    where_any (marked_values last_bit weekdays) (w.the_last_weekday_of_the_month (weekday_names w (marked_values last_bit weekdays)))
 
 abbrev pub nth_weekdays : Wording → Field → ℕ → List (List ℕ)
 nth_weekdays w weekdays n =

@@ -6,7 +6,7 @@ use Rattle.croner_base.specs.declared.time.Direction.{Direction}
 use Rattle.croner_base.specs.declared.time.Direction.TheVariants.{Forward, Backward}
 use Rattle.croner_base.specs.declared.time.TimeComponent.{TimeComponent}
 use Rattle.croner_base.specs.declared.time.TimeComponent.TheVariants.{Second, Minute, Hour, Day, Month, Year}
-use Rattle.croner_base.specs.Field.{Field, can_ask, is_marked, values_between}
+use Rattle.croner_base.specs.Field.{plain_bit, last_bit, nearest_bit, Field, can_ask, is_marked, values_between}
 use Rattle.croner_pattern.specs.Days.{days_of, weekday_of, occurrence, is_last_weekday, is_last_day, is_last_working, is_nearest}
 use Rattle.croner_pattern.specs.Meaning.{Meaning}
 use Rattle.croner_pattern.specs.NextSecond.{FindsNearest}
@@ -41,7 +41,7 @@ last_target len day = if nat_lt (day + 2) len then (day + 2) else len
 
 -- a target is marked, and this is its nearest working day
 abbrev pub near_answer : Field → ℕ → ℕ → ℕ → ℕ → Option Bool
-near_answer days len first day target = and_test (is_nearest len first target day) (asked 128 days target)
+near_answer days len first day target = and_test (is_nearest len first target day) (asked nearest_bit days target)
 
 abbrev pub near_answers : Field → ℕ → ℕ → ℕ → Option Bool
 near_answers days len first day =
@@ -55,18 +55,18 @@ is_named_last days len first day =
 -- the day side: plain, then `L` and `LW`, then the targets
 abbrev pub day_answer : Field → ℕ → ℕ → ℕ → Option Bool
 day_answer days len first day =
-    first_yes (asked 1 days day ∷ Some (is_named_last days len first day) ∷ near_answers days len first day ∷ [])
+    first_yes (asked plain_bit days day ∷ Some (is_named_last days len first day) ∷ near_answers days len first day ∷ [])
 
 -- the weekday is marked with `L`, and this is its last of the month
 abbrev pub last_answer : Field → ℕ → ℕ → ℕ → Option Bool
-last_answer weekdays len first day = and_test (is_last_weekday len first day) (asked 64 weekdays (weekday_of first day))
+last_answer weekdays len first day = and_test (is_last_weekday len first day) (asked last_bit weekdays (weekday_of first day))
 
 -- the weekday side: the nth, then the last, then plain
 abbrev pub weekday_answer : Field → ℕ → ℕ → ℕ → Option Bool
 weekday_answer weekdays len first day =
     first_yes (asked (bit_of_nth (occurrence first day)) weekdays (weekday_of first day)
     ∷ last_answer weekdays len first day
-    ∷ asked 1 weekdays (weekday_of first day) ∷ [])
+    ∷ asked plain_bit weekdays (weekday_of first day) ∷ [])
 
 -- both sides, joined
 abbrev pub both_answers : (Bool → Bool → Bool) → Option Bool → Option Bool → Option Bool
@@ -97,8 +97,8 @@ clock_field m Year = None
 
 -- a search is refused above the maximum, forward from below the minimum, and in a field that holds no plain value
 abbrev pub can_search : Direction → Field → ℕ → Bool
-can_search Forward f value = can_ask f.shape value 1
-can_search Backward f value = nat_le value f.shape.max && can_ask f.shape f.shape.max 1
+can_search Forward f value = can_ask f.shape value plain_bit
+can_search Backward f value = nat_le value f.shape.max && can_ask f.shape f.shape.max plain_bit
 
 abbrev pub can_find : Direction → Option Field → ℕ → Bool
 can_find direction None value = false

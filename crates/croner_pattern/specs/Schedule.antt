@@ -8,7 +8,7 @@ use Rattle.croner_base.specs.declared.time.civil.CivilDateTime.{CivilDateTime}
 use Rattle.croner_base.specs.Calendar.{day_number, weekday_of_day}
 use Rattle.croner_base.specs.Civil.{wall_second}
 use Rattle.croner_base.specs.Limits.{first_year, last_year}
-use Rattle.croner_base.specs.Field.{Field, has_all, can_ask, is_marked, marked_values}
+use Rattle.croner_base.specs.Field.{plain_bit, last_bit, nearest_bit, Field, has_all, can_ask, is_marked, marked_values}
 use Rattle.croner_pattern.specs.Days.{days_of, weekday_of, occurrence, is_last_weekday, is_last_day, is_last_working, is_nearest}
 use Rattle.croner_pattern.specs.Meaning.{Meaning}
 
@@ -18,19 +18,19 @@ is_named bits f value = can_ask f.shape value bits && is_marked bits f value
 
 -- a plain value: named by itself, or by a range or a step that it lies in (ALL_BIT)
 abbrev pub is_plain : Field → ℕ → Bool
-is_plain = is_named 1
+is_plain = is_named plain_bit
 
 -- `L`: LAST_BIT is enabled, and CLOSEST_WEEKDAY_BIT isn't
 abbrev pub names_last_day : Field → Bool
-names_last_day days = has_all days.enabled 64 && not (has_all days.enabled 128)
+names_last_day days = has_all days.enabled last_bit && not (has_all days.enabled nearest_bit)
 
 -- `LW`: both are enabled
 abbrev pub names_last_working_day : Field → Bool
-names_last_working_day days = has_all days.enabled 64 && has_all days.enabled 128
+names_last_working_day days = has_all days.enabled last_bit && has_all days.enabled nearest_bit
 
 -- `nW`: a target of the month, marked CLOSEST_WEEKDAY_BIT, has this day as its nearest working day
 abbrev pub is_near_target : Field → ℕ → ℕ → ℕ → Bool
-is_near_target days len first day = list_any (λ target. is_named 128 days target && is_nearest len first target day) (days_of len)
+is_near_target days len first day = list_any (λ target. is_named nearest_bit days target && is_nearest len first target day) (days_of len)
 
 -- the day of month fits
 abbrev pub is_day_side : Field → ℕ → ℕ → ℕ → Bool
@@ -46,7 +46,7 @@ bit_of_nth n = 2 ^ n
 abbrev pub is_weekday_side : Field → ℕ → ℕ → ℕ → Bool
 is_weekday_side weekdays len first day =
     is_plain weekdays (weekday_of first day) || (is_named (bit_of_nth (occurrence first day)) weekdays (weekday_of first day)
-    || (is_named 64 weekdays (weekday_of first day) && is_last_weekday len first day))
+    || (is_named last_bit weekdays (weekday_of first day) && is_last_weekday len first day))
 
 -- with one star field the other side decides. With none it takes both sides where the AND flag is set, and else either.
 -- With two stars either side will do.
@@ -100,7 +100,7 @@ pub record DateMatches (m : Meaning) (w : ℤ) : Type 0 where
 
 -- a field that names exactly one value, with step 1 and without a star
 abbrev pub is_single : Field → Bool
-is_single f = f.step == 1 && (not f.wildcard && length (marked_values 1 f) == 1)
+is_single f = f.step == 1 && (not f.wildcard && length (marked_values plain_bit f) == 1)
 
 -- a job that runs at one time of the day
 abbrev pub is_fixed_time : Meaning → Bool

@@ -1,7 +1,7 @@
 -- The shape of each field of a pattern: its bounds, the modifiers that it supports, and what is taken off a number read.
-use Rattle.std.specs.Prelude.{ℕ, Bool, false, ◌&&◌, ◌||◌, ◌==◌, List}
+use Rattle.std.specs.Prelude.{ℕ, Bool, false, ◌&&◌, ◌||◌, ◌==◌, List, bit_or}
 use Rattle.croner_base.specs.Limits.{first_year, last_year}
-use Rattle.croner_base.specs.Field.{Shape, new_shape, empty_field}
+use Rattle.croner_base.specs.Field.{nth_bits, last_bit, nearest_bit, Shape, new_shape, empty_field}
 use Rattle.croner_pattern.specs.Meaning.{Meaning}
 
 -- seconds and minutes
@@ -11,17 +11,17 @@ sixty_shape = new_shape 0 59 0 0
 abbrev pub hour_shape : Shape
 hour_shape = new_shape 0 23 0 0
 
--- days of the month: the last day (64), and the nearest working day (128)
+-- days of the month: the last day, and the nearest working day
 abbrev pub day_shape : Shape
-day_shape = new_shape 1 31 192 0
+day_shape = new_shape 1 31 (bit_or last_bit nearest_bit) 0
 
 abbrev pub month_shape : Shape
 month_shape = new_shape 1 12 0 0
 
--- weekdays: the first to the fifth of a month (62), and the last (64). The offset is 0 where Sunday is 0 or 7, and 1
--- where Sunday is 1.
+-- weekdays: the first to the fifth of a month, and the last. The offset is 0 where Sunday is 0 or 7, and 1 where Sunday
+-- is 1.
 abbrev pub weekday_shape : ℕ → Shape
-weekday_shape offset = new_shape 0 7 126 offset
+weekday_shape offset = new_shape 0 7 (bit_or nth_bits last_bit) offset
 
 abbrev pub year_shape : Shape
 year_shape = new_shape first_year last_year 0 0

@@ -29,6 +29,11 @@ pub mod lang {
 ///
 /// The text is known exactly from the fields of the pattern, its flags and what the language means. The only error is
 /// `OutOfMemory`.
+///
+/// ```
+/// let job = Cron::from_str(alloc, "0 0 L * *")?;
+/// let text = describe(alloc, &job.pattern, &English)?; // At 00:00, on the last day of the month.
+/// ```
 pub fn describe<L: Language>(
     alloc: Global,
     pattern: &CronPattern,
@@ -91,6 +96,11 @@ fn sentence(alloc: Global, text: &str) -> Result<String, CronError>
 
 impl CronPattern {
     /// The description in English. The only error is `OutOfMemory`.
+    ///
+    /// ```
+    /// let job = Cron::from_str(alloc, "*/5 * * * *")?;
+    /// let text = job.pattern.describe()?; // At every 5 minutes.
+    /// ```
     pub fn describe(&self) -> Result<String, CronError>
         ensures { Writes (description english (meaning_of self.now)) result }
     {
@@ -98,6 +108,11 @@ impl CronPattern {
     }
 
     /// The description in a language. The only error is `OutOfMemory`.
+    ///
+    /// ```
+    /// let job = Cron::from_str(alloc, "5 9 * * MON")?;
+    /// let text = job.pattern.describe_lang(Swedish)?; // Klockan 09:05, på måndag.
+    /// ```
     pub fn describe_lang<L: Language + Drop>(&self, language: L) -> Result<String, CronError>
         ensures { Writes (description (L.meaning language) (meaning_of self.now)) result }
     {

@@ -1,6 +1,6 @@
 //! A pattern: its seven fields, and the dates and times that they name.
 
-ghost use Rattle.std.specs.Prelude.{◌≡◌, true, IfOk, IfErr};
+ghost use Rattle.std.specs.Prelude.{◌≡◌, true, Some, IfOk, IfErr};
 ghost use Rattle.croner_base.specs.Answers.{Finds, IsFieldError, SucceedsIff};
 ghost use Rattle.croner_base.specs.Field.{new_shape};
 ghost use Rattle.croner_pattern.specs.Meaning.{meaning_of};
@@ -44,6 +44,12 @@ const LAST_WEEKDAY: u16 = 7;
 ///
 /// A date and time is scheduled where its second, minute, hour, month and year are plain values of their fields and its day
 /// fits the two day fields. The pattern keeps the allocator that its maker took.
+///
+/// ```
+/// let job = Cron::from_str(alloc, "30 9,17 * * MON-FRI")?;
+/// let hours = job.pattern.hours.values()?; // [9, 17]
+/// let weekdays = job.pattern.days_of_week.values()?; // [1, 2, 3, 4, 5]
+/// ```
 #[derive(Debug, Drop)]
 pub struct CronPattern {
     /// Seconds, 0 to 59.
@@ -73,6 +79,18 @@ impl CronPattern {
     /// flags are false. The text isn't read.
     ///
     /// The only error is `OutOfMemory`.
+    ///
+    /// ```
+    /// let mut pattern = CronPattern::new(alloc, "each day at 9")?;
+    /// pattern.seconds.parse("0")?;
+    /// pattern.minutes.parse("0")?;
+    /// pattern.hours.parse("9")?;
+    /// pattern.days.parse("*")?;
+    /// pattern.months.parse("*")?;
+    /// pattern.days_of_week.parse("*")?;
+    /// pattern.years.parse("*")?;
+    /// pattern.set_flags(true, true, false);
+    /// ```
     pub fn new(alloc: Global, text: &str) -> Result<Self, CronError>
         ensures ok { IfOk result (λ p. meaning_of p ≡ new_meaning text.now) }
         ensures shapes { IfOk result (λ p. has_field_shapes (meaning_of p) ≡ true) }
@@ -99,6 +117,13 @@ impl CronPattern {
 
     /// Whether each field has the bounds, the supported modifiers and the input offset of its place; the offset of the
     /// weekdays may be 0 or 1. Every pattern from [`new`](Self::new) and from a parser has them.
+    ///
+    /// ```
+    /// let pattern = CronPattern::new(alloc, "by hand")?;
+    /// if pattern.has_field_shapes() {
+    ///     let job = Cron { pattern };
+    /// }
+    /// ```
     pub fn has_field_shapes(&self) -> bool
         ensures { result ≡ has_field_shapes (meaning_of self.now) }
     {
@@ -115,6 +140,12 @@ impl CronPattern {
 
     /// Sets the three flags, and nothing else: whether the day of month and the weekday are written as `*`, and whether a
     /// day has to match both of them.
+    ///
+    /// ```
+    /// // The first of a month, where it is a Monday.
+    /// let mut job = Cron::from_str(alloc, "0 9 1 * MON")?;
+    /// job.pattern.set_flags(false, false, true);
+    /// ```
     pub fn set_flags(&mut self, star_day: bool, star_weekday: bool, and: bool)
         ensures { meaning_of self.new
             ≡ record (meaning_of self.old) { star_day = star_day; star_weekday = star_weekday; and = and } }
@@ -125,6 +156,11 @@ impl CronPattern {
     }
 
     /// The text of the pattern: the one handed to [`new`](Self::new).
+    ///
+    /// ```
+    /// let pattern = CronPattern::new(alloc, "by hand")?;
+    /// let text = pattern.as_str(); // by hand
+    /// ```
     pub fn as_str(&self) -> &str
         ensures { result.now ≡ (meaning_of self.now).text }
     {
@@ -140,6 +176,11 @@ impl CronPattern {
 
     /// Whether seconds, minutes and hours each name exactly one value, with step 1 and without a `*`: such a pattern runs
     /// at one time of the day.
+    ///
+    /// ```
+    /// let daily = Cron::from_str(alloc, "30 9 * * *")?.pattern.is_fixed_time(); // true
+    /// let hourly = Cron::from_str(alloc, "30 * * * *")?.pattern.is_fixed_time(); // false
+    /// ```
     #[tactic(auto, using(crate::proofs::Tests::and_false))]
     pub fn is_fixed_time(&self) -> bool
         ensures { result ≡ is_fixed_time (meaning_of self.now) }
@@ -154,6 +195,13 @@ impl CronPattern {
     /// `ComponentError` for another component, for a value above the field's maximum, and, on a field of another shape,
     /// for a forward search from below its minimum and for any search where its maximum is 0; `OutOfMemory` where the
     /// message finds no memory.
+    ///
+    /// ```
+    /// let job = Cron::from_str(alloc, "*/20 9 * * *")?;
+    /// let (minute, forward) = (TimeComponent::Minute, Direction::Forward);
+    /// let next = job.pattern.find_match_in_component(21, minute, forward)?; // Some(40)
+    /// let none = job.pattern.find_match_in_component(41, minute, forward)?; // None
+    /// ```
     pub fn find_match_in_component(
         &self,
         value: u32,
@@ -264,9 +312,6 @@ fn is_single(field: &CronComponent) -> bool
 }
 
 impl Clone for CronPattern {
-    ghost use Rattle.std.specs.Prelude.{◌≡◌};
-    ghost use Rattle.croner_pattern.specs.Meaning.{meaning_of};
-
     ghost is_clone = { λ original copy. meaning_of copy ≡ meaning_of original };
 
     // What takes memory comes first, so that nothing that is copied has to wait in a third place. A function of its own,
@@ -296,9 +341,6 @@ impl Clone for CronPattern {
 }
 
 impl fmt::Display for CronPattern {
-    ghost use Rattle.std.specs.Prelude.{Some};
-    ghost use Rattle.croner_pattern.specs.Meaning.{meaning_of};
-
     ghost output = { λ p. Some ((meaning_of p).text) };
 
     fn fmt<W: fmt::Write>(&self, f: &mut fmt::Formatter<W>) -> fmt::Result {

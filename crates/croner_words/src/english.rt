@@ -9,6 +9,11 @@ use croner_base::errors::CronError;
 use std::alloc::Global;
 
 /// English.
+///
+/// ```
+/// let job = Cron::from_str(alloc, "5 9 * * MON")?;
+/// let text = job.describe_lang(English)?; // At 09:05, on Monday.
+/// ```
 #[derive(Default, Clone, Copy)]
 pub struct English;
 

@@ -9,6 +9,10 @@ use croner_base::errors::CronError;
 use std::alloc::Global;
 
 /// A time of day on a clock of 24 hours, two places for each number: `14:00`, `14:00:30`.
+///
+/// ```
+/// let text = english_form::time_of_day(alloc, 14, 0, None)?; // 14:00
+/// ```
 pub fn time_of_day(
     alloc: Global,
     hour: u16,
@@ -24,6 +28,10 @@ pub fn time_of_day(
 }
 
 /// Something that repeats, past some hours.
+///
+/// ```
+/// let text = english_form::every_past_phrase(alloc, "Every minute", "hour 9-17")?; // Every minute past hour 9-17
+/// ```
 pub fn every_past_phrase(alloc: Global, every: &str, hours: &str) -> Result<String, CronError>
     ensures { Writes (past every.now hours.now) result }
 {
@@ -31,6 +39,10 @@ pub fn every_past_phrase(alloc: Global, every: &str, hours: &str) -> Result<Stri
 }
 
 /// A list of hours: `hour 0 and 12`.
+///
+/// ```
+/// let text = english_form::past_hour_phrase(alloc, "0 and 12")?; // hour 0 and 12
+/// ```
 pub fn past_hour_phrase(alloc: Global, s: &str) -> Result<String, CronError>
     ensures { Writes (past_hour s.now) result }
 {
@@ -38,6 +50,10 @@ pub fn past_hour_phrase(alloc: Global, s: &str) -> Result<String, CronError>
 }
 
 /// Every so many months.
+///
+/// ```
+/// let text = english_form::every_x_months(alloc, 2)?; // every 2 months
+/// ```
 pub fn every_x_months(alloc: Global, step: u16) -> Result<String, CronError>
     ensures { Writes (every_months step) result }
 {
@@ -45,6 +61,10 @@ pub fn every_x_months(alloc: Global, step: u16) -> Result<String, CronError>
 }
 
 /// What the language's own `year_phrase` is given for every so many years: `every 2`.
+///
+/// ```
+/// let text = english_form::every(alloc, 2)?; // every 2
+/// ```
 pub fn every(alloc: Global, step: u16) -> Result<String, CronError>
     ensures { Writes (every_step step) result }
 {

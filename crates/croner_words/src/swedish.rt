@@ -9,6 +9,11 @@ use croner_base::errors::CronError;
 use std::alloc::Global;
 
 /// Swedish.
+///
+/// ```
+/// let job = Cron::from_str(alloc, "5 9 * * MON")?;
+/// let text = job.describe_lang(Swedish)?; // Klockan 09:05, på måndag.
+/// ```
 #[derive(Default, Clone, Copy)]
 pub struct Swedish;
 

@@ -1,5 +1,5 @@
 -- What an iterator over a table keeps stays so when a job is searched, when a run is taken, and over an item.
-use Rattle.std.proofs.Common.{◌≡◌, ◌&&◌, IsTrue, ◌⊎◌, inl, inr, ℕ, ◌+◌, ◌-◌, ◌<◌, ◌≤◌, ℤ, arith, refl, sym, ap, subst, ◌∙◌, Bool, true, false, List, [], ◌∷◌, ◌++◌, length, get_or, Option, Some, Result, Ok, Err, IfOk}
+use Rattle.std.proofs.Common.{◌≡◌, ◌&&◌, IsTrue, ◌⊎◌, inl, inr, ℕ, ◌+◌, ◌-◌, ◌<◌, ◌≤◌, ℤ, arith, refl, sym, ap, subst, ◌∙◌, Bool, true, false, List, [], ◌∷◌, ◌++◌, length, get_or, Option, Some, None, Result, Ok, Err}
 use Rattle.std.proofs.Math.Logic.{∥∥₁_map}
 use Rattle.std.proofs.lemmas.Bool.{false≢true, cases_lt}
 use Rattle.std.proofs.lemmas.Bool.Decides.{nat_tests}
@@ -7,7 +7,7 @@ use Rattle.std.proofs.lemmas.List.Elements.{All-nil, All-cons, All-head, All-tai
 use Rattle.std.proofs.lemmas.List.Sorted.{All-permutation, sum_by-IsPermutation, sum_by_pushed, sum_by_popped}
 use Rattle.std.proofs.lemmas.List.Sums.{sum_by_push}
 use Rattle.std.proofs.lemmas.Option.{slice_get_within}
-use Rattle.std.specs.Prelude.{slice_get, option_to_list, vec_len, IsPermutation, OnOk, IfErr}
+use Rattle.std.specs.Prelude.{slice_get, option_to_list, vec_len, IsPermutation, OnOk, IfErr, IfSome}
 use Rattle.std.specs.List.{All, sum_by}
 use Rattle.std.specs.declared.alloc.Global.{Global}
 use Rattle.std.specs.declared.vec.Vec.{Vec}
@@ -21,7 +21,7 @@ use Rattle.std.specs.BinaryHeap.{heap_items}
 use Rattle.croner.specs.declared.crontable.due.Due.{Due}
 use Rattle.croner.specs.declared.crontable.kept.Kept.{Kept}
 use Rattle.croner.specs.crontable.Tables.{IsTableFound}
-use Rattle.croner.specs.Private.crontable.Kept.{is_place, times, IsDue, HasNoneLeft, AreKept, LieAhead, IsPopped, LeadsTo}
+use Rattle.croner.specs.Private.crontable.Kept.{is_place, times, IsDue, HasNoneLeft, AreKept, LieAhead, IsHeld, WaitedBefore, IsPopped, LeadsTo}
 use Rattle.croner.specs.search.Limit.{IsWithin, NoneInSpan}
 use Rattle.croner.specs.search.PatternJob.{pattern_job, timetable_of}
 use Rattle.croner.specs.search.Premises.{StartsCalm, Shows}
@@ -33,6 +33,15 @@ use Rattle.croner.proofs.zone.RunsOfSeconds.{true_or_false, is_run, counts_reach
 
 same_some : {A : Type 0} (x y : A) → Some x ≡ Some y → x ≡ y
 same_some x y e = cc
+
+none_is_some : {A : Type 0} (x : A) → None ≡ Some x → ⊥
+none_is_some x e = absurd (cc)
+
+abbrev answered : {A : Type 0} → A → Result A CronError
+answered x = Ok x
+
+same_answer : {A : Type 0} (x y : A) → answered x ≡ answered y → x ≡ y
+same_answer x y e = cc
 
 pub same_place : (k n : ℕ) → (k ≡ n) ⊎ (k ≡ n → ⊥)
 same_place k n = elim (cases_lt k n) [
@@ -214,10 +223,9 @@ table_leads direction inclusive patterns start found named is = record {
       counts_reaches direction inclusive (pattern_job at.pattern start.zone) start.instant found.instant at.counts;
 }
 
-pub leads_found : {T : Type 0} (moment : T → Moment) (direction : Direction) (inclusive : Bool) (patterns : List Meaning) (start : Moment) (answer : Result (T × Vec ℕ Global) CronError)
-    → IfOk answer (λ r. IsTableFound direction inclusive patterns start (moment r.0) r.1.items) → IfOk answer (λ r. LeadsTo direction start (moment r.0))
-leads_found moment direction inclusive patterns start (Ok r) is = table_leads direction inclusive patterns start (moment r.0) r.1.items is
-leads_found moment direction inclusive patterns start (Err e) is = tt
+-- the place that waits last waits no more
+pub fewer_wait : (waiting rest : List ℕ) (place : ℕ) → waiting ≡ rest ++ place ∷ [] → WaitedBefore waiting rest
+fewer_wait waiting rest place at k = let a = sum_by_push (is_place k) rest place in let b = ap (sum_by (is_place k)) at in omega (arith, a, b)
 
 -- the places from 0 on, one more
 pub placed_below : (xs ys : List ℕ) (n : ℕ) → ys ≡ xs ++ n ∷ [] → All (λ k. k < n) xs → All (λ k. k < n + 1) ys
@@ -279,3 +287,49 @@ pub begun_by : {T : Type 0} {d : _} {c : _} (moment : T → Moment) (patterns : 
 begun_by moment patterns direction inclusive start old new jobs (Ok u) all known same none below once other refused begun =
     begun_either moment patterns direction inclusive start old new jobs all known same none below once other
 begun_by moment patterns direction inclusive start old new jobs (Err e) all known same none below once other refused begun = absurd (false≢true (sym refused.1 ∙ begun))
+
+-- what is held is so, as one reads it
+pub if_some : {T : Type 0} (o : Option T) (P : T → Type 0) → ((run : T) → o ≡ Some run → P run) → IfSome o P
+if_some (Some run) P all = all run refl
+if_some None P all = tt
+
+pub some_of : {T : Type 0} (o : Option T) (P : T → Type 0) → IfSome o P → (run : T) → o ≡ Some run → P run
+some_of {T} o P held run is = let Q : Option T → Type 0 = λ x. IfSome x P in subst Q is held
+
+-- a run that is held where what is kept is begun, or was begun before
+pub held_either : {T : Type 0} {d : _} {c : _} (moment : T → Moment) (patterns : List Meaning) (direction : Direction) (inclusive : Bool) (start : Moment) (old new : Kept T d c)
+    → (old.is_begun ≡ true → (run : T) → old.found ≡ Some run → IsHeld moment patterns direction inclusive start run (heap_items old.dues) old.waiting.items) → (old.is_begun ≡ true → new ≡ old)
+    → (old.is_begun ≡ false → new.found ≡ None) → (run : T) → new.found ≡ Some run → IsHeld moment patterns direction inclusive start run (heap_items new.dues) new.waiting.items
+held_either {T} {d} {c} moment patterns direction inclusive start old new known same none = elim (true_or_false old.is_begun) [
+  | inl e ↦
+      let P : Kept T d c → Type 0 = λ k. (run : T) → k.found ≡ Some run → IsHeld moment patterns direction inclusive start run (heap_items k.dues) k.waiting.items in
+      subst P (sym (same e)) (known e)
+  | inr e ↦ λ run is. absurd (none_is_some run (sym (none e) ∙ is))
+]
+
+-- the same, whether there was room or not
+pub held_by : {T : Type 0} {d : _} {c : _} (moment : T → Moment) (patterns : List Meaning) (direction : Direction) (inclusive : Bool) (start : Moment) (old new : Kept T d c) (result : Result (Unit {0}) CronError)
+    → (old.is_begun ≡ true → (run : T) → old.found ≡ Some run → IsHeld moment patterns direction inclusive start run (heap_items old.dues) old.waiting.items) → (old.is_begun ≡ true → new ≡ old)
+    → (old.is_begun ≡ false → OnOk result (new.found ≡ None)) → IfErr result (λ e. (e ≡ OutOfMemory) × (new.is_begun ≡ false)) → new.is_begun ≡ true
+    → (run : T) → new.found ≡ Some run → IsHeld moment patterns direction inclusive start run (heap_items new.dues) new.waiting.items
+held_by moment patterns direction inclusive start old new (Ok u) known same none refused begun = held_either moment patterns direction inclusive start old new known same none
+held_by moment patterns direction inclusive start old new (Err e) known same none refused begun = absurd (false≢true (sym refused.1 ∙ begun))
+
+-- behind an item no run is held
+pub held_after : {T : Type 0} {d : _} {c : _} (old new : Kept T d c) (keeps : Bool) → (keeps ≡ true → new ≡ old) → (keeps ≡ false → new.is_begun ≡ false) → old.found ≡ None → new.is_begun ≡ true
+    → (run : T) → new.found ≡ Some run → ⊥
+held_after {T} {d} {c} old new true same gone none begun run is = none_is_some run (sym (ap (λ (k : Kept T d c). k.found) (same refl) ∙ none) ∙ is)
+held_after old new false same gone none begun run is = false≢true (sym (gone refl) ∙ begun)
+
+-- a run that was held is given, or is held still
+pub given_again : {T : Type 0} (o : Option T) (run : T) (old mid items : List ℕ) → IfSome o (λ x. (answered run ≡ answered x) × (mid ≡ old)) → items ≡ mid → IfSome o (λ x. (run ≡ x) × (items ≡ old))
+given_again (Some x) run old mid items (is, same) e = (same_answer run x is, e ∙ same)
+given_again None run old mid items again e = tt
+
+pub held_still : {T : Type 0} (o : Option T) (run : T) (old mid : List ℕ) → IfSome o (λ x. (answered run ≡ answered x) × (mid ≡ old)) → IfSome o (λ x. (Some run ≡ Some x) × (mid ≡ old))
+held_still (Some x) run old mid (is, same) = (ap Some (same_answer run x is), same)
+held_still None run old mid again = tt
+
+pub not_held : {T : Type 0} (o : Option T) (e : CronError) (old mid : List ℕ) (P : T → Type 0) → IfSome o (λ x. (Err e ≡ answered x) × (mid ≡ old)) → IfSome o P
+not_held (Some x) e old mid P (is, same) = absurd (cc)
+not_held None e old mid P again = tt

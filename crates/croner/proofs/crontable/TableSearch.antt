@@ -1,11 +1,12 @@
 -- A search over a table, as the code makes it: its jobs and their places, and what the decision answers.
-use Rattle.std.proofs.Common.{◌≡◌, ℕ, refl, sym, ap, subst, ◌∙◌, inl, inr, Bool, true, false, List, [], ◌∷◌, length, map, Option, Some, None, Result, Ok, Err}
+use Rattle.std.proofs.Common.{◌≡◌, ◌⊎◌, ℕ, refl, sym, ap, subst, ◌∙◌, inl, inr, Bool, true, false, List, [], ◌∷◌, length, map, Option, Some, None, Result, Ok, Err}
 use Rattle.std.specs.Prelude.{IfOk, IfErr}
 use Rattle.std.specs.List.{AllZip}
 use Rattle.std.specs.declared.alloc.Global.{Global}
 use Rattle.std.specs.declared.vec.Vec.{Vec}
 use Rattle.std.proofs.lemmas.List.{length-map}
 use Rattle.croner_base.specs.declared.errors.CronError.{CronError}
+use Rattle.croner_base.specs.declared.errors.CronError.TheVariants.{TimeSearchLimitExceeded, OutOfMemory}
 use Rattle.croner_base.specs.declared.time.Direction.{Direction}
 use Rattle.croner_base.specs.Zone.{Moment}
 use Rattle.croner_pattern.specs.Meaning.{Meaning}
@@ -14,6 +15,9 @@ use Rattle.croner.specs.Views.{job_of}
 use Rattle.croner.specs.crontable.Tables.{IsTableFound, IsTableRefused}
 use Rattle.croner.specs.Private.crontable.Room.{IsRefusedInRoom}
 use Rattle.croner.specs.Private.crontable.Met.{MetAnswers, new_met, Decides, DecidesRefusal}
+use Rattle.croner.specs.Private.search.Held.{IsBackendError}
+use Rattle.croner.specs.search.Limit.{InSpan}
+use Rattle.croner.specs.search.Premises.{StartsCalm, IsSearchable}
 use Rattle.croner.proofs.crontable.TableRuns.{Searched, searched_none, none_met, outside_met, test_refused, found_met, refused_in_room}
 
 -- a copy of jobs has their patterns
@@ -35,7 +39,7 @@ module _ {T : Type 0} (moment : T → Moment) (lack : Bool) (direction : Directi
   searched_all jobs k met all s = subst (λ (n : ℕ). Searched moment direction inclusive (map job_of jobs) start n met) (all ∙ sym (length-map jobs job_of)) s
 
   module _ (patterns : List Meaning) (met : MetAnswers T) (s : Searched moment direction inclusive patterns start (length patterns) met) where
-    refused_by : (nearest : Option T) → met.nearest ≡ nearest → (is_limited : Bool) → (e : CronError) → DecidesRefusal moment lack direction nearest is_limited e → IsRefusedInRoom lack direction inclusive patterns start e
+    pub refused_by : (nearest : Option T) → met.nearest ≡ nearest → (is_limited : Bool) → (e : CronError) → DecidesRefusal moment lack direction nearest is_limited e → IsRefusedInRoom lack direction inclusive patterns start e
     refused_by None at is_limited e limit = subst (IsRefusedInRoom lack direction inclusive patterns start) (sym limit) (none_met moment direction inclusive patterns start met s lack at)
     refused_by (Some t) at false e none = absurd none
     refused_by (Some t) at true e why =
@@ -61,3 +65,37 @@ pub answered_in_room : {X : Type 0} (lack : Bool) (direction : Direction) (inclu
     → IfErr result (IsTableRefused direction inclusive patterns start)
 answered_in_room lack direction inclusive patterns start (Ok x) why = tt
 answered_in_room lack direction inclusive patterns start (Err e) why = refused_in_room lack direction inclusive patterns start e why
+
+same_some : {A : Type 0} (x y : A) → Some x ≡ Some y → x ≡ y
+same_some x y e = cc
+
+-- the item of a run is a copy of it, as it is decided
+module _ {T : Type 0} (moment : T → Moment) (lack : Bool) (direction : Direction) (run copy : T) (copied : moment copy ≡ moment run) (is_limited : Bool) where
+  abbrev Decided : Vec ℕ Global → Result (T × Vec ℕ Global) CronError → Type 0
+  Decided places result = Decides moment lack direction (record { nearest = Some copy; places = places.items; is_limited = is_limited }) places result
+
+  pub item_copied : (places : Vec ℕ Global) (result : Result (T × Vec ℕ Global) CronError) → Decided places result → IfOk result (λ item. moment item.0 ≡ moment run)
+  item_copied places (Ok item) (is, same, inside) = ap moment (sym (same_some copy item.0 is)) ∙ copied
+  item_copied places (Err e) decided = tt
+
+  pub item_places : (places : Vec ℕ Global) (waiting : List ℕ) → places.items ≡ waiting → (result : Result (T × Vec ℕ Global) CronError) → Decided places result → IfOk result (λ item. item.1.items ≡ waiting)
+  item_places places waiting all (Ok item) (is, same, inside) = ap (λ (v : Vec ℕ Global). v.items) same ∙ all
+  item_places places waiting all (Err e) decided = tt
+
+  pub item_inside : (places : Vec ℕ Global) (result : Result (T × Vec ℕ Global) CronError) → Decided places result
+      → IfOk result (λ item. is_limited ≡ true → StartsCalm (moment run) → InSpan direction (moment run).zone.reads (moment run).instant)
+  item_inside places (Ok item) (is, same, inside) =
+      let P : Moment → Type 0 = λ m. is_limited ≡ true → StartsCalm m → InSpan direction m.zone.reads m.instant in
+      subst P (item_copied places (Ok item) (is, same, inside)) inside
+  item_inside places (Err e) decided = tt
+
+  refusal_of : (lim : Bool) (e : CronError) → DecidesRefusal moment lack direction (Some copy) lim e → DecidesRefusal moment lack direction (Some run) lim e
+  refusal_of false e why = absurd why
+  refusal_of true e why =
+      let P : Moment → Type 0 = λ m. ((e ≡ TimeSearchLimitExceeded) × (StartsCalm m → ¬ (InSpan direction m.zone.reads m.instant))) ⊎ IsBackendError lack (¬ (IsSearchable m)) e in
+      subst P copied why
+
+  pub item_refused : (places : Vec ℕ Global) (result : Result (T × Vec ℕ Global) CronError) → Decided places result
+      → IfErr result (λ e. (e ≡ OutOfMemory) ⊎ DecidesRefusal moment lack direction (Some run) is_limited e)
+  item_refused places (Ok item) decided = tt
+  item_refused places (Err e) decided = inr (refusal_of is_limited e decided)

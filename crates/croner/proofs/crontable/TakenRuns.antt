@@ -1,5 +1,5 @@
--- All that stand at the nearest instant, taken one after the other: what they come to together.
-use Rattle.std.proofs.Common.{◌≡◌, ◌⊎◌, inl, inr, ℕ, ◌<◌, ◌≤◌, ℤ, arith, refl, sym, ap, subst, ◌∙◌, Bool, true, List, [], ◌∷◌, ◌++◌, length, map, get_or, Option, Some, None, Result, Ok, Err}
+-- All that stand at the nearest instant, taken one after the other, and held: what they come to together.
+use Rattle.std.proofs.Common.{◌≡◌, ◌⊎◌, inl, inr, ℕ, ◌<◌, ◌≤◌, ℤ, arith, refl, sym, ap, subst, ◌∙◌, Bool, true, List, [], ◌∷◌, ◌++◌, length, map, get_or, Option, Some, None}
 use Rattle.std.proofs.Math.Logic.{∥∥₁_elim}
 use Rattle.std.proofs.lemmas.Bool.{cases_lt}
 use Rattle.std.proofs.lemmas.Int.{ints}
@@ -9,25 +9,22 @@ use Rattle.std.proofs.lemmas.List.Quantifiers.{all_pairs_push}
 use Rattle.std.proofs.lemmas.List.Sorted.{All-permutation}
 use Rattle.std.proofs.lemmas.List.Sums.{sum_by-cons, sum_by_push, get_or-le-sum_by}
 use Rattle.std.proofs.lemmas.Option.{slice_get_cases, slice_get-map, get_or_from_slice_get}
-use Rattle.std.specs.Prelude.{slice_get, slice_index_or, option_map, IfOk, IfSome, IfNone}
+use Rattle.std.specs.Prelude.{slice_get, slice_index_or, option_map, IfSome, IfNone}
 use Rattle.std.specs.List.{All, AllPairs, Contains, sum_by}
-use Rattle.std.specs.declared.alloc.Global.{Global}
-use Rattle.std.specs.declared.vec.Vec.{Vec}
 use Rattle.croner_base.specs.declared.errors.CronError.{CronError}
-use Rattle.croner_base.specs.declared.errors.CronError.TheVariants.{TimeSearchLimitExceeded}
+use Rattle.croner_base.specs.declared.errors.CronError.TheVariants.{TimeSearchLimitExceeded, OutOfMemory}
 use Rattle.croner_base.specs.Zone.{Moment, reading, nanos_of}
 use Rattle.croner_base.specs.declared.time.Direction.{Direction}
 use Rattle.croner_pattern.specs.Meaning.{Meaning}
 use Rattle.croner_pattern.specs.Shapes.{has_field_shapes}
 use Rattle.croner.specs.declared.crontable.due.Due.{Due}
-use Rattle.croner.specs.declared.crontable.nearest.Met.{Met}
 use Rattle.croner.specs.declared.job.Cron.{Cron}
 use Rattle.croner.specs.Views.{job_of}
-use Rattle.croner.specs.crontable.Tables.{CountsAt, IsTableRefused}
+use Rattle.croner.specs.crontable.Tables.{CountsAt, IsTableFound, IsTableRefused}
 use Rattle.croner.specs.Private.crontable.Dues.{nanos_due}
-use Rattle.croner.specs.Private.crontable.Kept.{is_place, IsDue, AreKept, LieAhead, IsPopped, IsApart}
-use Rattle.croner.specs.Private.crontable.Met.{MetAnswers, met_of, Decides}
-use Rattle.croner.specs.search.Limit.{IsPast}
+use Rattle.croner.specs.Private.crontable.Kept.{is_place, IsDue, AreKept, IsHeld, IsPopped, IsApart}
+use Rattle.croner.specs.Private.crontable.Met.{MetAnswers, DecidesRefusal}
+use Rattle.croner.specs.search.Limit.{InSpan, IsPast}
 use Rattle.croner.specs.search.PatternJob.{timetable_of}
 use Rattle.croner.specs.search.Premises.{StartsCalm}
 use Rattle.croner.specs.search.Runs.{Precedes, Reaches}
@@ -35,7 +32,8 @@ use Rattle.croner.specs.search.Searches.{IsFound}
 use Rattle.croner.proofs.crontable.DueOrder.{ComesBehind, all_behind}
 use Rattle.croner.proofs.crontable.KeptRuns.{same_place, counted_once, counted_never, popped_kept}
 use Rattle.croner.proofs.crontable.KnownRuns.{found_known}
-use Rattle.croner.proofs.crontable.TableRuns.{IsBest, Span, Searched, order_nanos, none_met, refused_in_room}
+use Rattle.croner.proofs.crontable.TableRuns.{IsBest, Span, Searched, order_nanos, found_met, none_met, room_refused, refused_in_room}
+use Rattle.croner.proofs.crontable.TableSearch.{refused_by}
 use Rattle.croner.proofs.zone.Ahead.{precedes-reaches, precedes-trans, reaches-equal, same_or_ahead, not_both}
 
 same_some : {A : Type 0} (x y : A) → Some x ≡ Some y → x ≡ y
@@ -227,97 +225,117 @@ module _ {T : Type 0} (moment : T → Moment) (patterns : List Meaning) (directi
           | inr before ↦ precedes-trans direction (nanos_of (moment first)) (nanos_due moment top.due) (nanos_due moment due) before (later k d lt).0
         ]
 
-    module _ (apart : All (λ due. Precedes direction (nanos_of (moment first)) (nanos_due moment due)) dues) where
-      ahead_of : (due : Due T) → Own due → Precedes direction (nanos_of (moment first)) (nanos_due moment due) → Precedes direction (moment first).instant (moment due.run).instant
-      ahead_of due is before =
-          let (m, at) = stands_there patterns due.place is.1 in
-          order_nanos direction (moment first) (moment due.run) taken.whole (due_finds due is m at).whole before
+    -- so it is held
+    pub held_taken : (0 < length dues → IsApart moment dues first) → IsHeld moment patterns direction inclusive start first dues waiting
+    held_taken apart =
+        let before = rest_ahead apart in (
+          taken.some,
+          taken.ordered,
+          λ k d lt m at. ∣ taken.finds k d lt m at ∣₁,
+          λ k d lt.
+              let is = taken.kept.0 k d lt in
+              let (m, at) = stands_there patterns (get_or dues k d).place is.1 in
+              order_nanos direction (moment first) (moment (get_or dues k d).run) taken.whole (due_finds (get_or dues k d) is m at).whole (before k d lt),
+        )
 
-      -- they lie ahead of it
-      pub lie_ahead : LieAhead moment direction (moment first) dues
-      lie_ahead k d lt = ahead_of (get_or dues k d) (taken.kept.0 k d lt) (apart k d lt)
+  module _ (first : T) (dues : List (Due T)) (waiting : List ℕ) (is_limited : Bool) (kept : AreKept moment patterns direction inclusive start dues waiting is_limited)
+      (held : IsHeld moment patterns direction inclusive start first dues waiting) where
+    finds : All (λ k. Found k (moment first)) waiting
+    finds k d lt m at = found_known direction inclusive m start (moment first) (shapes (get_or waiting k d) m at) (held.2 k d lt m at)
 
-      -- a place of which the run counts
-      abbrev Seen : ℕ → ℤ → Type 0
-      Seen k j = (((due : Due T) × Contains dues due × (due.place ≡ k)) ⊎ Contains waiting k) ⊎ ((is_limited ≡ true) × ¬ (Span moment direction inclusive patterns start j))
+    first_found : (m : Meaning) × IsFound direction inclusive (timetable_of m) start (moment first)
+    first_found = let (m, at) = stands_there patterns (get_or waiting 0 0) (kept.1 0 0 held.0) in (m, finds 0 0 held.0 m at)
 
-      seen : StartsCalm start → (k : ℕ) (j : ℤ) → CountsAt direction inclusive patterns start.zone start.instant k j → Seen k j
-      seen calm k j at = elim (seated (λ (due : Due T). due.place) k dues) [
-        | inr there ↦ inl (inl there)
-        | inl none ↦
-            elim (seated (λ (p : ℕ). p) k waiting) [
-              | inr (p, has, e) ↦ inl (inr (subst (Contains waiting) e has))
-              | inl gone ↦
-                  let left = taken.kept.3 k at.pattern at.stands (omega (arith, none, gone)) in
-                  inr (left.0, λ span. ∥∥₁_elim left.1 (λ a b. absurd a) (λ nothing. nothing calm j span at.counts))
-            ]
-      ]
+    zone_held : (moment first).zone ≡ start.zone
+    zone_held = first_found.1.zone
 
-      -- what a place's run says of all that counts there
-      no_earlier : StartsCalm start → (k : ℕ) (t : Moment) (j : ℤ) (at : CountsAt direction inclusive patterns start.zone start.instant k j) → Found k t → Reaches direction t.instant j
-      no_earlier calm k t j at found = ((found at.pattern at.stands).nearest calm).nearest j at.counts
+    whole_held : (moment first).fraction ≡ 0
+    whole_held = first_found.1.whole
 
-      of_due : StartsCalm start → (k : ℕ) (j : ℤ) → CountsAt direction inclusive patterns start.zone start.instant k j → (due : Due T) → Contains dues due → due.place ≡ k → Precedes direction (moment first).instant j
-      of_due calm k j at due has e =
-          let is = All-contains Own dues due taken.kept.0 has in
-          let before = ahead_of due is (All-contains (λ x. Precedes direction (nanos_of (moment first)) (nanos_due moment x)) dues due apart has) in
-          precedes-trans direction (moment first).instant (moment due.run).instant j before (no_earlier calm k (moment due.run) j at (subst (λ p. Found p (moment due.run)) e (due_finds due is)))
+    -- a place of which the run counts
+    abbrev Seen : ℕ → ℤ → Type 0
+    Seen k j = (((due : Due T) × Contains dues due × (due.place ≡ k)) ⊎ Contains waiting k) ⊎ ((is_limited ≡ true) × ¬ (Span moment direction inclusive patterns start j))
 
-      found_in : (k : ℕ) → Contains waiting k → Found k (moment first)
-      found_in k has = All-contains (λ p. Found p (moment first)) waiting k taken.finds has
+    seen : StartsCalm start → (k : ℕ) (j : ℤ) → CountsAt direction inclusive patterns start.zone start.instant k j → Seen k j
+    seen calm k j at = elim (seated (λ (due : Due T). due.place) k dues) [
+      | inr there ↦ inl (inl there)
+      | inl none ↦
+          elim (seated (λ (p : ℕ). p) k waiting) [
+            | inr (p, has, e) ↦ inl (inr (subst (Contains waiting) e has))
+            | inl gone ↦
+                let left = kept.3 k at.pattern at.stands (omega (arith, none, gone)) in
+                inr (left.0, λ span. ∥∥₁_elim left.1 (λ a b. absurd a) (λ nothing. nothing calm j span at.counts))
+          ]
+    ]
 
-      pub searched_taken : Searched moment direction inclusive patterns start (length patterns) (record { nearest = Some first; places = waiting; is_limited = is_limited })
-      searched_taken = record {
-        ordered = taken.ordered;
-        below = taken.kept.1;
-        best = λ t e.
+    -- what a place's run says of all that counts there
+    no_earlier : StartsCalm start → (k : ℕ) (t : Moment) (j : ℤ) (at : CountsAt direction inclusive patterns start.zone start.instant k j) → Found k t → Reaches direction t.instant j
+    no_earlier calm k t j at found = ((found at.pattern at.stands).nearest calm).nearest j at.counts
+
+    of_due : StartsCalm start → (k : ℕ) (j : ℤ) → CountsAt direction inclusive patterns start.zone start.instant k j → (due : Due T) → Contains dues due → due.place ≡ k → Precedes direction (moment first).instant j
+    of_due calm k j at due has e =
+        let is = All-contains Own dues due kept.0 has in
+        let before = All-contains (λ (x : Due T). Precedes direction (moment first).instant (moment x.run).instant) dues due held.3 has in
+        precedes-trans direction (moment first).instant (moment due.run).instant j before (no_earlier calm k (moment due.run) j at (subst (λ p. Found p (moment due.run)) e (due_finds due is)))
+
+    found_in : (k : ℕ) → Contains waiting k → Found k (moment first)
+    found_in k has = All-contains (λ p. Found p (moment first)) waiting k finds has
+
+    searched_held : Searched moment direction inclusive patterns start (length patterns) (record { nearest = Some first; places = waiting; is_limited = is_limited })
+    searched_held = record {
+      ordered = held.1;
+      below = kept.1;
+      best = λ t e.
+          let same : first ≡ t = same_some first t e in
+          let P : T → Type 0 = λ x. IsBest moment direction inclusive patterns start (moment x) waiting in
+          subst P same (record {
+            zone = zone_held;
+            whole = whole_held;
+            some = held.0;
+            shows = λ i d lt.
+                let (m, at) = stands_there patterns (get_or waiting i d) (kept.1 i d lt) in
+                record { pattern = m; stands = at; shows = (finds i d lt m at).shows };
+            left = λ past.
+                let k = get_or waiting 0 0 in
+                let (m, at) = stands_there patterns k (kept.1 0 0 held.0) in
+                let Q : Meaning → Type 0 = λ x. IsPast direction inclusive (timetable_of x).scheduled (reading start) in
+                (finds 0 0 held.0 m at).left (subst Q (get_or_from_slice_get patterns k m m at) (past k m (kept.1 0 0 held.0)));
+          });
+      looked = λ calm. record {
+        reached = λ k j lt at.
+            elim (seen calm k j at) [
+              | inl (inl (due, has, e)) ↦ inl (first, refl, precedes-reaches direction (moment first).instant j (of_due calm k j at due has e))
+              | inl (inr has) ↦ inl (first, refl, no_earlier calm k (moment first) j at (found_in k has))
+              | inr (lim, out) ↦ inr (lim, out)
+            ];
+        complete = λ k t lt e at.
             let same : first ≡ t = same_some first t e in
-            let P : T → Type 0 = λ x. IsBest moment direction inclusive patterns start (moment x) waiting in
-            subst P same (record {
-              zone = taken.zone;
-              whole = taken.whole;
-              some = taken.some;
-              shows = λ i d lt.
-                  let (m, at) = stands_there patterns (get_or waiting i d) (taken.kept.1 i d lt) in
-                  record { pattern = m; stands = at; shows = (taken.finds i d lt m at).shows };
-              left = λ past.
-                  let k = get_or waiting 0 0 in
-                  let (m, at) = stands_there patterns k (taken.kept.1 0 0 taken.some) in
-                  let Q : Meaning → Type 0 = λ x. IsPast direction inclusive (timetable_of x).scheduled (reading start) in
-                  (taken.finds 0 0 taken.some m at).left (subst Q (get_or_from_slice_get patterns k m m at) (past k m (taken.kept.1 0 0 taken.some)));
-            });
-        looked = λ calm. record {
-          reached = λ k j lt at.
-              elim (seen calm k j at) [
-                | inl (inl (due, has, e)) ↦ inl (first, refl, precedes-reaches direction (moment first).instant j (of_due calm k j at due has e))
-                | inl (inr has) ↦ inl (first, refl, no_earlier calm k (moment first) j at (found_in k has))
-                | inr (lim, out) ↦ inr (lim, out)
-              ];
-          complete = λ k t lt e at.
-              let same : first ≡ t = same_some first t e in
-              let instant : (moment t).instant ≡ (moment first).instant = ap (λ (x : T). (moment x).instant) (sym same) in
-              elim (seen calm k (moment t).instant at) [
-                | inl (inl (due, has, f)) ↦
-                    absurd (not_both direction (moment first).instant (moment t).instant (of_due calm k (moment t).instant at due has f) (reaches-equal direction (moment t).instant (moment first).instant instant))
-                | inl (inr has) ↦ inl has
-                | inr (lim, out) ↦ inr (lim, out)
-              ];
-          counts = λ t e i d lt.
-              let same : first ≡ t = same_some first t e in
-              let k = get_or waiting i d in
-              let (m, at) = stands_there patterns k (taken.kept.1 i d lt) in
-              let P : T → Type 0 = λ x. CountsAt direction inclusive patterns start.zone start.instant k (moment x).instant in
-              subst P same (record { pattern = m; stands = at; counts = ((taken.finds i d lt m at).nearest calm).counts });
-        };
-      }
+            let instant : (moment t).instant ≡ (moment first).instant = ap (λ (x : T). (moment x).instant) (sym same) in
+            elim (seen calm k (moment t).instant at) [
+              | inl (inl (due, has, f)) ↦
+                  absurd (not_both direction (moment first).instant (moment t).instant (of_due calm k (moment t).instant at due has f) (reaches-equal direction (moment t).instant (moment first).instant instant))
+              | inl (inr has) ↦ inl has
+              | inr (lim, out) ↦ inr (lim, out)
+            ];
+        counts = λ t e i d lt.
+            let same : first ≡ t = same_some first t e in
+            let k = get_or waiting i d in
+            let (m, at) = stands_there patterns k (kept.1 i d lt) in
+            let P : T → Type 0 = λ x. CountsAt direction inclusive patterns start.zone start.instant k (moment x).instant in
+            subst P same (record { pattern = m; stands = at; counts = ((finds i d lt m at).nearest calm).counts });
+      };
+    }
 
-      -- as the code has it
-      pub searched_met : (met : Met T) (places : Vec ℕ Global) → met ≡ record { nearest = Some first; places = places; is_limited = is_limited } → places.items ≡ waiting
-          → Searched moment direction inclusive patterns start (length patterns) (met_of met)
-      searched_met met places e same =
-          let a : met_of met ≡ record { nearest = Some first; places = places.items; is_limited = is_limited } = ap met_of e in
-          let R : List ℕ → Type 0 = λ xs. Searched moment direction inclusive patterns start (length patterns) (record { nearest = Some first; places = xs; is_limited = is_limited }) in
-          subst (Searched moment direction inclusive patterns start (length patterns)) (sym a) (subst R (sym same) searched_taken)
+    -- what they come to, as it is decided
+    pub held_found : (is_limited ≡ true → StartsCalm (moment first) → InSpan direction (moment first).zone.reads (moment first).instant) → IsTableFound direction inclusive patterns start (moment first) waiting
+    held_found inside =
+        found_met moment direction inclusive patterns start (record { nearest = Some first; places = waiting; is_limited = is_limited }) searched_held first refl inside
+
+    pub held_refused : (lack : Bool) (e : CronError) → (e ≡ OutOfMemory) ⊎ DecidesRefusal moment lack direction (Some first) is_limited e → IsTableRefused direction inclusive patterns start e
+    held_refused lack e (inl memory) = subst (IsTableRefused direction inclusive patterns start) (sym memory) (room_refused direction inclusive patterns start)
+    held_refused lack e (inr why) =
+        refused_in_room lack direction inclusive patterns start e
+        (refused_by moment lack direction inclusive start patterns (record { nearest = Some first; places = waiting; is_limited = is_limited }) searched_held (Some first) refl is_limited e why)
 
   -- no job has a run, and none waits
   pub searched_nothing : (dues : List (Due T)) (waiting : List ℕ) (is_limited : Bool) → AreKept moment patterns direction inclusive start dues waiting is_limited → length dues ≡ 0 → length waiting ≡ 0
@@ -344,11 +362,3 @@ module _ {T : Type 0} (moment : T → Moment) (patterns : List Meaning) (directi
       let met : MetAnswers T = record { nearest = None; places = []; is_limited = is_limited } in
       refused_in_room true direction inclusive patterns start TimeSearchLimitExceeded
       (none_met moment direction inclusive patterns start met (searched_nothing dues waiting is_limited kept none empty) true refl)
-
--- what is decided is the run that was taken first
-pub ahead_decided : {T : Type 0} (moment : T → Moment) (lack : Bool) (direction : Direction) (met : MetAnswers T) (first : T) (dues : List (Due T)) (places : Vec ℕ Global) (result : Result (T × Vec ℕ Global) CronError)
-    → met.nearest ≡ Some first → LieAhead moment direction (moment first) dues → Decides moment lack direction met places result → IfOk result (λ r. LieAhead moment direction (moment r.0) dues)
-ahead_decided {T} moment lack direction met first dues places (Ok answer) at ahead (is, same, inside) =
-    let P : T → Type 0 = λ t. LieAhead moment direction (moment t) dues in
-    subst P (same_some first answer.0 (sym at ∙ is)) ahead
-ahead_decided moment lack direction met first dues places (Err e) at ahead decides = tt

@@ -1,8 +1,7 @@
 -- Worked faults, computed from the definitions: the field at fault, and the place of a fault.
-use Rattle.std.proofs.Common.{◌≡◌, ℕ, ◌+◌, true, [], ◌∷◌, Option, Some, None, refl, ap, arith}
+use Rattle.std.proofs.Common.{◌≡◌, ℕ, ◌+◌, true, Option, Some, None, refl, ap, arith}
 use Rattle.std.specs.Prelude.{codes}
 use Rattle.std.specs.Str.{trim_start, trim_end, chars}
-use Rattle.croner.specs.declared.parser.Seconds.TheVariants as seconds
 use Rattle.croner.specs.declared.parser.Year.TheVariants as year
 use Rattle.croner.specs.declared.parser.fault.Expected.{Expected}
 use Rattle.croner.specs.declared.parser.fault.FaultKind.TheVariants as kinds

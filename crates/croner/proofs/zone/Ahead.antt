@@ -1,5 +1,5 @@
 -- What comes before what in a direction, and in the other one.
-use Rattle.std.proofs.Common.{◌≡◌, arith, ℤ, neg_ℤ, ◌-ℤ◌}
+use Rattle.std.proofs.Common.{◌≡◌, arith, ℤ, neg_ℤ}
 use Rattle.std.proofs.lemmas.Int.{ints}
 use Rattle.croner_base.specs.declared.time.Direction.{Direction}
 use Rattle.croner_pattern.specs.Directions.{along, one_on}

@@ -1,5 +1,5 @@
 -- What counts from a start is seen by a walk from it, or by one from the edge of the other half.
-use Rattle.std.proofs.Common.{◌≡◌, ℤ, ◌-ℤ◌, ◌<ℤ◌, ◌⊎◌, arith, sym, inl, inr, subst, Bool, true}
+use Rattle.std.proofs.Common.{ℤ, ◌<ℤ◌, ◌⊎◌, arith, sym, inl, inr, subst, Bool, true}
 use Rattle.std.proofs.lemmas.Int.{ints}
 use Rattle.croner_base.specs.declared.time.Direction.{Direction}
 use Rattle.croner_base.specs.declared.time.Direction.TheVariants.{Forward, Backward}

@@ -1,5 +1,5 @@
 -- What a walk does at a second that one instant shows, two, or none.
-use Rattle.std.proofs.Common.{◌≡◌, ℤ, ◌+ℤ◌, ◌<ℤ◌, ◌≤ℤ◌, arith, ◌⊎◌, sym, inl, inr, subst, Bool, true, false, Some}
+use Rattle.std.proofs.Common.{◌≡◌, ℤ, ◌<ℤ◌, ◌≤ℤ◌, arith, ◌⊎◌, sym, inl, inr, subst, Bool, true, false, Some}
 use Rattle.std.proofs.lemmas.Int.{ints}
 use Rattle.croner_base.specs.declared.time.Direction.{Direction}
 use Rattle.croner_base.specs.declared.time.Direction.TheVariants.{Forward, Backward}

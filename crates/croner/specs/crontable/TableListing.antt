@@ -1,9 +1,8 @@
 -- The listing of a table's runs from a start: lists of instants with their places that begin it, and what an iterator has yet
 -- to give.
-use Rattle.std.specs.Prelude.{◌≡◌, ◌&&◌, ℕ, ℤ, Bool, true, false, IsTrue, List, Option, Some, None, Result, Ok, Err, MatchOption}
+use Rattle.std.specs.Prelude.{◌≡◌, ◌&&◌, ℕ, ℤ, Bool, true, false, List, Option, None, MatchOption}
 use Rattle.croner_base.specs.Zone.{Moment}
 use Rattle.croner_base.specs.declared.errors.CronError.{CronError}
-use Rattle.croner_base.specs.declared.errors.CronError.TheVariants.{OutOfMemory}
 use Rattle.croner_base.specs.declared.time.Direction.{Direction}
 use Rattle.croner_pattern.specs.Meaning.{Meaning}
 use Rattle.std.specs.declared.alloc.Global.{Global}
@@ -70,14 +69,6 @@ pub record GivesNoTableItem (old new : TableStanding) : Type 0 where
   pub refusal : CronError
   pub refused : IsTableRefused old.direction (counts_table_position old) old.patterns old.position refusal
   pub stands : new ≡ record old { fault = fault_of refusal }
-
--- what a call does once its search has answered: it stands at what was found and gives it, unless memory for it is wanting; a
--- refusal is kept, as it is, unless it is the limit
-abbrev pub TableSettles : {T : Type 0} → (T → Moment) → Bool → TableStanding → Result (T × Vec ℕ Global) CronError → Option (T × Vec ℕ Global) → TableStanding → Type 0
-TableSettles moment lack old (Ok found) (Some item) new = (moment item.0 ≡ moment found.0) × (item.1 ≡ found.1) × (new ≡ table_moved old (moment found.0))
-TableSettles moment lack old (Ok found) None new = IsTrue lack × (new ≡ record old { fault = Some OutOfMemory })
-TableSettles moment lack old (Err refusal) (Some item) new = ⊥
-TableSettles moment lack old (Err refusal) None new = new ≡ record old { fault = fault_of refusal }
 
 -- what a call of `next` does
 abbrev pub TableSteps : {T : Type 0} {d : _} {c : _} → (T → Moment) → CronTableIterator T d c → Option (T × Vec ℕ Global) → CronTableIterator T d c → Type 0

@@ -1,35 +1,92 @@
 //! The search of a table's jobs from a position of an iterator: only those that wait are searched.
-ghost use Rattle.std.specs.Prelude.{◌≡◌, IfOk, IfErr};
+ghost use Rattle.std.specs.Prelude.{◌≡◌, Ok, Some, None, IfOk, OnOk, IfErr, IfSome};
 ghost use Rattle.std.specs.BinaryHeap.{heap_items};
 ghost use Rattle.croner.specs.crontable.Tables.{patterns_of, IsTableFound, IsTableRefused};
-ghost use Rattle.croner.specs.Private.crontable.Kept.{AreKept, LieAhead};
+ghost use Rattle.croner.specs.Private.crontable.Kept.{AreKept, IsHeld, WaitedBefore, LieAhead};
 
 use super::CronTable;
 use super::kept::Kept;
-use super::nearest::Met;
 use croner_base::errors::CronError;
 use croner_base::time::{CronDateTime, Direction};
 
-/// The nearest run of all jobs from the position, with its places, as a search of the table finds it. All that stand there wait
-/// from then on, and the other runs that are kept lie ahead of it.
+/// The nearest run of all jobs from the position, and its item: a copy with its places, as a search of the table finds it. All
+/// that stand there wait from then on, and the other runs that are kept lie ahead of it. Where the item is refused, the run is
+/// held: then the next search is of no job, and tells of this run.
 pub(super) fn search<T: CronDateTime>(
     table: &CronTable,
     kept: &mut Kept<T>,
     position: &T,
     inclusive: bool,
     direction: Direction,
-) -> Result<(T, Vec<usize>), CronError>
-    requires { AreKept T.moment (patterns_of table.now) direction inclusive (T.moment position.now) (heap_items kept.old.dues) kept.old.waiting.items kept.old.is_limited }
+) -> Result<(T, (T, Vec<usize>)), CronError>
+    requires kept { AreKept T.moment (patterns_of table.now) direction inclusive (T.moment position.now) (heap_items kept.old.dues) kept.old.waiting.items kept.old.is_limited }
+    requires held { IfSome kept.old.found (λ run. IsHeld T.moment (patterns_of table.now) direction inclusive (T.moment position.now) run (heap_items kept.old.dues) kept.old.waiting.items) }
     ensures kept { AreKept T.moment (patterns_of table.now) direction inclusive (T.moment position.now) (heap_items kept.new.dues) kept.new.waiting.items kept.new.is_limited }
+    ensures held { IfSome kept.new.found (λ run. IsHeld T.moment (patterns_of table.now) direction inclusive (T.moment position.now) run (heap_items kept.new.dues) kept.new.waiting.items) }
     ensures begun { kept.new.is_begun ≡ kept.old.is_begun }
+    ensures given { OnOk result (kept.new.found ≡ None) }
     ensures ahead { IfOk result (λ r. LieAhead T.moment direction (T.moment r.0) (heap_items kept.new.dues)) }
-    ensures found { IfOk result (λ r. IsTableFound direction inclusive (patterns_of table.now) (T.moment position.now) (T.moment r.0) r.1.items) }
+    ensures found { IfOk result (λ r. IsTableFound direction inclusive (patterns_of table.now) (T.moment position.now) (T.moment r.0) r.1.1.items) }
+    ensures copied { IfOk result (λ r. T.moment r.1.0 ≡ T.moment r.0) }
+    ensures refused { IfErr result (IsTableRefused direction inclusive (patterns_of table.now) (T.moment position.now)) }
+    ensures again { IfOk result (λ r. IfSome kept.old.found (λ run. (r.0 ≡ run) × (r.1.1.items ≡ kept.old.waiting.items))) }
+    ensures stays { IfErr result (λ e. IfSome kept.old.found (λ run. (kept.new.found ≡ Some run) × (kept.new.waiting.items ≡ kept.old.waiting.items))) }
+    ensures waited { IfErr result (λ e. kept.new.found ≡ None → WaitedBefore kept.old.waiting.items kept.new.waiting.items) }
+{
+    let run = nearest(table, kept, position, inclusive, direction)?;
+    match kept.item(&run, table.alloc, direction) {
+        Ok(item) => {
+            kept.waiting.reverse();
+            Ok((run, item))
+        }
+        Err(refused) => {
+            kept.found = Some(run);
+            Err(refused)
+        }
+    }
+}
+
+// The run that is held, else the nearest that the jobs have from the position; the places that wait are its own from then on.
+fn nearest<T: CronDateTime>(
+    table: &CronTable,
+    kept: &mut Kept<T>,
+    position: &T,
+    inclusive: bool,
+    direction: Direction,
+) -> Result<T, CronError>
+    requires kept { AreKept T.moment (patterns_of table.now) direction inclusive (T.moment position.now) (heap_items kept.old.dues) kept.old.waiting.items kept.old.is_limited }
+    requires held { IfSome kept.old.found (λ run. IsHeld T.moment (patterns_of table.now) direction inclusive (T.moment position.now) run (heap_items kept.old.dues) kept.old.waiting.items) }
+    ensures kept { AreKept T.moment (patterns_of table.now) direction inclusive (T.moment position.now) (heap_items kept.new.dues) kept.new.waiting.items kept.new.is_limited }
+    ensures held { IfOk result (λ run. IsHeld T.moment (patterns_of table.now) direction inclusive (T.moment position.now) run (heap_items kept.new.dues) kept.new.waiting.items) }
+    ensures taken { kept.new.found ≡ None }
+    ensures begun { kept.new.is_begun ≡ kept.old.is_begun }
+    ensures again { IfSome kept.old.found (λ run. (result ≡ Ok run) × (kept.new.waiting.items ≡ kept.old.waiting.items)) }
+    ensures waited { IfErr result (λ e. WaitedBefore kept.old.waiting.items kept.new.waiting.items) }
     ensures refused { IfErr result (IsTableRefused direction inclusive (patterns_of table.now) (T.moment position.now)) }
 {
-    match kept.ask_all(table, position, inclusive, direction) {
-        Ok(()) => {}
-        Err(refused) => return Err(refused),
+    match kept.found.take() {
+        Some(run) => Ok(run),
+        None => take_nearest(table, kept, position, inclusive, direction),
     }
+}
+
+// Takes the nearest run that the jobs have from the position, once those that wait are searched; its places wait from then on.
+fn take_nearest<T: CronDateTime>(
+    table: &CronTable,
+    kept: &mut Kept<T>,
+    position: &T,
+    inclusive: bool,
+    direction: Direction,
+) -> Result<T, CronError>
+    requires { AreKept T.moment (patterns_of table.now) direction inclusive (T.moment position.now) (heap_items kept.old.dues) kept.old.waiting.items kept.old.is_limited }
+    ensures kept { AreKept T.moment (patterns_of table.now) direction inclusive (T.moment position.now) (heap_items kept.new.dues) kept.new.waiting.items kept.new.is_limited }
+    ensures held { IfOk result (λ run. IsHeld T.moment (patterns_of table.now) direction inclusive (T.moment position.now) run (heap_items kept.new.dues) kept.new.waiting.items) }
+    ensures same { kept.new.found ≡ kept.old.found }
+    ensures begun { kept.new.is_begun ≡ kept.old.is_begun }
+    ensures waited { IfErr result (λ e. WaitedBefore kept.old.waiting.items kept.new.waiting.items) }
+    ensures refused { IfErr result (IsTableRefused direction inclusive (patterns_of table.now) (T.moment position.now)) }
+{
+    kept.ask_all(table, position, inclusive, direction)?;
     if kept.waiting.reserve(kept.dues.len()).is_err() {
         return Err(CronError::OutOfMemory);
     }
@@ -40,10 +97,5 @@ pub(super) fn search<T: CronDateTime>(
     'tied: while kept.is_tied(&run) {
         kept.pop();
     }
-    let copy: Result<_, _> = kept.waiting.clone();
-    kept.waiting.reverse();
-    let Ok(places) = copy else {
-        return Err(CronError::OutOfMemory);
-    };
-    Met::found(run, places, kept.is_limited).decide(table.alloc, direction)
+    Ok(run)
 }

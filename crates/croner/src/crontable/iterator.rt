@@ -1,10 +1,10 @@
 //! Iterators over the runs of a table.
-ghost use Rattle.std.specs.Prelude.{◌≡◌, ◌&&◌, true, false, None, IsTrue};
+ghost use Rattle.std.specs.Prelude.{◌≡◌, ◌&&◌, true, false, Some, None, IsTrue};
 ghost use Rattle.std.specs.BinaryHeap.{heap_items};
 ghost use Rattle.croner_base.specs.declared.time.Direction.{Direction};
 ghost use Rattle.croner.specs.crontable.Tables.{patterns_of};
 ghost use Rattle.croner.specs.iterator.Faults.{is_kept};
-ghost use Rattle.croner.specs.Private.crontable.Kept.{AreKept};
+ghost use Rattle.croner.specs.Private.crontable.Kept.{AreKept, IsHeld};
 
 use super::CronTable;
 use super::asked::search;
@@ -36,14 +36,15 @@ pub struct CronTableIterator<'t, T: CronDateTime> {
     ghost whole: { is_first ≡ false → (T.moment position).fraction ≡ 0 },
     ghost known: { kept.is_begun ≡ true
         → AreKept T.moment (patterns_of table.now) direction (is_first && inclusive) (T.moment position) (heap_items kept.dues) kept.waiting.items kept.is_limited },
+    ghost held: { kept.is_begun ≡ true → (run : T) → kept.found ≡ Some run
+        → IsHeld T.moment (patterns_of table.now) direction (is_first && inclusive) (T.moment position) run (heap_items kept.dues) kept.waiting.items },
 }
 
 impl<'t, T: CronDateTime> CronTableIterator<'t, T> {
-    ghost use Rattle.std.specs.Prelude.{IfOk, IfErr, IfSome, IfNone, Some, option_map};
+    ghost use Rattle.std.specs.Prelude.{IfOk, OnOk, IfErr, option_map};
     ghost use Rattle.croner_base.specs.Zone.{reading};
     ghost use Rattle.croner.specs.search.Limit.{IsWithin};
-    ghost use Rattle.croner.specs.search.Refusal.{IsRefusal};
-    ghost use Rattle.croner.specs.crontable.TableListing.{table_standing_of, new_table_standing, counts_table_position, table_moved, TableSettles};
+    ghost use Rattle.croner.specs.crontable.TableListing.{table_standing_of, new_table_standing, counts_table_position, table_moved};
     ghost use Rattle.croner.specs.crontable.Tables.{IsTableFound, IsTableRefused};
     ghost use Rattle.croner.specs.Private.crontable.Kept.{LeadsTo, LieAhead};
 
@@ -69,6 +70,14 @@ impl<'t, T: CronDateTime> CronTableIterator<'t, T> {
 
     /// The error, other than the limit, that ended the last call of `next`; none where that call gave an item or came to the
     /// limit, and none before the first call.
+    ///
+    /// ```
+    /// let mut table = CronTable::new(alloc);
+    /// table.push(Cron::from_str(alloc, "0 0 0 1 1 * 2024")?)?;
+    /// let mut runs = table.iter_after(DateTime::new(2024, 1, 1, 0, 0, 0, 0)?);
+    /// let none = runs.next(); // None: no run of any job is left
+    /// let fault = runs.fault(); // None
+    /// ```
     pub fn fault(&self) -> Option<&CronError>
         ensures { option_map (λ e. e.now) result ≡ (table_standing_of T.moment self.now).fault }
     {
@@ -82,22 +91,22 @@ impl<'t, T: CronDateTime> CronTableIterator<'t, T> {
         self.is_first && self.inclusive
     }
 
-    // What the next search answers. What is kept of the jobs stays so.
-    fn find(&mut self) -> Result<(T, Vec<usize>), CronError>
+    // What the next search answers: a run, and its item. What is kept of the jobs stays so, and a run that was taken is held until
+    // its item is given.
+    fn find(&mut self) -> Result<(T, (T, Vec<usize>)), CronError>
         ensures same { table_standing_of T.moment self.new ≡ table_standing_of T.moment self.old }
         ensures found { IfOk result (λ r. IsTableFound self.old.direction (counts_table_position (table_standing_of T.moment self.old))
-            (patterns_of self.old.table.now) (T.moment self.old.position) (T.moment r.0) r.1.items) }
+            (patterns_of self.old.table.now) (T.moment self.old.position) (T.moment r.0) r.1.1.items) }
+        ensures copied { IfOk result (λ r. T.moment r.1.0 ≡ T.moment r.0) }
         ensures refused { IfErr result (IsTableRefused self.old.direction (counts_table_position (table_standing_of T.moment self.old))
             (patterns_of self.old.table.now) (T.moment self.old.position)) }
         ensures ahead { IfOk result (λ r. LieAhead T.moment self.new.direction (T.moment r.0) (heap_items self.new.kept.dues)) }
+        ensures given { OnOk result (self.new.kept.found ≡ None) }
     {
         if self.table.is_empty() {
             return Err(CronError::TimeSearchLimitExceeded);
         }
-        match self.kept.begin(self.table.alloc, self.table.len()) {
-            Ok(()) => {}
-            Err(refused) => return Err(refused),
-        }
+        self.kept.begin(self.table.alloc, self.table.len())?;
         let inclusive = self.counts_position();
         search(
             self.table,
@@ -117,48 +126,18 @@ impl<'t, T: CronDateTime> CronTableIterator<'t, T> {
         !self.is_first && is_within(item.to_civil(), self.direction)
     }
 
-    // Stands at the run that was found from now on, and gives it with its places; or keeps the want of memory for its copy.
-    fn step_to(&mut self, found: T, places: Vec<usize>) -> Option<(T, Vec<usize>)>
-        requires leads { LeadsTo self.old.direction (T.moment self.old.position) (T.moment found) }
-        requires ahead { LieAhead T.moment self.old.direction (T.moment found) (heap_items self.old.kept.dues) }
-        ensures item { IfSome result (λ item. T.moment item.0 ≡ T.moment found) }
-        ensures places { IfSome result (λ item. item.1 ≡ places) }
-        ensures moved { IfSome result
-            (λ item. table_standing_of T.moment self.new ≡ table_moved (table_standing_of T.moment self.old) (T.moment item.0)) }
-        ensures kept { IfNone result
-            (table_standing_of T.moment self.new ≡ record (table_standing_of T.moment self.old) { fault = Some CronError.OutOfMemory }) }
-        ensures memory { IfNone result (IsTrue T.can_lack_memory) }
+    // Stands at the run that was found from now on.
+    fn step_to(&mut self, run: T)
+        requires leads { LeadsTo self.old.direction (T.moment self.old.position) (T.moment run) }
+        requires ahead { LieAhead T.moment self.old.direction (T.moment run) (heap_items self.old.kept.dues) }
+        requires given { self.old.kept.found ≡ None }
+        ensures { table_standing_of T.moment self.new ≡ table_moved (table_standing_of T.moment self.old) (T.moment run) }
     {
-        match found.clone() {
-            Ok(item) => {
-                let keeps = self.keeps_over(&found);
-                self.kept.let_go_unless(keeps);
-                self.position = found;
-                self.is_first = false;
-                self.fault = None;
-                Some((item, places))
-            }
-            Err(_) => {
-                self.fault = Some(CronError::OutOfMemory);
-                None
-            }
-        }
-    }
-
-    // What a call gives once its search has answered, and where the iterator stands then.
-    fn settle(&mut self, answer: Result<(T, Vec<usize>), CronError>) -> Option<(T, Vec<usize>)>
-        requires refusal { IfErr answer (IsRefusal true) }
-        requires leads { IfOk answer (λ r. LeadsTo (table_standing_of T.moment self.old).direction (table_standing_of T.moment self.old).position (T.moment r.0)) }
-        requires ahead { IfOk answer (λ r. LieAhead T.moment self.old.direction (T.moment r.0) (heap_items self.old.kept.dues)) }
-        ensures { TableSettles T.moment T.can_lack_memory (table_standing_of T.moment self.old) answer result (table_standing_of T.moment self.new) }
-    {
-        match answer {
-            Ok((found, places)) => self.step_to(found, places),
-            Err(refusal) => {
-                self.fault = fault_of(refusal);
-                None
-            }
-        }
+        let keeps = self.keeps_over(&run);
+        self.kept.let_go_unless(keeps);
+        self.position = run;
+        self.is_first = false;
+        self.fault = None;
     }
 }
 
@@ -190,7 +169,15 @@ impl<'t, T: CronDateTime> Iterator for CronTableIterator<'t, T> {
     ghost next_gives = { TableSteps T.moment };
 
     fn next(&mut self) -> Option<(T, Vec<usize>)> {
-        let answer = self.find();
-        self.settle(answer)
+        match self.find() {
+            Ok((run, item)) => {
+                self.step_to(run);
+                Some(item)
+            }
+            Err(refusal) => {
+                self.fault = fault_of(refusal);
+                None
+            }
+        }
     }
 }

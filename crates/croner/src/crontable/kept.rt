@@ -1,5 +1,5 @@
 //! What an iterator over a table keeps of the searches of its jobs, from one item to the next.
-ghost use Rattle.std.specs.Prelude.{◌≡◌, ◌<◌, ◌≤◌, ◌+◌, true, false, [], ◌∷◌, IsPermutation, vec_len, vec_capacity, IfOk, IfErr, OnOk, IfSome, OnSome, IfNone, IsTrue, slice_index_or, ℕ};
+ghost use Rattle.std.specs.Prelude.{◌≡◌, ◌⊎◌, ◌<◌, ◌≤◌, ◌+◌, true, false, [], ◌∷◌, IsPermutation, vec_len, vec_capacity, IfOk, IfErr, OnOk, IfSome, OnSome, IfNone, Some, None, IsTrue, slice_index_or, ℕ};
 ghost use Rattle.std.specs.BinaryHeap.{IsHeap, heap_items, heap_len};
 ghost use Rattle.std.specs.List.{All, sum_by};
 ghost use Rattle.std.proofs.Props.{props};
@@ -7,21 +7,27 @@ ghost use Rattle.croner_base.specs.Civil.{wall_second};
 ghost use Rattle.croner_base.specs.Zone.{reading, nanos_of};
 ghost use Rattle.croner.specs.crontable.Tables.{patterns_of, IsTableRefused};
 ghost use Rattle.croner.specs.Private.crontable.Dues.{due_cmp};
-ghost use Rattle.croner.specs.Private.crontable.Kept.{AreKept, IsPopped, IsApart, is_place};
+ghost use Rattle.croner.specs.Private.crontable.Kept.{AreKept, WaitedBefore, IsPopped, IsApart, is_place};
+ghost use Rattle.croner.specs.Private.crontable.Met.{DecidesRefusal};
+ghost use Rattle.croner.specs.search.Limit.{InSpan};
+ghost use Rattle.croner.specs.search.Premises.{StartsCalm};
 
 use super::CronTable;
 use super::due::Due;
+use super::nearest::Met;
 use croner_base::errors::CronError;
 use croner_base::time::{CivilDateTime, CronDateTime, Direction};
 use std::alloc::Global;
 use std::collections::BinaryHeap;
 
-/// The runs that the searches found, the nearest first; the places of the jobs that are to be searched, which wait; and whether a
-/// search came to the limit: its job has no run left, and is searched no more. Before it is begun, nothing is kept.
+/// The runs that the searches found, the nearest first; the places of the jobs that are to be searched, which wait; the run that
+/// was taken, until the item of it and of the places that wait is given; and whether a search came to the limit: its job has no
+/// run left, and is searched no more. Before it is begun, nothing is kept.
 #[derive(Debug, Drop)]
 pub(super) struct Kept<T: CronDateTime> {
     pub(super) dues: BinaryHeap<Due<T>, Global>,
     pub(super) waiting: Vec<usize>,
+    pub(super) found: Option<T>,
     pub(super) is_begun: bool,
     pub(super) is_limited: bool,
     ghost ordered: { IsHeap (due_cmp T.moment) (heap_items dues) } by { Prim.hlevel props },
@@ -35,6 +41,7 @@ impl<T: CronDateTime> Kept<T> {
         Kept {
             dues: BinaryHeap::new(alloc),
             waiting: Vec::new(alloc),
+            found: None,
             is_begun: false,
             is_limited: false,
         }
@@ -50,8 +57,8 @@ impl<T: CronDateTime> Kept<T> {
         }
     }
 
-    /// Where nothing is kept, so many jobs wait from then on. There is room for their runs and places; the only error is
-    /// `OutOfMemory`, and then nothing is kept.
+    /// Where nothing is kept, so many jobs wait from then on, and no run is held. There is room for their runs and places; the only
+    /// error is `OutOfMemory`, and then nothing is kept.
     pub(super) fn begin(&mut self, alloc: Global, jobs: usize) -> Result<(), CronError>
         ensures kept { self.old.is_begun ≡ true → self.new ≡ self.old }
         ensures begun { OnOk result (self.new.is_begun ≡ true) }
@@ -59,11 +66,13 @@ impl<T: CronDateTime> Kept<T> {
         ensures below { self.old.is_begun ≡ false → OnOk result (All (λ k. k < jobs) self.new.waiting.items) }
         ensures once { self.old.is_begun ≡ false → OnOk result ((k : ℕ) → k < jobs → sum_by (is_place k) self.new.waiting.items ≡ 1) }
         ensures other { self.old.is_begun ≡ false → OnOk result ((k : ℕ) → jobs ≤ k → sum_by (is_place k) self.new.waiting.items ≡ 0) }
+        ensures unheld { self.old.is_begun ≡ false → OnOk result (self.new.found ≡ None) }
         ensures refused { IfErr result (λ e. (e ≡ CronError.OutOfMemory) × (self.new.is_begun ≡ false)) }
     {
         if self.is_begun {
             return Ok(());
         }
+        self.found = None;
         self.dues.clear();
         if self.dues.reserve(jobs).is_err() {
             return Err(CronError::OutOfMemory);
@@ -80,13 +89,12 @@ impl<T: CronDateTime> Kept<T> {
         ensures kept { OnOk result (IsPermutation (due ∷ heap_items self.old.dues) (heap_items self.new.dues)) }
         ensures err { IfErr result (λ e. (e ≡ CronError.OutOfMemory) × (heap_items self.new.dues ≡ heap_items self.old.dues)) }
         ensures waiting { self.new.waiting ≡ self.old.waiting }
+        ensures held { self.new.found ≡ self.old.found }
         ensures begun { self.new.is_begun ≡ self.old.is_begun }
         ensures limited { self.new.is_limited ≡ self.old.is_limited }
     {
-        match self.dues.push(due) {
-            Ok(()) => Ok(()),
-            Err(_) => Err(CronError::OutOfMemory),
-        }
+        self.dues.push(due)?;
+        Ok(())
     }
 
     /// Searches the job that waits last from a position, of which `shown` is the reading. A run that it finds is kept in its place;
@@ -103,7 +111,9 @@ impl<T: CronDateTime> Kept<T> {
         requires reads { wall_second shown ≡ reading (T.moment position.now) }
         requires kept { AreKept T.moment (patterns_of table.now) direction inclusive (T.moment position.now) (heap_items self.old.dues) self.old.waiting.items self.old.is_limited }
         ensures kept { AreKept T.moment (patterns_of table.now) direction inclusive (T.moment position.now) (heap_items self.new.dues) self.new.waiting.items self.new.is_limited }
+        ensures held { self.new.found ≡ self.old.found }
         ensures begun { self.new.is_begun ≡ self.old.is_begun }
+        ensures waited { WaitedBefore self.old.waiting.items self.new.waiting.items }
         ensures fewer { OnOk result (vec_len self.new.waiting + 1 ≡ vec_len self.old.waiting) }
         ensures refused { IfErr result (IsTableRefused direction inclusive (patterns_of table.now) (T.moment position.now)) }
     {
@@ -118,13 +128,9 @@ impl<T: CronDateTime> Kept<T> {
                     place,
                     direction,
                 };
-                match self.keep(due) {
-                    Ok(()) => {
-                        self.waiting.pop();
-                        Ok(())
-                    }
-                    Err(refused) => Err(refused),
-                }
+                self.keep(due)?;
+                self.waiting.pop();
+                Ok(())
             }
             Err(CronError::TimeSearchLimitExceeded) => {
                 self.waiting.pop();
@@ -145,7 +151,9 @@ impl<T: CronDateTime> Kept<T> {
     ) -> Result<(), CronError>
         requires kept { AreKept T.moment (patterns_of table.now) direction inclusive (T.moment position.now) (heap_items self.old.dues) self.old.waiting.items self.old.is_limited }
         ensures kept { AreKept T.moment (patterns_of table.now) direction inclusive (T.moment position.now) (heap_items self.new.dues) self.new.waiting.items self.new.is_limited }
+        ensures held { self.new.found ≡ self.old.found }
         ensures begun { self.new.is_begun ≡ self.old.is_begun }
+        ensures waited { WaitedBefore self.old.waiting.items self.new.waiting.items }
         ensures none { OnOk result (vec_len self.new.waiting ≡ 0) }
         ensures refused { IfErr result (IsTableRefused direction inclusive (patterns_of table.now) (T.moment position.now)) }
     {
@@ -164,6 +172,7 @@ impl<T: CronDateTime> Kept<T> {
         ensures fewer { OnSome result (heap_len self.new.dues + 1 ≡ heap_len self.old.dues) }
         ensures none { IfNone result (heap_len self.old.dues ≡ 0) }
         ensures same { IfNone result ((heap_items self.new.dues ≡ heap_items self.old.dues) × (self.new.waiting ≡ self.old.waiting)) }
+        ensures held { self.new.found ≡ self.old.found }
         ensures begun { self.new.is_begun ≡ self.old.is_begun }
         ensures limited { self.new.is_limited ≡ self.old.is_limited }
     {
@@ -186,6 +195,29 @@ impl<T: CronDateTime> Kept<T> {
             Some(due) => due.run.cmp_instant(run).is_eq(),
             None => false,
         }
+    }
+
+    /// The item of a run that was taken: a copy with the places that wait, as it is decided. Nothing changes.
+    pub(super) fn item(
+        &self,
+        run: &T,
+        alloc: Global,
+        direction: Direction,
+    ) -> Result<(T, Vec<usize>), CronError>
+        ensures copied { IfOk result (λ item. T.moment item.0 ≡ T.moment run.now) }
+        ensures places { IfOk result (λ item. item.1.items ≡ self.now.waiting.items) }
+        ensures inside { IfOk result (λ item. self.now.is_limited ≡ true → StartsCalm (T.moment run.now)
+            → InSpan direction (T.moment run.now).zone.reads (T.moment run.now).instant) }
+        ensures refused { IfErr result (λ e. (e ≡ CronError.OutOfMemory) ⊎ DecidesRefusal T.moment T.can_lack_memory direction (Some run.now) self.now.is_limited e) }
+    {
+        let Ok(copy) = run.clone() else {
+            return Err(CronError::OutOfMemory);
+        };
+        let places: Result<_, _> = self.waiting.clone();
+        let Ok(places) = places else {
+            return Err(CronError::OutOfMemory);
+        };
+        Met::found(copy, places, self.is_limited).decide(alloc, direction)
     }
 }
 

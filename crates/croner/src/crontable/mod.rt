@@ -39,6 +39,12 @@ impl CronTable {
     ghost use Rattle.croner.specs.Private.crontable.Room.{IsRefusedInRoom};
 
     /// A table without jobs. Takes no memory.
+    ///
+    /// ```
+    /// let table = CronTable::new(alloc);
+    /// let start = DateTime::new(2024, 6, 30, 9, 30, 0, 0)?;
+    /// let refused = table.find_next_occurrence(&start, false); // TimeSearchLimitExceeded: there is no job
+    /// ```
     pub fn new(alloc: Global) -> CronTable
         ensures { patterns_of result ≡ [] }
     {
@@ -51,6 +57,12 @@ impl CronTable {
     /// Puts a job behind the others, and answers its place.
     ///
     /// The only error is `OutOfMemory`: the table is then as it was, and the job is dropped.
+    ///
+    /// ```
+    /// let mut table = CronTable::new(alloc);
+    /// let mondays = table.push(Cron::from_str(alloc, "0 0 * * MON")?)?; // 0
+    /// let months = table.push(Cron::from_str(alloc, "0 0 1 * *")?)?; // 1
+    /// ```
     pub fn push(&mut self, job: Cron) -> Result<usize, CronError>
         ensures place { IfOk result (λ place. place ≡ length (patterns_of self.old)) }
         ensures appended { IfOk result (λ place. patterns_of self.new ≡ patterns_of self.old ++ job_of job ∷ []) }
@@ -58,10 +70,7 @@ impl CronTable {
         ensures err { IfErr result (λ e. e ≡ CronError.OutOfMemory) }
     {
         let place = self.jobs.len();
-        match self.jobs.reserve(1) {
-            Ok(()) => {}
-            Err(_) => return Err(CronError::OutOfMemory),
-        }
+        self.jobs.reserve(1)?;
         self.jobs.push_reserved(job);
         Ok(place)
     }
@@ -139,6 +148,12 @@ impl CronTable {
     }
 
     /// How many jobs there are.
+    ///
+    /// ```
+    /// let mut table = CronTable::new(alloc);
+    /// table.push(Cron::from_str(alloc, "0 0 * * MON")?)?;
+    /// let jobs = table.len(); // 1
+    /// ```
     pub fn len(&self) -> usize
         ensures { result ≡ length (patterns_of self.now) }
     {
@@ -146,6 +161,10 @@ impl CronTable {
     }
 
     /// Whether there is no job.
+    ///
+    /// ```
+    /// let is_empty = CronTable::new(alloc).is_empty(); // true
+    /// ```
     pub fn is_empty(&self) -> bool
         ensures { IsTrue result ↔ (patterns_of self.now ≡ []) }
     {
@@ -153,6 +172,13 @@ impl CronTable {
     }
 
     /// The job at a place; `None` where there is none.
+    ///
+    /// ```
+    /// let mut table = CronTable::new(alloc);
+    /// table.push(Cron::from_str(alloc, "0 0 * * MON")?)?;
+    /// let mondays = table.get(0); // the job of Mondays
+    /// let none = table.get(1); // None: there is no place 1
+    /// ```
     pub fn get(&self, place: usize) -> Option<&Cron>
         ensures job { option_map (λ job. job_of job.now) result ≡ slice_get (patterns_of self.now) place }
     {
@@ -214,7 +240,11 @@ impl CronTable {
     /// last shown year 1.
     ///
     /// ```
-    /// let (run, places) = table.find_previous_occurrence(&start, true)?;
+    /// let mut table = CronTable::new(alloc);
+    /// table.push(Cron::from_str(alloc, "0 0 * * MON")?)?; // place 0
+    /// table.push(Cron::from_str(alloc, "0 0 1 * *")?)?; // place 1
+    /// let start = DateTime::new(2024, 6, 30, 9, 30, 0, 0)?;
+    /// let (run, places) = table.find_previous_occurrence(&start, true)?; // 2024-06-24T00:00:00, [0]
     /// ```
     pub fn find_previous_occurrence<T: CronDateTime>(
         &self,
@@ -282,10 +312,7 @@ impl CronTable {
             let answer = self
                 .job_at(place)
                 .find_occurrence_with_reading(start, shown, inclusive, direction);
-            match met.take(place, answer, direction) {
-                Ok(()) => {}
-                Err(refused) => return Err(refused),
-            }
+            met.take(place, answer, direction)?;
         }
         met.decide(self.alloc, direction)
     }

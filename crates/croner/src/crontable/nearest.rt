@@ -25,14 +25,12 @@ impl<T> Met<T> {
         ensures room { IfOk result (λ met. places ≤ vec_capacity met.places) }
         ensures err { IfErr result (λ e. e ≡ CronError.OutOfMemory) }
     {
-        match Vec::with_capacity(alloc, places) {
-            Ok(room) => Ok(Met {
-                nearest: None,
-                places: room,
-                is_limited: false,
-            }),
-            Err(_) => Err(CronError::OutOfMemory),
-        }
+        let places = Vec::with_capacity(alloc, places)?;
+        Ok(Met {
+            nearest: None,
+            places,
+            is_limited: false,
+        })
     }
 
     /// A run with all places that stand there.
@@ -114,12 +112,8 @@ impl<T: CronDateTime> Met<T> {
         let Some(nearest) = nearest else {
             return Err(CronError::TimeSearchLimitExceeded);
         };
-        if is_limited {
-            match is_in_span(alloc, &nearest, direction) {
-                Ok(true) => {}
-                Ok(false) => return Err(CronError::TimeSearchLimitExceeded),
-                Err(error) => return Err(error),
-            }
+        if is_limited && !is_in_span(alloc, &nearest, direction)? {
+            return Err(CronError::TimeSearchLimitExceeded);
         }
         Ok((nearest, places))
     }

@@ -50,13 +50,9 @@ pub fn equal_and_described<L: Language>(
     ensures same { IfOk result (λ r. IsTrue r.0 → string_bytes r.1 ≡ string_bytes r.2) }
     ensures err { IfErr result (λ e. e ≡ CronError.OutOfMemory) }
 {
-    match describe(alloc, &one.pattern, language) {
-        Ok(text) => match describe(alloc, &other.pattern, language) {
-            Ok(other_text) => Ok((one == other, text, other_text)),
-            Err(refused) => Err(refused),
-        },
-        Err(refused) => Err(refused),
-    }
+    let text = describe(alloc, &one.pattern, language)?;
+    let other_text = describe(alloc, &other.pattern, language)?;
+    Ok((one == other, text, other_text))
 }
 
 /// Whether two jobs are equal, and how each compares with the other.

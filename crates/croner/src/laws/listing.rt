@@ -107,13 +107,9 @@ pub fn items_in_order<T: CronDateTime>(
     let Ok(mut orders) = Vec::with_capacity(alloc, calls as usize) else {
         return Err(CronError::OutOfMemory);
     };
-    match next_runs(alloc, iterator, calls) {
-        Ok((items, _)) => {
-            compare(items.as_slice(), &mut orders);
-            Ok((items, orders))
-        }
-        Err(refused) => Err(refused),
-    }
+    let (items, _) = next_runs(alloc, iterator, calls)?;
+    compare(items.as_slice(), &mut orders);
+    Ok((items, orders))
 }
 
 // How each item compares with the one before it.
@@ -148,13 +144,9 @@ pub fn there_and_back<T: CronDateTime>(
     ensures held { IsReturnable (job_of job.now) (T.moment run.now) → IsSearchable (T.moment run.now) →
         IfOk result (λ r. IfErr r.1 (λ e. (e ≡ CronError.OutOfMemory) × IsTrue T.can_lack_memory)) }
 {
-    match job.find_next_occurrence(run, false) {
-        Ok(next) => {
-            let back = job.find_previous_occurrence(&next, false);
-            Ok((next, back))
-        }
-        Err(refused) => Err(refused),
-    }
+    let next = job.find_next_occurrence(run, false)?;
+    let back = job.find_previous_occurrence(&next, false);
+    Ok((next, back))
 }
 
 // Puts the item of one call behind the others, or answers whether nothing is left.

@@ -22,11 +22,7 @@ pub fn read_twice(parser: &CronParser, alloc: Global, text: &str) -> Result<(Cro
     ensures equal { IfOk result (λ r. eq_by_cmp pattern_cmp r.0.pattern r.1.pattern ≡ true) }
     ensures err { IfErr result (λ e. Fails e (outcome parser.now text.now)) }
 {
-    match parser.parse(alloc, text) {
-        Ok(first) => match parser.parse(alloc, first.as_str()) {
-            Ok(second) => Ok((first, second)),
-            Err(refused) => Err(refused),
-        },
-        Err(refused) => Err(refused),
-    }
+    let first = parser.parse(alloc, text)?;
+    let second = parser.parse(alloc, first.as_str())?;
+    Ok((first, second))
 }

@@ -56,13 +56,9 @@ pub fn found_and_shown<T: CronDateTime>(
     ensures single { HasOneInstantEach (T.moment start.now).zone → IfOk result (λ r. IsScheduled (job_of job.now) (wall_second r.1)) }
     ensures refused { IfErr result (IsRefused T.can_lack_memory direction inclusive (timetable_of (job_of job.now)) (T.moment start.now)) }
 {
-    match job.find_occurrence(start, inclusive, direction) {
-        Ok(found) => {
-            let shown = found.to_civil();
-            Ok((found, shown))
-        }
-        Err(refused) => Err(refused),
-    }
+    let found = job.find_occurrence(start, inclusive, direction)?;
+    let shown = found.to_civil();
+    Ok((found, shown))
 }
 
 /// What a search answers, for its refusals.

@@ -116,7 +116,7 @@ impl CronParser {
     }
 
     /// These settings, but for the count of fields.
-    fn for_any_count(&self) -> CronParser
+    pub(super) fn for_any_count(&self) -> CronParser
         ensures { result ≡ for_any_count self.now }
     {
         let mut parser = *self;

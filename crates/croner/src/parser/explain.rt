@@ -6,11 +6,11 @@ ghost use Rattle.croner.specs.parser.Faults.{IsKindOf};
 ghost use Rattle.croner.specs.parser.Gives.{Fails};
 ghost use Rattle.croner.specs.parser.Grammar.{Refusal};
 
-use super::CronParser;
 use super::escapes::found_at;
 use super::fault::{Expected, FaultKind, Hint, PatternFault};
 use super::place::fault_at;
-use super::second_reading::find_fault;
+use super::second_reading::{accepted_counts, find_fault};
+use super::{CronParser, Seconds, Year};
 use croner_base::errors::CronError;
 use std::alloc::{AllocError, Global};
 
@@ -102,11 +102,23 @@ impl CronParser {
 fn repeated(text: &str, fault: &PatternFault) -> (usize, usize) {
     match fault.expected {
         Expected::Count {
-            hint: Hint::SpaceAfterComma | Hint::SpaceInPart | Hint::Command,
+            hint: Hint::Setting | Hint::Comment | Hint::NoSecond | Hint::NoSecondAndYear,
             ..
-        } => (fault.start, fault.end),
-        Expected::Count { .. } => (0, text.len()),
+        } => (0, text.len()),
+        Expected::Count {
+            found,
+            seconds,
+            year,
+            ..
+        } if !is_too_many(found, seconds, year) => (0, text.len()),
         _ => (fault.start, fault.end),
+    }
+}
+
+fn is_too_many(found: usize, seconds: Seconds, year: Year) -> bool {
+    match accepted_counts(seconds, year) {
+        Some((_, most)) => found > most,
+        None => false,
     }
 }
 

@@ -32,6 +32,10 @@ impl PatternField {
     ghost use Rattle.croner.specs.parser.Faults.{place_of_field};
 
     /// The place of the field in a pattern of seven fields, 0 for the seconds.
+    ///
+    /// ```
+    /// let place = PatternField::Weekday.place(); // 5
+    /// ```
     pub fn place(self) -> usize
         ensures place { result ≡ place_of_field self }
         ensures small { result < 7 }
@@ -89,8 +93,30 @@ pub enum Hint {
     SpaceInPart,
     /// A pattern ends before the command of a crontab's line.
     Command,
+    /// A pattern ends before the command of a crontab's line, which stands behind so many fields.
+    CommandBehind { fields: usize },
+    /// These settings take no second: the first field is one too many.
+    NoSecond,
+    /// These settings take no year: the last field is one too many.
+    NoYear,
+    /// These settings take neither a second nor a year.
+    NoSecondAndYear,
+    /// The second is wanted: `0` in front says the same.
+    SecondInFront,
+    /// The year is wanted: `*` at the end says the same.
+    YearAtEnd,
+    /// The second and the year are wanted: `0` in front and `*` at the end say the same.
+    SecondAndYear,
     /// The sign is legal in other fields: `L`, `W`, `?`, `#` or `+`.
     SignElsewhere { sign: char },
+    /// A `?` is the whole of a field that takes none: `*` says the same.
+    StarForQuestion,
+    /// An interval is a step, as in this pattern.
+    Interval { pattern: &'static str },
+    /// A line feed stands at this character, from 1, and another line behind it.
+    LineFeed { character: usize },
+    /// A comma stands between two names.
+    NamesTogether,
     /// The minute and the hour are two fields.
     TimeOfDay,
     /// No quotes stand around a pattern.
@@ -175,6 +201,10 @@ pub enum Expected {
     },
     /// Seven fields: the settings want a year.
     NicknameWithoutYear,
+    /// Seven fields: `@reboot` names no time, and the settings want a year.
+    NicknameOfTimeWithoutYear,
+    /// Seven fields: there is no such nickname, and the settings want a year.
+    NoNicknameWithoutYear,
     /// The pattern in seven fields: the nickname has too few for these settings.
     NicknameInFields {
         pattern: &'static str,
@@ -221,6 +251,14 @@ pub enum Expected {
     },
     /// A step that doesn't pass the greatest number.
     ShorterStep,
+    /// The first value alone: the step reaches no second one.
+    FirstAlone {
+        first: u16,
+    },
+    /// A step from the field's least value on, without the unit behind it.
+    StepAlone {
+        step: u16,
+    },
     /// A star or a range in front of the `/`.
     RangeToStep {
         suggestion: Suggestion,
@@ -231,10 +269,16 @@ pub enum Expected {
     QuestionAlone,
     /// One star.
     OneStar,
+    /// One question mark.
+    OneQuestion,
     /// A number from 1 to 5 or `L` behind the `#`.
     Nth,
     /// `L` alone, or `LW`, in the day of month.
     LastAlone,
+    /// `L` or `LW` in the day of month: no day is counted back from the last one.
+    LastCountedBack,
+    /// `L` alone, or `LW`, in the day of month: behind a weekday it stands in the weekday.
+    LastOfWeekday,
     /// One weekday in front of the `L`.
     LastBehindWeekday,
     /// One day of the month in front of the `W`.
@@ -246,6 +290,15 @@ pub enum Expected {
 /// A fault of a text that [`CronParser::parse`](super::CronParser::parse) refuses: where it is, and what was expected there.
 ///
 /// It holds no text. Written out it is the message of the refusal, without what the text says there.
+///
+/// ```
+/// let parser = CronParser::new();
+/// if let Some(fault) = parser.explain(alloc, "0 9 * * MONDAY")? {
+///     let field = fault.field; // Some(PatternField::Weekday)
+///     let (start, end) = (fault.start, fault.end); // the byte 11 alone: the D
+///     println!(rt; "{fault}")?;
+/// }
+/// ```
 #[derive(Debug, Clone, Copy, PartialEq, Eq)]
 pub struct PatternFault {
     /// The kind of the refusal.

@@ -33,9 +33,18 @@ impl fmt::Display for Expected {
             } => {
                 let values = values_of(*field, *quartz);
                 let signs = signs_of(*field);
-                write!(f, "expected {values} and the signs {signs}.{hint}")
+                if *hint == Hint::None {
+                    return write!(f, "expected {values} and the signs {signs}.");
+                }
+                write!(
+                    f,
+                    "this character is not legal here.{hint} Legal are {values} and the signs {signs}."
+                )
             }
             Expected::Name { name } => write!(f, "a name has three letters: write {name}."),
+            Expected::Ascending {
+                suggestion: Suggestion::None,
+            } => f.write_str("a range runs from the lower value to the higher one."),
             Expected::Ascending { suggestion } => write!(f, "a range goes up{suggestion}."),
             Expected::OneSign { sign } => write!(f, "expected one '{sign}' in a part."),
             Expected::RangeToStep { suggestion } => write!(
@@ -111,12 +120,67 @@ impl Expected {
             Expected::Step { hint } => {
                 write!(f, "expected a step from 1 to 65535 behind the '/'.{hint}")
             }
+            Expected::FirstAlone { first } => {
+                write!(
+                    f,
+                    "this step reaches no second value. Write {first} alone, with no step."
+                )
+            }
+            Expected::StepAlone { step } => {
+                write!(f, "a step is a number alone: write */{step}.")
+            }
             other => f.write_str(other.sentence()),
         }
     }
 
     /// What was expected, where no number and no hint belongs to it.
     fn sentence(&self) -> &'static str {
+        match self {
+            Expected::ShorterStep => {
+                "the step is too long: the value after the last one may be at most 65535."
+            }
+            Expected::StarAlone => {
+                "a '*' names every value, and stands alone in its field or in front of a '/': leave it out, or leave out the rest."
+            }
+            Expected::QuestionAlone => {
+                "a '?' stands for '*', which names every value: leave it out, or leave out the rest."
+            }
+            Expected::OneStar => "expected one '*', which names every value.",
+            Expected::OneQuestion => "expected one '?', which stands for '*'.",
+            Expected::Nth => "expected a number from 1 to 5 or L behind the '#'.",
+            other => match other.sentence_of_days() {
+                Some(sentence) => sentence,
+                None => other.sentence_of_text(),
+            },
+        }
+    }
+
+    /// What was expected of an `L` or a `W`.
+    fn sentence_of_days(&self) -> Option<&'static str> {
+        let sentence = match self {
+            Expected::LastAlone => {
+                "L stands by itself between commas, for the last day of the month, or as LW, for the last one from Monday to Friday."
+            }
+            Expected::LastCountedBack => {
+                "no day can be counted back from the last one: L is the last day of the month, and LW the last one from Monday to Friday."
+            }
+            Expected::LastOfWeekday => {
+                "behind a weekday L stands in the field weekday: here it stands by itself between commas, for the last day of the month, or as LW, for the last one from Monday to Friday."
+            }
+            Expected::LastBehindWeekday => {
+                "L stands behind one weekday: 5L is the last Friday of the month."
+            }
+            Expected::NearestBehindDay => {
+                "W stands behind one day of the month: 15W is the day from Monday to Friday that is nearest to the 15th."
+            }
+            Expected::LastNearest => "the last day of the month from Monday to Friday is LW.",
+            _ => return None,
+        };
+        Some(sentence)
+    }
+
+    /// What was expected of a whole text, or of one with `@`.
+    fn sentence_of_text(&self) -> &'static str {
         match self {
             Expected::Settings => {
                 "these settings accept no text, since they want a year and no seconds."
@@ -131,30 +195,15 @@ impl Expected {
             Expected::NicknameWithoutYear => {
                 "these settings want a year, which a nickname has not: write seven fields."
             }
+            Expected::NicknameOfTimeWithoutYear => {
+                "@reboot names no time, and these settings want a year, which a nickname has not: write seven fields."
+            }
+            Expected::NoNicknameWithoutYear => {
+                "no such nickname, and these settings want a year, which a nickname has not: write seven fields."
+            }
             Expected::NoAtSign => {
                 "a pattern has no '@': one stands in front of a nickname alone, as in @daily."
             }
-            Expected::ShorterStep => {
-                "the step is too long: the value after the last one may be at most 65535."
-            }
-            Expected::StarAlone => {
-                "a '*' names every value, and stands alone in its field or in front of a '/': leave it out, or leave out the rest."
-            }
-            Expected::QuestionAlone => {
-                "a '?' stands for '*', which names every value: leave it out, or leave out the rest."
-            }
-            Expected::OneStar => "expected one '*', which names every value.",
-            Expected::Nth => "expected a number from 1 to 5 or L behind the '#'.",
-            Expected::LastAlone => {
-                "L stands alone in a part, for the last day of the month, or as LW, for the last one from Monday to Friday."
-            }
-            Expected::LastBehindWeekday => {
-                "L stands behind one weekday: 5L is the last Friday of the month."
-            }
-            Expected::NearestBehindDay => {
-                "W stands behind one day of the month: 15W is the day from Monday to Friday that is nearest to the 15th."
-            }
-            Expected::LastNearest => "the last day of the month from Monday to Friday is LW.",
             _ => "expected a pattern.",
         }
     }
@@ -170,6 +219,20 @@ impl fmt::Display for Hint {
             Hint::AtSign { nickname } => {
                 write!(f, " A nickname begins with '@': write {nickname}.")
             }
+            Hint::CommandBehind { fields } => write!(
+                f,
+                " If a user, a command or a comment stands behind the first {fields} fields, leave all of it out: a pattern ends before it."
+            ),
+            Hint::Interval { pattern } => {
+                write!(
+                    f,
+                    " An interval is a step, as in {pattern} for each fifth minute."
+                )
+            }
+            Hint::LineFeed { character } => write!(
+                f,
+                " The text has a line feed at character {character}, and a pattern is one line."
+            ),
             other => f.write_str(other.words()),
         }
     }
@@ -195,6 +258,27 @@ impl Hint {
                 " If a user, a command or a comment stands here, leave it out: a pattern ends before it."
             }
             Hint::SignElsewhere { sign } => sign_words(sign),
+            other => other.words_of_text(),
+        }
+    }
+
+    /// The words of the other hints.
+    fn words_of_text(self) -> &'static str {
+        match self {
+            Hint::NoSecond => " These settings take no second: leave out the first field.",
+            Hint::NoYear => " These settings take no year: leave out the last field.",
+            Hint::NoSecondAndYear => {
+                " These settings take neither a second nor a year: leave out the first field and the last."
+            }
+            Hint::SecondInFront => " Write 0 in front, for the second.",
+            Hint::YearAtEnd => " Write * at the end, for any year.",
+            Hint::SecondAndYear => {
+                " Write 0 in front, for the second, and * at the end, for any year."
+            }
+            Hint::StarForQuestion => {
+                " ? stands only in the day of month and in the weekday: write *."
+            }
+            Hint::NamesTogether => " A comma stands between two names.",
             Hint::TimeOfDay => " The minute and the hour are two fields, the minute first.",
             Hint::Quotes => " Leave out the quotes.",
             Hint::Setting => " A setting such as TZ=UTC is no part of a pattern: leave it out.",
@@ -205,7 +289,7 @@ impl Hint {
             Hint::WeekdayElsewhere => {
                 " Names of weekdays stand in the weekday, and have three letters."
             }
-            Hint::AtSign { .. } => "",
+            _ => "",
         }
     }
 }
@@ -214,10 +298,10 @@ impl Hint {
 fn sign_words(sign: char) -> &'static str {
     match sign {
         'L' => " L stands in the day of month, and behind a weekday.",
-        'W' => " W stands in the day of month alone, behind a day or behind L.",
-        '?' => " ? stands in the day of month and in the weekday alone.",
-        '#' => " # stands in the weekday alone, behind a weekday.",
-        '+' => " + stands in the weekday alone, in front of it.",
+        'W' => " W stands only in the day of month, behind a day or behind L.",
+        '?' => " ? stands only in the day of month and in the weekday.",
+        '#' => " # stands only in the weekday, behind a weekday, as in FRI#2.",
+        '+' => " + stands only in the weekday, once, in front of the whole field.",
         _ => "",
     }
 }
@@ -244,7 +328,7 @@ fn signs_of(field: PatternField) -> &'static str {
             "star (*), slash (/), comma (,), dash (-), question mark (?), L (last day) and W (nearest day from Monday to Friday)"
         }
         PatternField::Weekday => {
-            "star (*), slash (/), comma (,), dash (-), question mark (?), number sign (#), L (last of the month) and one plus (+) in front"
+            "star (*), slash (/), comma (,), dash (-), question mark (?), number sign (#) and L behind a weekday (FRI#2, FRI#L) and one plus (+) in front"
         }
         _ => "star (*), slash (/), comma (,) and dash (-)",
     }

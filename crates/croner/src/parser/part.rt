@@ -43,6 +43,9 @@ impl Rules {
         if self.hint == Hint::None && self.field == PatternField::Hours && part.read == "24" {
             rules.hint = Hint::Midnight;
         }
+        if self.hint == Hint::None && are_names(part.written.text) {
+            rules.hint = Hint::NamesTogether;
+        }
         rules.number()
     }
 
@@ -179,6 +182,9 @@ fn fault_of_nth(part: Part<'_>) -> Option<(Piece<'_>, Expected)> {
     if part.read.ends_with('L') {
         return None;
     }
+    if sides.right.split('#').is_some() {
+        return Some((sides.right.written, Expected::OneSign { sign: '#' }));
+    }
     match sides.right.number() {
         Some(1..=5) => None,
         _ if sides.right.is_empty() => Some((sides.sign, Expected::Nth)),
@@ -207,19 +213,33 @@ fn fault_of_value<'t>(value: Part<'t>, rules: Rules) -> Option<(Piece<'t>, Expec
         }
         return Some((value.written, rules.number_for(value)));
     }
-    let expected = match rules.field {
-        PatternField::DayOfMonth if value.read.contains('L') => Expected::LastAlone,
-        PatternField::DayOfMonth if value.read.contains('W') => Expected::NearestBehindDay,
-        PatternField::Weekday if value.read.contains('L') => Expected::LastBehindWeekday,
-        _ if is_stars(value.written.text) => Expected::OneStar,
-        _ => rules.number(),
+    let expected = match fault_of_modifier(value, rules) {
+        Some(expected) => expected,
+        None if is_many(value.written.text, b'*') => Expected::OneStar,
+        None if is_many(value.written.text, b'?') => Expected::OneQuestion,
+        None => rules.number(),
     };
     Some((value.written, expected))
 }
 
-/// Whether a text is two or more stars.
-fn is_stars(text: &str) -> bool {
-    text.len() > 1 && text.as_bytes().iter().all(|b| *b == b'*')
+/// Where an `L` or a `W` stands, if one stands in what should be a number.
+fn fault_of_modifier(value: Part<'_>, rules: Rules) -> Option<Expected> {
+    match rules.field {
+        PatternField::DayOfMonth if value.read.contains('L') => Some(Expected::LastAlone),
+        PatternField::DayOfMonth if value.read.contains('W') => Some(Expected::NearestBehindDay),
+        PatternField::Weekday if value.read.contains('L') => Some(Expected::LastBehindWeekday),
+        _ => None,
+    }
+}
+
+/// Whether a text is two or more of one character.
+fn is_many(text: &str, character: u8) -> bool {
+    text.len() > 1 && text.as_bytes().iter().all(|b| *b == character)
+}
+
+/// Whether letters that are read as a number are more than one name.
+fn are_names(text: &str) -> bool {
+    text.len() > 3 && text.as_bytes().iter().all(|b| b.is_ascii_alphabetic())
 }
 
 fn fault_of_range<'t>(
@@ -232,6 +252,11 @@ fn fault_of_range<'t>(
     }
     let faulty = fault_of_side(sides.left, sides.sign, false, rules);
     let faulty = faulty.or(fault_of_side(sides.right, sides.sign, true, rules));
+    if let Some((place, Expected::LastAlone)) = faulty {
+        if sides.left.read == "L" && sides.right.number().is_some() {
+            return Some((place, Expected::LastCountedBack));
+        }
+    }
     if faulty.is_some() {
         return faulty;
     }
@@ -304,7 +329,10 @@ fn fault_of_step<'t>(
     }
     let step = match sides.right.number() {
         Some(step) if step > 0 => step,
-        _ => return Some((sides.right.written, rules.step())),
+        _ => {
+            let expected = fault_of_modifier(sides.right, rules).unwrap_or(rules.step());
+            return Some((sides.right.written, expected));
+        }
     };
     let range = sides.left.split('-');
     let found = match range {
@@ -320,7 +348,22 @@ fn fault_of_step<'t>(
         )),
         Some(found) => Some(found),
         None if fault_of_nth(part).is_some() => None,
-        None => Some((sides.right.written, Expected::ShorterStep)),
+        None => Some((sides.right.written, too_long(part, sides.left, rules))),
+    }
+}
+
+/// What to write in place of a step that reaches no second value.
+fn too_long(part: Part<'_>, left: Part<'_>, rules: Rules) -> Expected {
+    if part.read.contains('#') {
+        return Expected::ShorterStep;
+    }
+    let (least, _) = rules.bounds();
+    let start = match left.split('-') {
+        Some(range) => range.left.number(),
+        None => left.number(),
+    };
+    Expected::FirstAlone {
+        first: start.unwrap_or(least),
     }
 }
 
@@ -345,7 +388,7 @@ fn fault_of_start<'t>(
         return None;
     }
     if is_too_long(number, step, rules) {
-        return Some((part.written, Expected::ShorterStep));
+        return Some((part.written, too_long(part, left, rules)));
     }
     let suggestion = if part.read.contains('#') {
         Suggestion::None
@@ -386,13 +429,21 @@ fn fault_of_nearest<'t>(sides: Sides<'t>, rules: Rules) -> Option<(Piece<'t>, Ex
     fault_of_value(sides.left, rules)
 }
 
+/// What an `L` in the days may be meant for.
+fn fault_of_last(part: Part<'_>) -> Expected {
+    match part.read.strip_suffix('L') {
+        Some("0" | "1" | "2" | "3" | "4" | "5" | "6" | "7") => Expected::LastOfWeekday,
+        _ => Expected::LastAlone,
+    }
+}
+
 fn fault_of_number<'t>(
     part: Part<'t>,
     head: Part<'t>,
     rules: Rules,
 ) -> Option<(Piece<'t>, Expected)> {
     if rules.field == PatternField::DayOfMonth && part.read.contains('L') {
-        return Some((part.written, Expected::LastAlone));
+        return Some((part.written, fault_of_last(part)));
     }
     if head.is_empty() {
         let sides = part.split('#')?;

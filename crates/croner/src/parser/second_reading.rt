@@ -59,7 +59,7 @@ pub fn find_fault(
     let words = words.as_slice();
     let found = match kind {
         FaultKind::EmptyPattern => None,
-        FaultKind::InvalidPattern => Some(wrong_count(parser, text, words)),
+        FaultKind::InvalidPattern => Some(wrong_count(alloc, parser, text, words)?),
         FaultKind::IllegalCharacters => illegal_character(alloc, parser, text, words)?,
         FaultKind::ComponentError => refused_part(alloc, parser, words)?,
     };
@@ -85,7 +85,7 @@ fn words_of<'t>(alloc: Global, text: &'t str) -> Result<Vec<Piece<'t>>, AllocErr
 // ---- counts
 
 /// The fewest and the most fields that settings accept; nothing where they accept no text.
-fn accepted_counts(seconds: Seconds, year: Year) -> Option<(usize, usize)> {
+pub fn accepted_counts(seconds: Seconds, year: Year) -> Option<(usize, usize)> {
     match (seconds, year) {
         (Seconds::Optional, Year::Optional) => Some((5, 7)),
         (Seconds::Optional, Year::Disallowed) => Some((5, 6)),
@@ -98,15 +98,20 @@ fn accepted_counts(seconds: Seconds, year: Year) -> Option<(usize, usize)> {
 }
 
 /// The first field too many, or the last word of a text of too few; the whole of a nickname.
-fn wrong_count(parser: &CronParser, text: &str, words: &[Piece<'_>]) -> Finding {
+fn wrong_count(
+    alloc: Global,
+    parser: &CronParser,
+    text: &str,
+    words: &[Piece<'_>],
+) -> Result<Finding, CronError> {
     let (seconds, year) = (parser.seconds, parser.year);
     let Some((_, most)) = accepted_counts(seconds, year) else {
-        return whole(text, Expected::Settings);
+        return Ok(whole(text, Expected::Settings));
     };
     let found = words.len();
     let (word, hint) = match words.get(most) {
-        Some(word) => (Some(word), hint_of_many(words, most)),
-        None => (words.last(), hint_of_few(words, year)),
+        Some(word) => (Some(word), hint_of_many(alloc, parser, text, words, most)?),
+        None => (words.last(), hint_of_few(alloc, parser, text, words)?),
     };
     let expected = Expected::Count {
         found,
@@ -115,22 +120,77 @@ fn wrong_count(parser: &CronParser, text: &str, words: &[Piece<'_>]) -> Finding 
         hint,
     };
     match word {
-        Some(word) if !text.contains('@') => word.found(expected),
-        _ => whole(text, nickname_fault(words, expected, parser)),
+        Some(word) if !text.contains('@') => Ok(word.found(expected)),
+        _ => Ok(whole(text, nickname_fault(words, expected, parser))),
     }
 }
 
-/// Why there may be too few fields: a nickname without its sign, a time of day, or what is no pattern.
-fn hint_of_few(words: &[Piece<'_>], year: Year) -> Hint {
+/// Why there may be too few fields: a nickname without its sign, a time of day, what is no pattern, an interval in words, or a
+/// pattern without the second or the year that the settings want.
+fn hint_of_few(
+    alloc: Global,
+    parser: &CronParser,
+    text: &str,
+    words: &[Piece<'_>],
+) -> Result<Hint, CronError> {
     if let [word] = words {
-        if let Some(nickname) = nickname_of(word.text, year) {
-            return Hint::AtSign { nickname };
+        if let Some(nickname) = nickname_of(word.text, parser.year) {
+            return Ok(Hint::AtSign { nickname });
         }
     }
     if words.iter().any(|word| is_time_of_day(word.text)) {
-        return Hint::TimeOfDay;
+        return Ok(Hint::TimeOfDay);
     }
-    hint_of_no_pattern(words)
+    let hint = hint_of_no_pattern(words);
+    if hint != Hint::None {
+        return Ok(hint);
+    }
+    if is_interval(words) {
+        let pattern = each_fifth_minute(parser);
+        return Ok(Hint::Interval { pattern });
+    }
+    if words.len() >= LEAST_FIELDS && is_pattern(alloc, parser, text)? {
+        return Ok(hint_of_wanted(parser, words));
+    }
+    Ok(Hint::None)
+}
+
+/// Whether words are an interval, as `every 5 minutes` and `5 minutes`.
+fn is_interval(words: &[Piece<'_>]) -> bool {
+    match words {
+        [number, unit] if number.text.chars().all(is_digit) => is_unit(unit.text),
+        [first, _, ..] => first.text.eq_ignore_ascii_case("every"),
+        _ => false,
+    }
+}
+
+/// The units of an interval, as it is written in words.
+const UNITS: [&str; 10] = [
+    "second", "seconds", "min", "mins", "minute", "minutes", "hour", "hours", "day", "days",
+];
+
+fn is_unit(word: &str) -> bool {
+    UNITS.iter().any(|unit| word.eq_ignore_ascii_case(unit))
+}
+
+/// Whether a text is a pattern where each count of fields is accepted.
+fn is_pattern(alloc: Global, parser: &CronParser, text: &str) -> Result<bool, CronError> {
+    match parser.for_any_count().parse_text(alloc, text) {
+        Ok(_job) => Ok(true),
+        Err(CronError::OutOfMemory) => Err(CronError::OutOfMemory),
+        Err(_) => Ok(false),
+    }
+}
+
+/// Which field a pattern lacks that the settings want.
+fn hint_of_wanted(parser: &CronParser, words: &[Piece<'_>]) -> Hint {
+    if parser.year != Year::Required {
+        return Hint::SecondInFront;
+    }
+    if words.len() == LEAST_FIELDS {
+        return Hint::SecondAndYear;
+    }
+    Hint::YearAtEnd
 }
 
 /// The nickname that a word would be with `@` in front, where the settings take one.
@@ -181,21 +241,63 @@ fn hint_of_no_pattern(words: &[Piece<'_>]) -> Hint {
     Hint::None
 }
 
-/// Why there may be too many fields: a space beside a sign, or a command behind the pattern.
-fn hint_of_many(words: &[Piece<'_>], most: usize) -> Hint {
+/// Why there may be too many fields: a space beside a sign, a second or a year that the settings don't take, or a command
+/// behind the pattern.
+fn hint_of_many(
+    alloc: Global,
+    parser: &CronParser,
+    text: &str,
+    words: &[Piece<'_>],
+    most: usize,
+) -> Result<Hint, CronError> {
     let hint = hint_of_no_pattern(words);
     if hint != Hint::None {
-        return hint;
+        return Ok(hint);
     }
     for word in words.iter().take(most) {
         if word.text.ends_with(',') || word.text.starts_with(',') {
-            return Hint::SpaceAfterComma;
+            return Ok(Hint::SpaceAfterComma);
         }
         if word.text == "-" || word.text == "/" {
-            return Hint::SpaceInPart;
+            return Ok(Hint::SpaceInPart);
         }
     }
-    Hint::Command
+    if is_pattern(alloc, parser, text)? {
+        return Ok(hint_of_unwanted(parser, words));
+    }
+    Ok(hint_of_command(alloc, words, most)?)
+}
+
+/// Which field a pattern has that the settings don't take.
+fn hint_of_unwanted(parser: &CronParser, words: &[Piece<'_>]) -> Hint {
+    if parser.seconds != Seconds::Disallowed {
+        return Hint::NoYear;
+    }
+    if words.len() == WORDS_WITH_SECONDS {
+        return Hint::NoSecond;
+    }
+    Hint::NoSecondAndYear
+}
+
+/// Where a command may begin: at the first word behind five that no field takes.
+fn hint_of_command(alloc: Global, words: &[Piece<'_>], most: usize) -> Result<Hint, AllocError> {
+    for (place, word) in words.iter().enumerate().take(most.saturating_add(1)) {
+        if place < LEAST_FIELDS || is_of_days(alloc, *word)? {
+            continue;
+        }
+        if place < most {
+            return Ok(Hint::CommandBehind { fields: place });
+        }
+        return Ok(Hint::Command);
+    }
+    Ok(Hint::None)
+}
+
+/// Whether each character of a word is legal in the day of month, or each in the weekday: these take every sign.
+fn is_of_days(alloc: Global, word: Piece<'_>) -> Result<bool, AllocError> {
+    let in_days = illegal_in_word(alloc, word, PatternField::DayOfMonth)?;
+    let in_weekdays = illegal_in_word(alloc, word, PatternField::Weekday)?;
+    Ok(in_days.is_none() || in_weekdays.is_none())
 }
 
 /// Why a text with `@` is refused for its count.
@@ -212,7 +314,9 @@ fn nickname_fault(words: &[Piece<'_>], count: Expected, parser: &CronParser) -> 
     if parser.year == Year::Required {
         return match nickname_in_fields(first) {
             Some(pattern) if found == 1 => Expected::NicknameInFields { pattern },
-            _ => Expected::NicknameWithoutYear,
+            Some(_) => Expected::NicknameWithoutYear,
+            None if first.eq_ignore_ascii_case("@reboot") => Expected::NicknameOfTimeWithoutYear,
+            None => Expected::NoNicknameWithoutYear,
         };
     }
     if found == 1 && first.eq_ignore_ascii_case("@midnight") {
@@ -279,7 +383,11 @@ fn illegal_character(
         let field = field_of(place, words.len());
         let found = illegal_in_word(alloc, *word, field)?;
         if let Some(illegal) = found {
+            if let Some(step) = illegal.step_of(*word, field) {
+                return Ok(Some(illegal.found_as(Expected::StepAlone { step })));
+            }
             let hint = illegal.hint(place, words, field);
+            let hint = hint_of_lines(text, hint);
             return Ok(Some(illegal.found(field, parser.alternative_weekdays, hint)));
         }
     }
@@ -291,6 +399,19 @@ fn at_sign(start: usize) -> Finding {
         start,
         end: start.saturating_add(1),
         expected: Expected::NoAtSign,
+    }
+}
+
+/// That a text has another line, where there is nothing else to say but of a command.
+fn hint_of_lines(text: &str, hint: Hint) -> Hint {
+    if hint != Hint::None && hint != Hint::Command {
+        return hint;
+    }
+    match text.trim_end().split_once('\n') {
+        Some((line, _)) if !line.trim_start().is_empty() => Hint::LineFeed {
+            character: line.chars().count().saturating_add(1),
+        },
+        _ => hint,
     }
 }
 
@@ -331,6 +452,9 @@ impl Illegal {
         }
         match hint {
             Hint::Quotes | Hint::Dash => hint,
+            Hint::SignElsewhere { sign: '?' } if text_at(words, place) == "?" => {
+                Hint::StarForQuestion
+            }
             _ if self.is_in_word => self.hint_of_name(field),
             _ => hint,
         }
@@ -344,6 +468,27 @@ impl Illegal {
             }
             Hint::Dash => self.is_behind_value,
             _ => false,
+        }
+    }
+
+    /// The step in front of a unit of the field, as 5 of `*/5m` in the minutes.
+    fn step_of(self, word: Piece<'_>, field: PatternField) -> Option<u16> {
+        let unit = match field {
+            PatternField::Seconds => 'S',
+            PatternField::Minutes => 'M',
+            PatternField::Hours => 'H',
+            PatternField::DayOfMonth => 'D',
+            _ => return None,
+        };
+        let at = self.start.saturating_sub(word.start);
+        let number = word.text.get(..at)?.strip_prefix("*/")?;
+        let rest = word.text.get(at..)?;
+        if self.c != unit || !rest.chars().all(is_letter) {
+            return None;
+        }
+        match number.parse::<u16>() {
+            Ok(step) if step > 0 && step < 60 => Some(step),
+            _ => None,
         }
     }
 
@@ -372,6 +517,10 @@ impl Illegal {
                 hint,
             },
         };
+        self.found_as(expected)
+    }
+
+    fn found_as(self, expected: Expected) -> Finding {
         Finding {
             start: self.start,
             end: self.start.saturating_add(self.c.len_utf8()),

@@ -114,11 +114,8 @@ fn gap_side<T: CronDateTime>(
     while around.outside - around.inside > 1 {
         around = narrowed(alloc, origin, held, direction, around);
     }
-    let answer = around.answer;
-    match answer {
-        Ok(side) => Ok(Some(side)),
-        Err(error) => Err(error),
-    }
+    let side = around.answer?;
+    Ok(Some(side))
 }
 
 // By doubling the distance from the held second: the last that lies in the gap and the first that does not; `None` where

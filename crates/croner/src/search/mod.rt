@@ -109,10 +109,8 @@ fn after_limit<T: CronDateTime, S: Schedule>(
     if !is_within(shown, direction) {
         return Err(CronError::TimeSearchLimitExceeded);
     }
-    let (edge, own_last) = match edge_and_last(alloc, start, shown, direction) {
-        Ok(Some(found)) => found,
-        Ok(None) => return Err(CronError::TimeSearchLimitExceeded),
-        Err(error) => return Err(error),
+    let Some((edge, own_last)) = edge_and_last(alloc, start, shown, direction)? else {
+        return Err(CronError::TimeSearchLimitExceeded);
     };
     if !is_within(own_last.to_civil(), direction) {
         return Err(CronError::TimeSearchLimitExceeded);

@@ -1,5 +1,5 @@
 -- What rows of words say of a field.
-use Rattle.std.proofs.Common.{◌≡◌, ℕ, ◌+◌, ◌-◌, not, eqb, length, ap, sym, ◌∙◌, arith, max}
+use Rattle.std.proofs.Common.{◌≡◌, ℕ, ◌+◌, ◌-◌, not, eqb, length, ap, sym, ◌∙◌, arith}
 use Rattle.std.specs.List.{list_any}
 use Rattle.croner_base.specs.Field.{room, has_any}
 use Rattle.croner_base.specs.Private.Words.Counts.{marked_from}

@@ -44,9 +44,7 @@ impl Eq for CronComponent {
 }
 
 impl PartialOrd for CronComponent {
-    ghost use Rattle.std.proofs.Common.{rules};
     ghost use Rattle.std.specs.Cmp.{partial_order_from_total};
-    ghost use Rattle.std.specs.Cmp.Rules.{comparing};
     ghost use Rattle.std.specs.Ordering.{as_partial_cmp};
     ghost use Rattle.croner_base.specs.Order.{field_cmp, field_cmp_total};
 

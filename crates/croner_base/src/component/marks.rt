@@ -1,11 +1,12 @@
 //! Marks of values, kept as rows of words: one row for each supported modifier, with one bit a value.
 
-ghost use Rattle.std.specs.Prelude.{◌≡◌, ℕ, ◌+◌, ◌*◌, ◌/◌, ◌^◌, ◌<◌, ◌≤◌, true, false, ◌==◌, length, bit_and, nat_lt, slice_index, IfOk, IsOk, MatchOption};
+ghost use Rattle.std.specs.Prelude.{◌≡◌, ℕ, ◌+◌, ◌*◌, ◌^◌, ◌<◌, ◌≤◌, ◌==◌, length, bit_and, nat_lt, slice_index, IfOk, IsOk, MatchOption};
 ghost use Rattle.std.specs.Int.{bit_at};
 ghost use Rattle.croner_base.specs.Field.{room};
-ghost use Rattle.croner_base.specs.Private.Words.Marked.{is_set, set_at, unset_at, nothing_set, GainsRange};
+ghost use Rattle.croner_base.specs.Private.Words.Kept.{words_of, rows_of};
+ghost use Rattle.croner_base.specs.Private.Words.Marked.{Marked, is_set, set_at, unset_at, nothing_set, GainsRange};
 ghost use Rattle.croner_base.specs.Private.Words.Next.{NonePlainFrom, IsLeastPlain, NonePlainTo, IsGreatestPlain};
-ghost use Rattle.croner_base.specs.Private.Words.Rows.{in_row, width};
+ghost use Rattle.croner_base.specs.Private.Words.Rows.{in_row, rows_below, sums_of, width};
 ghost use Rattle.croner_base.specs.Private.Words.Word.{word_bits};
 
 use std::alloc::{AllocError, Global};
@@ -34,11 +35,6 @@ pub struct Marks {
 }
 
 impl Model for Marks {
-    ghost use Rattle.std.specs.Prelude.{◌≡◌, ◌*◌, ◌==◌, length};
-    ghost use Rattle.croner_base.specs.Private.Words.Kept.{words_of, rows_of};
-    ghost use Rattle.croner_base.specs.Private.Words.Marked.{Marked};
-    ghost use Rattle.croner_base.specs.Private.Words.Rows.{rows_below, width, sums_of};
-
     ghost Value = { Marked };
 
     ghost view = { λ c. record { max = c.max; supported = c.supported; marks = sums_of (words_of c.is_in_place c.in_place c.on_heap.items) c.max (rows_of c.is_in_place c.supported) } };
@@ -129,14 +125,6 @@ impl Marks {
             max: self.max,
             supported: self.supported,
         })
-    }
-
-    /// Whether the words stand in place, so that a clone takes no memory.
-    #[inline(always)]
-    pub fn is_in_place(&self) -> bool
-        ensures { result ≡ (width self.now.max == 1) }
-    {
-        self.is_in_place
     }
 
     /// The same marks, where the words stand in place. Takes no memory.

@@ -24,6 +24,13 @@ impl CronComponent {
     /// `ComponentError` at the first part that has none of these forms, is out of bounds or asks for a modifier that
     /// isn't supported; `OutOfMemory` where its message finds no memory. Either leaves the marks, features, step and
     /// wildcard mark that were made up to the fault. An accepted call takes no memory.
+    ///
+    /// ```
+    /// let mut days = CronComponent::new(alloc, 1, 31, CLOSEST_WEEKDAY_BIT, 0)?;
+    /// days.parse("1-5,15W,L")?;
+    /// let plain = days.values()?; // [1, 2, 3, 4, 5]
+    /// let near = days.get_set_values(CLOSEST_WEEKDAY_BIT)?; // [15]
+    /// ```
     pub fn parse(&mut self, field: &str) -> Result<(), CronError>
         ensures { Reads (field_of self.old.shape field.now) self.old self.new result }
     {
@@ -42,6 +49,12 @@ impl CronComponent {
     /// `ComponentError` where the part hasn't that form, the step is 0, the range is out of bounds, a mark is refused,
     /// or the value after the last mark passes 65535; `OutOfMemory` where its message finds no memory. Either leaves
     /// the step, the wildcard mark and the marks that were made up to the fault. An accepted call takes no memory.
+    ///
+    /// ```
+    /// let mut minutes = CronComponent::new(alloc, 0, 59, NONE_BIT, 0)?;
+    /// minutes.handle_stepping("10-40/15")?;
+    /// let values = minutes.values()?; // [10, 25, 40]
+    /// ```
     pub fn handle_stepping(&mut self, part: &str) -> Result<(), CronError>
         ensures { Reads (stepping self.old.shape part.now) self.old self.new result }
     {

@@ -1,9 +1,10 @@
 //! Dates and times of day without a zone, and weekdays.
-ghost use Rattle.std.specs.Prelude.{◌≡◌, ◌↔◌, ◌+◌, ◌*◌, ◌<◌, ◌%◌, ℤ, pos, ◌+ℤ◌, unsigned_abs, Some, IsSome, IfSome, IsOk, IfOk, IfErr, FitsSigned};
+ghost use Rattle.std.specs.Prelude.{◌≡◌, ◌↔◌, ◌+◌, ◌<◌, ◌%◌, ℤ, pos, ◌+ℤ◌, unsigned_abs, Some, IsSome, IfSome, IsOk, IfOk, IfErr, FitsSigned};
 ghost use Rattle.std.specs.Int.{int_rem_euclid};
 ghost use mir.Syntax.{w32};
 ghost use Rattle.jiff_core.specs.Calendar.{days_in_month as month_days};
 ghost use Rattle.croner_base.specs.Calendar.{IsRealDate, place_in_year, day_seconds};
+ghost use Rattle.croner_base.specs.CivilText.{date_text, time_text, datetime_text};
 
 use crate::errors::CronError;
 use crate::time::{day_of_year, days_in_month};
@@ -32,6 +33,10 @@ impl Weekday {
     ghost use Rattle.croner_base.specs.Civil.{weekday_index};
 
     /// How many days after Sunday it is: 0 to 6.
+    ///
+    /// ```
+    /// let days = Weekday::Friday.num_days_from_sunday(); // 5
+    /// ```
     pub fn num_days_from_sunday(self) -> u32
         ensures value { result ≡ weekday_index self }
         ensures bound { result < 7 }
@@ -40,6 +45,11 @@ impl Weekday {
     }
 
     /// The weekday so many days after a Sunday. Whole weeks don't matter, so it undoes `num_days_from_sunday`.
+    ///
+    /// ```
+    /// let friday = Weekday::from_days_from_sunday(5);
+    /// let sunday = Weekday::from_days_from_sunday(14);
+    /// ```
     pub fn from_days_from_sunday(days: u32) -> Weekday
         ensures { weekday_index result ≡ days % 7 }
     {
@@ -58,6 +68,10 @@ impl Weekday {
 
     /// The weekday `days` days later, or earlier where it is negative. The caller sees to it that `days` and the
     /// number of this weekday add up within an `i32`.
+    ///
+    /// ```
+    /// let tuesday = Weekday::Sunday.shift(-5);
+    /// ```
     pub fn shift(self, days: i32) -> Weekday
         requires { FitsSigned w32 (pos (weekday_index self) +ℤ days) }
         ensures { weekday_index result
@@ -69,6 +83,11 @@ impl Weekday {
 }
 
 /// A date that the calendar has: a year, a month from 1 to 12, and a day of it from 1. Dates are ordered in time.
+///
+/// ```
+/// let date = CivilDate::from_ymd(2024, 7, 1)?;
+/// let (year, month, day) = (date.year(), date.month(), date.day()); // 2024, 7, 1
+/// ```
 #[derive(Debug, Clone, Copy, PartialEq, Eq, PartialOrd, Ord, Hash)]
 pub struct CivilDate {
     year: i32,
@@ -81,6 +100,11 @@ impl CivilDate {
     ghost use Rattle.croner_base.specs.Civil.{HasYmd};
 
     /// The date of these parts, or `None` where the calendar has no such date.
+    ///
+    /// ```
+    /// let leap_day = CivilDate::from_ymd_opt(2024, 2, 29); // Some
+    /// let none = CivilDate::from_ymd_opt(2023, 2, 29); // None
+    /// ```
     pub fn from_ymd_opt(year: i32, month: u32, day: u32) -> Option<CivilDate>
         ensures some { IsSome result ↔ IsRealDate year month day }
         ensures value { IfSome result (HasYmd year month day) }
@@ -92,6 +116,11 @@ impl CivilDate {
     }
 
     /// The date of these parts. `InvalidDate` where the calendar has no such date.
+    ///
+    /// ```
+    /// let date = CivilDate::from_ymd(2024, 7, 1)?; // 2024-07-01
+    /// let refused = CivilDate::from_ymd(2024, 6, 31); // Err(InvalidDate)
+    /// ```
     pub fn from_ymd(year: i32, month: u32, day: u32) -> Result<CivilDate, CronError>
         ensures ok { IsOk result ↔ IsRealDate year month day }
         ensures value { IfOk result (HasYmd year month day) }
@@ -134,6 +163,10 @@ impl CivilDate {
     }
 
     /// How many days the date's month has: 28 to 31.
+    ///
+    /// ```
+    /// let days = CivilDate::from_ymd(2024, 2, 10)?.days_in_month(); // 29
+    /// ```
     pub fn days_in_month(self) -> u32
         ensures { result ≡ month_days self.year self.month }
     {
@@ -141,6 +174,10 @@ impl CivilDate {
     }
 
     /// The place of the date in its year: 1 to 366.
+    ///
+    /// ```
+    /// let place = CivilDate::from_ymd(2024, 12, 31)?.day_of_year(); // 366
+    /// ```
     pub fn day_of_year(self) -> u32
         ensures { result ≡ place_in_year self.year self.month self.day }
     {
@@ -151,9 +188,6 @@ impl CivilDate {
 /// Year, month and day with `-` between them: the year in four places or more with leading zeros, of which a minus
 /// sign takes one, month and day in two places. `2024-07-01`, `-005-01-01`.
 impl fmt::Display for CivilDate {
-    ghost use Rattle.croner_base.specs.CivilText.{date_text};
-    ghost use Rattle.std.specs.Prelude.{Some};
-
     ghost output = { λ d. Some (date_text d.year d.month d.day) };
 
     fn fmt<W: fmt::Write>(&self, f: &mut fmt::Formatter<W>) -> fmt::Result {
@@ -164,6 +198,11 @@ impl fmt::Display for CivilDate {
 
 /// A time of day to the second: an hour from 0 to 23, a minute and a second from 0 to 59. There are no leap seconds.
 /// Times are ordered within the day.
+///
+/// ```
+/// let end = CivilTime::END_OF_DAY;
+/// let (hour, minute, second) = (end.hour(), end.minute(), end.second()); // 23, 59, 59
+/// ```
 #[derive(Debug, Clone, Copy, PartialEq, Eq, PartialOrd, Ord, Hash)]
 pub struct CivilTime {
     hour: u8,
@@ -192,6 +231,11 @@ impl CivilTime {
     };
 
     /// The time of these parts, or `None` where one of them is out of its range.
+    ///
+    /// ```
+    /// let time = CivilTime::from_hms_opt(9, 30, 0); // Some: 09:30:00
+    /// let none = CivilTime::from_hms_opt(24, 0, 0); // None
+    /// ```
     pub fn from_hms_opt(hour: u32, minute: u32, second: u32) -> Option<CivilTime>
         ensures some { IsSome result ↔ IsTimeOfDay hour minute second }
         ensures value { IfSome result (HasHms hour minute second) }
@@ -261,9 +305,6 @@ impl CivilTime {
 
 /// `HH:MM:SS`, each in two places.
 impl fmt::Display for CivilTime {
-    ghost use Rattle.croner_base.specs.CivilText.{time_text};
-    ghost use Rattle.std.specs.Prelude.{Some};
-
     ghost output = { λ t. Some (time_text t.hour t.minute t.second) };
 
     fn fmt<W: fmt::Write>(&self, f: &mut fmt::Formatter<W>) -> fmt::Result {
@@ -273,6 +314,12 @@ impl fmt::Display for CivilTime {
 }
 
 /// A date and a time of day to the second, as a wall clock without a zone shows them. They are ordered in time.
+///
+/// ```
+/// let start = CivilDateTime::from_ymd_hms(2024, 7, 1, 9, 30, 0)?;
+/// let (date, time) = (start.date(), start.time()); // 2024-07-01, 09:30:00
+/// let (month, hour) = (start.month(), start.hour()); // 7, 9
+/// ```
 #[derive(Debug, Clone, Copy, PartialEq, Eq, PartialOrd, Ord, Hash)]
 pub struct CivilDateTime {
     date: CivilDate,
@@ -283,6 +330,11 @@ impl CivilDateTime {
     ghost use Rattle.croner_base.specs.Civil.{HasYmd, HasHms, IsTimeOfDay};
 
     /// That time of that date.
+    ///
+    /// ```
+    /// let date = CivilDate::from_ymd(2024, 7, 1)?;
+    /// let start = CivilDateTime::new(date, CivilTime::MIDNIGHT); // 2024-07-01T00:00:00
+    /// ```
     pub fn new(date: CivilDate, time: CivilTime) -> CivilDateTime
         ensures date { result.date ≡ date }
         ensures time { result.time ≡ time }
@@ -291,6 +343,11 @@ impl CivilDateTime {
     }
 
     /// The date and time of these parts, or `None` where there is no such date or no such time of day.
+    ///
+    /// ```
+    /// let time = CivilDateTime::from_ymd_hms_opt(2024, 7, 1, 9, 30, 0); // Some: 2024-07-01T09:30:00
+    /// let none = CivilDateTime::from_ymd_hms_opt(2024, 7, 1, 9, 60, 0); // None
+    /// ```
     pub fn from_ymd_hms_opt(
         year: i32,
         month: u32,
@@ -311,6 +368,12 @@ impl CivilDateTime {
 
     /// The date and time of these parts. `InvalidDate` where there is no such date, whatever the time; `InvalidTime`
     /// where the date exists and the time of day doesn't.
+    ///
+    /// ```
+    /// let time = CivilDateTime::from_ymd_hms(2024, 7, 1, 9, 30, 0)?; // 2024-07-01T09:30:00
+    /// let no_date = CivilDateTime::from_ymd_hms(2024, 6, 31, 24, 0, 0); // Err(InvalidDate)
+    /// let no_time = CivilDateTime::from_ymd_hms(2024, 7, 1, 24, 0, 0); // Err(InvalidTime)
+    /// ```
     pub fn from_ymd_hms(
         year: i32,
         month: u32,
@@ -389,9 +452,6 @@ impl CivilDateTime {
 
 /// The date, a `T` and the time: `2024-07-01T09:30:00`.
 impl fmt::Display for CivilDateTime {
-    ghost use Rattle.croner_base.specs.CivilText.{datetime_text};
-    ghost use Rattle.std.specs.Prelude.{Some};
-
     ghost output = { λ c. Some (datetime_text c.date.year c.date.month c.date.day c.time.hour c.time.minute c.time.second) };
 
     fn fmt<W: fmt::Write>(&self, f: &mut fmt::Formatter<W>) -> fmt::Result {

@@ -48,6 +48,11 @@ pub const YEAR_UPPER_LIMIT: i32 = 5000;
 pub const YEAR_LOWER_LIMIT: i32 = 1;
 
 /// Whether a year has a 29 February: each fourth year has, but of the whole hundreds only each fourth.
+///
+/// ```
+/// let leap = is_leap_year(2000); // true
+/// let common = is_leap_year(1900); // false
+/// ```
 pub fn is_leap_year(year: i32) -> bool
     ensures { result ≡ leap year }
 {
@@ -59,6 +64,10 @@ pub fn is_leap_year(year: i32) -> bool
 }
 
 /// How many days a year has: 366 where it is a leap year, and 365 otherwise.
+///
+/// ```
+/// let days = days_in_year(2024); // 366
+/// ```
 pub fn days_in_year(year: i32) -> u32
     ensures { result ≡ year_days year }
 {
@@ -66,6 +75,10 @@ pub fn days_in_year(year: i32) -> u32
 }
 
 /// How many days a month of a year has, from 28 to 31. The caller sees to it that the month is one, from 1 to 12.
+///
+/// ```
+/// let days = days_in_month(2024, 2); // 29
+/// ```
 pub fn days_in_month(year: i32, month: u32) -> u32
     requires { IsInRange 1 12 month }
     ensures value { result ≡ month_days year month }
@@ -79,6 +92,10 @@ pub fn days_in_month(year: i32, month: u32) -> u32
 }
 
 /// The place of a date in its year, from 1 for 1 January. The caller sees to it that the date exists.
+///
+/// ```
+/// let place = day_of_year(2024, 3, 1); // 61
+/// ```
 pub fn day_of_year(year: i32, month: u32, day: u32) -> u32
     requires { IsRealDate year month day }
     ensures { result ≡ place_in_year year month day }

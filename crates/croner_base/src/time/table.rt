@@ -1,5 +1,5 @@
 //! Clocks that are given by a table of offsets: what a clock is ahead of UTC, first and after each of its changes.
-ghost use Rattle.std.specs.Prelude.{◌≡◌, ◌↔◌, ◌<◌, ◌≤◌, IsTrue, IsOk, IfOk, IfErr, pos, neg_ℤ, ◌≤ℤ◌, int_le, false, vec_len, slice_index_or};
+ghost use Rattle.std.specs.Prelude.{◌≡◌, ◌↔◌, ◌<◌, ◌≤◌, IsTrue, IsOk, IfOk, IfErr, pos, ◌≤ℤ◌, int_le, false, vec_len, slice_index_or};
 ghost use Rattle.std.proofs.Common.{ap};
 ghost use Rattle.croner_base.specs.Table as Spec;
 
@@ -55,6 +55,11 @@ impl ClockTable {
     /// - each offset differs from the one before, by 1 to 86,400 forward or by 1 to 7,200 back;
     /// - at most 20,000 changes have a reading in the years 1 to 5000 at their instant or one second before it, and
     ///   the positive differences of offsets at these add up to at most 20,000,000.
+    ///
+    /// ```
+    /// let utc = ClockTable::new(0, Vec::new(alloc))?;
+    /// let refused = ClockTable::new(86_401, Vec::new(alloc)); // Err(InvalidTime): more than a day ahead
+    /// ```
     pub fn new(first_offset: i32, changes: Vec<(i64, i32)>) -> Result<ClockTable, CronError>
         ensures ok { IsOk result ↔ IsTrue (Spec.is_calm_table first_offset changes.items) }
         ensures value { IfOk result (HasParts first_offset changes.items) }
@@ -165,6 +170,11 @@ impl<'t> TableTime<'t> {
 
     /// The second on the clock of the table. Refused as `InvalidTime` outside -377,705,116,800 to 253,402,300,799, the
     /// UTC years -9999 to 9999.
+    ///
+    /// ```
+    /// let noon = TableTime::new(&paris, 1_719_828_000)?; // 2024-07-01T12:00:00
+    /// let refused = TableTime::new(&paris, 253_402_300_800); // Err(InvalidTime): the UTC year 10000
+    /// ```
     pub fn new(table: &'t ClockTable, second: i64) -> Result<TableTime<'t>, CronError>
         ensures ok { IsOk result ↔ IsTrue (Spec.is_table_second second) }
         ensures value { IfOk result (λ t. t.second ≡ second) }
@@ -180,6 +190,11 @@ impl<'t> TableTime<'t> {
 
     /// The second on the clock of the table in which an instant of `jiff` lies. Its fraction of a second is left out, so
     /// that a search backward from within a second finds a run at its beginning only where it is inclusive.
+    ///
+    /// ```
+    /// let now = Timestamp::now(&rt)?;
+    /// let run = cron.find_next_occurrence(&TableTime::of_timestamp(&paris, now), false)?;
+    /// ```
     pub fn of_timestamp(table: &'t ClockTable, instant: Timestamp) -> TableTime<'t>
         ensures value { result.second ≡ int_div_euclid instant.nanosecond (pos 1_000_000_000) }
         ensures table { result.table.now ≡ table.now }
@@ -192,6 +207,11 @@ impl<'t> TableTime<'t> {
 
     /// The instant of `jiff`. Refused as `InvalidTime` outside -377,705,023,201 to 253,402,207,200, the seconds that
     /// `jiff` has as instants.
+    ///
+    /// ```
+    /// let noon = TableTime::new(&paris, 1_719_828_000)?;
+    /// let instant = noon.timestamp()?; // 2024-07-01T10:00:00Z
+    /// ```
     pub fn timestamp(&self) -> Result<Timestamp, CronError>
         ensures ok { IsOk result ↔ IsTrue (is_timestamp_second self.now.second) }
         ensures value { IfOk result (λ t. t.nanosecond ≡ nanos_of_seconds self.now.second) }
@@ -204,6 +224,11 @@ impl<'t> TableTime<'t> {
     }
 
     /// Seconds since 1970-01-01T00:00:00 UTC, from -377,705,116,800 to 253,402,300,799.
+    ///
+    /// ```
+    /// let noon = TableTime::new(&paris, 1_719_828_000)?;
+    /// let second = noon.second(); // 1719828000
+    /// ```
     pub fn second(&self) -> i64
         ensures value { result ≡ self.now.second }
         ensures bound { IsTrue (Spec.is_table_second result) }

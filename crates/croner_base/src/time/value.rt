@@ -8,6 +8,13 @@ use std::alloc::Global;
 use std::cmp::Ordering;
 
 /// What a wall second names in a zone: instants at which the zone's clock shows it, and in a calm zone all of them.
+///
+/// ```
+/// let instant = match noon.resolve_civil(alloc, civil)? {
+///     Resolution::Single(time) | Resolution::Ambiguous(time, _) => Some(time),
+///     Resolution::Gap => None,
+/// };
+/// ```
 #[derive(Debug, Clone, Drop, PartialEq, Eq)]
 pub enum Resolution<T> {
     /// One instant.
@@ -46,10 +53,22 @@ pub trait CronDateTime: Sized + Clone + Drop {
     ghost can_lack_memory: { Bool };
 
     /// What the zone's clock shows at the instant's whole second: the fraction is dropped.
+    ///
+    /// With the clock `paris` of [`ClockTable`](crate::time::table::ClockTable):
+    ///
+    /// ```
+    /// let noon = TableTime::new(&paris, 1_719_828_000)?;
+    /// let civil = noon.to_civil(); // 2024-07-01T12:00:00
+    /// ```
     fn to_civil(&self) -> CivilDateTime
         ensures { wall_second result ≡ reading (moment self.now) };
 
     /// The weekday of the date that `to_civil` gives.
+    ///
+    /// ```
+    /// let noon = TableTime::new(&paris, 1_719_828_000)?;
+    /// let weekday = noon.civil_weekday(); // Monday
+    /// ```
     fn civil_weekday(&self) -> Weekday
         ensures { weekday_index result ≡ weekday_of_second (reading (moment self.now)) };
 
@@ -57,6 +76,12 @@ pub trait CronDateTime: Sized + Clone + Drop {
     ///
     /// `InvalidDate` or `InvalidTime` where the implementation doesn't hold that second. `OutOfMemory` only where it
     /// says that it can lack memory.
+    ///
+    /// ```
+    /// // In Paris the clock goes back from 03:00:00 to 02:00:00 on this day.
+    /// let civil = CivilDateTime::from_ymd_hms(2024, 10, 27, 2, 30, 0)?;
+    /// let both = noon.resolve_civil(alloc, civil)?; // Ambiguous: the seconds 1729989000 and 1729992600
+    /// ```
     fn resolve_civil(
         &self,
         alloc: Global,
@@ -70,12 +95,21 @@ pub trait CronDateTime: Sized + Clone + Drop {
     ///
     /// `None` where the implementation doesn't hold that instant. `OutOfMemory` only where it says that it can lack
     /// memory.
+    ///
+    /// ```
+    /// let later = noon.checked_add_seconds(alloc, 3_600)?; // Some: 2024-07-01T13:00:00
+    /// ```
     fn checked_add_seconds(&self, alloc: Global, seconds: i64) -> Result<Option<Self>, CronError>
         ensures value { IfOk result (IsMoved moment (moment self.now) seconds) }
         ensures err { IfErr result
             (λ e. (e ≡ CronError.OutOfMemory) × IsTrue can_lack_memory) };
 
     /// The order of the two instants, fractions included, whatever their zones.
+    ///
+    /// ```
+    /// let later = TableTime::new(&paris, 1_719_828_001)?;
+    /// let order = noon.cmp_instant(&later); // Less
+    /// ```
     fn cmp_instant(&self, other: &Self) -> Ordering
         ensures { result ≡ int_cmp (nanos_of (moment self.now)) (nanos_of (moment other.now)) };
 

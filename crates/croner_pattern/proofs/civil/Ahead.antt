@@ -4,7 +4,6 @@ use Rattle.std.proofs.Common.{◌≡◌, ◌⊎◌, inl, inr, arith, ℕ, ℤ, p
 use Rattle.std.proofs.lemmas.Int.{by_lt_z}
 use Rattle.jiff_core.proofs.SignedLemmas.{signed_arith}
 use Rattle.croner_base.specs.declared.time.Direction.{Direction}
-use Rattle.croner_base.specs.declared.time.Direction.TheVariants.{Forward, Backward}
 use Rattle.croner_pattern.specs.Directions.{along, Precedes, Reaches, offset_from}
 
 pub along-offset : (dir : Direction) (a : ℤ) (n : ℕ) → along dir (offset_from dir a n) ≡ along dir a +ℤ pos n

@@ -1,7 +1,6 @@
 //! The nearest value that a field names.
 ghost use Rattle.std.specs.Prelude.{◌≡◌, ◌<◌, ◌≤◌, ℕ, true, pos, negsuc, MatchOption};
 ghost use Rattle.std.specs.Int.{bit_at};
-ghost use Rattle.croner_base.specs.declared.time.Direction.{Direction};
 ghost use Rattle.croner_base.specs.Field.{can_ask};
 ghost use Rattle.croner_pattern.specs.Schedule.{is_plain};
 ghost use Rattle.croner_pattern.specs.Private.Cursor.{one_on, FindsNearest, FindsForemost, AreFrom, HoldsAll, IsPlainWithin, IsOnTheWay, IsFirstValue};

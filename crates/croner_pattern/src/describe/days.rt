@@ -1,7 +1,7 @@
 //! The days of a pattern in words.
 
 ghost use Rattle.std.specs.Prelude.{◌≡◌, ◌++◌, codes};
-ghost use Rattle.croner_base.specs.Field.{marked_values};
+ghost use Rattle.croner_base.specs.Field.{nearest_bit, marked_values};
 ghost use Rattle.croner_pattern.specs.Description.{day_parts, day_text, days_text, if_also, last_weekdays, nth_weekdays, plain_values, plain_weekdays, texts, weekday_names, weekday_parts, where_any, numbers};
 ghost use Rattle.croner_pattern.specs.Private.Lists.{AddsTexts, ListsTexts};
 ghost use Rattle.croner_pattern.specs.Meaning.{meaning_of};
@@ -44,7 +44,7 @@ fn push_nearest_weekdays<L: Language>(
     language: &L,
     days: &CronComponent,
 ) -> Result<(), CronError>
-    ensures { let w = L.meaning language.now in let near = marked_values 128 days.now in
+    ensures { let w = L.meaning language.now in let near = marked_values nearest_bit days.now in
         AddsTexts (where_any near (w.the_weekday_nearest_day (numbers w near))) parts.old parts.new result }
 {
     if days.count_set_values(CLOSEST_WEEKDAY_BIT) == 0 {

@@ -1,6 +1,6 @@
 //! What a description asks of a field.
 
-ghost use Rattle.std.specs.Prelude.{◌≡◌, ◌==◌};
+ghost use Rattle.std.specs.Prelude.{◌≡◌};
 ghost use Rattle.croner_base.specs.Field.{marked_values};
 ghost use Rattle.croner_pattern.specs.Schedule.{is_plain};
 ghost use Rattle.croner_pattern.specs.Description.{begins_with, is_all, is_one, is_one_value, is_stepped, is_zero, numbers, plain_values, first_value};

@@ -38,6 +38,12 @@ impl CronPattern {
     ///
     /// `InvalidDate` where the date doesn't exist. A field of another shape refuses what it can't be asked:
     /// `ComponentError`, or `OutOfMemory` where the message finds no memory.
+    ///
+    /// ```
+    /// let job = Cron::from_str(alloc, "0 9 * * FRI#2")?;
+    /// let second = job.pattern.day_match(2024, 7, 12, Weekday::Friday)?; // true
+    /// let third = job.pattern.day_match(2024, 7, 19, Weekday::Friday)?; // false
+    /// ```
     pub fn day_match(
         &self,
         year: i32,
@@ -64,6 +70,12 @@ impl CronPattern {
     ///
     /// `month_length` is the length of the month in days and `weekday` the weekday of the day. A field of another shape
     /// refuses what it can't be asked: `ComponentError`, or `OutOfMemory` where the message finds no memory.
+    ///
+    /// ```
+    /// let job = Cron::from_str(alloc, "0 9 15W * *")?;
+    /// let friday = job.pattern.closest_weekday(30, 14, Weekday::Friday)?; // true: the 15th is a Saturday
+    /// let monday = job.pattern.closest_weekday(30, 17, Weekday::Monday)?; // false
+    /// ```
     pub fn closest_weekday(
         &self,
         month_length: u32,

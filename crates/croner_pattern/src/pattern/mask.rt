@@ -27,6 +27,12 @@ impl CronPattern {
     ///
     /// A field of another shape refuses what it can't be asked about one of these days, as in
     /// [`day_match`](Self::day_match): `ComponentError`, or `OutOfMemory` where the message finds no memory.
+    ///
+    /// ```
+    /// let job = Cron::from_str(alloc, "0 9 1,31 * *")?;
+    /// let july = job.pattern.day_mask(31, Weekday::Monday)?; // 0x4000_0001
+    /// let june = job.pattern.day_mask(30, Weekday::Saturday)?; // 1
+    /// ```
     pub fn day_mask(&self, month_length: u32, first: Weekday) -> Result<u32, CronError>
         requires { IsInRange 28 31 month_length }
         ensures asked { SucceedsIff (are_answered (meaning_of self.now) month_length (weekday_index first)) result }
@@ -49,6 +55,11 @@ impl CronPattern {
     /// The days that fit in a month of `length` days whose 1st has the weekday `first`, from 0 for Sunday: bit `day - 1` is
     /// set exactly where the day fits, and no bit above that of the last day is. With the shapes of a pattern's fields
     /// nothing is refused.
+    ///
+    /// ```
+    /// let job = Cron::from_str(alloc, "0 9 * * MON")?;
+    /// let mondays = job.pattern.days_of_month(31, 1); // 0x1020_4081: the days 1, 8, 15, 22 and 29
+    /// ```
     pub fn days_of_month(&self, length: u32, first: u32) -> u32
         requires shapes { has_field_shapes (meaning_of self.now) ≡ true }
         requires length { IsInRange 28 31 length }

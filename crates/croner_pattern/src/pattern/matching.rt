@@ -19,6 +19,12 @@ impl CronPattern {
     ///
     /// A field of another shape refuses a year that it doesn't hold: `ComponentError`, or `OutOfMemory` where the message
     /// finds no memory. With the shape of its place it refuses none.
+    ///
+    /// ```
+    /// let job = Cron::from_str(alloc, "0 9 * * *")?;
+    /// let inside = job.pattern.year_match(2024)?; // true
+    /// let outside = job.pattern.year_match(5001)?; // false
+    /// ```
     #[inline(always)]
     pub fn year_match(&self, year: i32) -> Result<bool, CronError>
         ensures outside { (year <ℤ pos first_year) ⊎ (pos last_year <ℤ year) → result ≡ Ok false }
@@ -36,6 +42,12 @@ impl CronPattern {
     ///
     /// `InvalidDate` outside 1 to 12. A field of another shape refuses a month that it doesn't hold: `ComponentError`, or
     /// `OutOfMemory` where the message finds no memory.
+    ///
+    /// ```
+    /// let job = Cron::from_str(alloc, "0 0 1 */3 *")?;
+    /// let april = job.pattern.month_match(4)?; // true
+    /// let refused = job.pattern.month_match(13); // Err(InvalidDate)
+    /// ```
     pub fn month_match(&self, month: u32) -> Result<bool, CronError>
         ensures outside { (month < 1) ⊎ (12 < month) → result ≡ Err CronError.InvalidDate }
         ensures asked { IsInRange 1 12 month → Finds (λ held. held) (asked ALL_BIT (meaning_of self.now).months month) result }
@@ -52,6 +64,12 @@ impl CronPattern {
     ///
     /// `InvalidTime` above 23. A field of another shape refuses an hour that it doesn't hold: `ComponentError`, or
     /// `OutOfMemory` where the message finds no memory.
+    ///
+    /// ```
+    /// let job = Cron::from_str(alloc, "0 9-17 * * *")?;
+    /// let evening = job.pattern.hour_match(20)?; // false
+    /// let refused = job.pattern.hour_match(24); // Err(InvalidTime)
+    /// ```
     pub fn hour_match(&self, hour: u32) -> Result<bool, CronError>
         ensures outside { 23 < hour → result ≡ Err CronError.InvalidTime }
         ensures asked { hour ≤ 23 → Finds (λ held. held) (asked ALL_BIT (meaning_of self.now).hours hour) result }
@@ -68,6 +86,11 @@ impl CronPattern {
     ///
     /// `InvalidTime` above 59. A field of another shape refuses a minute that it doesn't hold: `ComponentError`, or
     /// `OutOfMemory` where the message finds no memory.
+    ///
+    /// ```
+    /// let job = Cron::from_str(alloc, "*/20 * * * *")?;
+    /// let is_named = job.pattern.minute_match(40)?; // true
+    /// ```
     pub fn minute_match(&self, minute: u32) -> Result<bool, CronError>
         ensures outside { 59 < minute → result ≡ Err CronError.InvalidTime }
         ensures asked { minute ≤ 59 → Finds (λ held. held) (asked ALL_BIT (meaning_of self.now).minutes minute) result }
@@ -84,6 +107,11 @@ impl CronPattern {
     ///
     /// `InvalidTime` above 59. A field of another shape refuses a second that it doesn't hold: `ComponentError`, or
     /// `OutOfMemory` where the message finds no memory.
+    ///
+    /// ```
+    /// let job = Cron::from_str(alloc, "30 9 * * *")?; // at second 0
+    /// let is_named = job.pattern.second_match(30)?; // false
+    /// ```
     pub fn second_match(&self, second: u32) -> Result<bool, CronError>
         ensures outside { 59 < second → result ≡ Err CronError.InvalidTime }
         ensures asked { second ≤ 59 → Finds (λ held. held) (asked ALL_BIT (meaning_of self.now).seconds second) result }

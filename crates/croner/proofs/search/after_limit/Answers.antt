@@ -11,38 +11,37 @@ pub returns-then-not-is_within-clause-refused : goal.returns-then-not-is_within-
 returns-then-not-is_within-clause-refused g c =
     refused_limit _ _ _ _ _ (λ start. none_outside _ _ _ _ (start_outside _ (g.T.CronDateTime.moment c.args.start.now) _ _ c.if-not-is_within.true c.requires.shown c.is_within.ensures))
 
-pub returns-in-Err-clause-refused : goal.returns-in-Err-clause-refused
-returns-in-Err-clause-refused g c =
-    let error = rw c.in-Err.is at c.edge_and_last.ensures in
+pub returns-in_err-edge-clause-refused : goal.returns-in_err-edge-clause-refused
+returns-in_err-edge-clause-refused g c =
     let within = start_within _ (g.T.CronDateTime.moment c.args.start.now) _ _ c.if-not-is_within.false c.requires.shown c.is_within.ensures in
-    refused_backend _ _ _ _ _ _ (not_past _ _ _ _ within) error.err
+    error_kept c.from_residual.result c.in_err-edge.field-0.0 _ c.from_residual.ensures.1 (refused_backend _ _ _ _ _ _ (not_past _ _ _ _ within) c.in_err-edge.ensures.err)
 
-pub returns-in-Ok-None-clause-refused : goal.returns-in-Ok-None-clause-refused
-returns-in-Ok-None-clause-refused g c =
-    let none = rw (c.in-Ok-None.is, c.in-Ok-None.field-0-is) at c.edge_and_last.ensures in
+pub returns-in_default-clause-refused : goal.returns-in_default-clause-refused
+returns-in_default-clause-refused g c =
+    let none = rw c.in_default.is at c.in_ok-edge.ensures in
     refused_limit _ _ _ _ _ (limit_alone g.T.CronDateTime.moment c.args.direction c.args.inclusive (g.T.CronDateTime.moment c.args.start.now) (g.S.Schedule.timetable c.args.schedule.now) none.value c.requires.out)
 
 pub returns-then-not-is_within-2-clause-refused : goal.returns-then-not-is_within-2-clause-refused
 returns-then-not-is_within-2-clause-refused g c =
-    let halves = rw (c.in-Ok-Some.is, c.in-Ok-Some.field-0-is) at c.edge_and_last.ensures in
-    refused_limit _ _ _ _ _ (limit_late g.T.CronDateTime.moment c.args.direction c.args.inclusive (g.T.CronDateTime.moment c.args.start.now) (g.S.Schedule.timetable c.args.schedule.now) c.in-Ok-Some.found.0 c.in-Ok-Some.found.1 _ _ (shown _ _ c.if-not-counts_both.false c.counts_both.ensures) halves.value c.if-not-is_within-2.true c.to_civil.ensures c.is_within-2.ensures c.requires.out)
+    let halves = rw c.in-Some.is at c.in_ok-edge.ensures in
+    refused_limit _ _ _ _ _ (limit_late g.T.CronDateTime.moment c.args.direction c.args.inclusive (g.T.CronDateTime.moment c.args.start.now) (g.S.Schedule.timetable c.args.schedule.now) c.in-Some.edge c.in-Some.own_last _ _ (shown _ _ c.if-not-counts_both.false c.counts_both.ensures) halves.value c.if-not-is_within-2.true c.to_civil.ensures c.is_within-2.ensures c.requires.out)
 
 pub returns-clause-found : goal.returns-clause-found
 returns-clause-found g c =
-    let halves = rw (c.in-Ok-Some.is, c.in-Ok-Some.field-0-is) at c.edge_and_last.ensures in
-    let there = rw c.in-Some.is at c.in_ok-run.ensures.value in
+    let halves = rw c.in-Some.is at c.in_ok-edge.ensures in
+    let there = rw c.in-Some-2.is at c.in_ok-run.ensures.value in
     let within = start_within _ (g.T.CronDateTime.moment c.args.start.now) _ _ c.if-not-is_within.false c.requires.shown c.is_within.ensures in
-    second_found g.T.CronDateTime.moment c.args.direction c.args.inclusive (g.T.CronDateTime.moment c.args.start.now) (g.S.Schedule.timetable c.args.schedule.now) (not_past _ _ _ _ within) c.in-Ok-Some.found.0 c.in-Ok-Some.found.1 _ _ _ (shown _ _ c.if-not-counts_both.false c.counts_both.ensures) halves.value c.if-not-is_within-2.false c.to_civil.ensures c.is_within-2.ensures c.requires.out there
+    second_found g.T.CronDateTime.moment c.args.direction c.args.inclusive (g.T.CronDateTime.moment c.args.start.now) (g.S.Schedule.timetable c.args.schedule.now) (not_past _ _ _ _ within) c.in-Some.edge c.in-Some.own_last _ _ _ (shown _ _ c.if-not-counts_both.false c.counts_both.ensures) halves.value c.if-not-is_within-2.false c.to_civil.ensures c.is_within-2.ensures c.requires.out there
 
-pub returns-in_default-clause-refused : goal.returns-in_default-clause-refused
-returns-in_default-clause-refused g c =
-    let halves = rw (c.in-Ok-Some.is, c.in-Ok-Some.field-0-is) at c.edge_and_last.ensures in
-    let there = rw c.in_default.is at c.in_ok-run.ensures.value in
-    refused_limit _ _ _ _ _ (limit_twice g.T.CronDateTime.moment c.args.direction c.args.inclusive (g.T.CronDateTime.moment c.args.start.now) (g.S.Schedule.timetable c.args.schedule.now) c.in-Ok-Some.found.0 c.in-Ok-Some.found.1 (shown _ _ c.if-not-counts_both.false c.counts_both.ensures) halves.value c.requires.out there)
+pub returns-in_default-2-clause-refused : goal.returns-in_default-2-clause-refused
+returns-in_default-2-clause-refused g c =
+    let halves = rw c.in-Some.is at c.in_ok-edge.ensures in
+    let there = rw c.in_default-2.is at c.in_ok-run.ensures.value in
+    refused_limit _ _ _ _ _ (limit_twice g.T.CronDateTime.moment c.args.direction c.args.inclusive (g.T.CronDateTime.moment c.args.start.now) (g.S.Schedule.timetable c.args.schedule.now) c.in-Some.edge c.in-Some.own_last (shown _ _ c.if-not-counts_both.false c.counts_both.ensures) halves.value c.requires.out there)
 
 pub returns-in_err-run-clause-refused : goal.returns-in_err-run-clause-refused
 returns-in_err-run-clause-refused g c =
-    let halves = rw (c.in-Ok-Some.is, c.in-Ok-Some.field-0-is) at c.edge_and_last.ensures in
+    let halves = rw c.in-Some.is at c.in_ok-edge.ensures in
     let within = start_within _ (g.T.CronDateTime.moment c.args.start.now) _ _ c.if-not-is_within.false c.requires.shown c.is_within.ensures in
-    error_kept c.from_residual.result c.in_err-run.field-0.0 _ c.from_residual.ensures.1
+    error_kept c.from_residual-in_err-run.result c.in_err-run.field-0.0 _ c.from_residual-in_err-run.ensures.1
     (refused_backend _ _ _ _ _ _ (not_past _ _ _ _ within) (second_error _ (g.T.CronDateTime.moment c.args.start.now) _ _ halves.value.0 c.in_err-run.ensures.err.error))

@@ -1,9 +1,9 @@
 -- What an iterator over a table keeps of the searches of its jobs, from one item to the next: the runs that they found, which
--- jobs are to be searched, and that the others have no run left.
+-- jobs are to be searched, and that the others have no run left; and a run of which the item is not given yet.
 -- Private contracts alone cite these definitions.
 use Rattle.std.specs.Prelude.{◌≡◌, ◌<◌, ◌≤◌, ◌+◌, ◌==◌, ℕ, cond, Bool, true, List, ◌∷◌, ◌++◌, [], length, Some, slice_get, slice_index_or, IsPermutation}
 use Rattle.std.specs.BinaryHeap.{IsUpperBound}
-use Rattle.std.specs.List.{All, sum_by}
+use Rattle.std.specs.List.{All, AllPairs, sum_by}
 use Rattle.croner_base.specs.declared.time.Direction.{Direction}
 use Rattle.croner_base.specs.Zone.{Moment, nanos_of}
 use Rattle.croner_pattern.specs.Meaning.{Meaning}
@@ -43,6 +43,17 @@ AreKept moment patterns direction inclusive start dues waiting is_limited =
 -- each run lies ahead of an item
 abbrev pub LieAhead : {T : Type 0} → (T → Moment) → Direction → Moment → List (Due T) → Type 0
 LieAhead moment direction item dues = All (λ due. Precedes direction item.instant (moment due.run).instant) dues
+
+-- a run is held until its item is given: it is the answer of each place that waits, they ascend, and the other runs lie ahead
+abbrev pub IsHeld : {T : Type 0} → (T → Moment) → List Meaning → Direction → Bool → Moment → T → List (Due T) → List ℕ → Type 0
+IsHeld moment patterns direction inclusive start run dues waiting =
+    (0 < length waiting) × AllPairs (◌<◌) waiting
+    × All (λ k. (m : Meaning) → slice_get patterns k ≡ Some m → ∥ IsFound direction inclusive (timetable_of m) start (moment run) ∥₁) waiting
+    × LieAhead moment direction (moment run) dues
+
+-- no job waits that did not wait before
+abbrev pub WaitedBefore : List ℕ → List ℕ → Type 0
+WaitedBefore before now = (k : ℕ) → sum_by (is_place k) now ≤ sum_by (is_place k) before
 
 -- the first of the runs is taken, and its place waits from then on
 pub record IsPopped {T : Type 0} (moment : T → Moment) (dues rest : List (Due T)) (waiting more : List ℕ) (run : T) : Type 0 where

@@ -6,7 +6,7 @@ ghost use Rattle.jiff_core.specs.Timestamp.{nanos_of_seconds};
 ghost use Rattle.croner_base.specs.Private.ZoneSteps.{IsHeld, IsShown, IsFirstSecond, IsYearEnd, IsNextQuestion, Repeats, again, period, repeated_until};
 ghost use Rattle.croner_base.specs.TableZone.{HasParts, table_zone};
 ghost use Rattle.croner_base.specs.ZoneTable.{IsWindow, IsCalmWindow, IsNoTable, ahead_at, window_changes, nearest_in};
-ghost use Rattle.croner_base.specs.ZonedZone.{zone_reads, first_timestamp, last_timestamp};
+ghost use Rattle.croner_base.specs.ZonedZone.{zone_reads, last_timestamp};
 
 use crate::errors::CronError;
 use crate::time::table::ClockTable;
@@ -43,6 +43,12 @@ impl ClockTable {
     /// test whether a zone is calm in a window. Refused as `InvalidTime` otherwise, where the last second lies before
     /// the first, and outside -377,705,023,201 to 253,402,207,200, the seconds of `jiff`'s instants. `OutOfMemory` for
     /// want of memory for the changes.
+    ///
+    /// ```
+    /// let zones = TimeZoneDatabase::from_env(&rt)?;
+    /// let zone = zones.get("Europe/Paris")?;
+    /// let paris = ClockTable::of_zone(rt.alloc(), &zone, 0, 4_102_444_799)?; // the years 1970 to 2099
+    /// ```
     pub fn of_zone(
         alloc: Global,
         zone: &TimeZone<'_>,
@@ -59,10 +65,8 @@ impl ClockTable {
             return Err(CronError::InvalidTime);
         }
         let zone = zone.to_plain();
-        match changes_in(alloc, zone, first, last) {
-            Ok(changes) => ClockTable::new(shown_at(zone, first).ahead, changes),
-            Err(error) => Err(error),
-        }
+        let changes = changes_in(alloc, zone, first, last)?;
+        ClockTable::new(shown_at(zone, first).ahead, changes)
     }
 }
 

@@ -1,123 +1,43 @@
-use Rattle.std.proofs.Common.{◌≡◌, length, refl, ap, ◌∙◌, arith}
-use Rattle.std.specs.BinaryHeap.{heap_items, heap_len}
-use Rattle.std.specs.List.{each_same}
-use Rattle.croner.specs.Private.crontable.Met.{met_of}
-use Rattle.croner.specs.crontable.Tables.{patterns_of}
-use Rattle.croner.proofs.crontable.KeptRuns.{same_kept, turned_kept}
-use Rattle.croner.proofs.crontable.TableSearch.{decided_found, decided_refused, answered_in_room}
-use Rattle.croner.proofs.crontable.TakenRuns.{shaped_at, taken_first, taken_again, rest_ahead, lie_ahead, searched_met, nothing_found, ahead_decided}
+use Rattle.std.proofs.Common.{List, ℕ, subst, sym}
+use Rattle.std.specs.BinaryHeap.{heap_items}
+use Rattle.croner.specs.crontable.Tables.{patterns_of, IsTableFound}
+use Rattle.croner.proofs.crontable.KeptRuns.{turned_kept, given_again, held_still, not_held}
+use Rattle.croner.proofs.crontable.TakenRuns.{shaped_at, held_found, held_refused}
+use Rattle.croner.proofs.zone.ErrorsKept.{error_kept}
 use Rattle.croner.proofs.crontable.asked.search.Goals as goal
 
-pub returns-then-is_err-clause-kept : goal.returns-then-is_err-clause-kept
-returns-then-is_err-clause-kept g c =
+pub returns-in-Ok-clause-kept : goal.returns-in-Ok-clause-kept
+returns-in-Ok-clause-kept g c =
     let moment = g.T.CronDateTime.moment in
-    let all = c.ask_all.new.self in
-    same_kept moment (patterns_of c.args.table.now) c.args.direction c.args.inclusive (moment c.args.position.now) (heap_items all.dues) (heap_items all.dues) all.waiting.items c.reserve.new.self.items
-    all.is_limited all.is_limited refl c.reserve.ensures.items refl c.ask_all.ensures.kept
+    let mid = c.nearest.new.kept in
+    turned_kept moment (patterns_of c.args.table.now) c.args.direction c.args.inclusive (moment c.args.position.now) (heap_items mid.dues) mid.waiting.items c.reverse.new.self.items mid.is_limited
+    c.nearest.ensures.kept c.reverse.ensures.permutation
 
-pub returns-in-None-clause-kept : goal.returns-in-None-clause-kept
-returns-in-None-clause-kept g c =
+pub returns-in-Ok-clause-found : goal.returns-in-Ok-clause-found
+returns-in-Ok-clause-found g c =
     let moment = g.T.CronDateTime.moment in
-    let all = c.ask_all.new.self in
-    let gone = c.pop.new.self in
-    same_kept moment (patterns_of c.args.table.now) c.args.direction c.args.inclusive (moment c.args.position.now) (heap_items all.dues) (heap_items gone.dues) all.waiting.items gone.waiting.items
-    all.is_limited gone.is_limited c.in-None.ensures.same.0 (ap (λ v. v.items) c.in-None.ensures.same.1 ∙ c.reserve.ensures.items) c.pop.ensures.limited c.ask_all.ensures.kept
-
-pub tied-init : goal.tied-init
-tied-init g c =
-    let moment = g.T.CronDateTime.moment in
-    let all = c.ask_all.new.self in
-    let one = c.pop.new.self in
-    let kept = same_kept moment (patterns_of c.args.table.now) c.args.direction c.args.inclusive (moment c.args.position.now) (heap_items all.dues) (heap_items all.dues) all.waiting.items c.reserve.new.self.items
-    all.is_limited one.is_limited refl c.reserve.ensures.items c.pop.ensures.limited c.ask_all.ensures.kept in
-    let none : length c.reserve.new.self.items ≡ 0 = ap length c.reserve.ensures.items ∙ omega (arith, c.in-Ok.ensures.none, all.waiting.ok.0) in
-    record {
-      taken = taken_first moment (patterns_of c.args.table.now) c.args.direction c.args.inclusive (moment c.args.position.now) (shaped_at c.args.table.now.jobs.items) (heap_items all.dues) (heap_items one.dues)
-          c.reserve.new.self.items one.waiting.items one.is_limited c.in-Some.run' kept c.in-Some.ensures.popped none;
-      room = c.pop.ensures.room;
-      begun = refl;
-    }
-
-pub returns-in-None-clause-refused : goal.returns-in-None-clause-refused
-returns-in-None-clause-refused g c =
-    let moment = g.T.CronDateTime.moment in
-    let all = c.ask_all.new.self in
-    nothing_found moment (patterns_of c.args.table.now) c.args.direction c.args.inclusive (moment c.args.position.now) (shaped_at c.args.table.now.jobs.items) (heap_items all.dues) all.waiting.items all.is_limited
-    c.ask_all.ensures.kept (omega (arith, c.in-None.ensures.none, all.dues.data.ok.0)) (omega (arith, c.in-Ok.ensures.none, all.waiting.ok.0))
-
-pub tied-preserved-in-tied : goal.tied-preserved-in-tied
-tied-preserved-in-tied g c =
-    let moment = g.T.CronDateTime.moment in
-    let old = c.tied.kept in
-    let more = c.pop-in-tied.new.self in
-    record {
-      taken = taken_again moment (patterns_of c.args.table.now) c.args.direction c.args.inclusive (moment c.args.position.now) (shaped_at c.args.table.now.jobs.items) (heap_items old.dues) (heap_items more.dues)
-          old.waiting.items more.waiting.items old.is_limited more.is_limited c.in-Some.run' (heap_len old.dues) c.pop-in-tied.result c.pop-in-tied.ensures.limited c.pop-in-tied.ensures.popped
-          c.pop-in-tied.ensures.none (c.is_tied.ensures.some c.tied-test.true) c.tied.invariant.taken (c.is_tied.ensures.tied c.tied-test.true);
-      room = c.pop-in-tied.ensures.room;
-      begun = c.pop-in-tied.ensures.begun ∙ c.tied.invariant.begun;
-    }
-
-pub returns-in_default-clause-kept : goal.returns-in_default-clause-kept
-returns-in_default-clause-kept g c =
-    let moment = g.T.CronDateTime.moment in
-    let last = c.tied.kept in
-    turned_kept moment (patterns_of c.args.table.now) c.args.direction c.args.inclusive (moment c.args.position.now) (heap_items last.dues) last.waiting.items c.reverse.new.self.items last.is_limited
-    c.tied.invariant.taken.kept c.reverse.ensures.permutation
-
-pub returns-clause-kept : goal.returns-clause-kept
-returns-clause-kept g c =
-    let moment = g.T.CronDateTime.moment in
-    let last = c.tied.kept in
-    turned_kept moment (patterns_of c.args.table.now) c.args.direction c.args.inclusive (moment c.args.position.now) (heap_items last.dues) last.waiting.items c.reverse.new.self.items last.is_limited
-    c.tied.invariant.taken.kept c.reverse.ensures.permutation
-
-pub returns-clause-ahead : goal.returns-clause-ahead
-returns-clause-ahead g c =
-    let moment = g.T.CronDateTime.moment in
-    let last = c.tied.kept in
-    let shapes = shaped_at c.args.table.now.jobs.items in
-    let patterns = patterns_of c.args.table.now in
+    let mid = c.nearest.new.kept in
     let start = moment c.args.position.now in
-    let run = c.in-Some.run' in
-    let taken = c.tied.invariant.taken in
-    let apart = rest_ahead moment patterns c.args.direction c.args.inclusive start shapes run (heap_items last.dues) last.waiting.items last.is_limited taken
-    (λ some. c.is_tied.ensures.apart c.tied-test.false (omega (arith, some, last.dues.data.ok.0))) in
-    ahead_decided moment g.T.CronDateTime.can_lack_memory c.args.direction (met_of c.found.result) run (heap_items last.dues) c.found.result.places c.decide.result (ap (λ m. m.nearest) c.found.ensures)
-    (lie_ahead moment patterns c.args.direction c.args.inclusive start shapes run (heap_items last.dues) last.waiting.items last.is_limited taken apart) c.decide.ensures
-
-pub returns-clause-found : goal.returns-clause-found
-returns-clause-found g c =
-    let moment = g.T.CronDateTime.moment in
-    let last = c.tied.kept in
-    let shapes = shaped_at c.args.table.now.jobs.items in
     let patterns = patterns_of c.args.table.now in
-    let start = moment c.args.position.now in
-    let run = c.in-Some.run' in
-    let taken = c.tied.invariant.taken in
-    let apart = rest_ahead moment patterns c.args.direction c.args.inclusive start shapes run (heap_items last.dues) last.waiting.items last.is_limited taken
-    (λ some. c.is_tied.ensures.apart c.tied-test.false (omega (arith, some, last.dues.data.ok.0))) in
-    let places = c.in-Ok-copy.places in
-    let same = each_same last.waiting.items places.items c.in-Ok-copy.ensures.cases.0 in
-    decided_found moment g.T.CronDateTime.can_lack_memory c.args.direction c.args.inclusive start patterns (met_of c.found.result)
-    (searched_met moment patterns c.args.direction c.args.inclusive start shapes run (heap_items last.dues) last.waiting.items last.is_limited taken apart c.found.result places c.found.ensures same)
-    c.found.result.places c.decide.result refl c.decide.ensures
+    let P : List ℕ → Type 0 = IsTableFound c.args.direction c.args.inclusive patterns start (moment c.in_ok-run.run') in
+    subst P (sym c.in-Ok.ensures.places) (held_found moment patterns c.args.direction c.args.inclusive start (shaped_at c.args.table.now.jobs.items) c.in_ok-run.run' (heap_items mid.dues) mid.waiting.items mid.is_limited
+    c.nearest.ensures.kept c.in_ok-run.ensures.held c.in-Ok.ensures.inside)
 
-pub returns-clause-refused : goal.returns-clause-refused
-returns-clause-refused g c =
+pub returns-in-Err-clause-refused : goal.returns-in-Err-clause-refused
+returns-in-Err-clause-refused g c =
     let moment = g.T.CronDateTime.moment in
-    let lack = g.T.CronDateTime.can_lack_memory in
-    let last = c.tied.kept in
-    let shapes = shaped_at c.args.table.now.jobs.items in
-    let patterns = patterns_of c.args.table.now in
-    let start = moment c.args.position.now in
-    let run = c.in-Some.run' in
-    let taken = c.tied.invariant.taken in
-    let apart = rest_ahead moment patterns c.args.direction c.args.inclusive start shapes run (heap_items last.dues) last.waiting.items last.is_limited taken
-    (λ some. c.is_tied.ensures.apart c.tied-test.false (omega (arith, some, last.dues.data.ok.0))) in
-    let places = c.in-Ok-copy.places in
-    let same = each_same last.waiting.items places.items c.in-Ok-copy.ensures.cases.0 in
-    answered_in_room lack c.args.direction c.args.inclusive patterns start c.decide.result
-    (decided_refused moment lack c.args.direction c.args.inclusive start patterns (met_of c.found.result)
-    (searched_met moment patterns c.args.direction c.args.inclusive start shapes run (heap_items last.dues) last.waiting.items last.is_limited taken apart c.found.result places c.found.ensures same)
-    c.found.result.places c.decide.result c.decide.ensures)
+    let mid = c.nearest.new.kept in
+    held_refused moment (patterns_of c.args.table.now) c.args.direction c.args.inclusive (moment c.args.position.now) (shaped_at c.args.table.now.jobs.items) c.in_ok-run.run' (heap_items mid.dues) mid.waiting.items
+    mid.is_limited c.nearest.ensures.kept c.in_ok-run.ensures.held g.T.CronDateTime.can_lack_memory c.in-Err.refused c.in-Err.ensures.refused
+
+pub returns-in-Ok-clause-again : goal.returns-in-Ok-clause-again
+returns-in-Ok-clause-again g c =
+    given_again c.args.kept.now.found c.in_ok-run.run' c.args.kept.now.waiting.items c.nearest.new.kept.waiting.items c.in-Ok.item.1.items c.in_ok-run.ensures.again c.in-Ok.ensures.places
+
+pub returns-in-Err-clause-stays : goal.returns-in-Err-clause-stays
+returns-in-Err-clause-stays g c =
+    held_still c.args.kept.now.found c.in_ok-run.run' c.args.kept.now.waiting.items c.nearest.new.kept.waiting.items c.in_ok-run.ensures.again
+
+pub returns-in_err-run-clause-stays : goal.returns-in_err-run-clause-stays
+returns-in_err-run-clause-stays g c =
+    error_kept c.from_residual.result c.in_err-run.field-0.0 _ c.from_residual.ensures.1 (not_held c.args.kept.now.found c.in_err-run.field-0.0 c.args.kept.now.waiting.items c.nearest.new.kept.waiting.items _ c.in_err-run.ensures.again)

@@ -8,31 +8,31 @@ use Rattle.croner.specs.Views.{job_of}
 use Rattle.croner.proofs.iterator.ThereAndBack.{returns_to, no_limit, only_memory}
 use Rattle.croner.proofs.laws.listing.there_and_back.Goals as goal
 
-pub returns-in-Ok-clause-same : goal.returns-in-Ok-clause-same
-returns-in-Ok-clause-same g c r =
+pub returns-clause-same : goal.returns-clause-same
+returns-clause-same g c r =
     let moment = g.T.CronDateTime.moment in
     let m = job_of c.args.job.now in
     let run = moment c.args.run.now in
-    let next = moment c.in-Ok.next in
+    let next = moment c.in_ok-next.next in
     IfOk-weaker c.find_previous_occurrence-back.result (λ b. IsFound Backward false (timetable_of m) next (moment b)) (λ b. moment b ≡ run)
-    (λ b found. returns_to m run next r c.in-Ok.ensures.found (moment b) found) c.find_previous_occurrence-back.ensures.found
+    (λ b found. returns_to m run next r c.in_ok-next.ensures.found (moment b) found) c.find_previous_occurrence-back.ensures.found
 
-pub returns-in-Ok-clause-no_limit : goal.returns-in-Ok-clause-no_limit
-returns-in-Ok-clause-no_limit g c r =
+pub returns-clause-no_limit : goal.returns-clause-no_limit
+returns-clause-no_limit g c r =
     let moment = g.T.CronDateTime.moment in
     let lack = g.T.CronDateTime.can_lack_memory in
     let m = job_of c.args.job.now in
     let run = moment c.args.run.now in
-    let next = moment c.in-Ok.next in
+    let next = moment c.in_ok-next.next in
     IfErr-weaker c.find_previous_occurrence-back.result (IsRefused lack Backward false (timetable_of m) next) (λ e. ¬ (e ≡ TimeSearchLimitExceeded))
-    (λ e refused. no_limit m run next r c.in-Ok.ensures.found lack e refused) c.find_previous_occurrence-back.ensures.refused
+    (λ e refused. no_limit m run next r c.in_ok-next.ensures.found lack e refused) c.find_previous_occurrence-back.ensures.refused
 
-pub returns-in-Ok-clause-held : goal.returns-in-Ok-clause-held
-returns-in-Ok-clause-held g c r p =
+pub returns-clause-held : goal.returns-clause-held
+returns-clause-held g c r p =
     let moment = g.T.CronDateTime.moment in
     let lack = g.T.CronDateTime.can_lack_memory in
     let m = job_of c.args.job.now in
     let run = moment c.args.run.now in
-    let next = moment c.in-Ok.next in
+    let next = moment c.in_ok-next.next in
     IfErr-weaker c.find_previous_occurrence-back.result (IsRefused lack Backward false (timetable_of m) next) (λ e. (e ≡ OutOfMemory) × IsTrue lack)
-    (λ e refused. only_memory m run next r c.in-Ok.ensures.found lack e refused p) c.find_previous_occurrence-back.ensures.refused
+    (λ e refused. only_memory m run next r c.in_ok-next.ensures.found lack e refused p) c.find_previous_occurrence-back.ensures.refused

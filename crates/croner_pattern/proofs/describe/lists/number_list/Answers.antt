@@ -1,8 +1,7 @@
 use Rattle.std.proofs.Common.{arith, ◌+◌, map, drop, string_bytes}
-use Rattle.croner_pattern.specs.Lists.{runs_of, number_list}
+use Rattle.croner_pattern.specs.Lists.{item_text, number_items, number_list, runs_of}
 use Rattle.croner_pattern.proofs.ListsWritten.{text_list-from_place}
 use Rattle.croner_pattern.proofs.RunsWritten.{runs_begun, run_more, items_left}
-use Rattle.croner_pattern.specs.Lists.{item_text, number_items}
 use Rattle.croner_pattern.proofs.describe.lists.number_list.Goals as goal
 
 pub loop-start-init : goal.loop-start-init

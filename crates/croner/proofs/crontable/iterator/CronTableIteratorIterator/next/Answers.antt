@@ -1,18 +1,12 @@
-use Rattle.std.proofs.Common.{refl}
-use Rattle.croner.specs.crontable.TableListing.{table_standing_of, counts_table_position}
-use Rattle.croner.proofs.crontable.TableIterating.{table_steps, settled_from, leads_from}
+use Rattle.croner.proofs.crontable.TableIterating.{leads_from, gives_item}
 use Rattle.croner.proofs.crontable.iterator.CronTableIteratorIterator.next.Goals as goal
 
-pub settle-requires-clause-leads : goal.settle-requires-clause-leads
-settle-requires-clause-leads g c =
+pub step_to-requires-clause-leads : goal.step_to-requires-clause-leads
+step_to-requires-clause-leads g c =
     let moment = g.T.CronDateTime.moment in
-    let old = c.args.self.now in
-    leads_from moment old c.find-answer.new.self c.find-answer.result c.find-answer.ensures.same (counts_table_position (table_standing_of moment old)) c.find-answer.ensures.found
+    leads_from moment c.args.self.now c.find.new.self c.find.ensures.same c.in-Ok.run' c.in-Ok.item.1.items c.in-Ok.ensures.found
 
-pub returns-clause-steps : goal.returns-clause-steps
-returns-clause-steps g c =
+pub returns-in-Ok-clause-steps : goal.returns-in-Ok-clause-steps
+returns-in-Ok-clause-steps g c =
     let moment = g.T.CronDateTime.moment in
-    let lack = g.T.CronDateTime.can_lack_memory in
-    let old = c.args.self.now in
-    table_steps moment lack old c.settle.new.self c.find-answer.result c.settle.result (counts_table_position (table_standing_of moment old)) refl c.find-answer.ensures.found c.find-answer.ensures.refused
-    (settled_from moment old c.find-answer.new.self c.find-answer.result c.find-answer.ensures.same lack c.settle.new.self c.settle.result c.settle.ensures)
+    gives_item moment c.args.self.now c.find.new.self c.find.ensures.same c.step_to.new.self c.in-Ok.run' c.in-Ok.item.0 c.in-Ok.item.1.items c.in-Ok.ensures.found c.in-Ok.ensures.copied c.step_to.ensures

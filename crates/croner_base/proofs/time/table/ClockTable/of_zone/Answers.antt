@@ -8,8 +8,8 @@ use Rattle.croner_base.specs.ZonedZone.{zone_reads}
 use Rattle.croner_base.proofs.ZoneChanges.{window_reads, window_beyond}
 use Rattle.croner_base.proofs.time.table.ClockTable.of_zone.Goals as goal
 
-pub returns-in-Ok-clause-reads : goal.returns-in-Ok-clause-reads
-returns-in-Ok-clause-reads c =
+pub returns-clause-reads : goal.returns-clause-reads
+returns-clause-reads c =
     let tz = plain_zone c.args.zone.now in
     let first = c.args.first in
     let last = c.args.last in
@@ -20,8 +20,8 @@ returns-in-Ok-clause-reads c =
     IfOk-weaker c.new.result (HasParts (ahead_at tz first) (window_changes tz first last)) (λ t. (i : ℤ) → first ≤ℤ i → i ≤ℤ last → (table_zone t).reads i ≡ zone_reads tz i)
     (λ t h i low high. window_reads tz first last t i w h low high) parts
 
-pub returns-in-Ok-clause-beyond : goal.returns-in-Ok-clause-beyond
-returns-in-Ok-clause-beyond c =
+pub returns-clause-beyond : goal.returns-clause-beyond
+returns-clause-beyond c =
     let tz = plain_zone c.args.zone.now in
     let first = c.args.first in
     let last = c.args.last in

@@ -1,0 +1,128 @@
+-- What changes of a clock do to the seconds that a job schedules. Source: this crate's documentation of `Changes`; for cron(8), its manual
+-- page of Debian's 3.0pl1, "Notes".
+use Rattle.std.specs.Prelude.{◌≡◌, ◌<◌, ◌||◌, ◌==◌, ℕ, Bool, true, false, ℤ, pos, neg_ℤ, ◌+ℤ◌, ◌-ℤ◌, ◌<ℤ◌, ◌≤ℤ◌, unsigned_abs, List, length, slice_index_or}
+use Rattle.std.specs.List.{All}
+use Rattle.croner_base.specs.declared.time.table.TableTime.{TableTime}
+use Rattle.croner_base.specs.Calm.{IsChange}
+use Rattle.croner_base.specs.Field.{marked_values}
+use Rattle.croner_base.specs.TableZone.{table_moment}
+use Rattle.croner_base.specs.Zone.{Zone}
+use Rattle.croner_pattern.specs.Meaning.{Meaning}
+use Rattle.croner_pattern.specs.Schedule.{IsScheduled, is_fixed_time}
+use Rattle.croner.specs.search.PatternJob.{pattern_job}
+use Rattle.croner.specs.search.Runs.{CarriedRun}
+use Rattle.croncheck_command.specs.Bytes.{begins_with}
+use Rattle.croncheck_command.specs.Line.{next}
+use Rattle.croncheck_command.specs.declared.changes.Change.{Change}
+use Rattle.croncheck_command.specs.declared.changes.Fate.{Fate}
+use Rattle.croncheck_command.specs.declared.changes.Fate.TheVariants as fates
+use Rattle.croncheck_command.specs.declared.changes.Meeting.{Meeting}
+use Rattle.croncheck_command.specs.declared.changes.Range.{Range}
+use Rattle.croncheck_command.specs.declared.changes.Range.TheVariants as ranges
+
+-- ---- the changes of a clock
+
+-- so many seconds behind a start changes are told: a year of 365 days and a day
+abbrev pub watched_seconds : ℕ
+watched_seconds = 31_622_400
+
+-- 0001-01-02T00:00:00 UTC
+abbrev pub first_watched : ℤ
+first_watched = neg_ℤ (pos 62_135_510_400)
+
+-- 4999-12-31T00:00:00 UTC
+abbrev pub end_watched : ℤ
+end_watched = pos 95_617_497_600
+
+-- an instant behind a start, by no more than a year and a day, at which each clock shows a year from 1 to 4999
+pub record IsWatched (start instant : ℤ) : Type 0 where
+  pub behind : start <ℤ instant
+  pub within : instant ≤ℤ (start +ℤ pos watched_seconds)
+  pub from : first_watched ≤ℤ instant
+  pub before : instant <ℤ end_watched
+
+-- the zone's clock changes at an instant: it shows `after` there, and would have shown `before`
+pub record IsJump (z : Zone) (c : Change) : Type 0 where
+  pub changes : IsChange z c.instant
+  pub before_is : c.before ≡ z.reads (c.instant -ℤ pos 1) +ℤ pos 1
+  pub after_is : c.after ≡ z.reads c.instant
+
+-- the list has the watched changes behind a start, in order, and none is left out
+pub record AreChanges (z : Zone) (start : ℤ) (changes : List Change) : Type 0 where
+  pub each : All (λ c. IsJump z c × IsWatched start c.instant) changes
+  pub every : (i : ℤ) → IsChange z i → IsWatched start i → ¬ (All (λ c. ¬ (c.instant ≡ i)) changes)
+  pub ordered : (j k : ℕ) (d : Change) → j < k → k < length changes → (slice_index_or changes j d).instant <ℤ (slice_index_or changes k d).instant
+
+-- the same of the start's own clock
+abbrev pub AreChangesFrom : TableTime → List Change → Type 0
+AreChangesFrom start changes = AreChanges (table_moment start).zone (table_moment start).instant changes
+
+-- ---- a job at a change
+
+-- a wall second that the change skips, which lies in the gap, or that it shows twice, which lies in the repeated range
+abbrev pub LiesIn : Range → Change → ℤ → Type 0
+LiesIn ranges.Gap c w = (c.before ≤ℤ w) × (w <ℤ c.after)
+LiesIn ranges.Repeated c w = (c.after ≤ℤ w) × (w <ℤ c.before)
+
+-- all 24 hours are named
+abbrev pub names_all_hours : Meaning → Bool
+names_all_hours m = length (marked_values 1 m.hours) == 24
+
+-- a change meets a job at a wall second: not all hours are named, and the second is scheduled and lies in the range
+pub record Meets (z : Zone) (start : ℤ) (m : Meaning) (range : Range) (c : Change) (w : ℤ) : Type 0 where
+  pub hours : names_all_hours m ≡ false
+  pub change : IsJump z c
+  pub watched : IsWatched start c.instant
+  pub lies : LiesIn range c w
+  pub scheduled : IsScheduled m w
+
+-- the first change that meets the job so, at its first such second
+pub record MeetsFirst (z : Zone) (start : ℤ) (m : Meaning) (range : Range) (c : Change) (w : ℤ) : Type 0 where
+  pub meets : Meets z start m range c w
+  pub first : (d : Change) (v : ℤ) → Meets z start m range d v → c.instant ≤ℤ d.instant
+  pub least : (v : ℤ) → LiesIn range c v → IsScheduled m v → w ≤ℤ v
+
+-- ---- what becomes of the job's seconds
+
+-- here: a second of the gap is moved where the change's instant is a run that is carried over it, and else left out; a second of the
+-- repeated range is made once, at the earlier instant, by a fixed-time job, and else twice
+abbrev pub IsFate : Zone → Meaning → Range → Change → Fate → Type 0
+IsFate z m ranges.Gap c fates.Moved = CarriedRun (pattern_job m z) c.instant
+IsFate z m ranges.Gap c fates.LeftOut = ¬ (CarriedRun (pattern_job m z) c.instant)
+IsFate z m ranges.Gap c fates.Once = ⊥
+IsFate z m ranges.Gap c fates.Twice = ⊥
+IsFate z m ranges.Repeated c fates.Moved = ⊥
+IsFate z m ranges.Repeated c fates.LeftOut = ⊥
+IsFate z m ranges.Repeated c fates.Once = is_fixed_time m ≡ true
+IsFate z m ranges.Repeated c fates.Twice = is_fixed_time m ≡ false
+
+-- the first change that meets a job, at its first such second, and what becomes of it here
+pub record IsMeeting (z : Zone) (start : ℤ) (m : Meaning) (range : Range) (g : Meeting) : Type 0 where
+  pub range_is : g.range ≡ range
+  pub first : MeetsFirst z start m range g.change g.second
+  pub fate : IsFate z m range g.change g.fate
+
+-- ---- in cron(8)
+
+-- the text of the minutes or that of the hours begins with a star
+abbrev pub has_clock_star : List ℕ → Bool
+has_clock_star text = begins_with 42 text || begins_with 42 (next text)
+
+-- the clock is moved by less than three hours
+abbrev pub IsSmall : Change → Type 0
+IsSmall c = unsigned_abs (c.before -ℤ c.after) < 10_800
+
+-- cron(8) makes up for a change of less than three hours, for a job whose minutes and hours don't begin with a star
+abbrev pub MakesUp : List ℕ → Change → Type 0
+MakesUp text c = (has_clock_star text ≡ false) × IsSmall c
+
+-- what becomes of them in cron(8): where it makes up, what the gap skipped is run at once, and what is shown twice once
+abbrev pub IsFateInCron : List ℕ → Range → Change → Fate → Type 0
+IsFateInCron text ranges.Gap c fates.Moved = MakesUp text c
+IsFateInCron text ranges.Gap c fates.LeftOut = ¬ (MakesUp text c)
+IsFateInCron text ranges.Gap c fates.Once = ⊥
+IsFateInCron text ranges.Gap c fates.Twice = ⊥
+IsFateInCron text ranges.Repeated c fates.Moved = ⊥
+IsFateInCron text ranges.Repeated c fates.LeftOut = ⊥
+IsFateInCron text ranges.Repeated c fates.Once = MakesUp text c
+IsFateInCron text ranges.Repeated c fates.Twice = ¬ (MakesUp text c)

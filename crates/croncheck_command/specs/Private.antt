@@ -1,0 +1,4 @@
+-- Changes of a clock and a job's seconds at one of them. Private contracts alone cite these definitions.
+pub mod Found
+pub mod Level
+pub mod Met

@@ -1,0 +1,95 @@
+//! A clock on which each wall second is its own instant, and a job's scheduled seconds on it.
+ghost use Rattle.std.specs.Prelude.{◌≡◌, MatchOption, pos, ◌<ℤ◌, ◌≤ℤ◌, []};
+ghost use Rattle.croner_base.specs.Calm.{IsInReach, IsSearched};
+ghost use Rattle.croner_base.specs.Civil.{wall_second};
+ghost use Rattle.croner_base.specs.TableZone.{HasParts};
+ghost use Rattle.croner.specs.search.Limit.{year_5000};
+ghost use Rattle.croner.specs.Views.{job_of};
+ghost use Rattle.croncheck_command.specs.Private.Level.{IsNoneFrom, IsLeastFrom, IsNoneWithin, IsLeastWithin};
+
+use croner::Cron;
+use croner::time::table::{ClockTable, TableTime};
+use croner::time::{CivilDateTime, CronDateTime, Resolution};
+use std::alloc::Global;
+
+/// A clock on which each wall second is its own instant.
+#[derive(Drop)]
+pub struct Level {
+    table: ClockTable,
+    pub ghost parts: { HasParts (pos 0) [] table },
+}
+
+impl Level {
+    pub fn new(alloc: Global) -> Level {
+        match ClockTable::new(0, Vec::new(alloc)) {
+            Ok(table) => Level { table },
+            Err(_) => unreachable!(),
+        }
+    }
+
+    // A wall second.
+    fn at(&self, wall: i64) -> TableTime<'_>
+        requires { IsInReach wall }
+        ensures second { result.second ≡ wall }
+        ensures table { result.table.now ≡ self.now.table }
+    {
+        match TableTime::new(&self.table, wall) {
+            Ok(time) => time,
+            Err(_) => unreachable!(),
+        }
+    }
+
+    /// The wall second of a date and time.
+    pub fn second_of(&self, alloc: Global, civil: CivilDateTime) -> i64
+        requires { IsInReach (wall_second civil) }
+        ensures { result ≡ wall_second civil }
+    {
+        match self.at(0).resolve_civil(alloc, civil) {
+            Ok(Resolution::Single(time)) => time.second(),
+            Ok(Resolution::Ambiguous(time, _)) => time.second(),
+            Ok(Resolution::Gap) => unreachable!(),
+            Err(_) => unreachable!(),
+        }
+    }
+
+    /// The date and time of a wall second. `None` outside the years -9999 to 9999.
+    pub fn civil_of(&self, wall: i64) -> Option<CivilDateTime> {
+        match TableTime::new(&self.table, wall) {
+            Ok(time) => Some(time.to_civil()),
+            Err(_) => None,
+        }
+    }
+
+    // The first scheduled second from a wall second on, if there is one before year 5000.
+    fn next_scheduled(&self, job: &Cron, from: i64) -> Option<i64>
+        requires { IsSearched from }
+        ensures { MatchOption result (IsNoneFrom (job_of job.now) from) (IsLeastFrom (job_of job.now) from) }
+    {
+        match job.find_next_occurrence(&self.at(from), true) {
+            Ok(run) => Some(run.second()),
+            Err(_) => None,
+        }
+    }
+
+    /// The first scheduled second from a wall second on, up to the one before another.
+    pub fn scheduled_within(&self, job: &Cron, from: i64, end: i64) -> Option<i64>
+        requires from { IsSearched from }
+        requires end { end ≤ℤ year_5000 }
+        ensures { MatchOption result (IsNoneWithin (job_of job.now) from end) (IsLeastWithin (job_of job.now) from end) }
+    {
+        if end <= from {
+            return None;
+        }
+        match self.next_scheduled(job, from) {
+            Some(second) => if_before(second, end),
+            None => None,
+        }
+    }
+}
+
+// A second, if it comes before another.
+fn if_before(second: i64, end: i64) -> Option<i64>
+    ensures { MatchOption result (end ≤ℤ second) (λ w. (w ≡ second) × (w <ℤ end)) }
+{
+    if second < end { Some(second) } else { None }
+}

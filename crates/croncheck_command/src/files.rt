@@ -1,0 +1,264 @@
+//! The files of a call, one behind the other.
+ghost use Rattle.std.specs.Prelude.{◌≡◌, ℕ, true, false, List, map, string_bytes, IfOk, if◌then◌else◌};
+ghost use Rattle.croncheck_command.specs.Files.{HasText, HaveTexts, asked, AreChecked, IsStatus, noun_of, summary_of};
+ghost use Rattle.croncheck_command.specs.Reported.{IsChecked};
+
+use crate::escaped::shown;
+use crate::json::JsonReporter;
+use crate::plan::Planner;
+use crate::report::{Settings, Tally};
+use crate::reporter::{Reporter, status_of};
+use crate::shown::Shared;
+use std::alloc::{AllocError, Global};
+use std::io;
+use std::io::{BufRead, Write};
+
+/// Where files are read from.
+pub trait Sources {
+    ghost use Rattle.std.specs.Prelude.{ℕ, List, Option, IfOk};
+
+    /// What a file is read by.
+    type Reader: BufRead + Drop;
+
+    /// What a reader of the file of a name may give.
+    ghost holds: { Self → List ℕ → Option (List ℕ) → Type 0 };
+
+    /// Opens the file of a name; `-` is standard input. The error says why it isn't opened.
+    fn open(&self, name: &str) -> io::Result<Self::Reader>
+        ensures { IfOk result (λ reader. holds self.now name.now (Self.Reader.remaining reader)) };
+}
+
+/// Checks the files of these names, in order, or standard input where there are none, and answers the status of the call: 3 where a file
+/// failed, else 1 where a line is refused, else 0.
+///
+/// A file fails that isn't opened or isn't read to its end. Its name and the reason are written to `notes`, and so is at the end how many
+/// jobs were read and how many lines are refused; an error of `notes` is passed over. The reports are written to `out`.
+///
+/// The error is that of `out`, or says that memory is lacking.
+pub fn check_files<F: Sources, W: Write + Drop, N: Write>(
+    alloc: Global,
+    settings: &Settings<'_>,
+    shared: &Shared<'_>,
+    sources: &F,
+    names: &[&str],
+    out: W,
+    notes: &mut N,
+) -> io::Result<u8>
+    ensures { (text_of : List ℕ → List ℕ) → HaveTexts (F.holds sources.now) text_of →
+        IfOk result (IsStatus settings.now (map text_of (asked (map (λ name. name.now) names.now)))) }
+{
+    if names.is_empty() {
+        check_named(alloc, settings, shared, sources, &["-"], out, notes)
+    } else {
+        check_named(alloc, settings, shared, sources, names, out, notes)
+    }
+}
+
+// The same of these names alone.
+fn check_named<F: Sources, W: Write + Drop, N: Write>(
+    alloc: Global,
+    settings: &Settings<'_>,
+    shared: &Shared<'_>,
+    sources: &F,
+    names: &[&str],
+    out: W,
+    notes: &mut N,
+) -> io::Result<u8>
+    ensures { (text_of : List ℕ → List ℕ) → HaveTexts (F.holds sources.now) text_of →
+        IfOk result (IsStatus settings.now (map text_of (map (λ name. name.now) names.now))) }
+{
+    let mut reporter = Reporter::new(alloc, settings, shared, out);
+    let is_failed = report_files(alloc, sources, names, &mut reporter, notes)?;
+    reporter.flush()?;
+    let tally = reporter.tally();
+    let summary = summary_of(alloc, tally)?;
+    let _ = notes.write_all(summary.as_bytes());
+    Ok(status_of(tally, is_failed))
+}
+
+// Reports on the files of these names, and answers whether one failed. The error is that of the output.
+fn report_files<F: Sources, W: Write + Drop, N: Write>(
+    alloc: Global,
+    sources: &F,
+    names: &[&str],
+    reporter: &mut Reporter<'_, '_, W>,
+    notes: &mut N,
+) -> io::Result<bool>
+    ensures { (text_of : List ℕ → List ℕ) → HaveTexts (F.holds sources.now) text_of → IfOk result (λ is_failed. is_failed ≡ false →
+        AreChecked reporter.old.settings.now (map text_of (map (λ name. name.now) names.now)) reporter.old.tally reporter.new.tally) }
+{
+    let mut is_failed = false;
+    for k in 0..names.len() {
+        let fails = fails(alloc, sources, names[k], reporter, notes)?;
+        is_failed = any(fails, is_failed);
+    }
+    Ok(is_failed)
+}
+
+fn any(fails: bool, is_failed: bool) -> bool
+    ensures { result ≡ (if fails then true else is_failed) }
+{
+    fails || is_failed
+}
+
+// Reports on a file, and answers whether it failed, which is noted then. The error is that of the output.
+fn fails<F: Sources, W: Write + Drop, N: Write>(
+    alloc: Global,
+    sources: &F,
+    name: &str,
+    reporter: &mut Reporter<'_, '_, W>,
+    notes: &mut N,
+) -> io::Result<bool>
+    ensures { (text : List ℕ) → HasText (F.holds sources.now) name.now text → IfOk result (λ is_failed. is_failed ≡ false →
+        IsChecked reporter.old.settings.now text reporter.old.tally reporter.new.tally
+        × (reporter.new.settings.now ≡ reporter.old.settings.now)) }
+{
+    match report_file(sources, name, reporter) {
+        Ok(()) => Ok(false),
+        Err(error) if reporter.is_refused() => Err(error),
+        Err(error) => {
+            note(alloc, name, &error, notes)?;
+            Ok(true)
+        }
+    }
+}
+
+// Reports on a file.
+fn report_file<F: Sources, W: Write + Drop>(
+    sources: &F,
+    name: &str,
+    reporter: &mut Reporter<'_, '_, W>,
+) -> io::Result<()>
+    ensures { (text : List ℕ) → HasText (F.holds sources.now) name.now text → IfOk result (λ done.
+        IsChecked reporter.old.settings.now text reporter.old.tally reporter.new.tally
+        × (reporter.new.settings.now ≡ reporter.old.settings.now)) }
+{
+    let mut reader = sources.open(name)?;
+    reporter.report(name, &mut reader)
+}
+
+/// What tells of the lines of files in another form than a report.
+pub trait Teller {
+    /// Takes the lines of a file behind those of the files before. The error is that of the reader or of what is written to, or says that
+    /// memory is lacking.
+    fn take_file<R: BufRead>(&mut self, name: &str, reader: &mut R) -> io::Result<()>;
+
+    /// Whether what is written to refused a text: nothing more can be written then.
+    fn has_refused(&self) -> bool;
+
+    /// Writes what stands behind all files, and passes on what was written.
+    fn end(&mut self) -> io::Result<()>;
+
+    /// What was told so far.
+    fn counted(&self) -> Tally;
+}
+
+impl<'s, 't, W: Write + Drop> Teller for JsonReporter<'s, 't, W> {
+    fn take_file<R: BufRead>(&mut self, name: &str, reader: &mut R) -> io::Result<()> {
+        self.report(name, reader)
+    }
+
+    fn has_refused(&self) -> bool {
+        self.is_refused()
+    }
+
+    fn end(&mut self) -> io::Result<()> {
+        self.flush()
+    }
+
+    fn counted(&self) -> Tally {
+        self.tally()
+    }
+}
+
+impl<'s, 't, W: Write + Drop> Teller for Planner<'s, 't, W> {
+    fn take_file<R: BufRead>(&mut self, name: &str, reader: &mut R) -> io::Result<()> {
+        self.read(name, reader)
+    }
+
+    fn has_refused(&self) -> bool {
+        self.is_refused()
+    }
+
+    fn end(&mut self) -> io::Result<()> {
+        self.finish()
+    }
+
+    fn counted(&self) -> Tally {
+        self.tally()
+    }
+}
+
+/// The same as [`check_files`] by what tells of lines in another form.
+pub fn tell_files<F: Sources, T: Teller + Drop, N: Write>(
+    alloc: Global,
+    sources: &F,
+    names: &[&str],
+    mut teller: T,
+    notes: &mut N,
+) -> io::Result<u8> {
+    let is_failed = if names.is_empty() {
+        tell_named(alloc, sources, &["-"], &mut teller, notes)?
+    } else {
+        tell_named(alloc, sources, names, &mut teller, notes)?
+    };
+    teller.end()?;
+    let tally = teller.counted();
+    let summary = summary_of(alloc, tally)?;
+    let _ = notes.write_all(summary.as_bytes());
+    Ok(status_of(tally, is_failed))
+}
+
+// Takes the files of these names, and answers whether one failed. The error is that of the output.
+fn tell_named<F: Sources, T: Teller, N: Write>(
+    alloc: Global,
+    sources: &F,
+    names: &[&str],
+    teller: &mut T,
+    notes: &mut N,
+) -> io::Result<bool> {
+    let mut is_failed = false;
+    for k in 0..names.len() {
+        match tell_file(sources, names[k], teller) {
+            Ok(()) => {}
+            Err(error) if teller.has_refused() => return Err(error),
+            Err(error) => {
+                note(alloc, names[k], &error, notes)?;
+                is_failed = true;
+            }
+        }
+    }
+    Ok(is_failed)
+}
+
+fn tell_file<F: Sources, T: Teller>(sources: &F, name: &str, teller: &mut T) -> io::Result<()> {
+    let mut reader = sources.open(name)?;
+    teller.take_file(name, &mut reader)
+}
+
+// Notes why a file failed.
+fn note<N: Write>(
+    alloc: Global,
+    name: &str,
+    error: &io::Error,
+    notes: &mut N,
+) -> Result<(), AllocError> {
+    let name = shown(alloc, name.as_bytes())?;
+    let _ = write!(notes, "croncheck: {name}: {error}\n");
+    Ok(())
+}
+
+// How many jobs were read, and how many lines are refused.
+fn summary_of(alloc: Global, tally: Tally) -> Result<String, AllocError>
+    ensures { IfOk result (λ text. string_bytes text ≡ summary_of tally) }
+{
+    let (jobs, refused) = (tally.jobs, tally.refused);
+    let noun = noun_of(jobs);
+    format!(in alloc; "{jobs} {noun}, {refused} refused\n")
+}
+
+fn noun_of(jobs: u64) -> &'static str
+    ensures { result.now ≡ noun_of jobs }
+{
+    if jobs == 1 { "job" } else { "jobs" }
+}

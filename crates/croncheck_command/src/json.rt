@@ -1,0 +1,362 @@
+//! Reports as JSON: one object a line of input.
+ghost use Rattle.std.specs.Prelude.{◌≡◌, IfOk, IfSome, OnOk, string_bytes};
+ghost use Rattle.serde_json.specs.View.{view};
+ghost use Rattle.croncheck_command.specs.Entries.{entry_seen};
+ghost use Rattle.croncheck_command.specs.Json.{kind_of_line, kind_of, fault_kind, refusal_kind, IsRefusalObject, IsRefusalData, IsObject, WritesObject, IsWritten};
+ghost use Rattle.croncheck_command.specs.Shown.{bytes_shown};
+
+use crate::check::{Entries, check};
+use crate::escaped::shown;
+use crate::line::{Entry, Fault};
+use crate::report::{JobReport, Report, Settings, Tally, Told, Why, report_of};
+use crate::runs::{End, Runs};
+use crate::shown::{Shared, ahead_of, field_name, reason_of};
+use crate::warnings::Warning;
+use croner::time::table::TableTime;
+use serde_json::{Value, json};
+use std::alloc::{AllocError, Global};
+use std::io;
+use std::io::{BufRead, ErrorKind, Write};
+
+/// The version of the form of these objects.
+pub const VERSION: u32 = 1;
+
+/// Writes an object for each line of files, one file behind the other.
+#[derive(Drop)]
+pub struct JsonReporter<'s, 't, W> {
+    alloc: Global,
+    settings: &'s Settings<'t>,
+    shared: &'s Shared<'t>,
+    out: W,
+    tally: Tally,
+    // The lines of the file that were read.
+    line: u64,
+    // Its name, as it is shown.
+    name: String,
+    is_refused: bool,
+}
+
+impl<'s, 't, W: Write + Drop> JsonReporter<'s, 't, W> {
+    /// A reporter that writes to `out`, and told nothing yet.
+    pub fn new(
+        alloc: Global,
+        settings: &'s Settings<'t>,
+        shared: &'s Shared<'t>,
+        out: W,
+    ) -> JsonReporter<'s, 't, W>
+        ensures settings { result.settings.now ≡ settings.now }
+        ensures nothing { result.tally ≡ record { lines = 0; jobs = 0; refused = 0 } }
+        ensures out { result.out ≡ out }
+    {
+        JsonReporter {
+            alloc,
+            settings,
+            shared,
+            out,
+            tally: Tally {
+                lines: 0,
+                jobs: 0,
+                refused: 0,
+            },
+            line: 0,
+            name: String::new(alloc),
+            is_refused: false,
+        }
+    }
+
+    /// What was told so far.
+    pub fn tally(&self) -> Tally
+        ensures { result ≡ self.now.tally }
+    {
+        self.tally
+    }
+
+    /// Whether what is written to refused a text: nothing more can be written then.
+    pub fn is_refused(&self) -> bool
+        ensures { result ≡ self.now.is_refused }
+    {
+        self.is_refused
+    }
+
+    /// Writes the object of each line of a file, each on a line of its own.
+    ///
+    /// The error is that of the reader or of what is written to, or says that memory is lacking.
+    pub fn report<R: BufRead>(&mut self, name: &str, reader: &mut R) -> io::Result<()>
+        ensures { OnOk result (IfSome (R.remaining reader.old) (λ text. IsWritten self.old.settings.now text
+            (record { contents = W.contents self.old.out; tally = self.old.tally; file = bytes_shown name.now; line = 0 })
+            (record { contents = W.contents self.new.out; tally = self.new.tally; file = string_bytes self.new.name; line = self.new.line }))) }
+    {
+        self.name = shown(self.alloc, name.as_bytes())?;
+        self.line = 0;
+        check(self.alloc, self.settings.dialect, reader, self)
+    }
+
+    /// Passes on what was written.
+    pub fn flush(&mut self) -> io::Result<()>
+        ensures { self.new.tally ≡ self.old.tally }
+    {
+        let flushed = self.out.flush();
+        if flushed.is_err() {
+            self.is_refused = true;
+        }
+        flushed
+    }
+
+    // Writes the object of a line's report, whose kind is that of its entry.
+    fn tell(&mut self, kind: &str, report: &Report<'_, '_>) -> io::Result<()>
+        ensures written { OnOk result (WritesObject (kind_of kind.now report.now) (string_bytes self.old.name) self.old.line report.now
+            (W.contents self.old.out) (W.contents self.new.out)) }
+        ensures tally { self.new.tally ≡ self.old.tally }
+        ensures place { (self.new.name ≡ self.old.name) × (self.new.line ≡ self.old.line) }
+        ensures settings { self.new.settings.now ≡ self.old.settings.now }
+    {
+        let kind = kind_of(kind, report);
+        let object = object_of(
+            self.alloc,
+            self.shared,
+            kind,
+            self.name.as_str(),
+            self.line,
+            report,
+        )?;
+        let mut text = object.to_string(self.alloc)?;
+        text.push('\n')?;
+        let written = self.out.write_all(text.as_bytes());
+        if written.is_err() {
+            self.is_refused = true;
+        }
+        written
+    }
+}
+
+impl<'s, 't, W: Write + Drop> Entries for JsonReporter<'s, 't, W> {
+    ghost use Rattle.croncheck_command.specs.Json.{Writes};
+    ghost use Rattle.std.specs.Prelude.{◌≡◌, string_bytes};
+
+    ghost takes = { λ old y new. Writes old.settings.now
+        (record { contents = W.contents old.out; tally = old.tally; file = string_bytes old.name; line = old.line }) y
+        (record { contents = W.contents new.out; tally = new.tally; file = string_bytes new.name; line = new.line }) × (new.settings.now ≡ old.settings.now) };
+
+    fn take(&mut self, line: &[u8], entry: Entry<'_>, _is_fed: bool) -> io::Result<()> {
+        self.line = self.line.saturating_add(1);
+        let kind = kind_of_entry(&entry);
+        let Ok(report) = report_of(self.alloc, self.settings, line, entry) else {
+            return Err(io::Error::from(ErrorKind::OutOfMemory));
+        };
+        self.tally.add(&report);
+        self.tell(kind, &report)
+    }
+}
+
+// ---- kinds
+
+fn kind_of_entry(entry: &Entry<'_>) -> &'static str
+    ensures { result.now ≡ kind_of_line (entry_seen entry.now) }
+{
+    match entry {
+        Entry::Blank => "blank",
+        Entry::Comment => "comment",
+        Entry::Setting { .. } => "setting",
+        Entry::Job(_) => "job",
+        Entry::Pattern(_) => "pattern",
+        Entry::Refused { .. } => "refused",
+    }
+}
+
+// The kind of an entry with a report.
+fn kind_of<'k>(kind: &'k str, report: &Report<'_, '_>) -> &'k str
+    ensures { result.now ≡ kind_of kind.now report.now }
+{
+    match report {
+        Report::Refused { .. } => "refused",
+        Report::Silent | Report::Setting { .. } | Report::Job(_) => kind,
+    }
+}
+
+fn kind_of_fault(fault: Fault) -> &'static str
+    ensures { result.now ≡ fault_kind fault }
+{
+    match fault {
+        Fault::Nul => "nul",
+        Fault::Minutes => "minutes",
+        Fault::Hours => "hours",
+        Fault::Days => "days",
+        Fault::Months => "months",
+        Fault::Weekdays => "weekdays",
+        Fault::Nickname => "nickname",
+        Fault::User => "user",
+        Fault::Command => "command",
+        Fault::LongCommand => "long-command",
+    }
+}
+
+fn kind_of_why(why: &Why) -> &'static str
+    ensures { result.now ≡ refusal_kind why.now }
+{
+    match why {
+        Why::Cron(fault) => kind_of_fault(*fault),
+        Why::Pattern(_) => "pattern",
+        Why::Crate(_) => "text",
+        Why::NotText => "not-utf-8",
+    }
+}
+
+// ---- objects
+
+// The object of a line.
+fn object_of(
+    alloc: Global,
+    shared: &Shared<'_>,
+    kind: &str,
+    file: &str,
+    line: u64,
+    report: &Report<'_, '_>,
+) -> Result<Value, AllocError>
+    ensures { IfOk result (λ v. IsObject kind.now file.now line report.now (view v)) }
+{
+    let refusal = refusal_of(alloc, report)?;
+    let job = job_of(alloc, shared, report)?;
+    let warnings = warnings_of(alloc, report)?;
+    json!(in alloc; {
+        "version": VERSION,
+        "kind": kind,
+        "file": file,
+        "line": line,
+        "job": job,
+        "refusal": refusal,
+        "warnings": warnings
+    })
+}
+
+// Why a line is refused, and where; null where it isn't.
+fn refusal_of(alloc: Global, report: &Report<'_, '_>) -> Result<Value, AllocError>
+    ensures { IfOk result (λ v. IsRefusalData report.now (view v)) }
+{
+    match report {
+        Report::Refused { start, end, why } => refusal_object(alloc, *start, *end, why),
+        Report::Silent | Report::Setting { .. } | Report::Job(_) => Ok(Value::Null),
+    }
+}
+
+fn refusal_object(alloc: Global, start: usize, end: usize, why: &Why) -> Result<Value, AllocError>
+    ensures { IfOk result (λ v. IsRefusalObject start end why.now (view v)) }
+{
+    let message = message_of(alloc, why)?;
+    let kind = kind_of_why(why);
+    json!(in alloc; {"start": start, "end": end, "kind": kind, "message": message})
+}
+
+fn message_of(alloc: Global, why: &Why) -> Result<String, AllocError> {
+    match why {
+        Why::Cron(fault) => String::from_str(alloc, reason_of(*fault)),
+        Why::Pattern(fault) => format!(in alloc; "{fault}"),
+        Why::Crate(refusal) => format!(in alloc; "{refusal}"),
+        Why::NotText => String::from_str(alloc, "a pattern is text in UTF-8"),
+    }
+}
+
+// What a job is told; null where the line is none.
+fn job_of(
+    alloc: Global,
+    shared: &Shared<'_>,
+    report: &Report<'_, '_>,
+) -> Result<Value, AllocError> {
+    match report {
+        Report::Job(job) => job_object(alloc, shared, job),
+        Report::Silent | Report::Setting { .. } | Report::Refused { .. } => Ok(Value::Null),
+    }
+}
+
+fn job_object(
+    alloc: Global,
+    shared: &Shared<'_>,
+    job: &JobReport<'_, '_>,
+) -> Result<Value, AllocError> {
+    let schedule = text_of(alloc, Some(job.schedule))?;
+    let user = text_of(alloc, job.user)?;
+    let command = text_of(alloc, job.command)?;
+    let times = times_of(alloc, shared, &job.times)?;
+    json!(in alloc; {"schedule": schedule, "user": user, "command": command, "times": times})
+}
+
+// Bytes as they are shown; null where there are none.
+fn text_of(alloc: Global, bytes: Option<&[u8]>) -> Result<Value, AllocError> {
+    match bytes {
+        Some(bytes) => Ok(Value::String(shown(alloc, bytes)?)),
+        None => Ok(Value::Null),
+    }
+}
+
+fn times_of(alloc: Global, shared: &Shared<'_>, times: &Told<'_>) -> Result<Value, AllocError> {
+    match times {
+        Told::Reboot => json!(in alloc; {"when": "reboot"}),
+        Told::Nothing => json!(in alloc; {"when": "nothing"}),
+        Told::Runs {
+            description,
+            runs,
+            is_past,
+        } => {
+            let items = runs_of(alloc, shared, runs)?;
+            let end = end_of(&runs.end, *is_past);
+            let description = description.as_str();
+            json!(in alloc; {"when": "named", "description": description, "runs": items, "end": end})
+        }
+    }
+}
+
+fn end_of(end: &End, is_past: bool) -> &'static str {
+    match end {
+        End::Over if is_past => "past",
+        End::Over => "over",
+        End::More => "more",
+        End::Cut => "cut",
+        End::Failed(_) => "failed",
+    }
+}
+
+fn runs_of(alloc: Global, shared: &Shared<'_>, runs: &Runs<'_>) -> Result<Value, AllocError> {
+    let mut items = Vec::new(alloc);
+    for run in runs.items.iter() {
+        items.push(run_object(alloc, shared, run)?)?;
+    }
+    Ok(Value::Array(items))
+}
+
+// A run: its second, and how many seconds the zone's clock is ahead of UTC then.
+fn run_object(
+    alloc: Global,
+    shared: &Shared<'_>,
+    run: &TableTime<'_>,
+) -> Result<Value, AllocError> {
+    let (second, offset) = (run.second(), ahead_of(shared, run));
+    json!(in alloc; {"second": second, "offset": offset})
+}
+
+// The warnings of a line.
+fn warnings_of(alloc: Global, report: &Report<'_, '_>) -> Result<Value, AllocError> {
+    match report {
+        Report::Job(job) => warning_list(alloc, job.warnings.as_slice()),
+        Report::Setting { is_zone } if *is_zone => warning_list(alloc, &[Warning::NoZone]),
+        Report::Silent | Report::Setting { .. } | Report::Refused { .. } => warning_list(
+            alloc,
+            &[],
+        ),
+    }
+}
+
+fn warning_list(alloc: Global, warnings: &[Warning]) -> Result<Value, AllocError> {
+    let mut items = Vec::new(alloc);
+    for warning in warnings {
+        items.push(warning_object(alloc, *warning)?)?;
+    }
+    Ok(Value::Array(items))
+}
+
+fn warning_object(alloc: Global, warning: Warning) -> Result<Value, AllocError> {
+    let (name, text) = (warning.name(), warning.text());
+    let field = match warning.field() {
+        Some(field) => Value::String(String::from_str(alloc, field_name(field))?),
+        None => Value::Null,
+    };
+    json!(in alloc; {"name": name, "field": field, "text": text})
+}

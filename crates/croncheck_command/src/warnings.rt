@@ -1,0 +1,254 @@
+//! Warnings: what is to be said of a line that is taken.
+ghost use Rattle.std.specs.Prelude.{◌≡◌, IfOk, IfErr, filter, length, ◌++◌, ◌&&◌, false, option_map};
+ghost use Rattle.croner.specs.Views.{job_of as meaning_of_job};
+ghost use Rattle.croncheck_command.specs.Warnings.{is_either_day, is_whole_hour, has_short_months, has_uneven_step, has_step_beyond, has_empty_items, looks_like_field, has_percent, has_carriage_return, are_many_lines, is_some_so, holds, all_warnings, fields_seen, subject_seen};
+ghost use Rattle.croncheck_command.specs.Warnings as Spec;
+
+mod command;
+mod fields;
+mod meaning;
+mod sides;
+mod texts;
+
+use croner::Cron;
+use croner::errors::CronError;
+use croner::parser::PatternField;
+pub use fields::{Fields, fields_of_pattern, fields_of_schedule};
+pub use sides::{Month, Sides, month_behind, sides_of};
+use std::alloc::Global;
+
+/// The most lines that cron takes.
+const MOST_LINES: u64 = 10_000;
+
+/// What is to be said of a line that is taken. Its [`name`](Warning::name) and [`text`](Warning::text) say it in words.
+#[derive(Clone, Copy, Debug, PartialEq, Eq, Drop)]
+pub enum Warning {
+    /// Neither day field is a star, and a day has to match one of them alone.
+    EitherDay,
+    /// Seconds, minutes or hours are `*/n`, and n doesn't divide 60, 60 or 24.
+    UnevenStep(PatternField),
+    /// A step of the field is past its last value.
+    StepBeyond(PatternField),
+    /// All minutes, and exactly one hour.
+    WholeHour,
+    /// Each named day lies above 28, and a named month of a named year lacks one.
+    ShortMonths,
+    /// All named years are past.
+    Gone,
+    /// No run is left before year 5000.
+    Never,
+    /// The command begins with a word of digits and signs of a field alone.
+    LooksLikeField,
+    /// The command has a percent sign that no backslash takes in.
+    Percent,
+    /// The last line has no line feed.
+    NoNewline,
+    /// The setting's variable is `CRON_TZ` or `TZ`.
+    NoZone,
+    /// The command ends with a carriage return.
+    CarriageReturn,
+    /// A list of a pattern has an empty item.
+    EmptyItem,
+    /// The file has more than 10,000 lines.
+    ManyLines,
+}
+
+/// The warnings of lines, in the order in which they are given.
+const ALL_WARNINGS: [Warning; 21] = [
+    Warning::EitherDay,
+    Warning::UnevenStep(PatternField::Seconds),
+    Warning::UnevenStep(PatternField::Minutes),
+    Warning::UnevenStep(PatternField::Hours),
+    Warning::StepBeyond(PatternField::Seconds),
+    Warning::StepBeyond(PatternField::Minutes),
+    Warning::StepBeyond(PatternField::Hours),
+    Warning::StepBeyond(PatternField::DayOfMonth),
+    Warning::StepBeyond(PatternField::Month),
+    Warning::StepBeyond(PatternField::Weekday),
+    Warning::StepBeyond(PatternField::Year),
+    Warning::WholeHour,
+    Warning::ShortMonths,
+    Warning::Gone,
+    Warning::Never,
+    Warning::LooksLikeField,
+    Warning::Percent,
+    Warning::NoNewline,
+    Warning::NoZone,
+    Warning::CarriageReturn,
+    Warning::EmptyItem,
+];
+
+/// What is looked at of a line that is taken.
+#[derive(Clone, Copy)]
+pub struct Subject<'s, 'j> {
+    /// The texts of its fields, where it has fields.
+    pub fields: Option<Fields<'s>>,
+    /// The job that the parser made of its times, where it made one.
+    pub job: Option<&'j Cron>,
+    /// Its command, where it is a job of a crontab.
+    pub command: Option<&'s [u8]>,
+    /// It stands in a crontab, and is no pattern alone.
+    pub is_crontab: bool,
+    /// It has its line feed.
+    pub is_fed: bool,
+    /// It sets `CRON_TZ` or `TZ`.
+    pub is_zone: bool,
+    /// Its times name no year from the start on.
+    pub is_past: bool,
+    /// Its times leave no run before year 5000.
+    pub is_never: bool,
+}
+
+/// The warnings of a line, in the order of the table in docs/CRONTAB.md: those that hold, and no other.
+///
+/// The only error is `OutOfMemory`.
+pub fn warnings_of(alloc: Global, subject: &Subject<'_, '_>) -> Result<Vec<Warning>, CronError>
+    ensures ok { IfOk result (λ found. found.items ≡ Spec.warnings_of (subject_seen subject.now)) }
+    ensures err { IfErr result (λ e. e ≡ CronError.OutOfMemory) }
+{
+    those_that_hold(alloc, subject, &ALL_WARNINGS)
+}
+
+// Of some warnings those that hold of a line.
+fn those_that_hold(
+    alloc: Global,
+    subject: &Subject<'_, '_>,
+    warnings: &[Warning],
+) -> Result<Vec<Warning>, CronError>
+    ensures ok { IfOk result (λ found. found.items ≡ filter (holds (subject_seen subject.now)) warnings.now) }
+    ensures err { IfErr result (λ e. e ≡ CronError.OutOfMemory) }
+{
+    let mut found = Vec::new(alloc);
+    for warning in warnings {
+        if holds(alloc, subject, *warning)? {
+            found.push(*warning)?;
+        }
+    }
+    Ok(found)
+}
+
+// Whether a warning holds of a line.
+fn holds(alloc: Global, subject: &Subject<'_, '_>, warning: Warning) -> Result<bool, CronError>
+    ensures ok { IfOk result (λ yes. yes ≡ holds (subject_seen subject.now) warning) }
+    ensures err { IfErr result (λ e. e ≡ CronError.OutOfMemory) }
+{
+    match warning {
+        Warning::EitherDay => Ok(is_either_day(subject.job)),
+        Warning::UnevenStep(field) => has_uneven_step(alloc, field, &subject.fields),
+        Warning::StepBeyond(field) => has_step_beyond(alloc, field, &subject.fields),
+        Warning::WholeHour => Ok(is_whole_hour(subject.job)),
+        Warning::ShortMonths => has_short_months(subject),
+        Warning::Gone => Ok(subject.is_past),
+        Warning::Never => Ok(!subject.is_past && subject.is_never),
+        Warning::LooksLikeField => Ok(looks_like_field(subject.command)),
+        Warning::Percent => Ok(has_percent(subject.command)),
+        Warning::NoNewline => Ok(subject.is_crontab && !subject.is_fed),
+        Warning::NoZone => Ok(subject.is_zone),
+        Warning::CarriageReturn => Ok(has_carriage_return(subject.command)),
+        Warning::EmptyItem => Ok(!subject.is_crontab && has_empty_items(&subject.fields)),
+        Warning::ManyLines => Ok(false),
+    }
+}
+
+fn is_either_day(job: Option<&Cron>) -> bool
+    ensures { result ≡ is_some_so is_either_day (option_map (λ j. meaning_of_job j.now) job.entry) }
+{
+    match job {
+        Some(job) => meaning::is_either_day(job),
+        None => false,
+    }
+}
+
+fn is_whole_hour(job: Option<&Cron>) -> bool
+    ensures { result ≡ is_some_so is_whole_hour (option_map (λ j. meaning_of_job j.now) job.entry) }
+{
+    match job {
+        Some(job) => meaning::is_whole_hour(job),
+        None => false,
+    }
+}
+
+// Whether a line that leaves a run has it only in months of enough days.
+fn has_short_months(subject: &Subject<'_, '_>) -> Result<bool, CronError>
+    ensures ok { IfOk result (λ yes. yes ≡ holds (subject_seen subject.now) Warning.ShortMonths) }
+    ensures err { IfErr result (λ e. e ≡ CronError.OutOfMemory) }
+{
+    if subject.is_past || subject.is_never {
+        return Ok(false);
+    }
+    match subject.job {
+        Some(job) => meaning::has_short_months(job),
+        None => Ok(false),
+    }
+}
+
+fn has_uneven_step(
+    alloc: Global,
+    field: PatternField,
+    fields: &Option<Fields<'_>>,
+) -> Result<bool, CronError>
+    ensures ok { IfOk result (λ yes. yes ≡ is_some_so (has_uneven_step field) (option_map fields_seen fields.now)) }
+    ensures err { IfErr result (λ e. e ≡ CronError.OutOfMemory) }
+{
+    match fields {
+        Some(fields) => fields.has_uneven_step(alloc, field),
+        None => Ok(false),
+    }
+}
+
+fn has_step_beyond(
+    alloc: Global,
+    field: PatternField,
+    fields: &Option<Fields<'_>>,
+) -> Result<bool, CronError>
+    ensures ok { IfOk result (λ yes. yes ≡ is_some_so (has_step_beyond field) (option_map fields_seen fields.now)) }
+    ensures err { IfErr result (λ e. e ≡ CronError.OutOfMemory) }
+{
+    match fields {
+        Some(fields) => fields.has_step_beyond(alloc, field),
+        None => Ok(false),
+    }
+}
+
+fn has_empty_items(fields: &Option<Fields<'_>>) -> bool
+    ensures { result ≡ is_some_so has_empty_items (option_map fields_seen fields.now) }
+{
+    match fields {
+        Some(fields) => fields.has_empty_items(),
+        None => false,
+    }
+}
+
+fn looks_like_field(command: Option<&[u8]>) -> bool
+    ensures { result ≡ is_some_so looks_like_field (option_map (λ c. c.now) command.entry) }
+{
+    match command {
+        Some(command) => command::looks_like_field(command),
+        None => false,
+    }
+}
+
+fn has_percent(command: Option<&[u8]>) -> bool
+    ensures { result ≡ is_some_so has_percent (option_map (λ c. c.now) command.entry) }
+{
+    match command {
+        Some(command) => command::has_percent(command),
+        None => false,
+    }
+}
+
+fn has_carriage_return(command: Option<&[u8]>) -> bool
+    ensures { result ≡ is_some_so has_carriage_return (option_map (λ c. c.now) command.entry) }
+{
+    match command {
+        Some(command) => command::has_carriage_return(command),
+        None => false,
+    }
+}
+
+/// Whether a crontab of so many lines has more than cron takes.
+pub fn are_many_lines(lines: u64) -> bool
+    ensures { result ≡ are_many_lines lines }
+{
+    MOST_LINES < lines
+}
