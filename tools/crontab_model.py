@@ -561,10 +561,10 @@ class Times:
         return not (len(self.days) == 31 and len(self.weekdays) == 7)
 
     def has_short_months(self):
-        """Each named day lies above 28, and a named month of a named year is over before one of them."""
+        """Each named day lies above 28, and a named month of a named year is over before one of them. February 29 alone is meant so."""
         if self.is_pattern and (self.job.days.has_last_day or self.job.days.has_last_weekday or self.job.days.near):
             return False
-        if not self.days or min(self.days) <= 28:
+        if not self.days or min(self.days) <= 28 or (self.days, self.months) == ({29}, {2}):
             return False
         ends = {model.month_at(year, month)[1] for year in self.years for month in self.months}
         return min(ends, default=31) < max(self.days)
@@ -596,12 +596,12 @@ def parts_of_word(word, place):
 
 
 def warnings_of_steps(written):
-    """A star's step that leaves a last piece of another length; a step that never takes a second value."""
+    """A star's step that takes a second value and leaves a last piece of another length; a step that takes none."""
     uneven, beyond = [], []
     for name, word in written.items():
         parts, most = parts_of_word(word, name)
         turn = {"seconds": 60, "minutes": 60, "hours": 24}.get(name)
-        if turn and len(parts) == 1 and parts[0].is_star and turn % parts[0].step:
+        if turn and len(parts) == 1 and parts[0].is_star and parts[0].step < turn and turn % parts[0].step:
             uneven.append(f"uneven-step {name}")
         if any(part.step > most for part in parts):
             beyond.append(f"step-beyond {name}")
@@ -708,8 +708,9 @@ def has_open_percent(command):
     return False
 
 
-def warnings_of_command(command):
-    word = re.split(rb"[ \t]", command)[0]
+def warnings_of_command(user, command):
+    """A sixth field is taken for the user where the crontab is the system's, and else for the front of the command."""
+    word = re.split(rb"[ \t]", command)[0] if user is None else user
     found = ["looks-like-field"] if re.fullmatch(rb"[0-9*,/-]+", word) else []
     found += ["percent"] if has_open_percent(command) else []
     return found + (["carriage-return"] if command.endswith(b"\r") else [])
@@ -734,7 +735,7 @@ def warnings_of_line(text, is_fed, is_system, zone, start):
     if kind == "setting" and variable_of(text) in (b"CRON_TZ", b"TZ"):
         found.append("no-zone")
     if kind == "job":
-        found += warnings_of_command(job.command)
+        found += warnings_of_command(job.user, job.command)
         if job.fields is not None:
             words = [] if job.schedule.startswith(b"@") else re.split(rb"[ \t]+", job.schedule)
             found += warnings_of_times(Times(job, dict(zip(FIELD_NAMES[1:], words)), False), zone, start)

@@ -1,5 +1,5 @@
 -- Worked rows of warnings, computed from their definitions: each with the nearest line that has none.
-use Rattle.std.proofs.Common.{◌≡◌, ℕ, Bool, List, [], ◌∷◌, ◌++◌, true, false, refl}
+use Rattle.std.proofs.Common.{◌≡◌, ℕ, Bool, List, [], ◌∷◌, ◌++◌, Option, Some, None, true, false, refl}
 use Rattle.std.specs.Prelude.{codes}
 use Rattle.std.specs.Fmt.{digits}
 use Rattle.std.specs.Str.{trim_start, trim_end, chars}
@@ -7,9 +7,10 @@ use Rattle.croner.specs.declared.parser.fault.PatternField.{PatternField}
 use Rattle.croner.specs.declared.parser.fault.PatternField.TheVariants as fields
 use Rattle.croner.specs.parser.Grammar.{Texts, meaning}
 use Rattle.croner_pattern.specs.Meaning.{Meaning}
+use Rattle.croncheck_command.specs.declared.warnings.Warning.TheVariants as warnings
 use Rattle.croncheck_command.specs.Line.{words_of}
 use Rattle.croncheck_command.specs.Parsed.{crontab_settings}
-use Rattle.croncheck_command.specs.Warnings.{texts_of_five, has_uneven_step, has_step_beyond, has_empty_item, is_either_day, is_whole_hour, are_late, looks_like_field, has_percent, has_carriage_return, are_many_lines}
+use Rattle.croncheck_command.specs.Warnings.{Subject, holds, texts_of_five, has_uneven_step, has_step_beyond, has_empty_item, is_either_day, is_whole_hour, are_late, is_leap_day, looks_like_field, has_percent, has_carriage_return, are_many_lines}
 
 abbrev texts : List ℕ → Texts
 texts schedule = texts_of_five (words_of schedule)
@@ -34,6 +35,14 @@ uneven_hours = refl
 even_hours : uneven fields.Hours (codes "0 */6 * * *") ≡ false
 unfolding digits
 even_hours = refl
+
+a_step_past_the_last_minute_is_none : uneven fields.Minutes (codes "*/90 * * * *") ≡ false
+unfolding digits
+a_step_past_the_last_minute_is_none = refl
+
+up_to_the_last_value : uneven fields.Minutes (codes "*/59 * * * *") ≡ true
+unfolding digits
+up_to_the_last_value = refl
 
 two_parts_are_none : uneven fields.Minutes (codes "*/45,50 * * * *") ≡ false
 unfolding digits
@@ -131,6 +140,15 @@ the_29th_of_a_year = refl
 the_29th_of_a_leap_year : are_late (29 ∷ []) (2024 ∷ []) (2 ∷ []) ≡ false
 the_29th_of_a_leap_year = refl
 
+february_29_alone : is_leap_day (29 ∷ []) (2 ∷ []) ≡ true
+february_29_alone = refl
+
+two_days_of_february : is_leap_day (29 ∷ 30 ∷ []) (2 ∷ []) ≡ false
+two_days_of_february = refl
+
+the_29th_of_two_months : is_leap_day (29 ∷ []) (2 ∷ 3 ∷ []) ≡ false
+the_29th_of_two_months = refl
+
 -- ---- the command
 
 six_fields : looks_like_field (codes "*/2 x") ≡ true
@@ -138,6 +156,29 @@ six_fields = refl
 
 a_name_of_digits_and_letters : looks_like_field (codes "7z x") ≡ false
 a_name_of_digits_and_letters = refl
+
+-- what is looked at of a job with this user and this command
+abbrev job_by : Option (List ℕ) → List ℕ → Subject
+job_by user command = record {
+  fields = None;
+  meaning = None;
+  user = user;
+  command = Some command;
+  is_crontab = true;
+  is_fed = true;
+  is_zone = false;
+  is_past = false;
+  is_never = false;
+}
+
+a_field_for_a_user : holds (job_by (Some (codes "*")) (codes "root x")) warnings.LooksLikeField ≡ true
+a_field_for_a_user = refl
+
+a_field_behind_a_user : holds (job_by (Some (codes "root")) (codes "5 x")) warnings.LooksLikeField ≡ false
+a_field_behind_a_user = refl
+
+a_field_for_a_command : holds (job_by None (codes "5 x")) warnings.LooksLikeField ≡ true
+a_field_for_a_command = refl
 
 no_command : looks_like_field [] ≡ false
 no_command = refl

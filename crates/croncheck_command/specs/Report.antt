@@ -113,10 +113,11 @@ meaning_of_timing never = None
 meaning_of_timing (named text both) = meaning_read (outcome (crontab_settings both) text)
 
 -- what is looked at of a job or a pattern that was told so
-abbrev pub subject_of : Option Texts → Option Meaning → Option (List ℕ) → Bool → Bool → Told → Subject
-subject_of fields meaning command is_crontab is_fed told = record {
+abbrev pub subject_of : Option Texts → Option Meaning → Option (List ℕ) → Option (List ℕ) → Bool → Bool → Told → Subject
+subject_of fields meaning user command is_crontab is_fed told = record {
   fields = fields;
   meaning = meaning;
+  user = user;
   command = command;
   is_crontab = is_crontab;
   is_fed = is_fed;
@@ -126,17 +127,18 @@ subject_of fields meaning command is_crontab is_fed told = record {
 }
 
 -- the warnings of a job of a crontab, with these texts and this meaning, that was told so
-pub record IsWarned (is_fed : Bool) (schedule command : List ℕ) (meaning : Option Meaning) (told : Told) (found : List Warning) : Type 0 where
-  pub are : found ≡ warnings_of (subject_of (fields_of_schedule schedule) meaning (Some command) true is_fed told)
+pub record IsWarned (is_fed : Bool) (schedule : List ℕ) (user : Option (List ℕ)) (command : List ℕ) (meaning : Option Meaning) (told : Told)
+    (found : List Warning) : Type 0 where
+  pub are : found ≡ warnings_of (subject_of (fields_of_schedule schedule) meaning user (Some command) true is_fed told)
 
 abbrev pub WarnsJob : Bool → Task → Told → List Warning → Type 0
-WarnsJob is_fed task told found = IsWarned is_fed task.schedule task.command (meaning_of_timing task.times) told found
+WarnsJob is_fed task told found = IsWarned is_fed task.schedule task.user task.command (meaning_of_timing task.times) told found
 
 -- the warnings of a pattern of this meaning that was told so
 pub record WarnsPattern (is_fed : Bool) (text : List ℕ) (meaning : Option Meaning) (told : Told) (found : List Warning) : Type 0 where
   pub fields : Option Texts
   pub fields_are : AreFieldsOfPattern text fields
-  pub are : found ≡ warnings_of (subject_of fields meaning None false is_fed told)
+  pub are : found ≡ warnings_of (subject_of fields meaning None None false is_fed told)
 
 -- ---- the report of a job
 

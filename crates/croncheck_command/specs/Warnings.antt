@@ -2,6 +2,7 @@
 use Rattle.std.specs.Prelude.{◌≡◌, ℕ, ◌%◌, Bool, true, false, not, ◌&&◌, ◌||◌, ◌==◌, nat_lt, pos, List, [], ◌∷◌, length, fold, filter, codes, Option, Some, None, option_map, unwrap_or, if◌then◌else◌}
 use Rattle.std.specs.Io.BufRead.{ends_with_byte}
 use Rattle.std.specs.List.{list_any, list_all, slice_split}
+use Rattle.std.specs.Option.{option_or}
 use Rattle.jiff_core.specs.Calendar.{days_in_month}
 use Rattle.croner_base.specs.Field.{has_modifiers, marked_values}
 use Rattle.croner_pattern.specs.Meaning.{Meaning}
@@ -70,13 +71,13 @@ turn_of fields.Minutes = 60
 turn_of fields.Hours = 24
 turn_of other = 0
 
--- one part, which is a star with a step that doesn't divide this number
+-- one part, which is a star with a step below this number that doesn't divide it
 abbrev pub is_uneven : ℕ → List Part → Bool
 is_uneven turn [] = false
-is_uneven turn (part ∷ []) = part.is_star && (nat_lt 0 part.step && not (turn % part.step == 0))
+is_uneven turn (part ∷ []) = part.is_star && (nat_lt 0 part.step && (nat_lt part.step turn && not (turn % part.step == 0)))
 is_uneven turn (part ∷ other ∷ more) = false
 
--- `uneven-step`: seconds, minutes or hours are one part `*/n`, and n doesn't divide 60, 60 or 24. A step past the last value is one of these
+-- `uneven-step`: seconds, minutes or hours are one part `*/n`, and n is below 60, 60 or 24 and doesn't divide it
 abbrev pub has_uneven_step : PatternField → Texts → Bool
 has_uneven_step field t = is_uneven (turn_of field) (parts_in field t)
 
@@ -124,10 +125,22 @@ is_wanting years months day = list_any (λ year. list_any (is_without day year) 
 abbrev pub are_late : List ℕ → List ℕ → List ℕ → Bool
 are_late days years months = list_all (nat_lt 28) days && list_any (is_wanting years months) days
 
--- `short-months`, where it runs at all: each named day lies above 28, and a named month of a named year lacks one. A field of days with a
--- modifier (`L`, `15W`) is none of these
+-- the value, and no other
+abbrev pub is_only : ℕ → List ℕ → Bool
+is_only value [] = false
+is_only value (named ∷ []) = named == value
+is_only value (named ∷ other ∷ more) = false
+
+-- February 29, and no other date
+abbrev pub is_leap_day : List ℕ → List ℕ → Bool
+is_leap_day days months = is_only 29 days && is_only 2 months
+
+-- `short-months`, where it runs at all: each named day lies above 28, a named month of a named year lacks one, and not February 29 alone is
+-- named. A field of days with a modifier (`L`, `15W`) is none of these
 abbrev pub has_short_months : Meaning → Bool
-has_short_months m = not (has_modifiers m.days) && are_late (marked_values 1 m.days) (marked_values 1 m.years) (marked_values 1 m.months)
+has_short_months m =
+    not (has_modifiers m.days) && (are_late (marked_values 1 m.days) (marked_values 1 m.years) (marked_values 1 m.months)
+    && not (is_leap_day (marked_values 1 m.days) (marked_values 1 m.months)))
 
 -- the same times, where one of the day fields is taken for a star, so that the other decides alone
 abbrev pub with_star_day : Bool → Meaning → Meaning
@@ -145,9 +158,9 @@ by_weekday_alone m = with_star_day true m
 abbrev pub is_field_sign : ℕ → Bool
 is_field_sign b = is_digit b || (b == 42 || (b == 44 || (b == 45 || b == 47)))
 
--- `looks-like-field`: the command begins with a word of such signs alone
+-- the text begins with a word of such signs alone
 abbrev pub looks_like_field : List ℕ → Bool
-looks_like_field command = nat_lt 0 (length (front kinds.Word command)) && list_all is_field_sign (front kinds.Word command)
+looks_like_field text = nat_lt 0 (length (front kinds.Word text)) && list_all is_field_sign (front kinds.Word text)
 
 -- what was met of a command, byte by byte: a percent sign counts that stands behind no backslash, and a backslash takes in the byte behind it
 abbrev pub met_next : Met → ℕ → Met
@@ -181,11 +194,12 @@ are_many_lines lines = nat_lt most_lines lines
 -- ---- the line
 
 -- what is looked at of a line that is taken: the texts of its fields, where it has them; its meaning, where it has one (`@reboot` has none, nor
--- has a job of which a field names nothing); its command, where it is a job of a crontab; whether it is a line of a crontab, has its line
+-- has a job of which a field names nothing); its user, where it is a job of a crontab of the system; its command, where it is a job of a crontab; whether it is a line of a crontab, has its line
 -- feed, and sets `CRON_TZ` or `TZ`; and of a job or a pattern whether its years are past and whether it has no run left before year 5000
 pub record Subject : Type 0 where
   pub fields : Option Texts
   pub meaning : Option Meaning
+  pub user : Option (List ℕ)
   pub command : Option (List ℕ)
   pub is_crontab : Bool
   pub is_fed : Bool
@@ -198,13 +212,17 @@ abbrev pub is_some_so : {X : Type 0} → (X → Bool) → Option X → Bool
 is_some_so test None = false
 is_some_so test (Some x) = test x
 
+-- what stands behind a job's times: the user's name where the file names users, else the command
+abbrev pub behind_times : Subject → Option (List ℕ)
+behind_times s = option_or s.user s.command
+
 -- the field of which a warning is
 abbrev pub field_of : Warning → Option PatternField
 field_of (warnings.UnevenStep field) = Some field
 field_of (warnings.StepBeyond field) = Some field
 field_of other = None
 
--- the warning stands at the line
+-- the warning stands at the line. `looks-like-field`: what stands behind the times begins with a word of a field's signs
 abbrev pub holds : Subject → Warning → Bool
 holds s warnings.EitherDay = is_some_so is_either_day s.meaning
 holds s (warnings.UnevenStep field) = is_some_so (has_uneven_step field) s.fields
@@ -213,7 +231,7 @@ holds s warnings.WholeHour = is_some_so is_whole_hour s.meaning
 holds s warnings.ShortMonths = not (s.is_past || s.is_never) && is_some_so has_short_months s.meaning
 holds s warnings.Gone = s.is_past
 holds s warnings.Never = not s.is_past && s.is_never
-holds s warnings.LooksLikeField = is_some_so looks_like_field s.command
+holds s warnings.LooksLikeField = is_some_so looks_like_field (behind_times s)
 holds s warnings.Percent = is_some_so has_percent s.command
 holds s warnings.NoNewline = s.is_crontab && not s.is_fed
 holds s warnings.NoZone = s.is_zone
@@ -252,6 +270,7 @@ abbrev pub subject_seen : GivenSubject → Subject
 subject_seen s = record {
   fields = option_map fields_seen s.fields;
   meaning = option_map (λ job. job_of job.now) s.job;
+  user = option_map (λ user. user.now) s.user;
   command = option_map (λ command. command.now) s.command;
   is_crontab = s.is_crontab;
   is_fed = s.is_fed;

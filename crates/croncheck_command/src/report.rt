@@ -274,7 +274,7 @@ fn told_of_job<'t>(
 ) -> Result<Warned<'t>, CronError>
     ensures told { IfOk result (λ w. TellsMeaning settings.now (Ok (meaning_of_job cron.now)) w.times) }
     ensures warnings { IfOk result (λ w.
-        IsWarned is_fed job.now.schedule.now job.now.command.now (Some (meaning_of_job cron.now)) w.times w.warnings.items) }
+        IsWarned is_fed job.now.schedule.now (option_map (λ u. u.now) job.now.user) job.now.command.now (Some (meaning_of_job cron.now)) w.times w.warnings.items) }
     ensures err { IfErr result (λ e. e ≡ CronError.OutOfMemory) }
 {
     let told = told_of(alloc, settings, cron)?;
@@ -291,7 +291,7 @@ fn with_warnings<'t>(
     is_fed: bool,
 ) -> Result<Warned<'t>, CronError>
     ensures times { IfOk result (λ w. w.times ≡ times.entry) }
-    ensures warnings { IfOk result (λ w. IsWarned is_fed job.now.schedule.now job.now.command.now
+    ensures warnings { IfOk result (λ w. IsWarned is_fed job.now.schedule.now (option_map (λ u. u.now) job.now.user) job.now.command.now
         (option_map (λ j. meaning_of_job j.now) cron.entry) w.times w.warnings.items) }
     ensures err { IfErr result (λ e. e ≡ CronError.OutOfMemory) }
 {
@@ -299,7 +299,7 @@ fn with_warnings<'t>(
     let command = Some(job.command);
     let warnings = warnings_of(
         alloc,
-        &subject_of(fields, cron, command, true, is_fed, &times),
+        &subject_of(fields, cron, job.user, command, true, is_fed, &times),
     )?;
     Ok(Warned { times, warnings })
 }
@@ -308,17 +308,19 @@ fn with_warnings<'t>(
 fn subject_of<'s, 'j>(
     fields: Option<Fields<'s>>,
     job: Option<&'j Cron>,
+    user: Option<&'s [u8]>,
     command: Option<&'s [u8]>,
     is_crontab: bool,
     is_fed: bool,
     told: &Told<'_>,
 ) -> Subject<'s, 'j>
     ensures { subject_seen result ≡ subject_of (option_map fields_seen fields.entry) (option_map (λ j. meaning_of_job j.now) job.entry)
-        (option_map (λ c. c.now) command.entry) is_crontab is_fed told.now }
+        (option_map (λ u. u.now) user.entry) (option_map (λ c. c.now) command.entry) is_crontab is_fed told.now }
 {
     Subject {
         fields,
         job,
+        user,
         command,
         is_crontab,
         is_fed,
@@ -428,7 +430,7 @@ fn warnings_of_pattern(
     let fields = fields_of_pattern(alloc, text)?;
     let warnings = warnings_of(
         alloc,
-        &subject_of(fields, Some(job), None, false, is_fed, told),
+        &subject_of(fields, Some(job), None, None, false, is_fed, told),
     )?;
     Ok(warnings)
 }

@@ -499,26 +499,22 @@ fn push_command(text: &mut String, command: &[u8]) -> Result<(), AllocError> {
     push_front(text, command, COMMAND_BYTES)
 }
 
+// What a job's times are told. That it never runs is said by its warning.
 fn push_told(text: &mut String, shared: &Shared<'_>, times: &Told<'_>) -> Result<(), AllocError> {
     match times {
         Told::Reboot => text.push_str("\n  Runs as the machine starts."),
-        Told::Nothing => text.push_str("\n  never runs: a field names nothing"),
+        Told::Nothing => Ok(()),
         Told::Runs {
             description,
             runs,
-            is_past,
+            ..
         } => {
             write!(text, "\n  {description}")?;
             for run in runs.items.iter() {
                 push_run(text, shared, run)?;
             }
-            if *is_past && times.is_never() {
-                return text.push_str("\n  is past: no year that it names is left");
-            }
             if times.is_never() {
-                return text.push_str(
-                    "\n  never runs: no run is left from the start on, up to year 5000",
-                );
+                return Ok(());
             }
             push_end(text, shared.listing, runs)
         }

@@ -1,7 +1,7 @@
 //! Warnings: what is to be said of a line that is taken.
 ghost use Rattle.std.specs.Prelude.{◌≡◌, IfOk, IfErr, filter, length, ◌++◌, ◌&&◌, false, option_map};
 ghost use Rattle.croner.specs.Views.{job_of as meaning_of_job};
-ghost use Rattle.croncheck_command.specs.Warnings.{is_either_day, is_whole_hour, has_short_months, has_uneven_step, has_step_beyond, has_empty_items, looks_like_field, has_percent, has_carriage_return, are_many_lines, is_some_so, holds, all_warnings, fields_seen, subject_seen};
+ghost use Rattle.croncheck_command.specs.Warnings.{is_either_day, is_whole_hour, has_short_months, has_uneven_step, has_step_beyond, has_empty_items, looks_like_field, has_percent, has_carriage_return, are_many_lines, is_some_so, behind_times, holds, all_warnings, fields_seen, subject_seen};
 ghost use Rattle.croncheck_command.specs.Warnings as Spec;
 
 mod command;
@@ -25,19 +25,19 @@ const MOST_LINES: u64 = 10_000;
 pub enum Warning {
     /// Neither day field is a star, and a day has to match one of them alone.
     EitherDay,
-    /// Seconds, minutes or hours are `*/n`, and n doesn't divide 60, 60 or 24.
+    /// Seconds, minutes or hours are `*/n`, and n is below 60, 60 or 24 and doesn't divide it.
     UnevenStep(PatternField),
     /// A step of the field is past its last value.
     StepBeyond(PatternField),
     /// All minutes, and exactly one hour.
     WholeHour,
-    /// Each named day lies above 28, and a named month of a named year lacks one.
+    /// Each named day lies above 28, a named month of a named year lacks one, and not February 29 alone is named.
     ShortMonths,
     /// All named years are past.
     Gone,
     /// No run is left before year 5000.
     Never,
-    /// The command begins with a word of digits and signs of a field alone.
+    /// What stands behind the times, a user's name or the command, begins with a word of digits and signs of a field alone.
     LooksLikeField,
     /// The command has a percent sign that no backslash takes in.
     Percent,
@@ -85,6 +85,8 @@ pub struct Subject<'s, 'j> {
     pub fields: Option<Fields<'s>>,
     /// The job that the parser made of its times, where it made one.
     pub job: Option<&'j Cron>,
+    /// The name of its user, where the file names users.
+    pub user: Option<&'s [u8]>,
     /// Its command, where it is a job of a crontab.
     pub command: Option<&'s [u8]>,
     /// It stands in a crontab, and is no pattern alone.
@@ -140,7 +142,7 @@ fn holds(alloc: Global, subject: &Subject<'_, '_>, warning: Warning) -> Result<b
         Warning::ShortMonths => has_short_months(subject),
         Warning::Gone => Ok(subject.is_past),
         Warning::Never => Ok(!subject.is_past && subject.is_never),
-        Warning::LooksLikeField => Ok(looks_like_field(subject.command)),
+        Warning::LooksLikeField => Ok(looks_like_field(behind_times(subject))),
         Warning::Percent => Ok(has_percent(subject.command)),
         Warning::NoNewline => Ok(subject.is_crontab && !subject.is_fed),
         Warning::NoZone => Ok(subject.is_zone),
@@ -219,11 +221,21 @@ fn has_empty_items(fields: &Option<Fields<'_>>) -> bool
     }
 }
 
-fn looks_like_field(command: Option<&[u8]>) -> bool
-    ensures { result ≡ is_some_so looks_like_field (option_map (λ c. c.now) command.entry) }
+// What stands behind a job's times: the user's name where the file names users, else the command.
+fn behind_times<'s>(subject: &Subject<'s, '_>) -> Option<&'s [u8]>
+    ensures { option_map (λ t. t.now) result ≡ behind_times (subject_seen subject.now) }
 {
-    match command {
-        Some(command) => command::looks_like_field(command),
+    match subject.user {
+        Some(user) => Some(user),
+        None => subject.command,
+    }
+}
+
+fn looks_like_field(text: Option<&[u8]>) -> bool
+    ensures { result ≡ is_some_so looks_like_field (option_map (λ t. t.now) text.entry) }
+{
+    match text {
+        Some(text) => command::looks_like_field(text),
         None => false,
     }
 }

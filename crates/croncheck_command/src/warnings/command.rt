@@ -18,11 +18,11 @@ fn all_field_signs(word: &[u8]) -> bool
     word.iter().all(|byte| is_field_sign(*byte))
 }
 
-/// Whether a command begins with a word of digits and signs of a field alone.
-pub fn looks_like_field(command: &[u8]) -> bool
-    ensures { result ≡ looks_like_field command.now }
+/// Whether a text begins with a word of digits and signs of a field alone.
+pub fn looks_like_field(text: &[u8]) -> bool
+    ensures { result ≡ looks_like_field text.now }
 {
-    let (word, _) = word(command);
+    let (word, _) = word(text);
     !word.is_empty() && all_field_signs(word)
 }
 

@@ -143,12 +143,12 @@ fn turn_of(field: PatternField) -> u64
     }
 }
 
-// One part, which is a star with a step that doesn't divide a number.
+// One part, which is a star with a step below a number that doesn't divide it.
 fn is_uneven(turn: u64, parts: &[Part]) -> bool
     ensures { result ≡ is_uneven turn parts.now }
 {
     match parts {
-        [part] => part.is_star && 0 < part.step && turn % part.step != 0,
+        [part] => part.is_star && 0 < part.step && part.step < turn && turn % part.step != 0,
         _ => false,
     }
 }
@@ -196,7 +196,7 @@ impl<'l> Fields<'l> {
         }
     }
 
-    /// Whether seconds, minutes or hours are `*/n`, and n doesn't divide 60, 60 or 24. The only error is `OutOfMemory`.
+    /// Whether seconds, minutes or hours are `*/n`, and n is below 60, 60 or 24 and doesn't divide it. The only error is `OutOfMemory`.
     pub fn has_uneven_step(&self, alloc: Global, field: PatternField) -> Result<bool, CronError>
         ensures ok { IfOk result (λ yes. yes ≡ has_uneven_step field (fields_seen self.now)) }
         ensures err { IfErr result (λ e. e ≡ CronError.OutOfMemory) }

@@ -5,7 +5,7 @@ ghost use Rattle.jiff_core.specs.Calendar.{days_in_month};
 ghost use Rattle.croner_pattern.specs.Meaning.{meaning_of};
 ghost use Rattle.croner_pattern.specs.Schedule.{is_plain};
 ghost use Rattle.croner.specs.Views.{job_of as meaning_of_job};
-ghost use Rattle.croncheck_command.specs.Warnings.{names_each_day, names_each_weekday, is_either_day, is_whole_hour, is_without, is_wanting, are_late, has_short_months};
+ghost use Rattle.croncheck_command.specs.Warnings.{names_each_day, names_each_weekday, is_either_day, is_whole_hour, is_without, is_wanting, are_late, is_only, is_leap_day, has_short_months};
 
 use croner::component::{ALL_BIT, CronComponent};
 use croner::errors::CronError;
@@ -19,6 +19,11 @@ const MOST_DAYS: usize = 31;
 const LEAST_DAYS: u16 = 28;
 
 const MINUTES: usize = 60;
+
+const FEBRUARY: u16 = 2;
+
+/// The day of February that leap years alone have.
+const LEAP_DAY: u16 = 29;
 
 fn is_plain(field: &CronComponent, value: u16) -> bool
     ensures { result ≡ is_plain field.now value }
@@ -121,7 +126,25 @@ fn are_late(days: &[u16], years: &[u16], months: &[u16]) -> bool
     all_late(days) && some_wanting(days, years, months)
 }
 
-/// Whether each named day lies above 28, and a named month of a named year lacks one. The only error is `OutOfMemory`.
+fn is_only(value: u16, values: &[u16]) -> bool
+    ensures { result ≡ is_only value values.now }
+{
+    match values {
+        [named] => *named == value,
+        _ => false,
+    }
+}
+
+// Whether February 29 alone is named.
+fn is_leap_day(days: &[u16], months: &[u16]) -> bool
+    ensures { result ≡ is_leap_day days.now months.now }
+{
+    is_only(LEAP_DAY, days) && is_only(FEBRUARY, months)
+}
+
+/// Whether each named day lies above 28, a named month of a named year lacks one, and not February 29 alone is named.
+///
+/// The only error is `OutOfMemory`.
 pub fn has_short_months(job: &Cron) -> Result<bool, CronError>
     ensures ok { IfOk result (λ yes. yes ≡ has_short_months (meaning_of_job job.now)) }
     ensures err { IfErr result (λ e. e ≡ CronError.OutOfMemory) }
@@ -135,5 +158,8 @@ pub fn has_short_months(job: &Cron) -> Result<bool, CronError>
     }
     let years = job.pattern.years.values()?;
     let months = job.pattern.months.values()?;
-    Ok(are_late(days.as_slice(), years.as_slice(), months.as_slice()))
+    Ok(
+        are_late(days.as_slice(), years.as_slice(), months.as_slice())
+            && !is_leap_day(days.as_slice(), months.as_slice()),
+    )
 }

@@ -79,7 +79,7 @@ const NEVER: &str =
     "No run is left before year 5000. Look for a date that doesn't exist, or a range that runs down, as `10-5`.";
 
 const LOOKS_LIKE_FIELD: &str =
-    "A crontab has five fields, so a sixth begins the command. Take one field out: seconds and years have no place there.";
+    "A crontab has five fields, so a sixth is taken for the command or the user. Take one field out: seconds and years have no place there.";
 
 const PERCENT: &str =
     "Cron ends the command at a percent sign without a backslash, and gives it what follows as its input. Write `\\%` for a percent sign.";

@@ -1,4 +1,4 @@
-use Rattle.std.proofs.Common.{◌≡◌, ◌∙◌, ℕ, List, Option, Result, Ok, string_bytes, ap, sym, subst}
+use Rattle.std.proofs.Common.{◌≡◌, ◌∙◌, ℕ, List, Option, Result, Ok, option_map, string_bytes, ap, sym, subst}
 use Rattle.croner_pattern.specs.Meaning.{Meaning}
 use Rattle.croner.specs.parser.Grammar.{Refusal, outcome}
 use Rattle.croner.specs.Views.{job_of}
@@ -25,5 +25,5 @@ returns-in_ok-warned-in-Ok-clause-warned c =
     subst (λ (text : List ℕ). outcome settings text ≡ Ok (job_of c.in-Ok.cron)) c.as_str.ensures.value c.in-Ok.ensures in
     let is : meaning_of_timing (times_seen c.args.job.now.times) ≡ meaning_read (Ok (job_of c.in-Ok.cron)) =
     ap (λ (t : Times). meaning_of_timing (times_seen t)) c.in-Named.is ∙ ap meaning_read read in
-    subst (λ (m : Option Meaning). IsWarned c.args.is_fed c.args.job.now.schedule.now c.args.job.now.command.now m
+    subst (λ (m : Option Meaning). IsWarned c.args.is_fed c.args.job.now.schedule.now (option_map (λ u. u.now) c.args.job.now.user) c.args.job.now.command.now m
     c.in_ok-warned-in-Ok.warned.times c.in_ok-warned-in-Ok.warned.warnings.items) (sym is) c.in_ok-warned-in-Ok.ensures.warnings

@@ -8,6 +8,6 @@ use Rattle.croncheck_command.proofs.report.with_warnings.Goals as goal
 pub returns-clause-warnings : goal.returns-clause-warnings
 returns-clause-warnings c = record {
   are = c.in_ok-warnings.ensures.ok ∙ ap warnings_of (c.subject_of.ensures
-      ∙ ap (λ (fields : Option Texts). subject_of fields (option_map (λ j. job_of j.now) c.args.cron) (Some c.args.job.now.command.now) true
+      ∙ ap (λ (fields : Option Texts). subject_of fields (option_map (λ j. job_of j.now) c.args.cron) (option_map (λ u. u.now) c.args.job.now.user) (Some c.args.job.now.command.now) true
       c.args.is_fed c.args.times) c.fields_of_schedule-fields.ensures);
 }
