@@ -784,6 +784,15 @@ def warnings_of_row(row):
     return [said for found in lines for said in found] + file
 
 
+def counts_of_row(row, others):
+    """How many lines of a row are refused, and how many are warned of, but for some warnings. A file's own stands at the first line too many."""
+    data, is_system, is_pattern = row["text"].encode("latin-1") * row.get("times", 1), row.get("system", False), row.get("patterns", False)
+    lines, file = warnings_of_file(data, is_system, is_pattern, row["zone"], row["from"])
+    warned = {at for at, found in enumerate(lines) if any(said.split(" ")[0] not in others for said in found)}
+    refused = sum(not is_pattern and line_of(text, is_system)[0] == "refused" for text, _ in lines_of(data))
+    return refused, len(warned | ({MOST_LINES} if file else set()))
+
+
 # ---- the program
 
 

@@ -104,6 +104,7 @@ fn check(rt: &HostRuntime, call: &Call<'_>, zone: TimeZone<'_>) -> Result<u8, Pr
         language: call.language,
         start,
         listing,
+        is_strict: call.is_strict,
     };
     let shared = Shared { zone, listing };
     check_in(rt, call, &settings, &shared).map_err(Problem::Unwritten)
@@ -151,11 +152,25 @@ fn check_in(
         ),
         Form::Plan => {
             let planner = Planner::new(rt.alloc(), settings, shared, out);
-            tell_files(rt.alloc(), &machine, names, planner, &mut rt.stderr())
+            tell_files(
+                rt.alloc(),
+                settings,
+                &machine,
+                names,
+                planner,
+                &mut rt.stderr(),
+            )
         }
         Form::Json => {
             let reporter = JsonReporter::new(rt.alloc(), settings, shared, out);
-            tell_files(rt.alloc(), &machine, names, reporter, &mut rt.stderr())
+            tell_files(
+                rt.alloc(),
+                settings,
+                &machine,
+                names,
+                reporter,
+                &mut rt.stderr(),
+            )
         }
     }
 }

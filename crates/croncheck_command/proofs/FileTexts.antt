@@ -5,8 +5,8 @@ use Rattle.std.proofs.Math.Seq.{take-suc}
 use Rattle.std.proofs.lemmas.List.{take_all}
 use Rattle.croncheck_command.specs.declared.report.Settings.{Settings}
 use Rattle.croncheck_command.specs.declared.report.Tally.{Tally}
-use Rattle.croncheck_command.specs.Files.{HaveTexts, AreChecked, IsStatus, none_counted}
-use Rattle.croncheck_command.specs.Report.{status_of}
+use Rattle.croncheck_command.specs.Files.{HaveTexts, AreChecked, IsStatus}
+use Rattle.croncheck_command.specs.Report.{none_counted, status_of}
 use Rattle.croncheck_command.specs.Reported.{IsChecked}
 use Rattle.croncheck_command.proofs.TakenLines.{in_turn_push}
 
@@ -73,7 +73,7 @@ so_far_all {X = X} name_of holds names k s old new now failed all before = λ te
     subst (λ (xs : List X). AreChecked s (texts name_of text_of xs) old new) (take_all k names all) (before text_of has ok).0
 
 -- the status by whether a file failed
-pub status_is : (s : Settings) (texts : List (List ℕ)) (tally : Tally) (status : ℕ) (failed : Bool) → status ≡ (if failed then 3 else status_of tally)
+pub status_is : (s : Settings) (texts : List (List ℕ)) (tally : Tally) (status : ℕ) (failed : Bool) → status ≡ (if failed then 3 else status_of s.is_strict tally)
     → (failed ≡ false → AreChecked s texts none_counted tally) → IsStatus s texts status
 status_is s texts tally status true is h = inl is
 status_is s texts tally status false is h = inr (tally, h refl, is)

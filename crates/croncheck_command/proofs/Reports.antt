@@ -5,6 +5,7 @@ use Rattle.croncheck_command.specs.declared.report.Settings.{Settings}
 use Rattle.croncheck_command.specs.declared.report.Tally.{Tally}
 use Rattle.croncheck_command.specs.Checked.{entry_of_line, TakesInTurn, TakesAll}
 use Rattle.croncheck_command.specs.Line.{Line}
+use Rattle.croncheck_command.specs.Report.{begun}
 use Rattle.croncheck_command.specs.Reported.{Tallies, IsChecked}
 
 -- an entry is told by settings that stay, and its report is added to a tally
@@ -22,17 +23,18 @@ tallies_in_turn tally_of settings_of s (y ∷ ys) old new e h =
     let rest = tallies_in_turn tally_of settings_of s ys between new (told.1 ∙ e) h.2 in
     ((tally_of between, subst P e told.0, rest.0), rest.1)
 
--- what was told of each line of a file, one after the other, by settings that stay
-pub checked : {S : Type 0} (new : S) (tally_of : S → Tally) (settings_of : S → Settings) (s : Settings) (remaining : Option (List ℕ)) (old : S)
-    (last : Tally) (end : Settings) → settings_of old ≡ s → last ≡ tally_of new → end ≡ settings_of new
+-- what was told of each line of a file, one after the other from its begin, by settings that stay
+pub checked : {S : Type 0} (new : S) (tally_of : S → Tally) (settings_of : S → Settings) (s : Settings) (remaining : Option (List ℕ)) (before : Tally)
+    (old : S) (last : Tally) (end : Settings) → settings_of old ≡ s → tally_of old ≡ begun before → last ≡ tally_of new → end ≡ settings_of new
     → TakesAll (Tells tally_of settings_of) s.dialect remaining old new
-    → IfSome remaining (λ text. IsChecked s text (tally_of old) last × (end ≡ s))
-checked new tally_of settings_of s None old last end e k m h = tt
-checked new tally_of settings_of s (Some text) old last end e k m h =
+    → IfSome remaining (λ text. IsChecked s text before last × (end ≡ s))
+checked new tally_of settings_of s None before old last end e b k m h = tt
+checked new tally_of settings_of s (Some text) before old last end e b k m h =
     let ys = map (entry_of_line s.dialect) h.0 in
     let P : Tally → Type 0 = λ t. TakesInTurn (Tallies s) (tally_of old) ys t in
+    let Q : Tally → Type 0 = λ t. TakesInTurn (Tallies s) t ys last in
     let all = tallies_in_turn tally_of settings_of s ys old new e h.2 in
-    ((h.0, h.1, subst P (sym k) all.0), m ∙ all.1)
+    ((h.0, h.1, subst Q b (subst P (sym k) all.0)), m ∙ all.1)
 
 -- what holds in any case
 pub always : {T E P : Type 0} (r : Result T E) → P → OnOk r P

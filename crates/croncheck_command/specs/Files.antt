@@ -4,7 +4,7 @@ use Rattle.std.specs.Fmt.{decimal}
 use Rattle.croncheck_command.specs.declared.report.Settings.{Settings}
 use Rattle.croncheck_command.specs.declared.report.Tally.{Tally}
 use Rattle.croncheck_command.specs.Checked.{TakesInTurn}
-use Rattle.croncheck_command.specs.Report.{status_of}
+use Rattle.croncheck_command.specs.Report.{none_counted, status_of}
 use Rattle.croncheck_command.specs.Reported.{IsChecked}
 
 -- each reader of the file of this name gives this text
@@ -24,18 +24,18 @@ asked (name ∷ names) = name ∷ names
 abbrev pub AreChecked : Settings → List (List ℕ) → Tally → Tally → Type 0
 AreChecked s texts old new = TakesInTurn (λ a text b. IsChecked s text a b) old texts new
 
--- nothing is counted yet
-abbrev pub none_counted : Tally
-none_counted = record { lines = 0; jobs = 0; refused = 0 }
-
 -- a file failed, or all were read: then the status is that of what is told of their lines
 abbrev pub IsStatus : Settings → List (List ℕ) → ℕ → Type 0
-IsStatus s texts status = (status ≡ 3) ⊎ ((tally : Tally) × AreChecked s texts none_counted tally × (status ≡ status_of tally))
+IsStatus s texts status = (status ≡ 3) ⊎ ((tally : Tally) × AreChecked s texts none_counted tally × (status ≡ status_of s.is_strict tally))
 
 -- the noun of so many jobs
 abbrev pub noun_of : ℕ → List ℕ
 noun_of jobs = if jobs == 1 then codes "job" else codes "jobs"
 
+-- what is said behind the number of refused lines: how many have a warning, where some have
+abbrev pub warned_text : ℕ → List ℕ
+warned_text warned = if warned == 0 then codes " refused\n" else codes " refused, " ++ (decimal warned ++ codes " with warnings\n")
+
 -- what is said at the end
 abbrev pub summary_of : Tally → List ℕ
-summary_of t = decimal t.jobs ++ (codes " " ++ (noun_of t.jobs ++ (codes ", " ++ (decimal t.refused ++ codes " refused\n"))))
+summary_of t = decimal t.jobs ++ (codes " " ++ (noun_of t.jobs ++ (codes ", " ++ (decimal t.refused ++ warned_text t.warned))))

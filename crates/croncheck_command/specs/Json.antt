@@ -17,7 +17,7 @@ use Rattle.croncheck_command.specs.Checked.{entry_of_line, TakesInTurn}
 use Rattle.croncheck_command.specs.Entries.{entry_seen}
 use Rattle.croncheck_command.specs.Line.{Line, blank, comment, setting, job, pattern, refused}
 use Rattle.croncheck_command.specs.Lines.{AreLines}
-use Rattle.croncheck_command.specs.Report.{IsReport, added, one_more}
+use Rattle.croncheck_command.specs.Report.{IsReportOfLine, added, one_more}
 
 -- ---- kinds
 
@@ -32,7 +32,7 @@ kind_of_line (refused fault) = codes "refused"
 -- the kind of a line with a report
 abbrev pub kind_of : List ℕ → Report → List ℕ
 kind_of kind reports.Silent = kind
-kind_of kind (reports.Setting is_zone) = kind
+kind_of kind (reports.Setting is_zone has_feed) = kind
 kind_of kind (reports.Job j) = kind
 kind_of kind (reports.Refused start end why) = codes "refused"
 
@@ -65,7 +65,7 @@ IsRefusalObject start end why d = (message : List ℕ) × (d ≡ object
 -- the refusal of a report, as data
 abbrev pub IsRefusalData : Report → Data → Type 0
 IsRefusalData reports.Silent d = d ≡ null
-IsRefusalData (reports.Setting is_zone) d = d ≡ null
+IsRefusalData (reports.Setting is_zone has_feed) d = d ≡ null
 IsRefusalData (reports.Job j) d = d ≡ null
 IsRefusalData (reports.Refused start end why) d = IsRefusalObject start end why d
 
@@ -94,16 +94,16 @@ pub record WritesObject (kind file : List ℕ) (line : ℕ) (report : Report) (o
   pub text_is : has_float value ≡ false → text ≡ compact_text value
   pub appends : Appends old new (text ++ 10 ∷ [])
 
--- what a line leaves: the object of its report was written, which is added to the tally
+-- what a line leaves: the object of its report was written, which is added to the tally with its warnings
 pub record Writes (s : Settings) (old : Noted) (y : Line × Bool) (new : Noted) : Type 0 where
   pub text : List ℕ
   pub entry : Entry
   pub report : Report
   pub seen : entry_seen entry ≡ y.0
-  pub reported : IsReport s text entry report
+  pub reported : IsReportOfLine y.1 s text entry report
   pub same : new.file ≡ old.file
   pub next : new.line ≡ one_more old.line
-  pub tallied : new.tally ≡ added old.tally report
+  pub tallied : new.tally ≡ added s.dialect old.tally report
   pub written : WritesObject (kind_of (kind_of_line y.0) report) new.file new.line report old.contents new.contents
 
 -- each line of a text has exactly one object, and they were written in order

@@ -32,7 +32,7 @@ use Rattle.croncheck_command.specs.Entries.{entry_seen}
 use Rattle.croncheck_command.specs.Line.{Timing, reboot, never, named, Line, job, pattern}
 use Rattle.croncheck_command.specs.Lines.{AreLines}
 use Rattle.croncheck_command.specs.Parsed.{crontab_settings}
-use Rattle.croncheck_command.specs.Report.{IsReport, added, one_more}
+use Rattle.croncheck_command.specs.Report.{IsReport, counted, one_more}
 use Rattle.croncheck_command.specs.Runs.{most_runs}
 
 -- ---- the moments
@@ -148,9 +148,9 @@ with_meaning m s = record s { patterns = s.patterns ++ m ∷ []; places = s.plac
 abbrev pub Adds : Meaning → Seen → Seen → Type 0
 Adds m old new = new ≡ with_meaning m old
 
--- a line without a place in the plan is told as in a report
+-- a line without a place in the plan is told as in a report; warnings are not counted
 abbrev pub Passes : Settings → Entry → Seen → Seen → Type 0
-Passes s entry old new = (text : List ℕ) × (report : Report) × IsReport s text entry report × (new ≡ record old { tally = added old.tally report })
+Passes s entry old new = (text : List ℕ) × (report : Report) × IsReport s text entry report × (new ≡ record old { tally = counted old.tally report })
 
 -- what a line with that meaning leaves
 abbrev pub PlansMeaning : Settings → Line → Option Meaning → Seen → Seen → Type 0

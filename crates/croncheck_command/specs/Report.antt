@@ -1,5 +1,5 @@
 -- What a line is told. Source: this crate's documentation of `Report`.
-use Rattle.std.specs.Prelude.{◌≡◌, ◌↔◌, ◌&&◌, ◌==◌, ◌≤ℤ◌, ℕ, ◌+◌, Bool, true, false, IsTrue, ℤ, List, length, Option, Some, None, option_map, Result, Ok, Err, string_bytes, IsUtf8, if◌then◌else◌}
+use Rattle.std.specs.Prelude.{◌≡◌, ◌↔◌, not, ◌&&◌, ◌||◌, ◌==◌, ◌≤ℤ◌, ℕ, ◌+◌, Bool, true, false, IsTrue, ℤ, List, length, Option, Some, None, option_map, Result, Ok, Err, string_bytes, IsUtf8, if◌then◌else◌}
 use Rattle.std.specs.declared.string.String.{String}
 use Rattle.std.specs.declared.alloc.Global.{Global}
 use Rattle.croner_base.specs.declared.errors.CronError.{CronError}
@@ -19,6 +19,8 @@ use Rattle.croner.specs.parser.Faults.{refusal_of, IsPlaced}
 use Rattle.croner.specs.parser.Gives.{Fails}
 use Rattle.croner.specs.parser.Grammar.{Refusal, outcome, Texts}
 use Rattle.croncheck_command.specs.declared.bytes.Kind.TheVariants as kinds
+use Rattle.croncheck_command.specs.declared.line.Dialect.{Dialect}
+use Rattle.croncheck_command.specs.declared.line.Dialect.TheVariants as dialects
 use Rattle.croncheck_command.specs.declared.line.Entry.{Entry}
 use Rattle.croncheck_command.specs.declared.line.Entry.TheVariants as entries
 use Rattle.croncheck_command.specs.declared.report.JobReport.{JobReport}
@@ -42,7 +44,7 @@ use Rattle.croncheck_command.specs.Field.{smaller}
 use Rattle.croncheck_command.specs.Line.{Timing, reboot, never, named, Task}
 use Rattle.croncheck_command.specs.Parsed.{crontab_settings}
 use Rattle.croncheck_command.specs.Runs.{IsListed}
-use Rattle.croncheck_command.specs.Warnings.{fields_of_schedule, AreFieldsOfPattern, Subject, warnings_of}
+use Rattle.croncheck_command.specs.Warnings.{fields_of_schedule, AreFieldsOfPattern, is_first_too_many, Subject, warnings_of}
 
 -- ---- a job
 
@@ -179,7 +181,7 @@ IsFaultBehind blanks fault start end = (start ≡ blanks + fault.start) × (end 
 -- the report of a job of a crontab, behind so many blanks; the place of a refusal is that of its times
 abbrev pub IsReportOfJob : Bool → Settings → ℕ → Task → Report → Type 0
 IsReportOfJob is_fed s blanks task reports.Silent = ⊥
-IsReportOfJob is_fed s blanks task (reports.Setting is_zone) = ⊥
+IsReportOfJob is_fed s blanks task (reports.Setting is_zone has_feed) = ⊥
 IsReportOfJob is_fed s blanks task (reports.Job j) =
     IsJobTold task.schedule task.user (Some task.command) (TellsTiming s task.times) (WarnsJob is_fed task) j
 IsReportOfJob is_fed s blanks task (reports.Refused start end why) = IsWholeBehind blanks task.schedule start end × IsJobRefused task why
@@ -198,7 +200,7 @@ IsPatternRefused s blanks text start end whys.NotText = ¬ (IsUtf8 text) × IsWh
 -- the report of a pattern behind so many blanks
 abbrev pub IsReportOfPattern : Bool → Settings → ℕ → List ℕ → Report → Type 0
 IsReportOfPattern is_fed s blanks text reports.Silent = ⊥
-IsReportOfPattern is_fed s blanks text (reports.Setting is_zone) = ⊥
+IsReportOfPattern is_fed s blanks text (reports.Setting is_zone has_feed) = ⊥
 IsReportOfPattern is_fed s blanks text (reports.Job j) =
     IsJobTold text None None (TellsMeaning s (outcome s.parser text)) (WarnsPattern is_fed text (meaning_read (outcome s.parser text))) j
 IsReportOfPattern is_fed s blanks text (reports.Refused start end why) = IsPatternRefused s blanks text start end why
@@ -213,7 +215,7 @@ blanks_of line = length (front kinds.Blank line)
 abbrev pub IsReportOfLine : Bool → Settings → List ℕ → Entry → Report → Type 0
 IsReportOfLine is_fed s line entries.Blank r = r ≡ reports.Silent
 IsReportOfLine is_fed s line entries.Comment r = r ≡ reports.Silent
-IsReportOfLine is_fed s line (entries.Setting is_zone) r = r ≡ reports.Setting is_zone
+IsReportOfLine is_fed s line (entries.Setting is_zone) r = r ≡ reports.Setting is_zone is_fed
 IsReportOfLine is_fed s line (entries.Job j) r = IsReportOfJob is_fed s (blanks_of line) (job_seen j) r
 IsReportOfLine is_fed s line (entries.Pattern text) r = IsReportOfPattern is_fed s (blanks_of line) text.now r
 IsReportOfLine is_fed s line (entries.Refused fault start end) r = r ≡ reports.Refused start end (whys.Cron fault)
@@ -221,6 +223,19 @@ IsReportOfLine is_fed s line (entries.Refused fault start end) r = r ≡ reports
 -- the same of a line that has it
 abbrev pub IsReport : Settings → List ℕ → Entry → Report → Type 0
 IsReport s line entry r = IsReportOfLine true s line entry r
+
+-- ---- lines with a warning
+
+-- a job or a pattern has a warning
+abbrev pub has_job_warnings : JobReport → Bool
+has_job_warnings j = not (length j.warnings.items == 0)
+
+-- a line has a warning. Those of a setting are said in other words: it sets a zone elsewhere, or has no line feed
+abbrev pub has_warnings : Report → Bool
+has_warnings reports.Silent = false
+has_warnings (reports.Setting is_zone has_feed) = is_zone || not has_feed
+has_warnings (reports.Job j) = has_job_warnings j
+has_warnings (reports.Refused start end why) = false
 
 -- ---- the tally
 
@@ -231,13 +246,46 @@ most_counted = 18_446_744_073_709_551_615
 abbrev pub one_more : ℕ → ℕ
 one_more n = smaller (n + 1) most_counted
 
--- with one more line
-abbrev pub added : Tally → Report → Tally
-added t reports.Silent = record t { lines = one_more t.lines }
-added t (reports.Setting is_zone) = record t { lines = one_more t.lines }
-added t (reports.Job j) = record t { lines = one_more t.lines; jobs = one_more t.jobs }
-added t (reports.Refused start end why) = record t { lines = one_more t.lines; refused = one_more t.refused }
+-- nothing is counted yet
+abbrev pub none_counted : Tally
+none_counted = record { lines = 0; jobs = 0; refused = 0; warned = 0; file_lines = 0 }
 
--- 1 where a line is refused, else 0
-abbrev pub status_of : Tally → ℕ
-status_of t = if t.refused == 0 then 0 else 1
+-- with one more line, of which no warning is counted
+abbrev pub counted : Tally → Report → Tally
+counted t reports.Silent = record t { lines = one_more t.lines }
+counted t (reports.Setting is_zone has_feed) = record t { lines = one_more t.lines }
+counted t (reports.Job j) = record t { lines = one_more t.lines; jobs = one_more t.jobs }
+counted t (reports.Refused start end why) = record t { lines = one_more t.lines; refused = one_more t.refused }
+
+-- where a file begins
+abbrev pub begun : Tally → Tally
+begun t = record t { file_lines = 0 }
+
+-- `many-lines`: the line behind so many of a crontab is the first that is too many
+abbrev pub is_too_many : Dialect → ℕ → Bool
+is_too_many dialects.User lines = is_first_too_many lines
+is_too_many dialects.System lines = is_first_too_many lines
+is_too_many dialects.Patterns lines = false
+
+-- the line behind so many of a file is warned of
+abbrev pub is_line_warned : Dialect → ℕ → Report → Bool
+is_line_warned dialect lines report = has_warnings report || is_too_many dialect lines
+
+-- one more, if it counts
+abbrev pub one_more_if : Bool → ℕ → ℕ
+one_more_if counts n = if counts then one_more n else n
+
+-- with one more line of the file and its warnings
+abbrev pub added : Dialect → Tally → Report → Tally
+added dialect t report = record (counted t report) {
+  warned = one_more_if (is_line_warned dialect t.file_lines report) t.warned;
+  file_lines = one_more t.file_lines;
+}
+
+-- a line is refused, or one has a warning where the call is strict
+abbrev pub has_findings : Bool → Tally → Bool
+has_findings is_strict t = not (t.refused == 0) || (is_strict && not (t.warned == 0))
+
+-- 1 where there is a finding, else 0
+abbrev pub status_of : Bool → Tally → ℕ
+status_of is_strict t = if has_findings is_strict t then 1 else 0

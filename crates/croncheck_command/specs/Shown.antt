@@ -40,7 +40,7 @@ is_printed b = nat_le 32 b && nat_le b 126
 -- there is something to tell of a line: it is a job, is refused, or sets a variable that says a zone elsewhere
 abbrev pub is_told : Report → Bool
 is_told reports.Silent = false
-is_told (reports.Setting is_zone) = is_zone
+is_told (reports.Setting is_zone has_feed) = is_zone
 is_told (reports.Job j) = true
 is_told (reports.Refused start end why) = true
 

@@ -191,6 +191,10 @@ most_lines = 10_000
 abbrev pub are_many_lines : ℕ → Bool
 are_many_lines lines = nat_lt most_lines lines
 
+-- the line behind so many is the first that is too many
+abbrev pub is_first_too_many : ℕ → Bool
+is_first_too_many lines = lines == most_lines
+
 -- ---- the line
 
 -- what is looked at of a line that is taken: the texts of its fields, where it has them; its meaning, where it has one (`@reboot` has none, nor

@@ -1,6 +1,6 @@
 //! The files of a call, one behind the other.
 ghost use Rattle.std.specs.Prelude.{◌≡◌, ℕ, true, false, List, map, string_bytes, IfOk, if◌then◌else◌};
-ghost use Rattle.croncheck_command.specs.Files.{HasText, HaveTexts, asked, AreChecked, IsStatus, noun_of, summary_of};
+ghost use Rattle.croncheck_command.specs.Files.{HasText, HaveTexts, asked, AreChecked, IsStatus, noun_of, summary_of, warned_text};
 ghost use Rattle.croncheck_command.specs.Reported.{IsChecked};
 
 use crate::escaped::shown;
@@ -29,10 +29,10 @@ pub trait Sources {
 }
 
 /// Checks the files of these names, in order, or standard input where there are none, and answers the status of the call: 3 where a file
-/// failed, else 1 where a line is refused, else 0.
+/// failed, else 1 where a line is refused, or where one has a warning and the settings are strict, else 0.
 ///
 /// A file fails that isn't opened or isn't read to its end. Its name and the reason are written to `notes`, and so is at the end how many
-/// jobs were read and how many lines are refused; an error of `notes` is passed over. The reports are written to `out`.
+/// jobs were read, how many lines are refused and how many have warnings; an error of `notes` is passed over. The reports are written to `out`.
 ///
 /// The error is that of `out`, or says that memory is lacking.
 pub fn check_files<F: Sources, W: Write + Drop, N: Write>(
@@ -73,7 +73,7 @@ fn check_named<F: Sources, W: Write + Drop, N: Write>(
     let tally = reporter.tally();
     let summary = summary_of(alloc, tally)?;
     let _ = notes.write_all(summary.as_bytes());
-    Ok(status_of(tally, is_failed))
+    Ok(status_of(tally, is_failed, settings.is_strict))
 }
 
 // Reports on the files of these names, and answers whether one failed. The error is that of the output.
@@ -192,6 +192,7 @@ impl<'s, 't, W: Write + Drop> Teller for Planner<'s, 't, W> {
 /// The same as [`check_files`] by what tells of lines in another form.
 pub fn tell_files<F: Sources, T: Teller + Drop, N: Write>(
     alloc: Global,
+    settings: &Settings<'_>,
     sources: &F,
     names: &[&str],
     mut teller: T,
@@ -206,7 +207,7 @@ pub fn tell_files<F: Sources, T: Teller + Drop, N: Write>(
     let tally = teller.counted();
     let summary = summary_of(alloc, tally)?;
     let _ = notes.write_all(summary.as_bytes());
-    Ok(status_of(tally, is_failed))
+    Ok(status_of(tally, is_failed, settings.is_strict))
 }
 
 // Takes the files of these names, and answers whether one failed. The error is that of the output.
@@ -248,13 +249,25 @@ fn note<N: Write>(
     Ok(())
 }
 
-// How many jobs were read, and how many lines are refused.
+// How many jobs were read, how many lines are refused, and how many have warnings, if some have.
 fn summary_of(alloc: Global, tally: Tally) -> Result<String, AllocError>
     ensures { IfOk result (λ text. string_bytes text ≡ summary_of tally) }
 {
     let (jobs, refused) = (tally.jobs, tally.refused);
     let noun = noun_of(jobs);
-    format!(in alloc; "{jobs} {noun}, {refused} refused\n")
+    let warned = warned_text(alloc, tally.warned)?;
+    let warned = warned.as_str();
+    format!(in alloc; "{jobs} {noun}, {refused}{warned}")
+}
+
+// What is said behind the number of refused lines.
+fn warned_text(alloc: Global, warned: u64) -> Result<String, AllocError>
+    ensures { IfOk result (λ text. string_bytes text ≡ warned_text warned) }
+{
+    if warned == 0 {
+        return String::from_str(alloc, " refused\n");
+    }
+    format!(in alloc; " refused, {warned} with warnings\n")
 }
 
 fn noun_of(jobs: u64) -> &'static str

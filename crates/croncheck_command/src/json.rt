@@ -3,12 +3,13 @@ ghost use Rattle.std.specs.Prelude.{◌≡◌, IfOk, IfSome, OnOk, string_bytes}
 ghost use Rattle.serde_json.specs.View.{view};
 ghost use Rattle.croncheck_command.specs.Entries.{entry_seen};
 ghost use Rattle.croncheck_command.specs.Json.{kind_of_line, kind_of, fault_kind, refusal_kind, IsRefusalObject, IsRefusalData, IsObject, WritesObject, IsWritten};
+ghost use Rattle.croncheck_command.specs.Report.{none_counted, begun};
 ghost use Rattle.croncheck_command.specs.Shown.{bytes_shown};
 
 use crate::check::{Entries, check};
 use crate::escaped::shown;
 use crate::line::{Entry, Fault};
-use crate::report::{JobReport, Report, Settings, Tally, Told, Why, report_of};
+use crate::report::{JobReport, Report, Settings, Tally, Told, Why, report_of_line};
 use crate::runs::{End, Runs};
 use crate::shown::{Shared, ahead_of, field_name, reason_of};
 use crate::warnings::Warning;
@@ -45,7 +46,7 @@ impl<'s, 't, W: Write + Drop> JsonReporter<'s, 't, W> {
         out: W,
     ) -> JsonReporter<'s, 't, W>
         ensures settings { result.settings.now ≡ settings.now }
-        ensures nothing { result.tally ≡ record { lines = 0; jobs = 0; refused = 0 } }
+        ensures nothing { result.tally ≡ none_counted }
         ensures out { result.out ≡ out }
     {
         JsonReporter {
@@ -53,11 +54,7 @@ impl<'s, 't, W: Write + Drop> JsonReporter<'s, 't, W> {
             settings,
             shared,
             out,
-            tally: Tally {
-                lines: 0,
-                jobs: 0,
-                refused: 0,
-            },
+            tally: Tally::new(),
             line: 0,
             name: String::new(alloc),
             is_refused: false,
@@ -83,11 +80,12 @@ impl<'s, 't, W: Write + Drop> JsonReporter<'s, 't, W> {
     /// The error is that of the reader or of what is written to, or says that memory is lacking.
     pub fn report<R: BufRead>(&mut self, name: &str, reader: &mut R) -> io::Result<()>
         ensures { OnOk result (IfSome (R.remaining reader.old) (λ text. IsWritten self.old.settings.now text
-            (record { contents = W.contents self.old.out; tally = self.old.tally; file = bytes_shown name.now; line = 0 })
+            (record { contents = W.contents self.old.out; tally = begun self.old.tally; file = bytes_shown name.now; line = 0 })
             (record { contents = W.contents self.new.out; tally = self.new.tally; file = string_bytes self.new.name; line = self.new.line }))) }
     {
         self.name = shown(self.alloc, name.as_bytes())?;
         self.line = 0;
+        self.tally.begin();
         check(self.alloc, self.settings.dialect, reader, self)
     }
 
@@ -137,13 +135,13 @@ impl<'s, 't, W: Write + Drop> Entries for JsonReporter<'s, 't, W> {
         (record { contents = W.contents old.out; tally = old.tally; file = string_bytes old.name; line = old.line }) y
         (record { contents = W.contents new.out; tally = new.tally; file = string_bytes new.name; line = new.line }) × (new.settings.now ≡ old.settings.now) };
 
-    fn take(&mut self, line: &[u8], entry: Entry<'_>, _is_fed: bool) -> io::Result<()> {
+    fn take(&mut self, line: &[u8], entry: Entry<'_>, is_fed: bool) -> io::Result<()> {
         self.line = self.line.saturating_add(1);
         let kind = kind_of_entry(&entry);
-        let Ok(report) = report_of(self.alloc, self.settings, line, entry) else {
+        let Ok(report) = report_of_line(self.alloc, self.settings, line, entry, is_fed) else {
             return Err(io::Error::from(ErrorKind::OutOfMemory));
         };
-        self.tally.add(&report);
+        self.tally.add(self.settings.dialect, &report);
         self.tell(kind, &report)
     }
 }
@@ -336,11 +334,18 @@ fn run_object(
 fn warnings_of(alloc: Global, report: &Report<'_, '_>) -> Result<Value, AllocError> {
     match report {
         Report::Job(job) => warning_list(alloc, job.warnings.as_slice()),
-        Report::Setting { is_zone } if *is_zone => warning_list(alloc, &[Warning::NoZone]),
-        Report::Silent | Report::Setting { .. } | Report::Refused { .. } => warning_list(
-            alloc,
-            &[],
-        ),
+        Report::Setting { is_zone, is_fed } => setting_warnings(alloc, *is_zone, *is_fed),
+        Report::Silent | Report::Refused { .. } => warning_list(alloc, &[]),
+    }
+}
+
+// The warnings of a setting.
+fn setting_warnings(alloc: Global, is_zone: bool, is_fed: bool) -> Result<Value, AllocError> {
+    match (is_zone, is_fed) {
+        (true, true) => warning_list(alloc, &[Warning::NoZone]),
+        (true, false) => warning_list(alloc, &[Warning::NoNewline, Warning::NoZone]),
+        (false, true) => warning_list(alloc, &[]),
+        (false, false) => warning_list(alloc, &[Warning::NoNewline]),
     }
 }
 

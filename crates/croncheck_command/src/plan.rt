@@ -8,7 +8,7 @@ ghost use Rattle.croner.specs.parser.Grammar.{Refusal};
 ghost use Rattle.croner.specs.Views.{job_of as meaning_of_job};
 ghost use Rattle.croncheck_command.specs.Entries.{entry_seen, times_seen};
 ghost use Rattle.croncheck_command.specs.Plan.{IsPlanned, EndsPlan, accepted, HasTiming, HasPatternMeaning, HasMeaning, seen, with_job, Adds, Passes, IsPlannedFile, labels, labels_at};
-ghost use Rattle.croncheck_command.specs.Report.{added, one_more};
+ghost use Rattle.croncheck_command.specs.Report.{none_counted, counted, one_more};
 ghost use Rattle.croncheck_command.specs.Runs.{cut_end, most_runs};
 
 use crate::check::{Entries, check};
@@ -300,7 +300,7 @@ impl<'s, 't, W: Write + Drop> Planner<'s, 't, W> {
     ) -> Planner<'s, 't, W>
         ensures settings { result.settings.now ≡ settings.now }
         ensures nothing { seen result.table result.jobs result.tally result.file result.line
-            ≡ record { patterns = []; places = []; tally = record { lines = 0; jobs = 0; refused = 0 }; file = 0; line = 0 } }
+            ≡ record { patterns = []; places = []; tally = none_counted; file = 0; line = 0 } }
     {
         Planner {
             alloc,
@@ -309,11 +309,7 @@ impl<'s, 't, W: Write + Drop> Planner<'s, 't, W> {
             out,
             table: CronTable::new(alloc),
             jobs: Vec::new(alloc),
-            tally: Tally {
-                lines: 0,
-                jobs: 0,
-                refused: 0,
-            },
+            tally: Tally::new(),
             file: 0,
             line: 0,
             name: String::new(alloc),
@@ -433,10 +429,10 @@ impl<'s, 't, W: Write + Drop> Planner<'s, 't, W> {
     // Writes and counts the report of a line.
     fn tell(&mut self, line: &[u8], report: &Report<'_, '_>) -> io::Result<()>
         ensures told { OnOk result (seen self.new.table self.new.jobs self.new.tally self.new.file self.new.line
-            ≡ record (seen self.old.table self.old.jobs self.old.tally self.old.file self.old.line) { tally = added self.old.tally report.now }) }
+            ≡ record (seen self.old.table self.old.jobs self.old.tally self.old.file self.old.line) { tally = counted self.old.tally report.now }) }
         ensures settings { self.new.settings.now ≡ self.old.settings.now }
     {
-        self.tally.add(report);
+        self.tally.count(report);
         let text = {
             let place = Place {
                 file: self.name.as_str(),
@@ -508,6 +504,8 @@ fn with_job(tally: Tally) -> Tally
         lines: one_more(tally.lines),
         jobs: one_more(tally.jobs),
         refused: tally.refused,
+        warned: tally.warned,
+        file_lines: tally.file_lines,
     }
 }
 

@@ -11,7 +11,7 @@ ghost use Rattle.croner.specs.parser.Gives.{Fails};
 ghost use Rattle.croner.specs.parser.Grammar.{Refusal};
 ghost use Rattle.croner.specs.Views.{job_of as meaning_of_job};
 ghost use Rattle.croncheck_command.specs.Entries.{job_seen, times_seen};
-ghost use Rattle.croncheck_command.specs.Report.{wording_of, NamesNoneFrom, IsPastAt, IsTold, TellsMeaning, TellsTiming, IsRefusalOf, IsUnreadTiming, IsReportOfJob, IsPatternRefused, IsReportOfPattern, blanks_of, IsReport, IsReportOfLine, is_over, is_never, is_told_past, subject_of, IsWarned, WarnsJob, WarnsPattern, one_more, added, status_of};
+ghost use Rattle.croncheck_command.specs.Report.{wording_of, NamesNoneFrom, IsPastAt, IsTold, TellsMeaning, TellsTiming, IsRefusalOf, IsUnreadTiming, IsReportOfJob, IsPatternRefused, IsReportOfPattern, blanks_of, IsReport, IsReportOfLine, is_over, is_never, is_told_past, subject_of, IsWarned, WarnsJob, WarnsPattern, has_job_warnings, has_warnings, none_counted, counted, begun, is_too_many, is_line_warned, one_more, one_more_if, added, status_of};
 ghost use Rattle.croncheck_command.specs.Warnings.{fields_seen, subject_seen};
 
 use crate::bytes::{Kind, cut};
@@ -19,7 +19,7 @@ use crate::line::{Dialect, Entry, Fault, Job, Times};
 use crate::parsed::job_of;
 use crate::runs::{End, Listing, Runs, runs_of};
 use crate::warnings::{
-    Fields, Subject, Warning, fields_of_pattern, fields_of_schedule, warnings_of,
+    Fields, Subject, Warning, fields_of_pattern, fields_of_schedule, is_first_too_many, warnings_of,
 };
 use croner::Cron;
 use croner::describe::lang::english::English;
@@ -52,6 +52,8 @@ pub struct Settings<'t> {
     /// Where runs are listed from; it is none itself.
     pub start: TableTime<'t>,
     pub listing: Listing,
+    /// The status is 1 where a line has a warning, too.
+    pub is_strict: bool,
 }
 
 /// What a line is told.
@@ -63,6 +65,8 @@ pub enum Report<'l, 't> {
     Setting {
         /// The variable is `CRON_TZ` or `TZ`.
         is_zone: bool,
+        /// The line has its line feed.
+        is_fed: bool,
     },
     Job(JobReport<'l, 't>),
     Refused {
@@ -115,6 +119,28 @@ pub enum Why {
     Crate(CronError),
     /// The pattern isn't UTF-8.
     NotText,
+}
+
+impl Report<'_, '_> {
+    /// The line has a warning. A refused line has none.
+    pub fn has_warnings(&self) -> bool
+        ensures { result ≡ has_warnings self.now }
+    {
+        match self {
+            Report::Setting { is_zone, is_fed } => *is_zone || !*is_fed,
+            Report::Job(job) => job.has_warnings(),
+            Report::Silent | Report::Refused { .. } => false,
+        }
+    }
+}
+
+impl JobReport<'_, '_> {
+    /// The job or the pattern has a warning.
+    pub fn has_warnings(&self) -> bool
+        ensures { result ≡ has_job_warnings self.now }
+    {
+        !self.warnings.is_empty()
+    }
 }
 
 impl End {
@@ -181,7 +207,7 @@ pub fn report_of_line<'l, 't>(
 {
     match entry {
         Entry::Blank | Entry::Comment => Ok(Report::Silent),
-        Entry::Setting { is_zone } => Ok(Report::Setting { is_zone }),
+        Entry::Setting { is_zone } => Ok(Report::Setting { is_zone, is_fed }),
         Entry::Refused { fault, start, end } => Ok(Report::Refused {
             start,
             end,
@@ -512,12 +538,47 @@ pub struct Tally {
     pub jobs: u64,
     /// The lines that are refused.
     pub refused: u64,
+    /// The lines that have a warning. A plan counts none.
+    pub warned: u64,
+    /// The lines of the file that is read. A plan counts none.
+    pub file_lines: u64,
 }
 
 impl Tally {
-    /// Counts one more line. No count passes 2^64 - 1.
-    pub fn add(&mut self, report: &Report<'_, '_>)
-        ensures { self.new ≡ added self.old report.now }
+    /// Nothing is counted yet.
+    pub fn new() -> Tally
+        ensures { result ≡ none_counted }
+    {
+        Tally {
+            lines: 0,
+            jobs: 0,
+            refused: 0,
+            warned: 0,
+            file_lines: 0,
+        }
+    }
+
+    /// Begins a file.
+    pub fn begin(&mut self)
+        ensures { self.new ≡ begun self.old }
+    {
+        self.file_lines = 0;
+    }
+
+    /// Counts one more line of the file, and whether it has a warning, or is the first that a crontab has too many. No count passes
+    /// 2^64 - 1.
+    pub fn add(&mut self, dialect: Dialect, report: &Report<'_, '_>)
+        ensures { self.new ≡ added dialect self.old report.now }
+    {
+        let is_warned = is_line_warned(dialect, self.file_lines, report);
+        self.count(report);
+        self.warned = one_more_if(is_warned, self.warned);
+        self.file_lines = one_more(self.file_lines);
+    }
+
+    /// Counts one more line, and no warning. No count passes 2^64 - 1.
+    pub fn count(&mut self, report: &Report<'_, '_>)
+        ensures { self.new ≡ counted self.old report.now }
     {
         self.lines = one_more(self.lines);
         match report {
@@ -527,12 +588,41 @@ impl Tally {
         }
     }
 
-    /// The status of a call, if all could be read and written: 1 where a line is refused, else 0.
-    pub fn status(&self) -> u8
-        ensures { result ≡ status_of self.now }
+    /// The status of a call, if all could be read and written: 1 where a line is refused, or where one has a warning and the call is
+    /// strict, else 0.
+    pub fn status(&self, is_strict: bool) -> u8
+        ensures { result ≡ status_of is_strict self.now }
     {
-        if self.refused == 0 { 0 } else { 1 }
+        if self.refused != 0 || is_strict && self.warned != 0 {
+            1
+        } else {
+            0
+        }
     }
+}
+
+// Whether the line behind so many of a file is warned of.
+fn is_line_warned(dialect: Dialect, lines: u64, report: &Report<'_, '_>) -> bool
+    ensures { result ≡ is_line_warned dialect lines report.now }
+{
+    report.has_warnings() || is_too_many(dialect, lines)
+}
+
+// Whether the line behind so many is the first that a crontab has too many.
+fn is_too_many(dialect: Dialect, lines: u64) -> bool
+    ensures { result ≡ is_too_many dialect lines }
+{
+    match dialect {
+        Dialect::User | Dialect::System => is_first_too_many(lines),
+        Dialect::Patterns => false,
+    }
+}
+
+// One more, if it counts.
+fn one_more_if(counts: bool, count: u64) -> u64
+    ensures { result ≡ one_more_if counts count }
+{
+    if counts { one_more(count) } else { count }
 }
 
 fn one_more(count: u64) -> u64

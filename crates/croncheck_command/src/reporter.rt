@@ -1,6 +1,6 @@
 //! What takes the entries of files and writes what each is told.
 ghost use Rattle.std.specs.Prelude.{◌≡◌, OnOk, IfSome, if◌then◌else◌, ◌||◌, is_err};
-ghost use Rattle.croncheck_command.specs.Report.{IsReportOfLine, added, status_of};
+ghost use Rattle.croncheck_command.specs.Report.{IsReportOfLine, none_counted, added, begun, status_of};
 ghost use Rattle.croncheck_command.specs.Reported.{IsChecked};
 
 use crate::check::{Entries, check};
@@ -70,18 +70,14 @@ impl<'s, 't, W: Write + Drop> Reporter<'s, 't, W> {
         out: W,
     ) -> Reporter<'s, 't, W>
         ensures settings { result.settings.now ≡ settings.now }
-        ensures nothing { result.tally ≡ record { lines = 0; jobs = 0; refused = 0 } }
+        ensures nothing { result.tally ≡ none_counted }
     {
         Reporter {
             alloc,
             settings,
             shared,
             out,
-            tally: Tally {
-                lines: 0,
-                jobs: 0,
-                refused: 0,
-            },
+            tally: Tally::new(),
             file: FileSeen::new(String::new(alloc)),
             is_begun: false,
             is_refused: false,
@@ -111,6 +107,7 @@ impl<'s, 't, W: Write + Drop> Reporter<'s, 't, W> {
     {
         let name = shown(self.alloc, name.as_bytes())?;
         self.file = FileSeen::new(name);
+        self.tally.begin();
         check(self.alloc, self.settings.dialect, reader, self)?;
         self.end_file()
     }
@@ -138,9 +135,9 @@ impl<'s, 't, W: Write + Drop> Reporter<'s, 't, W> {
 
     // Writes the report of a line of this text.
     fn tell(&mut self, line: &[u8], report: &Report<'_, '_>, is_unfed: bool) -> io::Result<()>
-        ensures { OnOk result ((self.new.tally ≡ added self.old.tally report.now) × (self.new.settings.now ≡ self.old.settings.now)) }
+        ensures { OnOk result ((self.new.tally ≡ added self.old.settings.now.dialect self.old.tally report.now) × (self.new.settings.now ≡ self.old.settings.now)) }
     {
-        self.tally.add(report);
+        self.tally.add(self.settings.dialect, report);
         self.file.add(is_refusal(report), is_unfed);
         let text = {
             let place = Place {
@@ -237,8 +234,12 @@ impl<'s, 't, W: Write + Drop> Entries for Reporter<'s, 't, W> {
 }
 
 /// The status of a call: 3 where a file failed, else that of what was told.
-pub fn status_of(tally: Tally, is_failed: bool) -> u8
-    ensures { result ≡ (if is_failed then 3 else status_of tally) }
+pub fn status_of(tally: Tally, is_failed: bool, is_strict: bool) -> u8
+    ensures { result ≡ (if is_failed then 3 else status_of is_strict tally) }
 {
-    if is_failed { FAILED } else { tally.status() }
+    if is_failed {
+        FAILED
+    } else {
+        tally.status(is_strict)
+    }
 }

@@ -79,7 +79,7 @@ fn is_told(report: &Report<'_, '_>) -> bool
 {
     match report {
         Report::Silent => false,
-        Report::Setting { is_zone } => *is_zone,
+        Report::Setting { is_zone, .. } => *is_zone,
         Report::Job(_) | Report::Refused { .. } => true,
     }
 }

@@ -1,7 +1,7 @@
 //! Warnings: what is to be said of a line that is taken.
 ghost use Rattle.std.specs.Prelude.{◌≡◌, IfOk, IfErr, filter, length, ◌++◌, ◌&&◌, false, option_map};
 ghost use Rattle.croner.specs.Views.{job_of as meaning_of_job};
-ghost use Rattle.croncheck_command.specs.Warnings.{is_either_day, is_whole_hour, has_short_months, has_uneven_step, has_step_beyond, has_empty_items, looks_like_field, has_percent, has_carriage_return, are_many_lines, is_some_so, behind_times, holds, all_warnings, fields_seen, subject_seen};
+ghost use Rattle.croncheck_command.specs.Warnings.{is_either_day, is_whole_hour, has_short_months, has_uneven_step, has_step_beyond, has_empty_items, looks_like_field, has_percent, has_carriage_return, are_many_lines, is_first_too_many, is_some_so, behind_times, holds, all_warnings, fields_seen, subject_seen};
 ghost use Rattle.croncheck_command.specs.Warnings as Spec;
 
 mod command;
@@ -263,4 +263,11 @@ pub fn are_many_lines(lines: u64) -> bool
     ensures { result ≡ are_many_lines lines }
 {
     MOST_LINES < lines
+}
+
+/// Whether the line behind so many of a crontab is the first that cron doesn't take.
+pub fn is_first_too_many(lines: u64) -> bool
+    ensures { result ≡ is_first_too_many lines }
+{
+    lines == MOST_LINES
 }

@@ -37,7 +37,7 @@ const AFTER_HELP: &str =
     "DATETIME is YYYY-MM-DDTHH:MM:SS on the zone's clock, SECONDS are since 1970-01-01T00:00:00 UTC.
 With no FILE, or where FILE is -, standard input is read.
 
-Status: 0 all jobs were read, 1 a line is refused, 2 the words are not of this form, 3 a file, the zone or the output failed.";
+Status: 0 all jobs were read, 1 a line is refused (or has a warning, with --strict), 2 the words are not of this form, 3 a file, the zone or the output failed.";
 
 /// What the words of a call ask for.
 #[derive(Drop)]
@@ -52,6 +52,8 @@ pub struct Call<'w> {
     pub parser: CronParser,
     pub language: Tongue,
     pub form: Form,
+    /// The status is 1 where a line has a warning, too. Never with [`Form::Plan`].
+    pub is_strict: bool,
     /// The files, in order; none is standard input.
     pub files: Vec<&'w str>,
 }
@@ -176,6 +178,11 @@ fn with_output<'w>(alloc: Global, command: Command<'w>) -> Result<Command<'w>, A
             flag(alloc, "json")
                 .conflicts_with("plan")?
                 .help("One JSON object a line of input"),
+        )?
+        .arg(
+            flag(alloc, "strict")
+                .conflicts_with("plan")?
+                .help("A warning makes the status 1, as a refused line does"),
         )
 }
 
@@ -246,6 +253,7 @@ fn call_of<'w>(alloc: Global, matches: &ArgMatches<'w>) -> Result<Call<'w>, NoCa
         parser: parser(matches),
         language: language(matches),
         form: output_form(matches),
+        is_strict: matches.get_flag("strict"),
         files: files(alloc, matches)?,
     })
 }
