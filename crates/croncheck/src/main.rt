@@ -2,8 +2,7 @@
 #![tactic(auto)]
 
 use croncheck_command::clock::Clock;
-use croncheck_command::files::{Sources, check_files, tell_files};
-use croncheck_command::json::JsonReporter;
+use croncheck_command::files::{Sources, check_files, check_files_as_json, tell_files};
 use croncheck_command::moment::second_of;
 use croncheck_command::plan::Planner;
 use croncheck_command::problem::Problem;
@@ -154,23 +153,21 @@ fn check_in(
             let planner = Planner::new(rt.alloc(), settings, shared, out);
             tell_files(
                 rt.alloc(),
-                settings,
+                settings.is_strict,
                 &machine,
                 names,
                 planner,
                 &mut rt.stderr(),
             )
         }
-        Form::Json => {
-            let reporter = JsonReporter::new(rt.alloc(), settings, shared, out);
-            tell_files(
-                rt.alloc(),
-                settings,
-                &machine,
-                names,
-                reporter,
-                &mut rt.stderr(),
-            )
-        }
+        Form::Json => check_files_as_json(
+            rt.alloc(),
+            settings,
+            shared,
+            &machine,
+            names,
+            out,
+            &mut rt.stderr(),
+        ),
     }
 }

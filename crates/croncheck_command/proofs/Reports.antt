@@ -1,9 +1,10 @@
 -- What is told of a whole file.
-use Rattle.std.proofs.Common.{◌≡◌, ◌∙◌, ℕ, Bool, List, [], ◌∷◌, Option, Some, None, Result, Ok, Err, map, ap, subst, sym}
+use Rattle.std.proofs.Common.{◌≡◌, ◌∙◌, ℕ, Bool, List, [], ◌∷◌, Option, Some, None, Result, Ok, Err, map, ap, refl, subst, sym}
 use Rattle.std.specs.Prelude.{IfSome, OnOk}
 use Rattle.croncheck_command.specs.declared.report.Settings.{Settings}
 use Rattle.croncheck_command.specs.declared.report.Tally.{Tally}
 use Rattle.croncheck_command.specs.Checked.{entry_of_line, TakesInTurn, TakesAll}
+use Rattle.croncheck_command.specs.Json.{Noted, Writes}
 use Rattle.croncheck_command.specs.Line.{Line}
 use Rattle.croncheck_command.specs.Report.{begun}
 use Rattle.croncheck_command.specs.Reported.{Tallies, IsChecked}
@@ -40,3 +41,30 @@ checked new tally_of settings_of s (Some text) before old last end e b k m h =
 pub always : {T E P : Type 0} (r : Result T E) → P → OnOk r P
 always (Ok x) h = h
 always (Err e) h = tt
+
+module _ {S Y : Type 0} (P Q : S → Y → S → Type 0) (step : (old : S) (y : Y) (new : S) → P old y new → Q old y new) where
+  in_turn_so : (ys : List Y) (old new : S) → TakesInTurn P old ys new → TakesInTurn Q old ys new
+  in_turn_so [] old new h = h
+  in_turn_so (y ∷ ys) old new h = (h.0, step old y h.0 h.1, in_turn_so ys h.0 new h.2)
+
+-- an object is written by settings that stay
+abbrev pub WritesOne : {S : Type 0} → (S → Noted) → (S → Settings) → S → (Line × Bool) → S → Type 0
+WritesOne noted settings_of old y new = Writes (settings_of old) (noted old) y (noted new) × (settings_of new ≡ settings_of old)
+
+-- so its report is told
+told_of_written : {S : Type 0} (noted : S → Noted) (settings_of : S → Settings) (old : S) (y : Line × Bool) (new : S)
+    → WritesOne noted settings_of old y new → Tells (λ r. (noted r).tally) settings_of old y new
+told_of_written noted settings_of old y new h =
+    let w = h.0 in
+    ((w.text, w.entry, w.report, w.seen, w.reported, w.tallied), h.1)
+
+-- what was told of each line of a file of which objects were written
+pub checked_objects : {S : Type 0} (new : S) (noted : S → Noted) (settings_of : S → Settings) (s : Settings) (remaining : Option (List ℕ))
+    (before : Tally) (old : S) → settings_of old ≡ s → (noted old).tally ≡ begun before
+    → TakesAll (WritesOne noted settings_of) s.dialect remaining old new
+    → IfSome remaining (λ text. IsChecked s text before (noted new).tally × (settings_of new ≡ s))
+checked_objects new noted settings_of s None before old e b h = tt
+checked_objects new noted settings_of s (Some text) before old e b h =
+    let ys = map (entry_of_line s.dialect) h.0 in
+    let told = in_turn_so (WritesOne noted settings_of) (Tells (λ r. (noted r).tally) settings_of) (told_of_written noted settings_of) ys old new h.2 in
+    checked new (λ r. (noted r).tally) settings_of s (Some text) before old (noted new).tally (settings_of new) e b refl refl (h.0, h.1, told)

@@ -1,5 +1,5 @@
 -- The status of a call that checks files, one behind the other. Source: this crate's documentation of `check_files`.
-use Rattle.std.specs.Prelude.{◌≡◌, ◌⊎◌, ◌==◌, ℕ, List, [], ◌∷◌, ◌++◌, codes, Option, Some, if◌then◌else◌}
+use Rattle.std.specs.Prelude.{◌≡◌, ◌⊎◌, ◌==◌, ℕ, Bool, List, [], ◌∷◌, ◌++◌, codes, Option, Some, if◌then◌else◌}
 use Rattle.std.specs.Fmt.{decimal}
 use Rattle.croncheck_command.specs.declared.report.Settings.{Settings}
 use Rattle.croncheck_command.specs.declared.report.Tally.{Tally}
@@ -27,6 +27,11 @@ AreChecked s texts old new = TakesInTurn (λ a text b. IsChecked s text a b) old
 -- a file failed, or all were read: then the status is that of what is told of their lines
 abbrev pub IsStatus : Settings → List (List ℕ) → ℕ → Type 0
 IsStatus s texts status = (status ≡ 3) ⊎ ((tally : Tally) × AreChecked s texts none_counted tally × (status ≡ status_of s.is_strict tally))
+
+-- the same of what tells of lines in any form: it took each text, one after the other, and the status is that of what it counted
+abbrev pub IsToldStatus : {T : Type 0} → (T → List ℕ → T → Type 0) → (T → Tally) → Bool → T → List (List ℕ) → ℕ → Type 0
+IsToldStatus {T} takes tally_of is_strict first texts status =
+    (status ≡ 3) ⊎ ((last : T) × TakesInTurn takes first texts last × (status ≡ status_of is_strict (tally_of last)))
 
 -- the noun of so many jobs
 abbrev pub noun_of : ℕ → List ℕ

@@ -1,7 +1,7 @@
 //! The files of a call, one behind the other.
 ghost use Rattle.std.specs.Prelude.{◌≡◌, ℕ, true, false, List, map, string_bytes, IfOk, if◌then◌else◌};
-ghost use Rattle.croncheck_command.specs.Files.{HasText, HaveTexts, asked, AreChecked, IsStatus, noun_of, summary_of, warned_text};
-ghost use Rattle.croncheck_command.specs.Reported.{IsChecked};
+ghost use Rattle.croncheck_command.specs.Checked.{TakesInTurn};
+ghost use Rattle.croncheck_command.specs.Files.{HasText, HaveTexts, asked, IsStatus, IsToldStatus, noun_of, summary_of, warned_text};
 
 use crate::escaped::shown;
 use crate::json::JsonReporter;
@@ -28,6 +28,109 @@ pub trait Sources {
         ensures { IfOk result (λ reader. holds self.now name.now (Self.Reader.remaining reader)) };
 }
 
+/// What tells of the lines of files, one file behind the other.
+pub trait Teller {
+    ghost use Rattle.std.specs.Prelude.{◌≡◌, ℕ, List, OnOk, IfSome};
+    ghost use Rattle.croncheck_command.specs.declared.report.Tally.{Tally};
+
+    /// What taking the lines of a text leaves.
+    ghost takes: { Self → List ℕ → Self → Type 0 };
+
+    /// What was told so far.
+    ghost tally: { Self → Tally };
+
+    /// Takes the lines of a file behind those of the files before. The error is that of the reader or of what is written to, or says that
+    /// memory is lacking.
+    fn take_file<R: BufRead>(&mut self, name: &str, reader: &mut R) -> io::Result<()>
+        ensures { OnOk result (IfSome (R.remaining reader.old) (λ text. takes self.old text self.new)) };
+
+    /// Whether what is written to refused a text: nothing more can be written then.
+    fn has_refused(&self) -> bool;
+
+    /// Writes what stands behind all files, and passes on what was written.
+    fn end(&mut self) -> io::Result<()>
+        ensures { tally self.new ≡ tally self.old };
+
+    /// What was told so far.
+    fn counted(&self) -> Tally
+        ensures { result ≡ tally self.now };
+}
+
+impl<'s, 't, W: Write + Drop> Teller for Reporter<'s, 't, W> {
+    ghost use Rattle.std.specs.Prelude.{◌≡◌};
+    ghost use Rattle.croncheck_command.specs.Reported.{IsChecked};
+
+    ghost takes = { λ old text new. IsChecked old.settings.now text old.tally new.tally × (new.settings.now ≡ old.settings.now) };
+
+    ghost tally = { λ reporter. reporter.tally };
+
+    fn take_file<R: BufRead>(&mut self, name: &str, reader: &mut R) -> io::Result<()> {
+        self.report(name, reader)
+    }
+
+    fn has_refused(&self) -> bool {
+        self.is_refused()
+    }
+
+    fn end(&mut self) -> io::Result<()> {
+        self.flush()
+    }
+
+    fn counted(&self) -> Tally {
+        self.tally()
+    }
+}
+
+impl<'s, 't, W: Write + Drop> Teller for JsonReporter<'s, 't, W> {
+    ghost use Rattle.std.specs.Prelude.{◌≡◌};
+    ghost use Rattle.croncheck_command.specs.Reported.{IsChecked};
+
+    ghost takes = { λ old text new. IsChecked old.settings.now text old.tally new.tally × (new.settings.now ≡ old.settings.now) };
+
+    ghost tally = { λ reporter. reporter.tally };
+
+    fn take_file<R: BufRead>(&mut self, name: &str, reader: &mut R) -> io::Result<()> {
+        self.report(name, reader)
+    }
+
+    fn has_refused(&self) -> bool {
+        self.is_refused()
+    }
+
+    fn end(&mut self) -> io::Result<()> {
+        self.flush()
+    }
+
+    fn counted(&self) -> Tally {
+        self.tally()
+    }
+}
+
+impl<'s, 't, W: Write + Drop> Teller for Planner<'s, 't, W> {
+    ghost use Rattle.croncheck_command.specs.Plan.{IsPlannedFile, seen};
+
+    ghost takes = { λ old text new. IsPlannedFile old.settings.now text (seen old.table old.jobs old.tally old.file old.line)
+        (seen new.table new.jobs new.tally new.file new.line) };
+
+    ghost tally = { λ planner. planner.tally };
+
+    fn take_file<R: BufRead>(&mut self, name: &str, reader: &mut R) -> io::Result<()> {
+        self.read(name, reader)
+    }
+
+    fn has_refused(&self) -> bool {
+        self.is_refused()
+    }
+
+    fn end(&mut self) -> io::Result<()> {
+        self.finish()
+    }
+
+    fn counted(&self) -> Tally {
+        self.tally()
+    }
+}
+
 /// Checks the files of these names, in order, or standard input where there are none, and answers the status of the call: 3 where a file
 /// failed, else 1 where a line is refused, or where one has a warning and the settings are strict, else 0.
 ///
@@ -47,15 +150,12 @@ pub fn check_files<F: Sources, W: Write + Drop, N: Write>(
     ensures { (text_of : List ℕ → List ℕ) → HaveTexts (F.holds sources.now) text_of →
         IfOk result (IsStatus settings.now (map text_of (asked (map (λ name. name.now) names.now)))) }
 {
-    if names.is_empty() {
-        check_named(alloc, settings, shared, sources, &["-"], out, notes)
-    } else {
-        check_named(alloc, settings, shared, sources, names, out, notes)
-    }
+    let reporter = Reporter::new(alloc, settings, shared, out);
+    tell_files(alloc, settings.is_strict, sources, names, reporter, notes)
 }
 
-// The same of these names alone.
-fn check_named<F: Sources, W: Write + Drop, N: Write>(
+/// The same as [`check_files`], with an object of each line, as JSON, in place of its report.
+pub fn check_files_as_json<F: Sources, W: Write + Drop, N: Write>(
     alloc: Global,
     settings: &Settings<'_>,
     shared: &Shared<'_>,
@@ -65,31 +165,65 @@ fn check_named<F: Sources, W: Write + Drop, N: Write>(
     notes: &mut N,
 ) -> io::Result<u8>
     ensures { (text_of : List ℕ → List ℕ) → HaveTexts (F.holds sources.now) text_of →
-        IfOk result (IsStatus settings.now (map text_of (map (λ name. name.now) names.now))) }
+        IfOk result (IsStatus settings.now (map text_of (asked (map (λ name. name.now) names.now)))) }
 {
-    let mut reporter = Reporter::new(alloc, settings, shared, out);
-    let is_failed = report_files(alloc, sources, names, &mut reporter, notes)?;
-    reporter.flush()?;
-    let tally = reporter.tally();
-    let summary = summary_of(alloc, tally)?;
-    let _ = notes.write_all(summary.as_bytes());
-    Ok(status_of(tally, is_failed, settings.is_strict))
+    let reporter = JsonReporter::new(alloc, settings, shared, out);
+    tell_files(alloc, settings.is_strict, sources, names, reporter, notes)
 }
 
-// Reports on the files of these names, and answers whether one failed. The error is that of the output.
-fn report_files<F: Sources, W: Write + Drop, N: Write>(
+/// The same as [`check_files`] by what tells of lines in any form.
+pub fn tell_files<F: Sources, T: Teller + Drop, N: Write>(
+    alloc: Global,
+    is_strict: bool,
+    sources: &F,
+    names: &[&str],
+    teller: T,
+    notes: &mut N,
+) -> io::Result<u8>
+    ensures { (text_of : List ℕ → List ℕ) → HaveTexts (F.holds sources.now) text_of →
+        IfOk result (IsToldStatus T.takes T.tally is_strict teller.entry (map text_of (asked (map (λ name. name.now) names.now)))) }
+{
+    if names.is_empty() {
+        tell_named(alloc, is_strict, sources, &["-"], teller, notes)
+    } else {
+        tell_named(alloc, is_strict, sources, names, teller, notes)
+    }
+}
+
+// The same of these names alone.
+fn tell_named<F: Sources, T: Teller + Drop, N: Write>(
+    alloc: Global,
+    is_strict: bool,
+    sources: &F,
+    names: &[&str],
+    mut teller: T,
+    notes: &mut N,
+) -> io::Result<u8>
+    ensures { (text_of : List ℕ → List ℕ) → HaveTexts (F.holds sources.now) text_of →
+        IfOk result (IsToldStatus T.takes T.tally is_strict teller.entry (map text_of (map (λ name. name.now) names.now))) }
+{
+    let is_failed = take_files(alloc, sources, names, &mut teller, notes)?;
+    teller.end()?;
+    let tally = teller.counted();
+    let summary = summary_of(alloc, tally)?;
+    let _ = notes.write_all(summary.as_bytes());
+    Ok(status_of(tally, is_failed, is_strict))
+}
+
+// Takes the files of these names, and answers whether one failed. The error is that of the output.
+fn take_files<F: Sources, T: Teller, N: Write>(
     alloc: Global,
     sources: &F,
     names: &[&str],
-    reporter: &mut Reporter<'_, '_, W>,
+    teller: &mut T,
     notes: &mut N,
 ) -> io::Result<bool>
     ensures { (text_of : List ℕ → List ℕ) → HaveTexts (F.holds sources.now) text_of → IfOk result (λ is_failed. is_failed ≡ false →
-        AreChecked reporter.old.settings.now (map text_of (map (λ name. name.now) names.now)) reporter.old.tally reporter.new.tally) }
+        TakesInTurn T.takes teller.old (map text_of (map (λ name. name.now) names.now)) teller.new) }
 {
     let mut is_failed = false;
     for k in 0..names.len() {
-        let fails = fails(alloc, sources, names[k], reporter, notes)?;
+        let fails = fails(alloc, sources, names[k], teller, notes)?;
         is_failed = any(fails, is_failed);
     }
     Ok(is_failed)
@@ -101,21 +235,20 @@ fn any(fails: bool, is_failed: bool) -> bool
     fails || is_failed
 }
 
-// Reports on a file, and answers whether it failed, which is noted then. The error is that of the output.
-fn fails<F: Sources, W: Write + Drop, N: Write>(
+// Takes a file, and answers whether it failed, which is noted then. The error is that of the output.
+fn fails<F: Sources, T: Teller, N: Write>(
     alloc: Global,
     sources: &F,
     name: &str,
-    reporter: &mut Reporter<'_, '_, W>,
+    teller: &mut T,
     notes: &mut N,
 ) -> io::Result<bool>
-    ensures { (text : List ℕ) → HasText (F.holds sources.now) name.now text → IfOk result (λ is_failed. is_failed ≡ false →
-        IsChecked reporter.old.settings.now text reporter.old.tally reporter.new.tally
-        × (reporter.new.settings.now ≡ reporter.old.settings.now)) }
+    ensures { (text : List ℕ) → HasText (F.holds sources.now) name.now text →
+        IfOk result (λ is_failed. is_failed ≡ false → T.takes teller.old text teller.new) }
 {
-    match report_file(sources, name, reporter) {
+    match take_file(sources, name, teller) {
         Ok(()) => Ok(false),
-        Err(error) if reporter.is_refused() => Err(error),
+        Err(error) if teller.has_refused() => Err(error),
         Err(error) => {
             note(alloc, name, &error, notes)?;
             Ok(true)
@@ -123,116 +256,10 @@ fn fails<F: Sources, W: Write + Drop, N: Write>(
     }
 }
 
-// Reports on a file.
-fn report_file<F: Sources, W: Write + Drop>(
-    sources: &F,
-    name: &str,
-    reporter: &mut Reporter<'_, '_, W>,
-) -> io::Result<()>
-    ensures { (text : List ℕ) → HasText (F.holds sources.now) name.now text → IfOk result (λ done.
-        IsChecked reporter.old.settings.now text reporter.old.tally reporter.new.tally
-        × (reporter.new.settings.now ≡ reporter.old.settings.now)) }
+// Takes a file.
+fn take_file<F: Sources, T: Teller>(sources: &F, name: &str, teller: &mut T) -> io::Result<()>
+    ensures { (text : List ℕ) → HasText (F.holds sources.now) name.now text → IfOk result (λ done. T.takes teller.old text teller.new) }
 {
-    let mut reader = sources.open(name)?;
-    reporter.report(name, &mut reader)
-}
-
-/// What tells of the lines of files in another form than a report.
-pub trait Teller {
-    /// Takes the lines of a file behind those of the files before. The error is that of the reader or of what is written to, or says that
-    /// memory is lacking.
-    fn take_file<R: BufRead>(&mut self, name: &str, reader: &mut R) -> io::Result<()>;
-
-    /// Whether what is written to refused a text: nothing more can be written then.
-    fn has_refused(&self) -> bool;
-
-    /// Writes what stands behind all files, and passes on what was written.
-    fn end(&mut self) -> io::Result<()>;
-
-    /// What was told so far.
-    fn counted(&self) -> Tally;
-}
-
-impl<'s, 't, W: Write + Drop> Teller for JsonReporter<'s, 't, W> {
-    fn take_file<R: BufRead>(&mut self, name: &str, reader: &mut R) -> io::Result<()> {
-        self.report(name, reader)
-    }
-
-    fn has_refused(&self) -> bool {
-        self.is_refused()
-    }
-
-    fn end(&mut self) -> io::Result<()> {
-        self.flush()
-    }
-
-    fn counted(&self) -> Tally {
-        self.tally()
-    }
-}
-
-impl<'s, 't, W: Write + Drop> Teller for Planner<'s, 't, W> {
-    fn take_file<R: BufRead>(&mut self, name: &str, reader: &mut R) -> io::Result<()> {
-        self.read(name, reader)
-    }
-
-    fn has_refused(&self) -> bool {
-        self.is_refused()
-    }
-
-    fn end(&mut self) -> io::Result<()> {
-        self.finish()
-    }
-
-    fn counted(&self) -> Tally {
-        self.tally()
-    }
-}
-
-/// The same as [`check_files`] by what tells of lines in another form.
-pub fn tell_files<F: Sources, T: Teller + Drop, N: Write>(
-    alloc: Global,
-    settings: &Settings<'_>,
-    sources: &F,
-    names: &[&str],
-    mut teller: T,
-    notes: &mut N,
-) -> io::Result<u8> {
-    let is_failed = if names.is_empty() {
-        tell_named(alloc, sources, &["-"], &mut teller, notes)?
-    } else {
-        tell_named(alloc, sources, names, &mut teller, notes)?
-    };
-    teller.end()?;
-    let tally = teller.counted();
-    let summary = summary_of(alloc, tally)?;
-    let _ = notes.write_all(summary.as_bytes());
-    Ok(status_of(tally, is_failed, settings.is_strict))
-}
-
-// Takes the files of these names, and answers whether one failed. The error is that of the output.
-fn tell_named<F: Sources, T: Teller, N: Write>(
-    alloc: Global,
-    sources: &F,
-    names: &[&str],
-    teller: &mut T,
-    notes: &mut N,
-) -> io::Result<bool> {
-    let mut is_failed = false;
-    for k in 0..names.len() {
-        match tell_file(sources, names[k], teller) {
-            Ok(()) => {}
-            Err(error) if teller.has_refused() => return Err(error),
-            Err(error) => {
-                note(alloc, names[k], &error, notes)?;
-                is_failed = true;
-            }
-        }
-    }
-    Ok(is_failed)
-}
-
-fn tell_file<F: Sources, T: Teller>(sources: &F, name: &str, teller: &mut T) -> io::Result<()> {
     let mut reader = sources.open(name)?;
     teller.take_file(name, &mut reader)
 }

@@ -4,6 +4,7 @@ ghost use Rattle.serde_json.specs.View.{view};
 ghost use Rattle.croncheck_command.specs.Entries.{entry_seen};
 ghost use Rattle.croncheck_command.specs.Json.{kind_of_line, kind_of, fault_kind, refusal_kind, IsRefusalObject, IsRefusalData, IsObject, WritesObject, IsWritten};
 ghost use Rattle.croncheck_command.specs.Report.{none_counted, begun};
+ghost use Rattle.croncheck_command.specs.Reported.{IsChecked};
 ghost use Rattle.croncheck_command.specs.Shown.{bytes_shown};
 
 use crate::check::{Entries, check};
@@ -79,9 +80,11 @@ impl<'s, 't, W: Write + Drop> JsonReporter<'s, 't, W> {
     ///
     /// The error is that of the reader or of what is written to, or says that memory is lacking.
     pub fn report<R: BufRead>(&mut self, name: &str, reader: &mut R) -> io::Result<()>
-        ensures { OnOk result (IfSome (R.remaining reader.old) (λ text. IsWritten self.old.settings.now text
+        ensures written { OnOk result (IfSome (R.remaining reader.old) (λ text. IsWritten self.old.settings.now text
             (record { contents = W.contents self.old.out; tally = begun self.old.tally; file = bytes_shown name.now; line = 0 })
             (record { contents = W.contents self.new.out; tally = self.new.tally; file = string_bytes self.new.name; line = self.new.line }))) }
+        ensures checked { OnOk result (IfSome (R.remaining reader.old) (λ text.
+            IsChecked self.old.settings.now text self.old.tally self.new.tally × (self.new.settings.now ≡ self.old.settings.now))) }
     {
         self.name = shown(self.alloc, name.as_bytes())?;
         self.line = 0;
