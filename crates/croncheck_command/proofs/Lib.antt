@@ -2,6 +2,7 @@ mod ClockAsked
 mod ClockTurns
 mod Examples
 mod ExamplesChanges
+mod ExamplesTally
 mod ExamplesWarnings
 mod FileTexts
 mod HarmlessBytes

@@ -1,0 +1,84 @@
+-- Worked rows of counts and of the status, computed from their definitions.
+use Rattle.std.proofs.Common.{◌≡◌, ℕ, List, [], ◌∷◌, true, false, refl}
+use Rattle.std.specs.Prelude.{codes}
+use Rattle.std.specs.Fmt.{decimal, digits}
+use Rattle.croncheck_command.specs.declared.line.Dialect.{Dialect}
+use Rattle.croncheck_command.specs.declared.line.Dialect.TheVariants as dialects
+use Rattle.croncheck_command.specs.declared.report.Report.{Report}
+use Rattle.croncheck_command.specs.declared.report.Report.TheVariants as reports
+use Rattle.croncheck_command.specs.declared.report.Tally.{Tally}
+use Rattle.croncheck_command.specs.Files.{summary_of}
+use Rattle.croncheck_command.specs.Report.{none_counted, counted, begun, added, status_of}
+
+-- a tally of this many refused lines, lines with a warning, and lines of the file
+abbrev tally : ℕ → ℕ → ℕ → Tally
+tally refused warned lines = record { lines = 20_000; jobs = 2; refused = refused; warned = warned; file_lines = lines }
+
+-- how many lines have a warning with one more
+abbrev warned_with : Dialect → ℕ → Report → ℕ
+warned_with dialect lines report = (added dialect (tally 0 0 lines) report).warned
+
+-- ---- lines
+
+a_zone : added dialects.User none_counted (reports.Setting true true) ≡ record { lines = 1; jobs = 0; refused = 0; warned = 1; file_lines = 1 }
+a_zone = refl
+
+a_setting_without_its_line_feed : warned_with dialects.System 0 (reports.Setting false false) ≡ 1
+a_setting_without_its_line_feed = refl
+
+both_count_once : warned_with dialects.User 0 (reports.Setting true false) ≡ 1
+both_count_once = refl
+
+a_setting : warned_with dialects.User 0 (reports.Setting false true) ≡ 0
+a_setting = refl
+
+line_10000 : warned_with dialects.User 9_999 reports.Silent ≡ 0
+line_10000 = refl
+
+line_10001 : warned_with dialects.User 10_000 reports.Silent ≡ 1
+line_10001 = refl
+
+line_10001_of_the_system : warned_with dialects.System 10_000 reports.Silent ≡ 1
+line_10001_of_the_system = refl
+
+line_10001_counts_once : warned_with dialects.User 10_000 (reports.Setting true true) ≡ 1
+line_10001_counts_once = refl
+
+line_10002 : warned_with dialects.User 10_001 reports.Silent ≡ 0
+line_10002 = refl
+
+line_10001_of_patterns : warned_with dialects.Patterns 10_000 reports.Silent ≡ 0
+line_10001_of_patterns = refl
+
+in_the_next_file : (added dialects.User (begun (tally 0 0 10_000)) reports.Silent).warned ≡ 0
+in_the_next_file = refl
+
+a_plan_counts_none : (counted (tally 0 0 0) (reports.Setting true false)).warned ≡ 0
+a_plan_counts_none = refl
+
+-- ---- the status
+
+clean : status_of true (tally 0 0 9) ≡ 0
+clean = refl
+
+warned : status_of false (tally 0 3 9) ≡ 0
+warned = refl
+
+strictly_warned : status_of true (tally 0 3 9) ≡ 1
+strictly_warned = refl
+
+refused : status_of false (tally 1 0 9) ≡ 1
+refused = refl
+
+strictly_refused : status_of true (tally 1 0 9) ≡ 1
+strictly_refused = refl
+
+-- ---- the summary
+
+none_warned : summary_of (tally 0 0 9) ≡ codes "2 jobs, 0 refused\n"
+unfolding digits
+none_warned = refl
+
+some_warned : summary_of (tally 1 3 9) ≡ codes "2 jobs, 1 refused, 3 with warnings\n"
+unfolding digits
+some_warned = refl
