@@ -5,6 +5,7 @@ ghost use Rattle.croncheck_command.specs.Entries.{entry_seen};
 ghost use Rattle.croncheck_command.specs.Json.{kind_of_line, kind_of, fault_kind, refusal_kind, IsRefusalObject, IsRefusalData, IsObject, WritesObject, IsWritten};
 ghost use Rattle.croncheck_command.specs.Shown.{bytes_shown};
 
+use crate::changes::meetings::{Compared, Meetings};
 use crate::check::{Entries, check};
 use crate::escaped::shown;
 use crate::line::{Entry, Fault};
@@ -335,21 +336,54 @@ fn run_object(
 // The warnings of a line.
 fn warnings_of(alloc: Global, report: &Report<'_, '_>) -> Result<Value, AllocError> {
     match report {
-        Report::Job(job) => warning_list(alloc, job.warnings.as_slice()),
-        Report::Setting { is_zone } if *is_zone => warning_list(alloc, &[Warning::NoZone]),
+        Report::Job(job) => warning_list(alloc, job.warnings.as_slice(), &job.meetings),
+        Report::Setting { is_zone } if *is_zone => warning_list(
+            alloc,
+            &[Warning::NoZone],
+            &Meetings::none(),
+        ),
         Report::Silent | Report::Setting { .. } | Report::Refused { .. } => warning_list(
             alloc,
             &[],
+            &Meetings::none(),
         ),
     }
 }
 
-fn warning_list(alloc: Global, warnings: &[Warning]) -> Result<Value, AllocError> {
+// Warnings, and behind them what is told of changes of the clock.
+fn warning_list(
+    alloc: Global,
+    warnings: &[Warning],
+    meetings: &Meetings,
+) -> Result<Value, AllocError> {
     let mut items = Vec::new(alloc);
     for warning in warnings {
         items.push(warning_object(alloc, *warning)?)?;
     }
+    push_compared(alloc, &mut items, &meetings.gap)?;
+    push_compared(alloc, &mut items, &meetings.twice)?;
     Ok(Value::Array(items))
+}
+
+fn push_compared(
+    alloc: Global,
+    items: &mut Vec<Value>,
+    compared: &Option<Compared>,
+) -> Result<(), AllocError> {
+    match compared {
+        Some(compared) => {
+            items.push(compared_object(alloc, compared)?)?;
+            Ok(())
+        }
+        None => Ok(()),
+    }
+}
+
+fn compared_object(alloc: Global, compared: &Compared) -> Result<Value, AllocError> {
+    let name = compared.name();
+    let mut text = String::new(alloc);
+    compared.push_text(&mut text, alloc)?;
+    json!(in alloc; {"name": name, "field": null, "text": text})
 }
 
 fn warning_object(alloc: Global, warning: Warning) -> Result<Value, AllocError> {
