@@ -523,11 +523,13 @@ def first_run(job, zone, start):
 
 ORDER = [
     "either-day", "uneven-step", "step-beyond", "whole-hour", "short-months", "gone", "never", "looks-like-field", "percent",
-    "no-newline", "no-zone", "carriage-return", "empty-item", "gap", "twice", "cron-change",
+    "no-newline", "no-zone", "carriage-return", "empty-item",
 ]
+# These stand behind the others: what is told of a gap, and then what of a repeated range.
+CHANGES = ["gap", "twice", "cron-change"]
 FIELD_NAMES = ["seconds", "minutes", "hours", "days of the month", "months", "weekdays", "years"]
 MOST_LINES = 10_000
-SMALL_CHANGE = 3 * 3600
+SMALL_CHANGE, HALF_DAY = 3 * 3600, DAY // 2
 
 
 class Times:
@@ -651,25 +653,33 @@ def is_carried_to(times, before, after):
 
 
 def warnings_of_changes(times, zone, start):
-    """The first change behind the start that puts the clock forward over a scheduled second, and the first that repeats one."""
-    found, told = [], set()
+    """What is told of the first change behind the start that puts the clock forward over a scheduled second, and of the first that
+    repeats one: that cron(8) does otherwise, or that a run is left out, or made twice. Nothing of a change of half a day or more."""
+    found = {}
     if len(times.hours) == 24:
-        return found
+        return []
     for instant, before, after in Clock(zone, start, start + YEAR_AND_A_DAY).changes():
         name = "gap" if before < after else "twice"
-        if name in told or not start < instant <= start + YEAR_AND_A_DAY:
+        if name in found or not start < instant <= start + YEAR_AND_A_DAY:
             continue
         if times.second_in(min(before, after), max(before, after)) is None:
             continue
-        told.add(name)
-        if name == "gap":
-            here = "moved" if is_carried_to(times, before, after) else "left out"
-        else:
-            here = "once" if times.is_fixed() else "twice"
-        found.append(f"{name} {here}")
-        if not times.is_pattern and here != fate_by_cron(times.job, name, abs(after - before)):
-            found.append(f"cron-change {fate_by_cron(times.job, name, abs(after - before))}")
-    return found
+        found[name] = warnings_of_change(times, name, before, after)
+    return found.get("gap", []) + found.get("twice", [])
+
+
+def warnings_of_change(times, name, before, after):
+    """The same of one change that meets a job."""
+    if name == "gap":
+        here = "moved" if is_carried_to(times, before, after) else "left out"
+    else:
+        here = "once" if times.is_fixed() else "twice"
+    there = here if times.is_pattern else fate_by_cron(times.job, name, abs(after - before))
+    if abs(after - before) >= HALF_DAY:
+        return []
+    if there != here:
+        return [f"cron-change {there}"]
+    return [name] if here in ("left out", "twice") else []
 
 
 def fate_by_cron(job, name, size):
@@ -725,7 +735,7 @@ def variable_of(text):
 
 def in_order(found):
     """The warnings of a line in the order in which they are given."""
-    return sorted(found, key=lambda said: ORDER.index(said.split(" ")[0]))
+    return sorted(found, key=lambda said: len(ORDER) if said.split(" ")[0] in CHANGES else ORDER.index(said.split(" ")[0]))
 
 
 def warnings_of_line(text, is_fed, is_system, zone, start):
@@ -784,11 +794,11 @@ def warnings_of_row(row):
     return [said for found in lines for said in found] + file
 
 
-def counts_of_row(row, others):
-    """How many lines of a row are refused, and how many are warned of, but for some warnings. A file's own stands at the first line too many."""
+def counts_of_row(row):
+    """How many lines of a row are refused, and how many are warned of. A file's own warning stands at the first line too many."""
     data, is_system, is_pattern = row["text"].encode("latin-1") * row.get("times", 1), row.get("system", False), row.get("patterns", False)
     lines, file = warnings_of_file(data, is_system, is_pattern, row["zone"], row["from"])
-    warned = {at for at, found in enumerate(lines) if any(said.split(" ")[0] not in others for said in found)}
+    warned = {at for at, found in enumerate(lines) if found}
     refused = sum(not is_pattern and line_of(text, is_system)[0] == "refused" for text, _ in lines_of(data))
     return refused, len(warned | ({MOST_LINES} if file else set()))
 

@@ -1,6 +1,7 @@
 //! `croncheck`: what each line of a crontab is to cron, what it means, and when it runs.
 #![tactic(auto)]
 
+use croncheck_command::changes::Changes;
 use croncheck_command::clock::Clock;
 use croncheck_command::files::{Sources, check_files, check_files_as_json, tell_files};
 use croncheck_command::moment::second_of;
@@ -97,11 +98,14 @@ fn check(rt: &HostRuntime, call: &Call<'_>, zone: TimeZone<'_>) -> Result<u8, Pr
     let Ok(start) = TableTime::new(clock.table(), start) else {
         return Err(Problem::OutOfMemory);
     };
+    let Ok(changes) = Changes::of(rt.alloc(), start) else {
+        return Err(Problem::OutOfMemory);
+    };
     let settings = Settings {
         dialect: call.dialect,
         parser: call.parser,
         language: call.language,
-        start,
+        changes: &changes,
         listing,
         is_strict: call.is_strict,
     };

@@ -1,5 +1,6 @@
 mod ClockAsked
 mod ClockTurns
+mod Comparisons
 mod Examples
 mod ExamplesChanges
 mod ExamplesTally

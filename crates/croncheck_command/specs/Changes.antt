@@ -1,6 +1,6 @@
 -- What changes of a clock do to the seconds that a job schedules. Source: this crate's documentation of `Changes`; for cron(8), its manual
 -- page of Debian's 3.0pl1, "Notes".
-use Rattle.std.specs.Prelude.{◌≡◌, ◌<◌, ◌||◌, ◌==◌, ℕ, Bool, true, false, ℤ, pos, neg_ℤ, ◌+ℤ◌, ◌-ℤ◌, ◌<ℤ◌, ◌≤ℤ◌, unsigned_abs, List, length, slice_index_or}
+use Rattle.std.specs.Prelude.{◌≡◌, ◌<◌, ◌⊎◌, ◌&&◌, ◌||◌, ◌==◌, ℕ, nat_lt, Bool, true, false, ℤ, pos, neg_ℤ, ◌+ℤ◌, ◌-ℤ◌, ◌<ℤ◌, ◌≤ℤ◌, unsigned_abs, List, length, slice_index_or, Option, Some, None, is_some}
 use Rattle.std.specs.List.{All}
 use Rattle.croner_base.specs.declared.time.table.TableTime.{TableTime}
 use Rattle.croner_base.specs.Calm.{IsChange}
@@ -19,6 +19,8 @@ use Rattle.croncheck_command.specs.declared.changes.Fate.TheVariants as fates
 use Rattle.croncheck_command.specs.declared.changes.Meeting.{Meeting}
 use Rattle.croncheck_command.specs.declared.changes.Range.{Range}
 use Rattle.croncheck_command.specs.declared.changes.Range.TheVariants as ranges
+use Rattle.croncheck_command.specs.declared.changes.meetings.Compared.{Compared}
+use Rattle.croncheck_command.specs.declared.changes.meetings.Meetings.{Meetings}
 
 -- ---- the changes of a clock
 
@@ -126,3 +128,57 @@ IsFateInCron text ranges.Repeated c fates.Moved = ⊥
 IsFateInCron text ranges.Repeated c fates.LeftOut = ⊥
 IsFateInCron text ranges.Repeated c fates.Once = MakesUp text c
 IsFateInCron text ranges.Repeated c fates.Twice = ¬ (MakesUp text c)
+
+-- ---- what is told
+
+-- what becomes of a meeting's second in cron(8). Of a pattern, which is no text for cron(8), it is what becomes of it here
+abbrev pub IsFateThere : Option (List ℕ) → Meeting → Fate → Type 0
+IsFateThere None g fate = fate ≡ g.fate
+IsFateThere (Some text) g fate = IsFateInCron text g.range g.change fate
+
+-- the same, where it is something else than here
+abbrev pub IsOtherInCron : Option (List ℕ) → Meeting → Option Fate → Type 0
+IsOtherInCron text g None = IsFateThere text g g.fate
+IsOtherInCron text g (Some fate) = IsFateThere text g fate × ¬ (fate ≡ g.fate)
+
+-- the first change that meets a job in a range, and what cron(8) does there
+pub record IsCompared (z : Zone) (start : ℤ) (text : Option (List ℕ)) (m : Meaning) (range : Range) (c : Compared) : Type 0 where
+  pub meeting : IsMeeting z start m range c.meeting
+  pub in_cron : IsOtherInCron text c.meeting c.in_cron
+
+-- the clock is moved by less than twelve hours: more goes to another date, and is no daylight saving
+abbrev pub is_within_a_date : Change → Bool
+is_within_a_date c = nat_lt (unsigned_abs (c.before -ℤ c.after)) 43_200
+
+-- a run is left out, or made twice
+abbrev pub is_harmed : Fate → Bool
+is_harmed fates.LeftOut = true
+is_harmed fates.Moved = false
+is_harmed fates.Once = false
+is_harmed fates.Twice = true
+
+-- it is told, if cron(8) does otherwise, or a run is left out or made twice
+abbrev pub is_told : Compared → Bool
+is_told c = is_within_a_date c.meeting.change && (is_some c.in_cron || is_harmed c.meeting.fate)
+
+-- no change meets the job in the range
+abbrev pub IsMetByNone : Zone → ℤ → Meaning → Range → Type 0
+IsMetByNone z start m range = (c : Change) (w : ℤ) → ¬ (Meets z start m range c w)
+
+-- what is told of the first change that meets a job in a range: nothing where none does, or where it isn't told
+abbrev pub TellsFirst : Zone → ℤ → Option (List ℕ) → Meaning → Range → Option Compared → Type 0
+TellsFirst z start text m range None = IsMetByNone z start m range ⊎ ((c : Compared) × IsCompared z start text m range c × (is_told c ≡ false))
+TellsFirst z start text m range (Some c) = IsCompared z start text m range c × (is_told c ≡ true)
+
+-- what is told of the changes of a start's own clock behind it
+pub record AreMeetings (start : TableTime) (text : Option (List ℕ)) (m : Meaning) (met : Meetings) : Type 0 where
+  pub gap : TellsFirst (table_moment start).zone (table_moment start).instant text m ranges.Gap met.gap
+  pub twice : TellsFirst (table_moment start).zone (table_moment start).instant text m ranges.Repeated met.twice
+
+-- nothing is told
+abbrev pub none_met : Meetings
+none_met = record { gap = None; twice = None }
+
+-- something is told
+abbrev pub are_told : Meetings → Bool
+are_told met = is_some met.gap || is_some met.twice

@@ -5,6 +5,7 @@ use Rattle.std.specs.declared.alloc.Global.{Global}
 use Rattle.croner_base.specs.declared.errors.CronError.{CronError}
 use Rattle.croner_base.specs.declared.errors.CronError.TheVariants.{OutOfMemory}
 use Rattle.croner_base.specs.declared.time.civil.CivilDateTime.{CivilDateTime}
+use Rattle.croner_base.specs.declared.time.table.TableTime.{TableTime}
 use Rattle.croner_base.specs.Civil.{wall_second}
 use Rattle.croner_base.specs.TableZone.{table_moment}
 use Rattle.croner_base.specs.Zone.{reading}
@@ -19,6 +20,7 @@ use Rattle.croner.specs.parser.Faults.{refusal_of, IsPlaced}
 use Rattle.croner.specs.parser.Gives.{Fails}
 use Rattle.croner.specs.parser.Grammar.{Refusal, outcome, Texts}
 use Rattle.croncheck_command.specs.declared.bytes.Kind.TheVariants as kinds
+use Rattle.croncheck_command.specs.declared.changes.meetings.Meetings.{Meetings}
 use Rattle.croncheck_command.specs.declared.line.Dialect.{Dialect}
 use Rattle.croncheck_command.specs.declared.line.Dialect.TheVariants as dialects
 use Rattle.croncheck_command.specs.declared.line.Entry.{Entry}
@@ -39,6 +41,7 @@ use Rattle.croncheck_command.specs.declared.runs.End.TheVariants as ends
 use Rattle.croncheck_command.specs.declared.runs.Runs.{Runs}
 use Rattle.croncheck_command.specs.declared.warnings.Warning.{Warning}
 use Rattle.croncheck_command.specs.Bytes.{front}
+use Rattle.croncheck_command.specs.Changes.{AreMeetings, none_met, are_told}
 use Rattle.croncheck_command.specs.Entries.{job_seen}
 use Rattle.croncheck_command.specs.Field.{smaller}
 use Rattle.croncheck_command.specs.Line.{Timing, reboot, never, named, Task}
@@ -53,6 +56,10 @@ abbrev pub wording_of : Tongue → Wording
 wording_of tongues.English = english
 wording_of tongues.Swedish = swedish
 
+-- where runs are listed from: the start whose changes of the clock are told
+abbrev pub start_of : Settings → TableTime
+start_of s = s.changes.now.start
+
 -- the pattern names no year from this one on
 abbrev pub NamesNoneFrom : Meaning → ℤ → Type 0
 NamesNoneFrom m year = (later : ℤ) → year ≤ℤ later → is_year_matching m later ≡ false
@@ -66,8 +73,8 @@ pub record IsPastAt (m : Meaning) (w : ℤ) (is_past : Bool) : Type 0 where
 -- a meaning is told as its description, its runs behind the start, and whether its years are past
 pub record IsTold (s : Settings) (m : Meaning) (text : String Global) (runs : Runs) (is_past : Bool) : Type 0 where
   pub described : string_bytes text ≡ description (wording_of s.language) m
-  pub listed : IsListed m s.start s.listing runs
-  pub past : IsPastAt m (reading (table_moment s.start)) is_past
+  pub listed : IsListed m (start_of s) s.listing runs
+  pub past : IsPastAt m (reading (table_moment (start_of s))) is_past
 
 -- what was told of a text for a parser: that of its meaning, so that it has one
 abbrev pub TellsMeaning : Settings → Result Meaning Refusal → Told → Type 0
@@ -142,16 +149,40 @@ pub record WarnsPattern (is_fed : Bool) (text : List ℕ) (meaning : Option Mean
   pub fields_are : AreFieldsOfPattern text fields
   pub are : found ≡ warnings_of (subject_of fields meaning None None false is_fed told)
 
+-- ---- changes of the clock
+
+-- no run is left
+abbrev pub is_idle : Told → Bool
+is_idle told = is_never told || is_told_past told
+
+-- what is told of changes of the clock to a job of this meaning that was told so: nothing where no run of it is left
+pub record TellsMeetings (s : Settings) (text : Option (List ℕ)) (m : Meaning) (told : Told) (met : Meetings) : Type 0 where
+  pub idle : is_idle told ≡ true → met ≡ none_met
+  pub met : is_idle told ≡ false → AreMeetings (start_of s) text m met
+
+-- the same, where it may have no meaning: then it names no time
+abbrev pub TellsChanges : Settings → Option (List ℕ) → Option Meaning → Told → Meetings → Type 0
+TellsChanges s text None told met = met ≡ none_met
+TellsChanges s text (Some m) told met = TellsMeetings s text m told met
+
+-- a job of a crontab is compared with cron(8) by its times as they are written, a pattern isn't compared
+abbrev pub MeetsJob : Settings → Task → Told → Meetings → Type 0
+MeetsJob s task told met = TellsChanges s (Some task.schedule) (meaning_of_timing task.times) told met
+
+abbrev pub MeetsPattern : Settings → Option Meaning → Told → Meetings → Type 0
+MeetsPattern s meaning told met = TellsChanges s None meaning told met
+
 -- ---- the report of a job
 
--- a job's report has these texts, its times are told so, and these are its warnings
+-- a job's report has these texts, its times are told so, these are its warnings, and this is told of changes of the clock
 pub record IsJobTold (schedule : List ℕ) (user command : Option (List ℕ)) (tells : Told → Type 0) (warns : Told → List Warning → Type 0)
-    (j : JobReport) : Type 0 where
+    (meets : Told → Meetings → Type 0) (j : JobReport) : Type 0 where
   pub schedule_is : j.schedule.now ≡ schedule
   pub user_is : option_map (λ u. u.now) j.user ≡ user
   pub command_is : option_map (λ c. c.now) j.command ≡ command
   pub tells_times : tells j.times
   pub warned : warns j.times j.warnings.items
+  pub met : meets j.times j.meetings
 
 -- the parser refuses a text with an error of this kind
 abbrev pub IsRefusalOf : CronError → Result Meaning Refusal → Type 0
@@ -183,7 +214,7 @@ abbrev pub IsReportOfJob : Bool → Settings → ℕ → Task → Report → Typ
 IsReportOfJob is_fed s blanks task reports.Silent = ⊥
 IsReportOfJob is_fed s blanks task (reports.Setting is_zone has_feed) = ⊥
 IsReportOfJob is_fed s blanks task (reports.Job j) =
-    IsJobTold task.schedule task.user (Some task.command) (TellsTiming s task.times) (WarnsJob is_fed task) j
+    IsJobTold task.schedule task.user (Some task.command) (TellsTiming s task.times) (WarnsJob is_fed task) (MeetsJob s task) j
 IsReportOfJob is_fed s blanks task (reports.Refused start end why) = IsWholeBehind blanks task.schedule start end × IsJobRefused task why
 
 -- ---- a pattern
@@ -202,7 +233,8 @@ abbrev pub IsReportOfPattern : Bool → Settings → ℕ → List ℕ → Report
 IsReportOfPattern is_fed s blanks text reports.Silent = ⊥
 IsReportOfPattern is_fed s blanks text (reports.Setting is_zone has_feed) = ⊥
 IsReportOfPattern is_fed s blanks text (reports.Job j) =
-    IsJobTold text None None (TellsMeaning s (outcome s.parser text)) (WarnsPattern is_fed text (meaning_read (outcome s.parser text))) j
+    IsJobTold text None None (TellsMeaning s (outcome s.parser text)) (WarnsPattern is_fed text (meaning_read (outcome s.parser text)))
+    (MeetsPattern s (meaning_read (outcome s.parser text))) j
 IsReportOfPattern is_fed s blanks text (reports.Refused start end why) = IsPatternRefused s blanks text start end why
 
 -- ---- a line
@@ -228,7 +260,7 @@ IsReport s line entry r = IsReportOfLine true s line entry r
 
 -- a job or a pattern has a warning
 abbrev pub has_job_warnings : JobReport → Bool
-has_job_warnings j = not (length j.warnings.items == 0)
+has_job_warnings j = not (length j.warnings.items == 0) || are_told j.meetings
 
 -- a line has a warning. Those of a setting are said in other words: it sets a zone elsewhere, or has no line feed
 abbrev pub has_warnings : Report → Bool

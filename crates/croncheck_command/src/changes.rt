@@ -9,6 +9,7 @@ ghost use Rattle.croncheck_command.specs.Private.Met.{IsToldOf, IsInYears, IsNon
 
 mod found;
 mod level;
+pub mod meetings;
 pub mod told;
 
 use crate::bytes::{Kind, begins_with, cut};
@@ -73,7 +74,8 @@ pub struct Meeting {
 /// Those count that come from 0001-01-02T00:00:00 UTC on and before 4999-12-31T00:00:00 UTC.
 #[derive(Drop)]
 pub struct Changes<'t> {
-    start: TableTime<'t>,
+    /// The start, behind which they lie.
+    pub start: TableTime<'t>,
     level: Level,
     items: Vec<Change>,
     pub ghost all: { AreChangesFrom start items.items },

@@ -7,6 +7,7 @@ ghost use Rattle.croncheck_command.specs.Report.{none_counted, begun};
 ghost use Rattle.croncheck_command.specs.Reported.{IsChecked};
 ghost use Rattle.croncheck_command.specs.Shown.{bytes_shown};
 
+use crate::changes::meetings::{Compared, Meetings};
 use crate::check::{Entries, check};
 use crate::escaped::shown;
 use crate::line::{Entry, Fault};
@@ -336,28 +337,56 @@ fn run_object(
 // The warnings of a line.
 fn warnings_of(alloc: Global, report: &Report<'_, '_>) -> Result<Value, AllocError> {
     match report {
-        Report::Job(job) => warning_list(alloc, job.warnings.as_slice()),
+        Report::Job(job) => warning_list(alloc, job.warnings.as_slice(), &job.meetings),
         Report::Setting { is_zone, is_fed } => setting_warnings(alloc, *is_zone, *is_fed),
-        Report::Silent | Report::Refused { .. } => warning_list(alloc, &[]),
+        Report::Silent | Report::Refused { .. } => warning_list(alloc, &[], &Meetings::none()),
     }
 }
 
 // The warnings of a setting.
 fn setting_warnings(alloc: Global, is_zone: bool, is_fed: bool) -> Result<Value, AllocError> {
     match (is_zone, is_fed) {
-        (true, true) => warning_list(alloc, &[Warning::NoZone]),
-        (true, false) => warning_list(alloc, &[Warning::NoNewline, Warning::NoZone]),
-        (false, true) => warning_list(alloc, &[]),
-        (false, false) => warning_list(alloc, &[Warning::NoNewline]),
+        (true, true) => warning_list(alloc, &[Warning::NoZone], &Meetings::none()),
+        (true, false) => warning_list(alloc, &[Warning::NoNewline, Warning::NoZone], &Meetings::none()),
+        (false, true) => warning_list(alloc, &[], &Meetings::none()),
+        (false, false) => warning_list(alloc, &[Warning::NoNewline], &Meetings::none()),
     }
 }
 
-fn warning_list(alloc: Global, warnings: &[Warning]) -> Result<Value, AllocError> {
+// Warnings, and behind them what is told of changes of the clock.
+fn warning_list(
+    alloc: Global,
+    warnings: &[Warning],
+    meetings: &Meetings,
+) -> Result<Value, AllocError> {
     let mut items = Vec::new(alloc);
     for warning in warnings {
         items.push(warning_object(alloc, *warning)?)?;
     }
+    push_compared(alloc, &mut items, &meetings.gap)?;
+    push_compared(alloc, &mut items, &meetings.twice)?;
     Ok(Value::Array(items))
+}
+
+fn push_compared(
+    alloc: Global,
+    items: &mut Vec<Value>,
+    compared: &Option<Compared>,
+) -> Result<(), AllocError> {
+    match compared {
+        Some(compared) => {
+            items.push(compared_object(alloc, compared)?)?;
+            Ok(())
+        }
+        None => Ok(()),
+    }
+}
+
+fn compared_object(alloc: Global, compared: &Compared) -> Result<Value, AllocError> {
+    let name = compared.name();
+    let mut text = String::new(alloc);
+    compared.push_text(&mut text, alloc)?;
+    json!(in alloc; {"name": name, "field": null, "text": text})
 }
 
 fn warning_object(alloc: Global, warning: Warning) -> Result<Value, AllocError> {

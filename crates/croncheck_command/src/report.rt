@@ -11,10 +11,12 @@ ghost use Rattle.croner.specs.parser.Gives.{Fails};
 ghost use Rattle.croner.specs.parser.Grammar.{Refusal};
 ghost use Rattle.croner.specs.Views.{job_of as meaning_of_job};
 ghost use Rattle.croncheck_command.specs.Entries.{job_seen, times_seen};
-ghost use Rattle.croncheck_command.specs.Report.{wording_of, NamesNoneFrom, IsPastAt, IsTold, TellsMeaning, TellsTiming, IsRefusalOf, IsUnreadTiming, IsReportOfJob, IsPatternRefused, IsReportOfPattern, blanks_of, IsReport, IsReportOfLine, is_over, is_never, is_told_past, subject_of, IsWarned, WarnsJob, WarnsPattern, has_job_warnings, has_warnings, none_counted, counted, begun, is_too_many, is_line_warned, one_more, one_more_if, added, status_of};
+ghost use Rattle.croncheck_command.specs.Report.{wording_of, NamesNoneFrom, IsPastAt, IsTold, TellsMeaning, TellsTiming, IsRefusalOf, IsUnreadTiming, IsReportOfJob, IsPatternRefused, IsReportOfPattern, blanks_of, IsReport, IsReportOfLine, start_of, is_over, is_never, is_told_past, is_idle, TellsChanges, subject_of, IsWarned, WarnsJob, WarnsPattern, MeetsJob, MeetsPattern, has_job_warnings, has_warnings, none_counted, counted, begun, is_too_many, is_line_warned, one_more, one_more_if, added, status_of};
 ghost use Rattle.croncheck_command.specs.Warnings.{fields_seen, subject_seen};
 
 use crate::bytes::{Kind, cut};
+use crate::changes::Changes;
+use crate::changes::meetings::Meetings;
 use crate::line::{Dialect, Entry, Fault, Job, Times};
 use crate::parsed::job_of;
 use crate::runs::{End, Listing, Runs, runs_of};
@@ -49,8 +51,8 @@ pub struct Settings<'t> {
     /// The parser of the lines of a file of patterns.
     pub parser: CronParser,
     pub language: Tongue,
-    /// Where runs are listed from; it is none itself.
-    pub start: TableTime<'t>,
+    /// The changes of the clock behind the start, from which runs are listed; it is none itself.
+    pub changes: &'t Changes<'t>,
     pub listing: Listing,
     /// The status is 1 where a line has a warning, too.
     pub is_strict: bool,
@@ -90,6 +92,8 @@ pub struct JobReport<'l, 't> {
     pub times: Told<'t>,
     /// In the order of the table in docs/CRONTAB.md.
     pub warnings: Vec<Warning>,
+    /// What changes of the clock do to it.
+    pub meetings: Meetings,
 }
 
 /// When a job runs.
@@ -139,7 +143,7 @@ impl JobReport<'_, '_> {
     pub fn has_warnings(&self) -> bool
         ensures { result ≡ has_job_warnings self.now }
     {
-        !self.warnings.is_empty()
+        !self.warnings.is_empty() || self.meetings.is_told()
     }
 }
 
@@ -244,16 +248,18 @@ fn report_of_job<'l, 't>(
             command: Some(job.command),
             times: warned.times,
             warnings: warned.warnings,
+            meetings: warned.meetings,
         })),
         Err(refusal) => Ok(refused(line, job.schedule, Why::Crate(refusal))),
     }
 }
 
-// What a job's times are told, and its warnings.
+// What a job's times are told, its warnings, and what it is told of changes of the clock.
 #[derive(Drop)]
 struct Warned<'t> {
     times: Told<'t>,
     warnings: Vec<Warning>,
+    meetings: Meetings,
 }
 
 // What a job's times are told, and its warnings; or why the crate's parser refuses the text that they were made into.
@@ -265,16 +271,17 @@ fn told_of_times<'t>(
 ) -> Result<Result<Warned<'t>, CronError>, CronError>
     ensures told { IfOk result (λ read. IfOk read (λ w. TellsTiming settings.now (job_seen job.now).times w.times)) }
     ensures warned { IfOk result (λ read. IfOk read (λ w. WarnsJob is_fed (job_seen job.now) w.times w.warnings.items)) }
+    ensures met { IfOk result (λ read. IfOk read (λ w. MeetsJob settings.now (job_seen job.now) w.times w.meetings)) }
     ensures refused { IfOk result (λ read. IfErr read (IsUnreadTiming (job_seen job.now).times)) }
     ensures err { IfErr result (λ e. e ≡ CronError.OutOfMemory) }
 {
     match &job.times {
         Times::Reboot => {
-            let warned = with_warnings(alloc, job, None, Told::Reboot, is_fed)?;
+            let warned = with_warnings(alloc, job, None, Told::Reboot, Meetings::none(), is_fed)?;
             Ok(Ok(warned))
         }
         Times::Never => {
-            let warned = with_warnings(alloc, job, None, Told::Nothing, is_fed)?;
+            let warned = with_warnings(alloc, job, None, Told::Nothing, Meetings::none(), is_fed)?;
             Ok(Ok(warned))
         }
         Times::Named { text, both_days } => match job_of(alloc, text.as_str(), *both_days) {
@@ -301,11 +308,37 @@ fn told_of_job<'t>(
     ensures told { IfOk result (λ w. TellsMeaning settings.now (Ok (meaning_of_job cron.now)) w.times) }
     ensures warnings { IfOk result (λ w.
         IsWarned is_fed job.now.schedule.now (option_map (λ u. u.now) job.now.user) job.now.command.now (Some (meaning_of_job cron.now)) w.times w.warnings.items) }
+    ensures met { IfOk result (λ w.
+        TellsChanges settings.now (Some job.now.schedule.now) (Some (meaning_of_job cron.now)) w.times w.meetings) }
     ensures err { IfErr result (λ e. e ≡ CronError.OutOfMemory) }
 {
     let told = told_of(alloc, settings, cron)?;
-    let warned = with_warnings(alloc, job, Some(cron), told, is_fed)?;
+    let meetings = meetings_of(alloc, settings, cron, Some(job.schedule), &told);
+    let warned = with_warnings(alloc, job, Some(cron), told, meetings, is_fed)?;
     Ok(warned)
+}
+
+// What a job is told of changes of the clock, whose times were told so.
+fn meetings_of(
+    alloc: Global,
+    settings: &Settings<'_>,
+    job: &Cron,
+    text: Option<&[u8]>,
+    told: &Told<'_>,
+) -> Meetings
+    ensures { TellsChanges settings.now (option_map (λ t. t.now) text.entry) (Some (meaning_of_job job.now)) told.now result }
+{
+    if is_idle(told) {
+        return Meetings::none();
+    }
+    settings.changes.meetings_of(alloc, job, text)
+}
+
+// No run of a job is left.
+fn is_idle(told: &Told<'_>) -> bool
+    ensures { result ≡ is_idle told.now }
+{
+    told.is_never() || told.is_past()
 }
 
 // What a job of a crontab is told, with its warnings.
@@ -314,9 +347,11 @@ fn with_warnings<'t>(
     job: &Job<'_>,
     cron: Option<&Cron>,
     times: Told<'t>,
+    meetings: Meetings,
     is_fed: bool,
 ) -> Result<Warned<'t>, CronError>
     ensures times { IfOk result (λ w. w.times ≡ times.entry) }
+    ensures met { IfOk result (λ w. w.meetings ≡ meetings) }
     ensures warnings { IfOk result (λ w. IsWarned is_fed job.now.schedule.now (option_map (λ u. u.now) job.now.user) job.now.command.now
         (option_map (λ j. meaning_of_job j.now) cron.entry) w.times w.warnings.items) }
     ensures err { IfErr result (λ e. e ≡ CronError.OutOfMemory) }
@@ -327,7 +362,11 @@ fn with_warnings<'t>(
         alloc,
         &subject_of(fields, cron, job.user, command, true, is_fed, &times),
     )?;
-    Ok(Warned { times, warnings })
+    Ok(Warned {
+        times,
+        warnings,
+        meetings,
+    })
 }
 
 // What is looked at of a job or a pattern for its warnings.
@@ -429,6 +468,7 @@ fn told_of_pattern<'l, 't>(
     match settings.parser.parse(alloc, text) {
         Ok(job) => {
             let times = told_of(alloc, settings, &job)?;
+            let meetings = meetings_of(alloc, settings, &job, None, &times);
             let warnings = warnings_of_pattern(alloc, text, &job, &times, is_fed)?;
             Ok(Report::Job(JobReport {
                 schedule: text.as_bytes(),
@@ -436,6 +476,7 @@ fn told_of_pattern<'l, 't>(
                 command: None,
                 times,
                 warnings,
+                meetings,
             }))
         }
         Err(_) => Err(CronError::OutOfMemory),
@@ -467,8 +508,8 @@ fn told_of<'t>(alloc: Global, settings: &Settings<'t>, job: &Cron) -> Result<Tol
     ensures err { IfErr result (λ e. e ≡ CronError.OutOfMemory) }
 {
     let description = description_of(job, settings.language)?;
-    let runs = runs_of(alloc, job, settings.start, settings.listing)?;
-    let is_past = is_past(job, settings.start);
+    let runs = runs_of(alloc, job, settings.changes.start, settings.listing)?;
+    let is_past = is_past(job, settings.changes.start);
     Ok(Told::Runs {
         description,
         runs,

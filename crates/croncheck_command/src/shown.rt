@@ -3,6 +3,7 @@ ghost use Rattle.std.specs.Prelude.{◌≡◌, ◌≤◌, [], length, true, fals
 ghost use Rattle.croncheck_command.specs.Shown.{is_told, AreLines};
 
 use crate::bytes::{Kind, begins_with, cut, is_quote, rest_of, trimmed};
+use crate::changes::meetings::{Compared, Meetings};
 use crate::escaped::push_shown;
 use crate::line::{Fault, WEEKDAYS};
 use crate::notes;
@@ -453,7 +454,29 @@ fn push_job(
         push_notes(alloc, text, None, line)?;
     }
     push_told(text, shared, &job.times)?;
-    push_warnings(text, job.warnings.as_slice())
+    push_warnings(text, job.warnings.as_slice())?;
+    push_meetings(alloc, text, &job.meetings)
+}
+
+// What a job is told of changes of the clock, below its other warnings.
+fn push_meetings(alloc: Global, text: &mut String, meetings: &Meetings) -> Result<(), AllocError> {
+    push_compared(alloc, text, &meetings.gap)?;
+    push_compared(alloc, text, &meetings.twice)
+}
+
+fn push_compared(
+    alloc: Global,
+    text: &mut String,
+    compared: &Option<Compared>,
+) -> Result<(), AllocError> {
+    match compared {
+        Some(compared) => {
+            let name = compared.name();
+            write!(text, "\n  warning: {name}: ")?;
+            compared.push_text(text, alloc)
+        }
+        None => Ok(()),
+    }
 }
 
 // The warnings of a job below it. That its line feed is missing is said at the end of its file.

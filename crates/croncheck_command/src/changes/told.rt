@@ -1,58 +1,78 @@
-//! The text of a change that meets a job.
+//! The warnings of changes of the clock: their names, and what they say.
 use crate::changes::level::Level;
-use crate::changes::{Fate, Meeting, Range};
+use crate::changes::meetings::Compared;
+use crate::changes::{Change, Fate, Range};
 use std::alloc::{AllocError, Global};
 
-/// The name of the warning of a range.
-pub fn name_of(range: Range) -> &'static str {
-    match range {
-        Range::Gap => "gap",
-        Range::Repeated => "twice",
+impl Compared {
+    /// The name of the warning: `gap` or `twice`, or where cron(8) does otherwise `cron-change`.
+    pub fn name(&self) -> &'static str {
+        match (self.in_cron, self.meeting.range) {
+            (Some(_), _) => "cron-change",
+            (None, Range::Gap) => "gap",
+            (None, Range::Repeated) => "twice",
+        }
+    }
+
+    /// Writes what happens at the change, what becomes of the second, and what to write instead.
+    pub fn push_text(&self, text: &mut String, alloc: Global) -> Result<(), AllocError> {
+        let level = Level::new(alloc);
+        push_change(text, &level, self.meeting.range, self.meeting.change)?;
+        match self.in_cron {
+            Some(in_cron) => push_in_cron(text, &level, self.meeting.second, in_cron),
+            None => push_here(text, &level, self.meeting.second, self.meeting.fate),
+        }
     }
 }
 
-/// Writes what happens at the change, and what becomes of the second here.
-pub fn push_meeting(text: &mut String, alloc: Global, meeting: &Meeting) -> Result<(), AllocError> {
-    let level = Level::new(alloc);
-    let change = meeting.change;
-    text.push_str("at ")?;
-    push_wall(text, &level, change.before)?;
-    text.push_str(match meeting.range {
-        Range::Gap => " the clock goes to ",
+// What the clock does.
+fn push_change(
+    text: &mut String,
+    level: &Level,
+    range: Range,
+    change: Change,
+) -> Result<(), AllocError> {
+    text.push_str("At ")?;
+    push_wall(text, level, change.before)?;
+    text.push_str(match range {
+        Range::Gap => " the clock goes forward to ",
         Range::Repeated => " the clock goes back to ",
     })?;
-    push_wall(text, &level, change.after)?;
-    text.push_str("; the run at ")?;
-    push_wall(text, &level, meeting.second)?;
-    text.push_str(match meeting.fate {
-        Fate::LeftOut => " is left out: name an hour that is not skipped, if it may not be missed",
-        Fate::Moved => " is made as the clock goes on",
-        Fate::Once => ", which comes twice, is made the first time alone",
-        Fate::Twice => " is made twice: name an hour that comes once, if that does harm",
+    push_wall(text, level, change.after)
+}
+
+// What becomes of a second, here and in cron(8).
+fn push_here(text: &mut String, level: &Level, second: i64, fate: Fate) -> Result<(), AllocError> {
+    text.push_str(", and the run at ")?;
+    push_wall(text, level, second)?;
+    text.push_str(match fate {
+        Fate::LeftOut => " is left out. Name an hour that isn't skipped, if it may not be missed.",
+        Fate::Moved => " is made as the clock goes on.",
+        Fate::Once => ", which comes twice, is made the first time alone.",
+        Fate::Twice => " is made twice. Name an hour that comes once, if that does harm.",
     })
 }
 
-/// Writes what becomes of the second here, and what in cron(8).
-pub fn push_in_cron(
+// What becomes of a second in cron(8), and what here, which is something else.
+fn push_in_cron(
     text: &mut String,
-    alloc: Global,
-    meeting: &Meeting,
+    level: &Level,
+    second: i64,
     in_cron: Fate,
 ) -> Result<(), AllocError> {
-    let level = Level::new(alloc);
-    text.push_str("the run at ")?;
-    push_wall(text, &level, meeting.second)?;
-    text.push_str(match meeting.fate {
-        Fate::LeftOut => " is left out here",
-        Fate::Moved => " is made as the clock goes on here",
-        Fate::Once => " is made once here",
-        Fate::Twice => " is made twice here",
-    })?;
+    text.push_str(". Cron ")?;
     text.push_str(match in_cron {
-        Fate::LeftOut => ", and cron(8) leaves it out",
-        Fate::Moved => ", and cron(8) makes it as the clock goes on",
-        Fate::Once => ", and cron(8) makes it once",
-        Fate::Twice => ", and cron(8) makes it twice",
+        Fate::LeftOut => "leaves out the run at ",
+        Fate::Moved | Fate::Once | Fate::Twice => "makes the run at ",
+    })?;
+    push_wall(text, level, second)?;
+    text.push_str(match in_cron {
+        Fate::LeftOut =>
+            ", and the runs listed here have it as the clock goes on. Name an hour that isn't skipped, if it may not be missed.",
+        Fate::Moved => " as the clock goes on, and the runs listed here leave it out.",
+        Fate::Once => " the first time alone, and the runs listed here have it twice.",
+        Fate::Twice =>
+            " twice, and the runs listed here have it the first time alone. Name an hour that comes once, if that does harm.",
     })
 }
 

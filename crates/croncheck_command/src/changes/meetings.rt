@@ -1,0 +1,142 @@
+//! What is told of the first changes that meet a job.
+ghost use Rattle.std.specs.Prelude.{◌≡◌, option_map, MatchOption};
+ghost use Rattle.croner_base.specs.TableZone.{table_moment};
+ghost use Rattle.croner.specs.Views.{job_of};
+ghost use Rattle.croncheck_command.specs.Changes.{IsFateThere, IsOtherInCron, is_within_a_date, is_harmed, is_told, TellsFirst, AreMeetings, none_met, are_told};
+
+use crate::changes::{Change, Changes, Fate, Meeting, Range};
+use croner::Cron;
+use std::alloc::Global;
+
+/// Of a change by so many seconds or more nothing is told: it goes to another date, and is no daylight saving.
+const SECONDS_PER_HALF_DAY: u64 = 43_200;
+
+/// The first change that meets a job in a range, compared with what cron(8) does there.
+#[derive(Clone, Copy, Debug, PartialEq, Eq, Drop)]
+pub struct Compared {
+    pub meeting: Meeting,
+    /// What becomes of the second in cron(8), where that is something else than here. `None` for a pattern alone.
+    pub in_cron: Option<Fate>,
+}
+
+/// What a job is told of changes of the clock behind a start.
+#[derive(Clone, Copy, Debug, PartialEq, Eq, Drop)]
+pub struct Meetings {
+    /// Of the first change that skips one of its seconds.
+    pub gap: Option<Compared>,
+    /// Of the first change that shows one of them twice.
+    pub twice: Option<Compared>,
+}
+
+impl Meetings {
+    /// Nothing is told.
+    pub fn none() -> Meetings
+        ensures { result ≡ none_met }
+    {
+        Meetings {
+            gap: None,
+            twice: None,
+        }
+    }
+
+    /// Whether something is told.
+    pub fn is_told(&self) -> bool
+        ensures { result ≡ are_told self.now }
+    {
+        self.gap.is_some() || self.twice.is_some()
+    }
+}
+
+impl Changes<'_> {
+    /// What is told of these changes to a job: of the first that skips one of its scheduled seconds, and of the first that shows one twice.
+    ///
+    /// A job whose hours are all named is told nothing. Else it is told where the clock is moved by less than twelve hours, and cron(8) does
+    /// otherwise, or a run is left out or made twice. The times are the text of five fields that cron(8) would take; a pattern alone has none.
+    pub fn meetings_of(&self, alloc: Global, job: &Cron, times: Option<&[u8]>) -> Meetings
+        ensures { AreMeetings self.now.start (option_map (λ t. t.now) times.entry) (job_of job.now) result }
+    {
+        Meetings {
+            gap: self.told_of_first(alloc, job, times, Range::Gap),
+            twice: self.told_of_first(alloc, job, times, Range::Repeated),
+        }
+    }
+
+    // What is told of the first change that meets a job in a range.
+    fn told_of_first(
+        &self,
+        alloc: Global,
+        job: &Cron,
+        times: Option<&[u8]>,
+        range: Range,
+    ) -> Option<Compared>
+        ensures { TellsFirst (table_moment self.now.start).zone (table_moment self.now.start).instant (option_map (λ t. t.now) times.entry)
+            (job_of job.now) range result }
+    {
+        match self.first_meeting(alloc, job, range) {
+            Some(meeting) => if_told(compare(meeting, times)),
+            None => None,
+        }
+    }
+}
+
+// A meeting, compared with what cron(8) does.
+fn compare(meeting: Meeting, times: Option<&[u8]>) -> Compared
+    ensures meeting { result.meeting ≡ meeting }
+    ensures in_cron { IsOtherInCron (option_map (λ t. t.now) times.entry) meeting result.in_cron }
+{
+    Compared {
+        meeting,
+        in_cron: if_other(fate_there(meeting, times), meeting.fate),
+    }
+}
+
+// What becomes of a meeting's second in cron(8).
+fn fate_there(meeting: Meeting, times: Option<&[u8]>) -> Fate
+    ensures { IsFateThere (option_map (λ t. t.now) times.entry) meeting result }
+{
+    match times {
+        Some(times) => meeting.fate_in_cron(times),
+        None => meeting.fate,
+    }
+}
+
+// A fate in cron(8), if it is another than here.
+fn if_other(there: Fate, here: Fate) -> Option<Fate>
+    ensures { MatchOption result (there ≡ here) (λ f. (f ≡ there) × ¬ (there ≡ here)) }
+{
+    if there == here { None } else { Some(there) }
+}
+
+// What is compared, if it is told.
+fn if_told(compared: Compared) -> Option<Compared>
+    ensures { MatchOption result (is_told compared ≡ false) (λ c. (c ≡ compared) × (is_told compared ≡ true)) }
+{
+    if is_told(&compared) {
+        Some(compared)
+    } else {
+        None
+    }
+}
+
+fn is_told(compared: &Compared) -> bool
+    ensures { result ≡ is_told compared.now }
+{
+    is_within_a_date(compared.meeting.change)
+        && (compared.in_cron.is_some() || is_harmed(compared.meeting.fate))
+}
+
+fn is_within_a_date(change: Change) -> bool
+    ensures { result ≡ is_within_a_date change }
+{
+    change.before.abs_diff(change.after) < SECONDS_PER_HALF_DAY
+}
+
+// Whether a run is left out or made twice.
+fn is_harmed(fate: Fate) -> bool
+    ensures { result ≡ is_harmed fate }
+{
+    match fate {
+        Fate::LeftOut | Fate::Twice => true,
+        Fate::Moved | Fate::Once => false,
+    }
+}
