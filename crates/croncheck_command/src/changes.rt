@@ -26,7 +26,7 @@ const HOURS_PER_DAY: usize = 24;
 const MADE_UP_SECONDS: u64 = 10_800;
 
 /// A change of a clock. Wall seconds are counted as if the wall clock never changed, from 1970-01-01T00:00:00 on it.
-#[derive(Clone, Copy, Debug, PartialEq, Eq, Drop)]
+#[derive(Clone, Copy, Drop)]
 pub struct Change {
     /// Its instant, in seconds since 1970-01-01T00:00:00 UTC.
     pub instant: i64,
@@ -37,7 +37,7 @@ pub struct Change {
 }
 
 /// Which wall seconds of a change are meant.
-#[derive(Clone, Copy, Debug, PartialEq, Eq, Drop)]
+#[derive(Clone, Copy, Drop)]
 pub enum Range {
     /// Those that it skips: from `before` up to the one before `after`.
     Gap,
@@ -46,7 +46,7 @@ pub enum Range {
 }
 
 /// What becomes of a scheduled second in such a range.
-#[derive(Clone, Copy, Debug, PartialEq, Eq, Drop)]
+#[derive(Clone, Copy, Drop)]
 pub enum Fate {
     /// It is skipped, and there is no run for it.
     LeftOut,
@@ -59,7 +59,7 @@ pub enum Fate {
 }
 
 /// A change that meets a job.
-#[derive(Clone, Copy, Debug, PartialEq, Eq, Drop)]
+#[derive(Clone, Copy, Drop)]
 pub struct Meeting {
     pub change: Change,
     pub range: Range,

@@ -20,7 +20,7 @@ const POSITIVE_NUMBERS: u64 = 2_147_483_648;
 const WORD_LIMIT: usize = 1_000;
 
 /// The names that a field knows.
-#[derive(Clone, Copy, Debug, PartialEq, Eq, Drop)]
+#[derive(Clone, Copy, Drop)]
 pub enum Names {
     None,
     Months,

@@ -25,7 +25,6 @@ use std::io::{BufRead, ErrorKind, Write};
 pub const VERSION: u32 = 1;
 
 /// Writes an object for each line of files, one file behind the other.
-#[derive(Drop)]
 pub struct JsonReporter<'s, 't, W> {
     alloc: Global,
     settings: &'s Settings<'t>,
@@ -37,6 +36,22 @@ pub struct JsonReporter<'s, 't, W> {
     // Its name, as it is shown.
     name: String,
     is_refused: bool,
+}
+
+// By hand, so that a function that lets one go calls this one: its proof doesn't go through the fields at each exit.
+impl<W: Drop> Drop for JsonReporter<'_, '_, W> {
+    fn drop(self) {
+        let JsonReporter {
+            alloc: _,
+            settings: _,
+            shared: _,
+            out: _,
+            tally: _,
+            line: _,
+            name: _,
+            is_refused: _,
+        } = self;
+    }
 }
 
 impl<'s, 't, W: Write + Drop> JsonReporter<'s, 't, W> {
@@ -113,15 +128,17 @@ impl<'s, 't, W: Write + Drop> JsonReporter<'s, 't, W> {
         ensures settings { self.new.settings.now ≡ self.old.settings.now }
     {
         let kind = kind_of(kind, report);
-        let object = object_of(
-            self.alloc,
-            self.shared,
-            kind,
-            self.name.as_str(),
-            self.line,
-            report,
-        )?;
-        let mut text = object.to_string(self.alloc)?;
+        let mut text = {
+            let object = object_of(
+                self.alloc,
+                self.shared,
+                kind,
+                self.name.as_str(),
+                self.line,
+                report,
+            )?;
+            object.to_string(self.alloc)?
+        };
         text.push('\n')?;
         let written = self.out.write_all(text.as_bytes());
         if written.is_err() {
@@ -216,17 +233,14 @@ fn object_of(
 ) -> Result<Value, AllocError>
     ensures { IfOk result (λ v. IsObject kind.now file.now line report.now (view v)) }
 {
-    let refusal = refusal_of(alloc, report)?;
-    let job = job_of(alloc, shared, report)?;
-    let warnings = warnings_of(alloc, report)?;
     json!(in alloc; {
         "version": VERSION,
         "kind": kind,
         "file": file,
         "line": line,
-        "job": job,
-        "refusal": refusal,
-        "warnings": warnings
+        "job": job_of(alloc, shared, report)?,
+        "refusal": refusal_of(alloc, report)?,
+        "warnings": warnings_of(alloc, report)?
     })
 }
 
@@ -274,11 +288,12 @@ fn job_object(
     shared: &Shared<'_>,
     job: &JobReport<'_, '_>,
 ) -> Result<Value, AllocError> {
-    let schedule = text_of(alloc, Some(job.schedule))?;
-    let user = text_of(alloc, job.user)?;
-    let command = text_of(alloc, job.command)?;
-    let times = times_of(alloc, shared, &job.times)?;
-    json!(in alloc; {"schedule": schedule, "user": user, "command": command, "times": times})
+    json!(in alloc; {
+        "schedule": text_of(alloc, Some(job.schedule))?,
+        "user": text_of(alloc, job.user)?,
+        "command": text_of(alloc, job.command)?,
+        "times": times_of(alloc, shared, &job.times)?
+    })
 }
 
 // Bytes as they are shown; null where there are none.
@@ -298,10 +313,14 @@ fn times_of(alloc: Global, shared: &Shared<'_>, times: &Told<'_>) -> Result<Valu
             runs,
             is_past,
         } => {
-            let items = runs_of(alloc, shared, runs)?;
             let end = end_of(&runs.end, *is_past);
             let description = description.as_str();
-            json!(in alloc; {"when": "named", "description": description, "runs": items, "end": end})
+            json!(in alloc; {
+                "when": "named",
+                "description": description,
+                "runs": runs_of(alloc, shared, runs)?,
+                "end": end
+            })
         }
     }
 }
@@ -347,7 +366,11 @@ fn warnings_of(alloc: Global, report: &Report<'_, '_>) -> Result<Value, AllocErr
 fn setting_warnings(alloc: Global, is_zone: bool, is_fed: bool) -> Result<Value, AllocError> {
     match (is_zone, is_fed) {
         (true, true) => warning_list(alloc, &[Warning::NoZone], &Meetings::none()),
-        (true, false) => warning_list(alloc, &[Warning::NoNewline, Warning::NoZone], &Meetings::none()),
+        (true, false) => warning_list(
+            alloc,
+            &[Warning::NoNewline, Warning::NoZone],
+            &Meetings::none(),
+        ),
         (false, true) => warning_list(alloc, &[], &Meetings::none()),
         (false, false) => warning_list(alloc, &[Warning::NoNewline], &Meetings::none()),
     }
@@ -391,9 +414,13 @@ fn compared_object(alloc: Global, compared: &Compared) -> Result<Value, AllocErr
 
 fn warning_object(alloc: Global, warning: Warning) -> Result<Value, AllocError> {
     let (name, text) = (warning.name(), warning.text());
-    let field = match warning.field() {
-        Some(field) => Value::String(String::from_str(alloc, field_name(field))?),
-        None => Value::Null,
-    };
-    json!(in alloc; {"name": name, "field": field, "text": text})
+    json!(in alloc; {"name": name, "field": field_of(alloc, warning)?, "text": text})
+}
+
+// The name of the field that a warning is about; null where it is about none.
+fn field_of(alloc: Global, warning: Warning) -> Result<Value, AllocError> {
+    match warning.field() {
+        Some(field) => Ok(Value::String(String::from_str(alloc, field_name(field))?)),
+        None => Ok(Value::Null),
+    }
 }

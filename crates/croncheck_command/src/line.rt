@@ -83,7 +83,7 @@ impl Dialect {
 }
 
 /// Why cron refuses a line, or this checker does.
-#[derive(Clone, Copy, Debug, PartialEq, Eq, Drop)]
+#[derive(Clone, Copy, PartialEq, Eq, Drop)]
 pub enum Fault {
     /// A byte 0: cron ends what it reads there, and takes what follows for a further line.
     Nul,
@@ -118,7 +118,6 @@ pub enum Times {
 }
 
 /// A job of a crontab.
-#[derive(Drop)]
 pub struct Job<'l> {
     pub times: Times,
     /// The times as they are written: from the first word to the end of the fifth, or `@` and its word.
@@ -126,6 +125,18 @@ pub struct Job<'l> {
     /// The name of its user, where the file names one.
     pub user: Option<&'l [u8]>,
     pub command: &'l [u8],
+}
+
+// By hand, so that a function that lets one go calls this one: its proof doesn't go through the fields at each exit.
+impl Drop for Job<'_> {
+    fn drop(self) {
+        let Job {
+            times: _,
+            schedule: _,
+            user: _,
+            command: _,
+        } = self;
+    }
 }
 
 /// What a line is.
@@ -259,13 +270,25 @@ pub(crate) fn are_both(words: Words<'_>) -> bool
 }
 
 /// The texts of five fields for the crate's parser. One is empty where its field names nothing.
-#[derive(Drop)]
 struct Texts {
     minutes: String,
     hours: String,
     days: String,
     months: String,
     weekdays: String,
+}
+
+// By hand, as that of `Job`.
+impl Drop for Texts {
+    fn drop(self) {
+        let Texts {
+            minutes: _,
+            hours: _,
+            days: _,
+            months: _,
+            weekdays: _,
+        } = self;
+    }
 }
 
 // Five texts as one, both day fields given apart.

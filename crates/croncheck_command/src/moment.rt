@@ -17,7 +17,7 @@ use std::alloc::{AllocError, Global};
 const DATETIME_LENGTH: usize = 19;
 
 /// A moment that a word names.
-#[derive(Clone, Copy, Debug, PartialEq, Eq, Drop)]
+#[derive(Clone, Copy, Drop)]
 pub enum Moment {
     /// `now`
     Now,

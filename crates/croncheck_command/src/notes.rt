@@ -26,7 +26,7 @@ const NUMBERS: u64 = 4_294_967_296;
 const NAME_LENGTH: usize = 3;
 
 /// What is told of a line beside its meaning or its refusal.
-#[derive(Clone, Copy, Debug, PartialEq, Eq, Drop)]
+#[derive(Clone, Copy, Drop)]
 pub enum Note {
     /// A day field begins with `*`, and neither day field is `*` alone: both must match.
     StarDay,

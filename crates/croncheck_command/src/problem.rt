@@ -5,7 +5,7 @@ use jiff::Timestamp;
 use std::{fmt, io};
 
 /// Why a call can't be answered.
-#[derive(Debug, Drop)]
+#[derive(Drop)]
 pub enum Problem {
     /// The words of the call are not read.
     Words(io::Error),

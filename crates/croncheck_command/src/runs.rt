@@ -44,7 +44,6 @@ pub enum Listing {
 }
 
 /// How a listing ends.
-#[derive(Drop)]
 pub enum End {
     /// As many as were asked were listed, and of none a run is left. Or all that come no later than a second, and a run is left behind it.
     More,
@@ -54,6 +53,18 @@ pub enum End {
     Cut,
     /// A search was refused, though not by the end of the years.
     Failed(CronError),
+}
+
+// By hand, so that a function that lets one go calls this one: its proof doesn't go through the fields at each exit.
+impl Drop for End {
+    fn drop(self) {
+        match self {
+            End::More => {}
+            End::Over => {}
+            End::Cut => {}
+            End::Failed(_) => {}
+        }
+    }
 }
 
 /// The runs of a listing, the nearest first.
@@ -278,9 +289,9 @@ pub(crate) fn cut_end(is_less: bool, end: End) -> End
     if is_less {
         return End::More;
     }
-    match end {
+    match &end {
         End::More => End::Cut,
-        other => other,
+        End::Over | End::Cut | End::Failed(_) => end,
     }
 }
 

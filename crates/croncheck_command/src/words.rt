@@ -59,7 +59,7 @@ pub struct Call<'w> {
 }
 
 /// What is written.
-#[derive(Clone, Copy, Debug, PartialEq, Eq, Drop)]
+#[derive(Clone, Copy, Drop)]
 pub enum Form {
     /// What each line is told, as text.
     Report,
@@ -70,7 +70,7 @@ pub enum Form {
 }
 
 /// Up to where runs are listed.
-#[derive(Clone, Copy, Debug, PartialEq, Eq, Drop)]
+#[derive(Clone, Copy, Drop)]
 pub enum Span {
     /// So many, from 0 to 1000.
     Count(u32),
@@ -78,7 +78,7 @@ pub enum Span {
 }
 
 /// Why there is nothing to check.
-#[derive(Debug, Drop)]
+#[derive(Drop)]
 pub enum NoCall {
     /// The words ask for this text: help, or the version.
     Asked(String),
@@ -144,8 +144,19 @@ fn command<'w>(alloc: Global) -> Result<Command<'w>, AllocError> {
     )
 }
 
+// With one more argument. No other function lets a command go.
+fn add<'w>(
+    command: Command<'w>,
+    arg: Result<Arg<'w>, AllocError>,
+) -> Result<Command<'w>, AllocError> {
+    match arg {
+        Ok(arg) => command.arg(arg),
+        Err(error) => Err(error),
+    }
+}
+
 fn with_times<'w>(alloc: Global, command: Command<'w>) -> Result<Command<'w>, AllocError> {
-    command
+    let command = command
         .arg(
             value(alloc, "zone", "NAME|RULE|local")
                 .default_value("local")
@@ -161,60 +172,71 @@ fn with_times<'w>(alloc: Global, command: Command<'w>) -> Result<Command<'w>, Al
                 .value_parser(value_parser!(u32).range(0..=1000))
                 .default_value("3")
                 .help("How many runs of each line, 0 to 1000"),
-        )?
-        .arg(
-            value(alloc, "until", "DATETIME|@SECONDS")
-                .conflicts_with("runs")?
-                .help("In place of --runs: all runs up to here"),
-        )
+        )?;
+    add(
+        command,
+        value(alloc, "until", "DATETIME|@SECONDS")
+            .help("In place of --runs: all runs up to here")
+            .conflicts_with("runs"),
+    )
 }
 
 fn with_output<'w>(alloc: Global, command: Command<'w>) -> Result<Command<'w>, AllocError> {
-    command
-        .arg(flag(alloc, "plan").help(
-            "One list of the runs of all lines of all files, in order of time; --runs and --until count its moments",
-        ))?
-        .arg(
-            flag(alloc, "json")
-                .conflicts_with("plan")?
-                .help("One JSON object a line of input"),
-        )?
-        .arg(
-            flag(alloc, "strict")
-                .conflicts_with("plan")?
-                .help("A warning makes the status 1, as a refused line does"),
-        )
+    let command = command.arg(flag(alloc, "plan").help(
+        "One list of the runs of all lines of all files, in order of time; --runs and --until count its moments",
+    ))?;
+    let command = add(
+        command,
+        flag(alloc, "json")
+            .help("One JSON object a line of input")
+            .conflicts_with("plan"),
+    )?;
+    add(
+        command,
+        flag(alloc, "strict")
+            .help("A warning makes the status 1, as a refused line does")
+            .conflicts_with("plan"),
+    )
 }
 
 fn with_forms<'w>(alloc: Global, command: Command<'w>) -> Result<Command<'w>, AllocError> {
-    command
-        .arg(flag(alloc, "system").help("A user stands before each command, as in /etc/crontab"))?
-        .arg(
-            flag(alloc, "patterns").conflicts_with("system")?.help(
-                "Each line is a pattern of five to seven fields, and no command",
-            ),
-        )?
-        .arg(
-            value(alloc, "language", "LANGUAGE")
-                .value_parser(["en", "sv"].as_slice())
-                .default_value("en")
-                .help("The language of descriptions"),
-        )
+    let command = command.arg(flag(alloc, "system").help(
+        "A user stands before each command, as in /etc/crontab",
+    ))?;
+    let patterns = flag(alloc, "patterns")
+        .help("Each line is a pattern of five to seven fields, and no command")
+        .conflicts_with("system");
+    add(command, patterns)?.arg(
+        value(alloc, "language", "LANGUAGE")
+            .value_parser(["en", "sv"].as_slice())
+            .default_value("en")
+            .help("The language of descriptions"),
+    )
 }
 
 fn with_parser<'w>(alloc: Global, command: Command<'w>) -> Result<Command<'w>, AllocError> {
-    command
-        .arg(setting(flag(alloc, "alternative-weekdays"))?.help(
-            "With --patterns: weekdays are 1 to 7 from Sunday",
-        ))?
-        .arg(setting(flag(alloc, "dom-and-dow"))?.help(
-            "With --patterns: both day fields must match",
-        ))?
-        .arg(setting(flag(alloc, "sloppy-ranges"))?.help(
-            "With --patterns: a step may follow a number, as 5/10",
-        ))?
-        .arg(field(alloc, "seconds")?.help("With --patterns: whether there is a field of seconds"))?
-        .arg(field(alloc, "year")?.help("With --patterns: whether there is a field of years"))
+    let weekdays = flag(alloc, "alternative-weekdays").help(
+        "With --patterns: weekdays are 1 to 7 from Sunday",
+    );
+    let command = add(command, setting(weekdays))?;
+    let days = flag(alloc, "dom-and-dow").help("With --patterns: both day fields must match");
+    let command = add(command, setting(days))?;
+    let ranges = flag(alloc, "sloppy-ranges").help(
+        "With --patterns: a step may follow a number, as 5/10",
+    );
+    let command = add(command, setting(ranges))?;
+    let seconds = field(
+        alloc,
+        "seconds",
+        "With --patterns: whether there is a field of seconds",
+    );
+    let command = add(command, seconds)?;
+    let year = field(
+        alloc,
+        "year",
+        "With --patterns: whether there is a field of years",
+    );
+    add(command, year)
 }
 
 fn value<'w>(alloc: Global, id: &'w str, name: &'w str) -> Arg<'w> {
@@ -232,10 +254,11 @@ fn setting(arg: Arg<'_>) -> Result<Arg<'_>, AllocError> {
     arg.requires_arg("patterns")
 }
 
-fn field<'w>(alloc: Global, id: &'w str) -> Result<Arg<'w>, AllocError> {
+fn field<'w>(alloc: Global, id: &'w str, help: &'w str) -> Result<Arg<'w>, AllocError> {
     let arg = value(alloc, id, "USE")
         .value_parser(["optional", "required", "disallowed"].as_slice())
-        .default_value("optional");
+        .default_value("optional")
+        .help(help);
     setting(arg)
 }
 

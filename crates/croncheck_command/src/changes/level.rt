@@ -13,10 +13,16 @@ use croner::time::{CivilDateTime, CronDateTime, Resolution};
 use std::alloc::Global;
 
 /// A clock on which each wall second is its own instant.
-#[derive(Drop)]
 pub struct Level {
     table: ClockTable,
     pub ghost parts: { HasParts (pos 0) [] table },
+}
+
+// By hand, so that a function that lets one go calls this one: its proof doesn't go through the fields at each exit.
+impl Drop for Level {
+    fn drop(self) {
+        let Level { table: _ } = self;
+    }
 }
 
 impl Level {

@@ -14,14 +14,14 @@ use croner::time::days_in_month;
 use croner::{CivilDate, Cron, CronPattern, Weekday};
 
 /// The days of a month by each day field, one bit a day: bit `day - 1` is set where the day is named.
-#[derive(Clone, Copy, Debug, Drop)]
+#[derive(Clone, Copy, Drop)]
 pub struct Sides {
     pub by_day: u32,
     pub by_weekday: u32,
 }
 
 /// A month: its year, its number from 1 to 12, how many days it has, and the weekday of its first.
-#[derive(Clone, Copy, Debug, Drop)]
+#[derive(Clone, Copy, Drop)]
 pub struct Month {
     pub year: i32,
     pub month: u32,
