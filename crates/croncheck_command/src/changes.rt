@@ -46,7 +46,7 @@ pub enum Range {
 }
 
 /// What becomes of a scheduled second in such a range.
-#[derive(Clone, Copy, Drop)]
+#[derive(Clone, Copy, PartialEq, Eq, Drop)]
 pub enum Fate {
     /// It is skipped, and there is no run for it.
     LeftOut,

@@ -12,7 +12,7 @@ use std::alloc::Global;
 const SECONDS_PER_HALF_DAY: u64 = 43_200;
 
 /// The first change that meets a job in a range, compared with what cron(8) does there.
-#[derive(Clone, Copy, Debug, PartialEq, Eq, Drop)]
+#[derive(Clone, Copy, Drop)]
 pub struct Compared {
     pub meeting: Meeting,
     /// What becomes of the second in cron(8), where that is something else than here. `None` for a pattern alone.
@@ -20,7 +20,7 @@ pub struct Compared {
 }
 
 /// What a job is told of changes of the clock behind a start.
-#[derive(Clone, Copy, Debug, PartialEq, Eq, Drop)]
+#[derive(Clone, Copy, Drop)]
 pub struct Meetings {
     /// Of the first change that skips one of its seconds.
     pub gap: Option<Compared>,
