@@ -97,3 +97,10 @@ module _ {T : Type 0} (tally_of : T → Tally) (settings_of : T → Settings) wh
   checked_status s first texts status e none (inr told) =
       let P : Tally → Type 0 = λ t. AreChecked s texts t (tally_of told.0) in
       inr (tally_of told.0, subst P none (checked_in_turn s texts first told.0 e told.1), told.2)
+
+-- the same of a call
+pub checked_call : {T E : Type 0} (first : T) (tally_of : T → Tally) (settings_of : T → Settings) (s : Settings) (texts : List (List ℕ)) (r : Result ℕ E)
+    → settings_of first ≡ s → tally_of first ≡ none_counted
+    → IfOk r (IsToldStatus (Checks tally_of settings_of) tally_of s.is_strict first texts) → IfOk r (IsStatus s texts)
+checked_call first tally_of settings_of s texts (Ok status) e none told = checked_status tally_of settings_of s first texts status e none told
+checked_call first tally_of settings_of s texts (Err error) e none told = tt

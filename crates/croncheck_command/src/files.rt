@@ -181,7 +181,7 @@ pub fn tell_files<F: Sources, T: Teller + Drop, N: Write>(
     notes: &mut N,
 ) -> io::Result<u8>
     ensures { (text_of : List ℕ → List ℕ) → HaveTexts (F.holds sources.now) text_of →
-        IfOk result (IsToldStatus T.takes T.tally is_strict teller.entry (map text_of (asked (map (λ name. name.now) names.now)))) }
+        IfOk result (IsToldStatus T.takes T.tally is_strict teller (map text_of (asked (map (λ name. name.now) names.now)))) }
 {
     if names.is_empty() {
         tell_named(alloc, is_strict, sources, &["-"], teller, notes)
@@ -200,7 +200,7 @@ fn tell_named<F: Sources, T: Teller + Drop, N: Write>(
     notes: &mut N,
 ) -> io::Result<u8>
     ensures { (text_of : List ℕ → List ℕ) → HaveTexts (F.holds sources.now) text_of →
-        IfOk result (IsToldStatus T.takes T.tally is_strict teller.entry (map text_of (map (λ name. name.now) names.now))) }
+        IfOk result (IsToldStatus T.takes T.tally is_strict teller (map text_of (map (λ name. name.now) names.now))) }
 {
     let is_failed = take_files(alloc, sources, names, &mut teller, notes)?;
     teller.end()?;
