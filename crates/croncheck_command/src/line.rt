@@ -52,7 +52,7 @@ pub(crate) const WEEKDAYS: Place = Place {
 };
 
 /// How the lines of a file are read.
-#[derive(Clone, Copy, PartialEq, Eq, Drop)]
+#[derive(Clone, Copy, Drop)]
 pub enum Dialect {
     /// As a crontab of a user.
     User,
@@ -83,7 +83,7 @@ impl Dialect {
 }
 
 /// Why cron refuses a line, or this checker does.
-#[derive(Clone, Copy, PartialEq, Eq, Drop)]
+#[derive(Clone, Copy, Drop)]
 pub enum Fault {
     /// A byte 0: cron ends what it reads there, and takes what follows for a further line.
     Nul,

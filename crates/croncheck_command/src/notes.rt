@@ -380,7 +380,7 @@ fn is_refusal_noted(
     match note {
         Note::CapitalNickname => {
             let (name, _) = cut(rest_of(text), Kind::Word);
-            Ok(fault == Fault::Nickname && is_nickname(name))
+            Ok(matches!(fault, Fault::Nickname) && is_nickname(name))
         }
         Note::Seconds if is_of_fields(fault) => has_seconds(alloc, text),
         Note::Seconds => Ok(false),

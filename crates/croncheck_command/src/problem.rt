@@ -47,16 +47,13 @@ impl fmt::Display for Problem {
             Problem::Clock(reason) => write_reason(f, *reason),
             Problem::Now(error) => write!(f, "the machine's clock: {error}"),
             Problem::SkippedFrom => {
-                write!(f, "--from: the zone's clock never shows this date and time")
+                f.write_str("--from: the zone's clock never shows this date and time")
             }
             Problem::SkippedUntil => {
-                write!(
-                    f,
-                    "--until: the zone's clock never shows this date and time"
-                )
+                f.write_str("--until: the zone's clock never shows this date and time")
             }
             Problem::Unwritten(error) => write!(f, "the output: {error}"),
-            Problem::OutOfMemory => write!(f, "out of memory"),
+            Problem::OutOfMemory => f.write_str("out of memory"),
         }
     }
 }
@@ -65,20 +62,16 @@ impl fmt::Display for Problem {
 fn write_reason<W: fmt::Write>(f: &mut fmt::Formatter<W>, reason: NoClock) -> fmt::Result {
     match reason {
         NoClock::Change(second) => write_change(f, second),
-        NoClock::Outside => write!(
-            f,
-            "--from: runs are listed up to the end of year 5000, and not from before year -9998"
+        NoClock::Outside => f.write_str(
+            "--from: runs are listed up to the end of year 5000, and not from before year -9998",
         ),
-        NoClock::OutOfMemory => write!(f, "out of memory"),
+        NoClock::OutOfMemory => f.write_str("out of memory"),
     }
 }
 
 // The change of a zone's clock over which runs are not listed.
 fn write_change<W: fmt::Write>(f: &mut fmt::Formatter<W>, second: i64) -> fmt::Result {
-    write!(
-        f,
-        "the zone: runs are not listed over the change of its clock at "
-    )?;
+    f.write_str("the zone: runs are not listed over the change of its clock at ")?;
     if let Ok(instant) = Timestamp::from_second(second) {
         write!(f, "{instant} ")?;
     }

@@ -141,7 +141,7 @@ impl<'s, 't, W: Write + Drop> Reporter<'s, 't, W> {
         ensures tally { self.new.tally ≡ self.old.tally }
         ensures settings { self.new.settings.now ≡ self.old.settings.now }
     {
-        if self.settings.dialect == Dialect::Patterns {
+        if matches!(self.settings.dialect, Dialect::Patterns) {
             return Ok(());
         }
         let text = ending(self.alloc, &self.file)?;
@@ -205,24 +205,21 @@ fn ending(alloc: Global, file: &FileSeen) -> Result<String, AllocError> {
     let mut text = String::new(alloc);
     let name = file.name.as_str();
     if 0 < file.refused {
-        write!(
-            &mut text,
-            "{name}: cron ignores the whole file: a line is refused\n"
-        )?;
+        push_ignored(&mut text, name, "a line is refused\n")?;
     }
     if file.is_unfed {
-        write!(
-            &mut text,
-            "{name}: cron ignores the whole file: its last line has no line feed\n"
-        )?;
+        push_ignored(&mut text, name, "its last line has no line feed\n")?;
     }
     if are_many_lines(file.lines) {
-        write!(
-            &mut text,
-            "{name}: cron ignores the whole file: it has more than 10000 lines\n"
-        )?;
+        push_ignored(&mut text, name, "it has more than 10000 lines\n")?;
     }
     Ok(text)
+}
+
+fn push_ignored(text: &mut String, name: &str, reason: &str) -> Result<(), AllocError> {
+    text.push_str(name)?;
+    text.push_str(": cron ignores the whole file: ")?;
+    text.push_str(reason)
 }
 
 // Whether the line of an entry counts for cron where no line feed ends it.

@@ -134,8 +134,8 @@ fn push_note(
     line: &[u8],
 ) -> Result<(), AllocError> {
     if is_noted(alloc, note, fault, line)? {
-        let said = notes::text(note);
-        write!(text, "\n  note: {said}")?;
+        text.push_str("\n  note: ")?;
+        text.push_str(notes::text(note))?;
     }
     Ok(())
 }
@@ -326,17 +326,17 @@ fn push_field_reason(
         );
     }
     if has(piece, END_OF_FILE) {
-        return write!(
-            text,
-            "{said}: cron takes the byte 255 for the end of the file"
-        );
+        text.push_str(said)?;
+        return text.push_str(": cron takes the byte 255 for the end of the file");
     }
     match fault {
         Fault::Minutes => push_minute_reason(text, line),
-        Fault::Weekdays if takes(alloc, WEEKDAYS, piece)? => write!(
-            text,
-            "{said}: the command begins with the byte 255, which cron takes for the end of the file"
-        ),
+        Fault::Weekdays if takes(alloc, WEEKDAYS, piece)? => {
+            text.push_str(said)?;
+            text.push_str(
+                ": the command begins with the byte 255, which cron takes for the end of the file",
+            )
+        }
         _ => text.push_str(reason_of(fault)),
     }
 }
@@ -482,7 +482,7 @@ fn push_compared(
 // The warnings of a job below it. That its line feed is missing is said at the end of its file.
 fn push_warnings(text: &mut String, warnings: &[Warning]) -> Result<(), AllocError> {
     for warning in warnings {
-        if *warning != Warning::NoNewline {
+        if !matches!(warning, Warning::NoNewline) {
             push_warning(text, *warning)?;
         }
     }
@@ -532,7 +532,8 @@ fn push_told(text: &mut String, shared: &Shared<'_>, times: &Told<'_>) -> Result
             runs,
             ..
         } => {
-            write!(text, "\n  {description}")?;
+            text.push_str("\n  ")?;
+            text.push_str(description.as_str())?;
             for run in runs.items.iter() {
                 push_run(text, shared, run)?;
             }

@@ -21,7 +21,7 @@ use std::alloc::Global;
 const MOST_LINES: u64 = 10_000;
 
 /// What is to be said of a line that is taken. Its [`name`](Warning::name) and [`text`](Warning::text) say it in words.
-#[derive(Clone, Copy, PartialEq, Eq, Drop)]
+#[derive(Clone, Copy, Drop)]
 pub enum Warning {
     /// Neither day field is a star, and a day has to match one of them alone.
     EitherDay,
