@@ -1,5 +1,5 @@
 //! What is told of the first changes that meet a job.
-ghost use Rattle.std.specs.Prelude.{◌≡◌, option_map, MatchOption};
+ghost use Rattle.std.specs.Prelude.{◌≡◌, true, false, option_map, MatchOption};
 ghost use Rattle.croner_base.specs.TableZone.{table_moment};
 ghost use Rattle.croner.specs.Views.{job_of};
 ghost use Rattle.croncheck_command.specs.Changes.{IsFateThere, IsOtherInCron, is_within_a_date, is_harmed, is_told, TellsFirst, AreMeetings, none_met, are_told};
