@@ -1,6 +1,6 @@
 -- What changes of a clock do to the seconds that a job schedules. Source: this crate's documentation of `Changes`; for cron(8), its manual
 -- page of Debian's 3.0pl1, "Notes".
-use Rattle.std.specs.Prelude.{◌≡◌, ◌<◌, ◌⊎◌, ◌&&◌, ◌||◌, ◌==◌, ℕ, nat_lt, Bool, true, false, ℤ, pos, neg_ℤ, ◌+ℤ◌, ◌-ℤ◌, ◌<ℤ◌, ◌≤ℤ◌, unsigned_abs, List, length, slice_index_or, Option, Some, None, is_some}
+use Rattle.std.specs.Prelude.{◌≡◌, ◌<◌, ◌⊎◌, ◌&&◌, ◌||◌, ◌==◌, ℕ, nat_lt, Bool, true, false, ℤ, pos, neg_ℤ, ◌+ℤ◌, ◌-ℤ◌, ◌<ℤ◌, ◌≤ℤ◌, unsigned_abs, List, length, slice_index_or, codes, Option, Some, None, is_some}
 use Rattle.std.specs.List.{All}
 use Rattle.croner_base.specs.declared.time.table.TableTime.{TableTime}
 use Rattle.croner_base.specs.Calm.{IsChange}
@@ -160,6 +160,18 @@ is_harmed fates.Twice = true
 -- it is told, if cron(8) does otherwise, or a run is left out or made twice
 abbrev pub is_told : Compared → Bool
 is_told c = is_within_a_date c.meeting.change && (is_some c.in_cron || is_harmed c.meeting.fate)
+
+-- the name of the warning
+abbrev pub name_of_range : Range → List ℕ
+name_of_range ranges.Gap = codes "gap"
+name_of_range ranges.Repeated = codes "twice"
+
+abbrev pub name_by : Option Fate → Range → List ℕ
+name_by None range = name_of_range range
+name_by (Some fate) range = codes "cron-change"
+
+abbrev pub name_of : Compared → List ℕ
+name_of c = name_by c.in_cron c.meeting.range
 
 -- no change meets the job in the range
 abbrev pub IsMetByNone : Zone → ℤ → Meaning → Range → Type 0

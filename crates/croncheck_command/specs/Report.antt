@@ -158,7 +158,7 @@ is_idle told = is_never told || is_told_past told
 -- what is told of changes of the clock to a job of this meaning that was told so: nothing where no run of it is left
 pub record TellsMeetings (s : Settings) (text : Option (List ℕ)) (m : Meaning) (told : Told) (met : Meetings) : Type 0 where
   pub idle : is_idle told ≡ true → met ≡ none_met
-  pub behind : is_idle told ≡ false → AreMeetings (start_of s) text m met
+  pub left : is_idle told ≡ false → AreMeetings (start_of s) text m met
 
 -- the same, where it may have no meaning: then it names no time
 abbrev pub TellsChanges : Settings → Option (List ℕ) → Option Meaning → Told → Meetings → Type 0

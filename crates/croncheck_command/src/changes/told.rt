@@ -1,4 +1,7 @@
 //! The warnings of changes of the clock: their names, and what they say.
+ghost use Rattle.std.specs.Prelude.{◌≡◌};
+ghost use Rattle.croncheck_command.specs.Changes.{name_of_range, name_of};
+
 use crate::changes::level::Level;
 use crate::changes::meetings::Compared;
 use crate::changes::{Change, Fate, Range};
@@ -6,11 +9,12 @@ use std::alloc::{AllocError, Global};
 
 impl Compared {
     /// The name of the warning: `gap` or `twice`, or where cron(8) does otherwise `cron-change`.
-    pub fn name(&self) -> &'static str {
-        match (self.in_cron, self.meeting.range) {
-            (Some(_), _) => "cron-change",
-            (None, Range::Gap) => "gap",
-            (None, Range::Repeated) => "twice",
+    pub fn name(&self) -> &'static str
+        ensures { result.now ≡ name_of self.now }
+    {
+        match self.in_cron {
+            Some(_) => "cron-change",
+            None => name_of_range(self.meeting.range),
         }
     }
 
@@ -22,6 +26,15 @@ impl Compared {
             Some(in_cron) => push_in_cron(text, &level, self.meeting.second, in_cron),
             None => push_here(text, &level, self.meeting.second, self.meeting.fate),
         }
+    }
+}
+
+fn name_of_range(range: Range) -> &'static str
+    ensures { result.now ≡ name_of_range range }
+{
+    match range {
+        Range::Gap => "gap",
+        Range::Repeated => "twice",
     }
 }
 
