@@ -1,5 +1,5 @@
 -- Worked values of the definitions of changes of a clock.
-use Rattle.std.proofs.Common.{◌≡◌, ◌+◌, ℕ, Option, Some, None, pos, ◌+ℤ◌, true, false, refl, arith}
+use Rattle.std.proofs.Common.{◌≡◌, ◌<◌, ◌+◌, ℕ, Option, Some, None, pos, ◌+ℤ◌, true, false, refl, arith}
 use Rattle.std.specs.Prelude.{codes}
 use Rattle.croncheck_command.specs.declared.changes.Change.{Change}
 use Rattle.croncheck_command.specs.declared.changes.Fate.{Fate}
@@ -64,9 +64,12 @@ less_than_half_a_day = refl
 half_a_day : is_told (compared (in_spring 43_200 fates.LeftOut) (Some fates.Moved)) ≡ false
 half_a_day = refl
 
+an_hour : 3_600 < 10_800
+an_hour = omega (arith)
+
 -- 0,30 2 * * *: cron(8) makes up for an hour, and so moves the run that is left out here; the minutes of */30 2 * * * begin with a star
 moved_by_cron : IsOtherInCron (Some (codes "0,30 2 * * *")) (in_spring 3_600 fates.LeftOut) (Some fates.Moved)
-moved_by_cron = ((refl, arith), λ same. absurd (cc))
+moved_by_cron = ((refl, an_hour), λ same. absurd (cc))
 
 not_moved_by_cron : IsOtherInCron (Some (codes "*/30 2 * * *")) (in_spring 3_600 fates.LeftOut) None
 not_moved_by_cron = λ makes_up. absurd (cc)
