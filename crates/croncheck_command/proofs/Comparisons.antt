@@ -1,5 +1,5 @@
 -- What is told of the first change that meets a job.
-use Rattle.std.proofs.Common.{◌≡◌, ℕ, true, false, sym, subst, inl, inr, ℤ, List, Option, Some, None}
+use Rattle.std.proofs.Common.{◌≡◌, ℕ, true, false, sym, subst, inr, ℤ, List, Option, Some, None}
 use Rattle.std.specs.Prelude.{MatchOption}
 use Rattle.croner_base.specs.Zone.{Zone}
 use Rattle.croner_pattern.specs.Meaning.{Meaning}

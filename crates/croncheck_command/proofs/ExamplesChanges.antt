@@ -1,11 +1,10 @@
 -- Worked values of the definitions of changes of a clock.
-use Rattle.std.proofs.Common.{◌≡◌, ◌<◌, ◌+◌, ℕ, Option, Some, None, pos, ◌+ℤ◌, true, false, refl, arith}
+use Rattle.std.proofs.Common.{◌≡◌, ◌<◌, ℕ, Option, Some, None, pos, ◌+ℤ◌, true, false, refl, arith}
 use Rattle.std.specs.Prelude.{codes}
 use Rattle.croncheck_command.specs.declared.changes.Change.{Change}
 use Rattle.croncheck_command.specs.declared.changes.Fate.{Fate}
 use Rattle.croncheck_command.specs.declared.changes.Fate.TheVariants as fates
 use Rattle.croncheck_command.specs.declared.changes.Meeting.{Meeting}
-use Rattle.croncheck_command.specs.declared.changes.Range.{Range}
 use Rattle.croncheck_command.specs.declared.changes.Range.TheVariants as ranges
 use Rattle.croncheck_command.specs.declared.changes.meetings.Compared.{Compared}
 use Rattle.croncheck_command.specs.Changes.{has_clock_star, IsOtherInCron, is_told}

@@ -1,5 +1,5 @@
 -- Files one behind the other.
-use Rattle.std.proofs.Common.{◌≡◌, ◌<◌, ◌≤◌, ◌+◌, ℕ, suc, List, [], ◌∷◌, ◌++◌, Bool, true, false, Option, Some, None, Result, Ok, Err, inl, inr, ap, sym, ◌∙◌, subst, refl, take, length, get_or, map, arith}
+use Rattle.std.proofs.Common.{◌≡◌, ◌<◌, ◌≤◌, ◌+◌, ℕ, suc, List, [], ◌∷◌, ◌++◌, Bool, true, false, Option, Some, Result, Ok, Err, inl, inr, ap, sym, ◌∙◌, subst, refl, take, length, get_or, map, arith}
 use Rattle.std.specs.Prelude.{IfSome, IfOk, OnOk, if◌then◌else◌}
 use Rattle.std.proofs.Math.Seq.{take-suc}
 use Rattle.std.proofs.lemmas.List.{take_all}

@@ -1,5 +1,5 @@
 -- No terminal acts on bytes as they are shown, and ASCII that is printed is shown as it is.
-use Rattle.std.proofs.Common.{◌≡◌, ℕ, zero, suc, ◌+◌, ◌-◌, ◌*◌, ◌/◌, ◌%◌, ◌<◌, ◌≤◌, ◌==◌, ◌&&◌, ◌||◌, ◌⊎◌, Bool, true, false, cond, List, [], ◌∷◌, ◌++◌, length, take, drop, slice_index, Option, Some, None, inl, inr, ap, sym, subst, ◌∙◌, refl, arith}
+use Rattle.std.proofs.Common.{◌≡◌, ℕ, zero, suc, ◌+◌, ◌/◌, ◌%◌, ◌<◌, ◌≤◌, ◌==◌, ◌&&◌, ◌||◌, Bool, true, false, cond, List, [], ◌∷◌, ◌++◌, length, drop, slice_index, Option, Some, None, ap, sym, ◌∙◌, refl, arith}
 use Rattle.std.specs.Prelude.{codes, nat_lt, nat_le}
 use Rattle.std.specs.Char.{encode_utf8}
 use Rattle.std.specs.Fmt.{digits, digits_onto, digit_glyph}
@@ -13,7 +13,7 @@ use Rattle.bstr.specs.Utf8.{decoded, good}
 use Rattle.bstr.proofs.lemmas.PieceLemmas.{piece-bounds, value-1}
 use Rattle.croner_base.specs.Excerpt.{is_among, is_control, ends_a_line, turns_round, has_no_width, has_no_width_above, is_unseen, shown}
 use Rattle.croncheck_command.specs.Shown.{front_shown, front_size, shown_from, bytes_shown, is_harmless, is_printed}
-use Rattle.croncheck_command.proofs.ShownBytes.{front_of, behind_front, shorter, shown_step, same_fuel}
+use Rattle.croncheck_command.proofs.ShownBytes.{front_of, behind_front, shown_step}
 
 -- no terminal acts on these bytes
 record AreHarmless (bs : List ℕ) : Type 0 where

@@ -1,5 +1,5 @@
 -- The words of moments: what is printed is read back.
-use Rattle.std.proofs.Common.{◌≡◌, ◌∙◌, ◌∷◌, ◌++◌, ◌+ℤ◌, ◌*ℤ◌, pos, ℕ, ℤ, List, Result, Ok, Err, Option, Some, None, inl, inr, ap, refl, sym, subst, w64, FitsSigned, arith}
+use Rattle.std.proofs.Common.{◌≡◌, ◌∙◌, ◌+ℤ◌, ◌*ℤ◌, pos, ℕ, ℤ, List, Result, Ok, Err, Option, Some, None, inl, inr, ap, refl, sym, subst, w64, FitsSigned, arith}
 use Rattle.std.proofs.lemmas.Fmt.{parse-signed_decimal}
 use Rattle.std.proofs.lemmas.Int.{ints}
 use Rattle.std.specs.Fmt.{signed_decimal}

@@ -1,4 +1,4 @@
-use Rattle.std.proofs.Common.{arith, rules}
+use Rattle.std.proofs.Common.{arith}
 use Rattle.bstr.proofs.lemmas.PieceLemmas.{piece-bounds}
 use Rattle.croncheck_command.proofs.escaped.push_front.Goals as goal
 

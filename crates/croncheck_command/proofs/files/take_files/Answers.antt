@@ -1,4 +1,4 @@
-use Rattle.std.proofs.Common.{rules, ◌≡◌, ◌<◌, length, refl}
+use Rattle.std.proofs.Common.{rules, ◌<◌, length, refl}
 use Rattle.croncheck_command.proofs.FileTexts.{so_far_next}
 use Rattle.croncheck_command.proofs.files.take_files.Goals as goal
 

@@ -1,4 +1,4 @@
-use Rattle.std.proofs.Common.{◌≡◌, ◌∙◌, option_map, ap}
+use Rattle.std.proofs.Common.{◌∙◌, option_map, ap}
 use Rattle.croncheck_command.specs.Warnings.{fields_seen, warnings_of}
 use Rattle.croncheck_command.proofs.report.warnings_of_pattern.Goals as goal
 

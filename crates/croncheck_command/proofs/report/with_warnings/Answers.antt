@@ -1,4 +1,4 @@
-use Rattle.std.proofs.Common.{◌≡◌, ◌∙◌, true, Some, Option, option_map, ap}
+use Rattle.std.proofs.Common.{◌∙◌, true, Some, Option, option_map, ap}
 use Rattle.croner.specs.parser.Grammar.{Texts}
 use Rattle.croner.specs.Views.{job_of}
 use Rattle.croncheck_command.specs.Report.{subject_of}
