@@ -97,8 +97,8 @@ fn is_same(text: &str, other: &str) -> bool
 }
 
 /// The second of a moment in a zone, counted from 1970-01-01T00:00:00 UTC; that of `now` is handed in. Of two seconds at which the zone's
-/// clock shows a date and time it is the earlier one. There is none exactly where the clock shows it at neither of the two instants that the zone's rules give it: the clock
-/// skips it, or no timestamp holds it.
+/// clock shows a date and time it is the earlier one. There is none exactly where the clock shows it at neither of the two instants that
+/// the zone's rules give it: the clock skips it, or no timestamp holds it.
 pub fn second_of(moment: Moment, zone: &TimeZone<'_>, now: i64) -> Option<i64>
     ensures { IsSecondOf (plain_zone zone.now) now moment result }
 {
