@@ -40,7 +40,8 @@ fn take_line<S: Entries>(
 
 /// Gives the entry of each line of a file to what takes them, in order, in a dialect. It holds one line at a time.
 ///
-/// The error is that of the reader or of what takes the entries, or says that memory is lacking.
+/// The error is that of the reader or of what takes the entries, or says that memory is lacking. The entries of the lines before
+/// are taken then.
 pub fn check<R: BufRead, S: Entries>(
     alloc: Global,
     dialect: Dialect,

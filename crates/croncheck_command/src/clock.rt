@@ -50,7 +50,7 @@ pub enum NoClock {
 }
 
 impl Clock {
-    /// The clock of a zone from a start on, which is given in seconds since 1970-01-01T00:00:00 UTC.
+    /// The clock of a zone from a start on, which is given in seconds since 1970-01-01T00:00:00 UTC. The error says why there is none.
     pub fn of(alloc: Global, zone: &TimeZone<'_>, start: i64) -> Result<Clock, NoClock>
         ensures clock { IfOk result (λ c. IsClockOf (plain_zone zone.now) (first_of start) last_second (table_zone c.table)) }
         ensures start { IsOk result → IsWellIn (plain_zone zone.now) (first_of start) last_second start }

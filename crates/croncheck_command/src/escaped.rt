@@ -12,7 +12,7 @@ use std::alloc::{AllocError, Global};
 use std::fmt;
 
 /// Some bytes as they are shown. Text in UTF-8 stands as it is, but for a character that a terminal acts on or that nobody sees: it
-/// stands as `\t`, `\n`, `\r` or by its number, as `\u{1b}`. A byte that is no text stands as `\xFF`.
+/// stands as `\t`, `\n`, `\r` or by its number, as `\u{1b}`. A byte that is no text stands as `\xFF`. The only error is want of memory.
 pub fn shown(alloc: Global, bytes: &[u8]) -> Result<String, AllocError>
     ensures shown { IfOk result (λ text. string_bytes text ≡ bytes_shown bytes.now) }
     ensures harmless { IfOk result (λ text. IsTrue (list_all is_harmless (string_bytes text))) }
@@ -23,7 +23,7 @@ pub fn shown(alloc: Global, bytes: &[u8]) -> Result<String, AllocError>
     Ok(text)
 }
 
-/// Puts some bytes behind a text, as they are shown.
+/// Puts some bytes behind a text, as they are shown. The only error is want of memory; what then stands behind the text is not said.
 pub fn push_shown(text: &mut String, bytes: &[u8]) -> Result<(), AllocError>
     ensures { OnOk result (string_bytes text.new ≡ string_bytes text.old ++ bytes_shown bytes.now) }
 {

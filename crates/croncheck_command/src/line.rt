@@ -87,10 +87,15 @@ impl Dialect {
 pub enum Fault {
     /// A byte 0: cron ends what it reads there, and takes what follows for a further line.
     Nul,
+    /// The minutes are missing, or no list that cron takes.
     Minutes,
+    /// The same of the hours.
     Hours,
+    /// The same of the days of the month.
     Days,
+    /// The same of the months.
     Months,
+    /// The same of the weekdays.
     Weekdays,
     /// A word behind `@` that is no nickname, or not in small letters.
     Nickname,
@@ -119,11 +124,13 @@ pub enum Times {
 
 /// A job of a crontab.
 pub struct Job<'l> {
+    /// When it runs.
     pub times: Times,
     /// The times as they are written: from the first word to the end of the fifth, or `@` and its word.
     pub schedule: &'l [u8],
     /// The name of its user, where the file names one.
     pub user: Option<&'l [u8]>,
+    /// Its command, as it is written.
     pub command: &'l [u8],
 }
 
@@ -142,17 +149,22 @@ impl Drop for Job<'_> {
 /// What a line is.
 #[derive(Drop)]
 pub enum Entry<'l> {
+    /// It has nothing but blanks.
     Blank,
+    /// It begins with `#`, behind its blanks.
     Comment,
     /// It sets a variable.
     Setting {
         /// The variable is `CRON_TZ` or `TZ`.
         is_zone: bool,
     },
+    /// A job.
     Job(Job<'l>),
     /// A pattern for the crate's parser, without the blanks in front of it and the spaces behind it.
     Pattern(&'l [u8]),
+    /// It is refused.
     Refused {
+        /// Why.
         fault: Fault,
         /// The byte of the line at which the fault begins, from 0.
         start: usize,
@@ -520,9 +532,9 @@ fn entry_of_pattern(text: &[u8]) -> Entry<'_>
     }
 }
 
-/// What a line is, which is given without its line feed, in a dialect.
+/// What a line is in a dialect. It is given without its line feed.
 ///
-/// A refused line names the place of its fault, which lies in the line. The error comes where memory is lacking.
+/// A refused line names the place of its fault, which lies in the line. The only error is want of memory.
 pub fn entry_of(alloc: Global, dialect: Dialect, line: &[u8]) -> Result<Entry<'_>, AllocError>
     ensures seen { IfOk result (λ e. entry_seen e ≡ entry_of dialect line.now) }
     ensures placed { IfOk result (LiesIn (length line.now)) }

@@ -6,6 +6,8 @@ use std::io;
 use std::io::BufRead;
 
 /// Reads the next line, with its line feed, in place of what `line` held. It is empty where the file ends.
+///
+/// The error is that of the reader, or says that memory is lacking. What `line` holds then is not said.
 pub fn read_line<R: BufRead>(reader: &mut R, line: &mut Vec<u8>) -> io::Result<()>
     ensures { OnOk result (ReadsLine (R.remaining reader.old) (R.remaining reader.new) line.new.items) }
 {

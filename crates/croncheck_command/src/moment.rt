@@ -27,8 +27,8 @@ pub enum Moment {
     Civil(DateTime),
 }
 
-/// The moment that a word names: of one of the forms `now`, `@SECONDS`, `YYYY-MM-DDTHH:MM:SS`, where the second is held and the date and
-/// time exists. There is none exactly where the word is of none of these forms.
+/// The moment that a word names: of one of the forms `now`, `@SECONDS`, `YYYY-MM-DDTHH:MM:SS`, where the second fits 64 bits and the date
+/// and time exists. There is none exactly where the word is of none of these forms. The only error is want of memory.
 pub fn read_moment(alloc: Global, word: &str) -> Result<Option<Moment>, AllocError>
     ensures { IfOk result (IsRead word.now) }
 {
@@ -96,9 +96,9 @@ fn is_same(text: &str, other: &str) -> bool
     text == other
 }
 
-/// The second of a moment in a zone, where `now` is the second given. Of two seconds at which the zone's clock shows a date and time it is
-/// the earlier one. There is none exactly where the clock shows it at neither of the two instants that the zone's rules give it: the clock
-/// skips it, or no timestamp holds it.
+/// The second of a moment in a zone, counted from 1970-01-01T00:00:00 UTC; that of `now` is handed in. Of two seconds at which the zone's
+/// clock shows a date and time it is the earlier one. There is none exactly where the clock shows it at neither of the two instants that
+/// the zone's rules give it: the clock skips it, or no timestamp holds it.
 pub fn second_of(moment: Moment, zone: &TimeZone<'_>, now: i64) -> Option<i64>
     ensures { IsSecondOf (plain_zone zone.now) now moment result }
 {

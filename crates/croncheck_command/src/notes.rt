@@ -390,9 +390,9 @@ fn is_refusal_noted(
 
 // ---- the line
 
-/// Whether a line of a crontab has a note, which is given without its line feed: a job, or a line that cron refuses for this fault.
+/// Whether a line of a crontab has a note. The line is a job, or one that cron refuses for this fault, and is given without its line feed.
 ///
-/// The error comes where memory is lacking.
+/// The only error is want of memory.
 pub fn is_noted(
     alloc: Global,
     note: Note,

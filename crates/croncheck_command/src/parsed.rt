@@ -21,8 +21,8 @@ fn parser(both_days: bool) -> CronParser
         .build()
 }
 
-/// The job of a text of five fields, with both day fields to match or either. It is refused exactly where the parser refuses the text, and
-/// where memory is lacking.
+/// The job of a text of five fields, with both day fields to match or either. The errors are those of
+/// [`CronParser::parse`](croner::parser::CronParser::parse).
 pub fn job_of(alloc: Global, text: &str, both_days: bool) -> Result<Cron, CronError>
     ensures { Gives job_of result (outcome (crontab_settings both_days) text.now) }
 {

@@ -21,6 +21,7 @@ pub enum Problem {
     SkippedUntil,
     /// The reports are not written.
     Unwritten(io::Error),
+    /// Memory was asked for and not found.
     OutOfMemory,
 }
 

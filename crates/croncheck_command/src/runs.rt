@@ -70,13 +70,15 @@ impl Drop for End {
 /// The runs of a listing, the nearest first.
 #[derive(Drop)]
 pub struct Runs<'t> {
+    /// The runs, on the clock of the start.
     pub items: Vec<TableTime<'t>>,
+    /// What is left behind them.
     pub end: End,
 }
 
-/// The runs of a job after a start, which is no run itself.
+/// The runs of a job after a start, which doesn't count itself: so many, or all up to a second.
 ///
-/// The only error is `OutOfMemory`.
+/// The only error is `OutOfMemory`. A search that is refused is the end of the listing.
 pub fn runs_of<'t>(
     alloc: Global,
     job: &Cron,

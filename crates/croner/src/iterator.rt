@@ -36,7 +36,8 @@ impl<T: CronDateTime> CronIterator<T> {
     ghost use Rattle.croner.specs.search.Refusal.{IsRefusal};
 
     /// An iterator from a start, which counts as that of a search does: where `inclusive` says so, and forward not where a run is
-    /// only carried to it.
+    /// only carried to it. It keeps the job and the start as they are handed in: it takes no memory, and makes no search before
+    /// the first call of `next`.
     ///
     /// ```
     /// let job = Cron::from_str(alloc, "0 0 1 * *")?;
