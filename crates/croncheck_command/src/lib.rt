@@ -7,6 +7,7 @@ pub mod check;
 pub mod clock;
 pub mod escaped;
 mod field;
+mod file_seen;
 pub mod files;
 pub mod json;
 pub mod line;

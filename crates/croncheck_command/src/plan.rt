@@ -13,6 +13,7 @@ ghost use Rattle.croncheck_command.specs.Runs.{cut_end, most_runs};
 
 use crate::check::{Entries, check};
 use crate::escaped::shown;
+use crate::file_seen::FileSeen;
 use crate::line::{Entry, Times};
 use crate::parsed::job_of;
 use crate::report::{Report, Settings, Tally, report_of};
@@ -283,8 +284,8 @@ pub struct Planner<'s, 't, W> {
     file: u64,
     // The lines of it that were read.
     line: u64,
-    // Its name, as it is shown.
-    name: String,
+    // The file itself.
+    current: FileSeen,
     is_begun: bool,
     is_refused: bool,
 }
@@ -302,7 +303,7 @@ impl<W: Drop> Drop for Planner<'_, '_, W> {
             tally: _,
             file: _,
             line: _,
-            name: _,
+            current: _,
             is_begun: _,
             is_refused: _,
         } = self;
@@ -331,7 +332,7 @@ impl<'s, 't, W: Write + Drop> Planner<'s, 't, W> {
             tally: Tally::new(),
             file: 0,
             line: 0,
-            name: String::new(alloc),
+            current: FileSeen::new(String::new(alloc)),
             is_begun: false,
             is_refused: false,
         }
@@ -359,10 +360,23 @@ impl<'s, 't, W: Write + Drop> Planner<'s, 't, W> {
             (seen self.old.table self.old.jobs self.old.tally self.old.file self.old.line)
             (seen self.new.table self.new.jobs self.new.tally self.new.file self.new.line))) }
     {
-        self.name = shown(self.alloc, name.as_bytes())?;
+        let name = shown(self.alloc, name.as_bytes())?;
+        self.current = FileSeen::new(name);
         self.file = one_more(self.file);
         self.line = 0;
-        check(self.alloc, self.settings.dialect, reader, self)
+        check(self.alloc, self.settings.dialect, reader, self)?;
+        self.end_file()
+    }
+
+    // Writes what cron makes of a file as a whole.
+    fn end_file(&mut self) -> io::Result<()>
+        ensures { seen self.new.table self.new.jobs self.new.tally self.new.file self.new.line
+            ≡ seen self.old.table self.old.jobs self.old.tally self.old.file self.old.line }
+    {
+        let text = self
+            .current
+            .ending(self.alloc, self.settings.dialect, self.line)?;
+        self.write(text.as_str())
     }
 
     /// The plan of all jobs that were read.
@@ -415,7 +429,7 @@ impl<'s, 't, W: Write + Drop> Planner<'s, 't, W> {
         ensures settings { self.new.settings.now ≡ self.old.settings.now }
     {
         let place = Place {
-            file: self.name.as_str(),
+            file: self.current.name(),
             line: self.line,
         };
         let label = label_of(self.alloc, place, entry)?;
@@ -452,9 +466,10 @@ impl<'s, 't, W: Write + Drop> Planner<'s, 't, W> {
         ensures settings { self.new.settings.now ≡ self.old.settings.now }
     {
         self.tally.count(report);
+        self.current.add_report(report);
         let text = {
             let place = Place {
-                file: self.name.as_str(),
+                file: self.current.name(),
                 line: self.line,
             };
             text_of(self.alloc, self.shared, place, line, report)?
@@ -504,8 +519,9 @@ impl<'s, 't, W: Write + Drop> Entries for Planner<'s, 't, W> {
     ghost takes = { λ old y new. Plans old.settings.now (seen old.table old.jobs old.tally old.file old.line) y
         (seen new.table new.jobs new.tally new.file new.line) × (new.settings.now ≡ old.settings.now) };
 
-    fn take(&mut self, line: &[u8], entry: Entry<'_>, _is_fed: bool) -> io::Result<()> {
+    fn take(&mut self, line: &[u8], entry: Entry<'_>, is_fed: bool) -> io::Result<()> {
         self.line = one_more(self.line);
+        self.current.add_line(&entry, is_fed);
         match job_of_entry(self.alloc, self.settings, &entry)? {
             Some(job) => self.add(job, &entry),
             None => self.pass(line, entry),

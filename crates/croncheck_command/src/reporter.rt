@@ -5,11 +5,11 @@ ghost use Rattle.croncheck_command.specs.Reported.{IsChecked};
 
 use crate::check::{Entries, check};
 use crate::escaped::shown;
-use crate::line::{Dialect, Entry};
+use crate::file_seen::FileSeen;
+use crate::line::Entry;
 use crate::report::{Report, Settings, Tally, report_of_line};
 use crate::shown::{Place, Shared, text_of};
-use crate::warnings::are_many_lines;
-use std::alloc::{AllocError, Global};
+use std::alloc::Global;
 use std::io;
 use std::io::{BufRead, ErrorKind, Write};
 
@@ -41,38 +41,6 @@ impl<W: Drop> Drop for Reporter<'_, '_, W> {
             is_begun: _,
             is_refused: _,
         } = self;
-    }
-}
-
-// What was seen of the file that is read.
-#[derive(Drop)]
-struct FileSeen {
-    // Its name, as it is shown.
-    name: String,
-    lines: u64,
-    refused: u64,
-    // Its last line has no line feed, and is neither blank nor a comment.
-    is_unfed: bool,
-}
-
-impl FileSeen {
-    // A file of which no line was read.
-    fn new(name: String) -> FileSeen {
-        FileSeen {
-            name,
-            lines: 0,
-            refused: 0,
-            is_unfed: false,
-        }
-    }
-
-    // Counts one more line.
-    fn add(&mut self, is_refused: bool, is_unfed: bool) {
-        self.lines = self.lines.saturating_add(1);
-        self.is_unfed = is_unfed;
-        if is_refused {
-            self.refused = self.refused.saturating_add(1);
-        }
     }
 }
 
@@ -141,23 +109,21 @@ impl<'s, 't, W: Write + Drop> Reporter<'s, 't, W> {
         ensures tally { self.new.tally ≡ self.old.tally }
         ensures settings { self.new.settings.now ≡ self.old.settings.now }
     {
-        if matches!(self.settings.dialect, Dialect::Patterns) {
-            return Ok(());
-        }
-        let text = ending(self.alloc, &self.file)?;
+        let (dialect, lines) = (self.settings.dialect, self.tally.file_lines);
+        let text = self.file.ending(self.alloc, dialect, lines)?;
         self.write(text.as_str())
     }
 
     // Writes the report of a line of this text.
-    fn tell(&mut self, line: &[u8], report: &Report<'_, '_>, is_unfed: bool) -> io::Result<()>
+    fn tell(&mut self, line: &[u8], report: &Report<'_, '_>) -> io::Result<()>
         ensures { OnOk result ((self.new.tally ≡ added self.old.settings.now.dialect self.old.tally report.now) × (self.new.settings.now ≡ self.old.settings.now)) }
     {
         self.tally.add(self.settings.dialect, report);
-        self.file.add(is_refusal(report), is_unfed);
+        self.file.add_report(report);
         let text = {
             let place = Place {
-                file: self.file.name.as_str(),
-                line: self.file.lines,
+                file: self.file.name(),
+                line: self.tally.file_lines,
             };
             text_of(self.alloc, self.shared, place, line, report)?
         };
@@ -193,43 +159,6 @@ impl<'s, 't, W: Write + Drop> Reporter<'s, 't, W> {
     }
 }
 
-fn is_refusal(report: &Report<'_, '_>) -> bool {
-    match report {
-        Report::Refused { .. } => true,
-        _ => false,
-    }
-}
-
-// What cron makes of a file as a whole: a line for each reason for which it ignores it.
-fn ending(alloc: Global, file: &FileSeen) -> Result<String, AllocError> {
-    let mut text = String::new(alloc);
-    let name = file.name.as_str();
-    if 0 < file.refused {
-        push_ignored(&mut text, name, "a line is refused\n")?;
-    }
-    if file.is_unfed {
-        push_ignored(&mut text, name, "its last line has no line feed\n")?;
-    }
-    if are_many_lines(file.lines) {
-        push_ignored(&mut text, name, "it has more than 10000 lines\n")?;
-    }
-    Ok(text)
-}
-
-fn push_ignored(text: &mut String, name: &str, reason: &str) -> Result<(), AllocError> {
-    text.push_str(name)?;
-    text.push_str(": cron ignores the whole file: ")?;
-    text.push_str(reason)
-}
-
-// Whether the line of an entry counts for cron where no line feed ends it.
-fn counts(entry: &Entry<'_>) -> bool {
-    match entry {
-        Entry::Blank | Entry::Comment => false,
-        _ => true,
-    }
-}
-
 impl<'s, 't, W: Write + Drop> Entries for Reporter<'s, 't, W> {
     ghost use Rattle.croncheck_command.specs.Reported.{Tallies};
     ghost use Rattle.std.specs.Prelude.{◌≡◌};
@@ -237,9 +166,9 @@ impl<'s, 't, W: Write + Drop> Entries for Reporter<'s, 't, W> {
     ghost takes = { λ old y new. Tallies old.settings.now old.tally y new.tally × (new.settings.now ≡ old.settings.now) };
 
     fn take(&mut self, line: &[u8], entry: Entry<'_>, is_fed: bool) -> io::Result<()> {
-        let is_unfed = !is_fed && counts(&entry);
+        self.file.add_line(&entry, is_fed);
         match report_of_line(self.alloc, self.settings, line, entry, is_fed) {
-            Ok(report) => self.tell(line, &report, is_unfed),
+            Ok(report) => self.tell(line, &report),
             Err(_) => Err(io::Error::from(ErrorKind::OutOfMemory)),
         }
     }
