@@ -44,7 +44,10 @@ impl fmt::Display for Problem {
     fn fmt<W: fmt::Write>(&self, f: &mut fmt::Formatter<W>) -> fmt::Result {
         match self {
             Problem::Words(error) => write!(f, "the words of the call: {error}"),
-            Problem::Zone(error) => write!(f, "the zone: {error}"),
+            Problem::Zone(error) => write!(
+                f,
+                "the zone: {error}; --zone takes a name of the database, as Europe/Paris, a POSIX rule, as CET-1CEST,M3.5.0,M10.5.0/3, or local"
+            ),
             Problem::Clock(reason) => write_reason(f, *reason),
             Problem::Now(error) => write!(f, "the machine's clock: {error}"),
             Problem::SkippedFrom => {
