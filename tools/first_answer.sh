@@ -58,7 +58,7 @@ first_answer() {
     command -v rt >/dev/null ||
         refuse 'there is no command rt: install the Rattle kit of the version that README.md names, with its rt in PATH'
     make_room || refuse "no folder for temporary files can be made in ${TMPDIR:-/tmp}"
-    printf '%s: this answer comes from a program that is not proved on this machine yet; each call takes about a minute until %s proves it\n' \
+    printf '%s: this answer comes from a program that is not proved on this machine yet; each call takes a minute or more until %s proves it\n' \
         "$program" "$(build_command)" >&2
     run_behind try_program "$@" >"$room/out" 2>"$room/err"
     case $(tail -n 1 "$room/err") in
