@@ -1,12 +1,12 @@
 -- What a line is told. Source: this crate's documentation of `Report`.
-use Rattle.std.specs.Prelude.{◌≡◌, ◌↔◌, not, ◌&&◌, ◌||◌, ◌==◌, ◌≤ℤ◌, ℕ, ◌+◌, Bool, true, false, IsTrue, ℤ, List, length, Option, Some, None, option_map, Result, Ok, Err, string_bytes, IsUtf8, if◌then◌else◌}
+use Rattle.std.specs.Prelude.{◌≡◌, ◌↔◌, ◌⊎◌, ◌<◌, get_or, not, ◌&&◌, ◌||◌, ◌==◌, ◌≤ℤ◌, ℕ, ◌+◌, Bool, true, false, IsTrue, ℤ, List, length, Option, Some, None, option_map, Result, Ok, Err, string_bytes, IsUtf8, if◌then◌else◌}
 use Rattle.std.specs.declared.string.String.{String}
 use Rattle.std.specs.declared.alloc.Global.{Global}
 use Rattle.croner_base.specs.declared.errors.CronError.{CronError}
 use Rattle.croner_base.specs.declared.errors.CronError.TheVariants.{OutOfMemory}
 use Rattle.croner_base.specs.declared.time.civil.CivilDateTime.{CivilDateTime}
 use Rattle.croner_base.specs.declared.time.table.TableTime.{TableTime}
-use Rattle.croner_base.specs.Civil.{wall_second}
+use Rattle.croner_base.specs.Civil.{wall_second, weekday_of_second}
 use Rattle.croner_base.specs.TableZone.{table_moment}
 use Rattle.croner_base.specs.Zone.{reading}
 use Rattle.croner_pattern.specs.Description.{description}
@@ -40,6 +40,7 @@ use Rattle.croncheck_command.specs.declared.runs.End.{End}
 use Rattle.croncheck_command.specs.declared.runs.End.TheVariants as ends
 use Rattle.croncheck_command.specs.declared.runs.Runs.{Runs}
 use Rattle.croncheck_command.specs.declared.warnings.Warning.{Warning}
+use Rattle.croncheck_command.specs.declared.warnings.sides.Dates.{Dates}
 use Rattle.croncheck_command.specs.Bytes.{front}
 use Rattle.croncheck_command.specs.Changes.{AreMeetings, none_met, are_told}
 use Rattle.croncheck_command.specs.Entries.{job_seen}
@@ -47,7 +48,7 @@ use Rattle.croncheck_command.specs.Field.{smaller}
 use Rattle.croncheck_command.specs.Line.{Timing, reboot, never, named, Task}
 use Rattle.croncheck_command.specs.Parsed.{crontab_settings}
 use Rattle.croncheck_command.specs.Runs.{IsListed}
-use Rattle.croncheck_command.specs.Warnings.{fields_of_schedule, AreFieldsOfPattern, is_first_too_many, Subject, warnings_of}
+use Rattle.croncheck_command.specs.Warnings.{fields_of_schedule, AreFieldsOfPattern, is_either_day, IsMonthOf, NamesDates, is_first_too_many, Subject, warnings_of}
 
 -- ---- a job
 
@@ -172,17 +173,49 @@ MeetsJob s task told met = TellsChanges s (Some task.schedule) (meaning_of_timin
 abbrev pub MeetsPattern : Settings → Option Meaning → Told → Meetings → Type 0
 MeetsPattern s meaning told met = TellsChanges s None meaning told met
 
+-- ---- the dates of either day field
+
+-- runs are listed, and this is the first
+abbrev pub IsFirstListed : Told → TableTime → Type 0
+IsFirstListed tolds.Reboot run = ⊥
+IsFirstListed tolds.Nothing run = ⊥
+IsFirstListed (tolds.Runs text runs is_past) run = (0 < length runs.items.items) × (get_or runs.items.items 0 run ≡ run)
+
+-- runs are listed
+abbrev pub has_listed : Told → Bool
+has_listed tolds.Reboot = false
+has_listed tolds.Nothing = false
+has_listed (tolds.Runs text runs is_past) = not (length runs.items.items == 0)
+
+-- the days of the month of a run that each day field names by itself
+pub record AreDatesAt (m : Meaning) (told : Told) (d : Dates) (run : TableTime) (shown : CivilDateTime) : Type 0 where
+  pub first : IsFirstListed told run
+  pub shows : wall_second shown ≡ reading (table_moment run)
+  pub month : IsMonthOf shown.date (weekday_of_second (reading (table_moment run))) d.month
+  pub names : NamesDates m d
+
+-- what a job of this meaning that was told so is told of its dates: where it runs on either day, those of the month of its first listed run
+abbrev pub TellsDates : Meaning → Told → Option Dates → Type 0
+TellsDates m told None = (is_either_day m ≡ false) ⊎ (has_listed told ≡ false)
+TellsDates m told (Some d) = (is_either_day m ≡ true) × ((run : TableTime) × (shown : CivilDateTime) × AreDatesAt m told d run shown)
+
+-- the same, where it may have no meaning
+abbrev pub DatesOf : Option Meaning → Told → Option Dates → Type 0
+DatesOf None told dates = dates ≡ None
+DatesOf (Some m) told dates = TellsDates m told dates
+
 -- ---- the report of a job
 
--- a job's report has these texts, its times are told so, these are its warnings, and this is told of changes of the clock
+-- a job's report has these texts, its times are told so, these are its warnings, and this is told of changes of the clock and of its dates
 pub record IsJobTold (schedule : List ℕ) (user command : Option (List ℕ)) (tells : Told → Type 0) (warns : Told → List Warning → Type 0)
-    (meets : Told → Meetings → Type 0) (j : JobReport) : Type 0 where
+    (meets : Told → Meetings → Type 0) (dates_are : Told → Option Dates → Type 0) (j : JobReport) : Type 0 where
   pub schedule_is : j.schedule.now ≡ schedule
   pub user_is : option_map (λ u. u.now) j.user ≡ user
   pub command_is : option_map (λ c. c.now) j.command ≡ command
   pub tells_times : tells j.times
   pub warned : warns j.times j.warnings.items
   pub met : meets j.times j.meetings
+  pub dated : dates_are j.times j.dates
 
 -- the parser refuses a text with an error of this kind
 abbrev pub IsRefusalOf : CronError → Result Meaning Refusal → Type 0
@@ -214,7 +247,8 @@ abbrev pub IsReportOfJob : Bool → Settings → ℕ → Task → Report → Typ
 IsReportOfJob is_fed s blanks task reports.Silent = ⊥
 IsReportOfJob is_fed s blanks task (reports.Setting is_zone has_feed) = ⊥
 IsReportOfJob is_fed s blanks task (reports.Job j) =
-    IsJobTold task.schedule task.user (Some task.command) (TellsTiming s task.times) (WarnsJob is_fed task) (MeetsJob s task) j
+    IsJobTold task.schedule task.user (Some task.command) (TellsTiming s task.times) (WarnsJob is_fed task) (MeetsJob s task)
+    (DatesOf (meaning_of_timing task.times)) j
 IsReportOfJob is_fed s blanks task (reports.Refused start end why) = IsWholeBehind blanks task.schedule start end × IsJobRefused task why
 
 -- ---- a pattern
@@ -234,7 +268,7 @@ IsReportOfPattern is_fed s blanks text reports.Silent = ⊥
 IsReportOfPattern is_fed s blanks text (reports.Setting is_zone has_feed) = ⊥
 IsReportOfPattern is_fed s blanks text (reports.Job j) =
     IsJobTold text None None (TellsMeaning s (outcome s.parser text)) (WarnsPattern is_fed text (meaning_read (outcome s.parser text)))
-    (MeetsPattern s (meaning_read (outcome s.parser text))) j
+    (MeetsPattern s (meaning_read (outcome s.parser text))) (DatesOf (meaning_read (outcome s.parser text))) j
 IsReportOfPattern is_fed s blanks text (reports.Refused start end why) = IsPatternRefused s blanks text start end why
 
 -- ---- a line

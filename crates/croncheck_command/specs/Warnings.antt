@@ -1,12 +1,14 @@
 -- Warnings of lines that are taken: each is given exactly where its definition here holds. Source: this crate's documentation of `Warning`.
-use Rattle.std.specs.Prelude.{◌≡◌, ℕ, ◌%◌, Bool, true, false, not, ◌&&◌, ◌||◌, ◌==◌, nat_lt, pos, List, [], ◌∷◌, length, fold, filter, codes, Option, Some, None, option_map, unwrap_or, if◌then◌else◌}
+use Rattle.std.specs.Prelude.{◌≡◌, ℕ, ◌+◌, ◌-◌, ◌%◌, Bool, true, false, not, ◌&&◌, ◌||◌, ◌==◌, nat_lt, pos, List, [], ◌∷◌, length, fold, filter, codes, Option, Some, None, option_map, unwrap_or, if◌then◌else◌}
 use Rattle.std.specs.Io.BufRead.{ends_with_byte}
 use Rattle.std.specs.List.{list_any, list_all, slice_split}
 use Rattle.std.specs.Option.{option_or}
 use Rattle.jiff_core.specs.Calendar.{days_in_month}
+use Rattle.croner_base.specs.declared.time.civil.CivilDate.{CivilDate}
+use Rattle.croner_base.specs.Civil.{weekday_index}
 use Rattle.croner_base.specs.Field.{has_modifiers, marked_values}
 use Rattle.croner_pattern.specs.Meaning.{Meaning}
-use Rattle.croner_pattern.specs.Schedule.{is_plain}
+use Rattle.croner_pattern.specs.Schedule.{is_plain, IsDayMask}
 use Rattle.croner.specs.declared.parser.fault.PatternField.{PatternField}
 use Rattle.croner.specs.declared.parser.fault.PatternField.TheVariants as fields
 use Rattle.croner.specs.parser.Grammar.{Texts, seven}
@@ -22,6 +24,8 @@ use Rattle.croncheck_command.specs.declared.warnings.Warning.TheVariants as warn
 use Rattle.croncheck_command.specs.declared.warnings.command.Met.{Met}
 use Rattle.croncheck_command.specs.declared.warnings.command.Met.TheVariants as met
 use Rattle.croncheck_command.specs.declared.warnings.fields.Fields.{Fields}
+use Rattle.croncheck_command.specs.declared.warnings.sides.Dates.{Dates}
+use Rattle.croncheck_command.specs.declared.warnings.sides.Month.{Month}
 use Rattle.croncheck_command.specs.Bytes.{is_digit, front, begins_with}
 use Rattle.croncheck_command.specs.Line.{Five, words_of, minute_place, hour_place, day_place, month_place, weekday_place}
 use Rattle.croncheck_command.specs.List.{parts_of}
@@ -151,6 +155,18 @@ by_day_alone m = with_star_day false m
 
 abbrev pub by_weekday_alone : Meaning → Meaning
 by_weekday_alone m = with_star_day true m
+
+-- the month of a date that has this weekday, so many days behind a Sunday, with the weekday of its first
+pub record IsMonthOf (date : CivilDate) (weekday : ℕ) (m : Month) : Type 0 where
+  pub year : m.year ≡ date.year
+  pub month : m.month ≡ date.month
+  pub length : m.length ≡ days_in_month date.year date.month
+  pub first : weekday_index m.first ≡ (weekday + (36 - date.day)) % 7
+
+-- the days of a month that each day field names by itself
+pub record NamesDates (m : Meaning) (d : Dates) : Type 0 where
+  pub by_day : IsDayMask (by_day_alone m) d.month.length (weekday_index d.month.first) d.sides.by_day
+  pub by_weekday : IsDayMask (by_weekday_alone m) d.month.length (weekday_index d.month.first) d.sides.by_weekday
 
 -- ---- the command
 

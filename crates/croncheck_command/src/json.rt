@@ -14,7 +14,7 @@ use crate::line::{Entry, Fault};
 use crate::report::{JobReport, Report, Settings, Tally, Told, Why, report_of_line};
 use crate::runs::{End, Runs};
 use crate::shown::{Shared, ahead_of, field_name, reason_of};
-use crate::warnings::Warning;
+use crate::warnings::{Dates, Warning, push_warning_text};
 use croner::time::table::TableTime;
 use serde_json::{Value, json};
 use std::alloc::{AllocError, Global};
@@ -356,23 +356,29 @@ fn run_object(
 // The warnings of a line.
 fn warnings_of(alloc: Global, report: &Report<'_, '_>) -> Result<Value, AllocError> {
     match report {
-        Report::Job(job) => warning_list(alloc, job.warnings.as_slice(), &job.meetings),
+        Report::Job(job) => warning_list(alloc, job.warnings.as_slice(), &job.meetings, &job.dates),
         Report::Setting { is_zone, is_fed } => setting_warnings(alloc, *is_zone, *is_fed),
-        Report::Silent | Report::Refused { .. } => warning_list(alloc, &[], &Meetings::none()),
+        Report::Silent | Report::Refused { .. } => warning_list(
+            alloc,
+            &[],
+            &Meetings::none(),
+            &None,
+        ),
     }
 }
 
 // The warnings of a setting.
 fn setting_warnings(alloc: Global, is_zone: bool, is_fed: bool) -> Result<Value, AllocError> {
     match (is_zone, is_fed) {
-        (true, true) => warning_list(alloc, &[Warning::NoZone], &Meetings::none()),
+        (true, true) => warning_list(alloc, &[Warning::NoZone], &Meetings::none(), &None),
         (true, false) => warning_list(
             alloc,
             &[Warning::NoNewline, Warning::NoZone],
             &Meetings::none(),
+            &None,
         ),
-        (false, true) => warning_list(alloc, &[], &Meetings::none()),
-        (false, false) => warning_list(alloc, &[Warning::NoNewline], &Meetings::none()),
+        (false, true) => warning_list(alloc, &[], &Meetings::none(), &None),
+        (false, false) => warning_list(alloc, &[Warning::NoNewline], &Meetings::none(), &None),
     }
 }
 
@@ -381,10 +387,11 @@ fn warning_list(
     alloc: Global,
     warnings: &[Warning],
     meetings: &Meetings,
+    dates: &Option<Dates>,
 ) -> Result<Value, AllocError> {
     let mut items = Vec::new(alloc);
     for warning in warnings {
-        items.push(warning_object(alloc, *warning)?)?;
+        items.push(warning_object(alloc, *warning, dates)?)?;
     }
     push_compared(alloc, &mut items, &meetings.gap)?;
     push_compared(alloc, &mut items, &meetings.twice)?;
@@ -412,8 +419,14 @@ fn compared_object(alloc: Global, compared: &Compared) -> Result<Value, AllocErr
     json!(in alloc; {"name": name, "field": null, "text": text})
 }
 
-fn warning_object(alloc: Global, warning: Warning) -> Result<Value, AllocError> {
-    let (name, text) = (warning.name(), warning.text());
+fn warning_object(
+    alloc: Global,
+    warning: Warning,
+    dates: &Option<Dates>,
+) -> Result<Value, AllocError> {
+    let name = warning.name();
+    let mut text = String::new(alloc);
+    push_warning_text(&mut text, warning, dates)?;
     json!(in alloc; {"name": name, "field": field_of(alloc, warning)?, "text": text})
 }
 

@@ -11,7 +11,7 @@ ghost use Rattle.croner.specs.parser.Gives.{Fails};
 ghost use Rattle.croner.specs.parser.Grammar.{Refusal};
 ghost use Rattle.croner.specs.Views.{job_of as meaning_of_job};
 ghost use Rattle.croncheck_command.specs.Entries.{job_seen, times_seen};
-ghost use Rattle.croncheck_command.specs.Report.{wording_of, NamesNoneFrom, IsPastAt, IsTold, TellsMeaning, TellsTiming, IsRefusalOf, IsUnreadTiming, IsReportOfJob, IsPatternRefused, IsReportOfPattern, blanks_of, IsReport, IsReportOfLine, start_of, is_over, is_never, is_told_past, is_idle, TellsChanges, subject_of, IsWarned, WarnsJob, WarnsPattern, MeetsJob, MeetsPattern, has_job_warnings, has_warnings, none_counted, counted, begun, is_too_many, is_line_warned, one_more, one_more_if, added, status_of};
+ghost use Rattle.croncheck_command.specs.Report.{wording_of, NamesNoneFrom, IsPastAt, IsTold, TellsMeaning, TellsTiming, IsRefusalOf, IsUnreadTiming, IsReportOfJob, IsPatternRefused, IsReportOfPattern, blanks_of, IsReport, IsReportOfLine, start_of, is_over, is_never, is_told_past, is_idle, TellsChanges, subject_of, IsWarned, WarnsJob, WarnsPattern, MeetsJob, MeetsPattern, DatesOf, TellsDates, meaning_of_timing, has_job_warnings, has_warnings, none_counted, counted, begun, is_too_many, is_line_warned, one_more, one_more_if, added, status_of};
 ghost use Rattle.croncheck_command.specs.Warnings.{fields_seen, subject_seen};
 
 use crate::bytes::{Kind, cut};
@@ -21,7 +21,8 @@ use crate::line::{Dialect, Entry, Fault, Job, Times};
 use crate::parsed::job_of;
 use crate::runs::{End, Listing, Runs, runs_of};
 use crate::warnings::{
-    Fields, Subject, Warning, fields_of_pattern, fields_of_schedule, is_first_too_many, warnings_of,
+    Dates, Fields, Subject, Warning, dates_in_month_of, fields_of_pattern, fields_of_schedule,
+    is_first_too_many, runs_on_either_day, warnings_of,
 };
 use croner::Cron;
 use croner::describe::lang::english::English;
@@ -112,6 +113,8 @@ pub struct JobReport<'l, 't> {
     pub warnings: Vec<Warning>,
     /// What changes of the clock do to it.
     pub meetings: Meetings,
+    /// Of a job that runs on either day: the days of the month of its first listed run by each day field.
+    pub dates: Option<Dates>,
 }
 
 /// When a job runs.
@@ -281,6 +284,7 @@ fn report_of_job<'l, 't>(
             times: warned.times,
             warnings: warned.warnings,
             meetings: warned.meetings,
+            dates: warned.dates,
         })),
         Err(refusal) => Ok(refused(line, job.schedule, Why::Crate(refusal))),
     }
@@ -292,6 +296,7 @@ struct Warned<'t> {
     times: Told<'t>,
     warnings: Vec<Warning>,
     meetings: Meetings,
+    dates: Option<Dates>,
 }
 
 // What a job's times are told, and its warnings; or why the crate's parser refuses the text that they were made into.
@@ -304,16 +309,33 @@ fn told_of_times<'t>(
     ensures told { IfOk result (λ read. IfOk read (λ w. TellsTiming settings.now (job_seen job.now).times w.times)) }
     ensures warned { IfOk result (λ read. IfOk read (λ w. WarnsJob is_fed (job_seen job.now) w.times w.warnings.items)) }
     ensures met { IfOk result (λ read. IfOk read (λ w. MeetsJob settings.now (job_seen job.now) w.times w.meetings)) }
+    ensures dated { IfOk result (λ read. IfOk read (λ w. DatesOf (meaning_of_timing (job_seen job.now).times) w.times w.dates)) }
     ensures refused { IfOk result (λ read. IfErr read (IsUnreadTiming (job_seen job.now).times)) }
     ensures err { IfErr result (λ e. e ≡ CronError.OutOfMemory) }
 {
     match &job.times {
         Times::Reboot => {
-            let warned = with_warnings(alloc, job, None, Told::Reboot, Meetings::none(), is_fed)?;
+            let warned = with_warnings(
+                alloc,
+                job,
+                None,
+                Told::Reboot,
+                Meetings::none(),
+                None,
+                is_fed,
+            )?;
             Ok(Ok(warned))
         }
         Times::Never => {
-            let warned = with_warnings(alloc, job, None, Told::Nothing, Meetings::none(), is_fed)?;
+            let warned = with_warnings(
+                alloc,
+                job,
+                None,
+                Told::Nothing,
+                Meetings::none(),
+                None,
+                is_fed,
+            )?;
             Ok(Ok(warned))
         }
         Times::Named { text, both_days } => match job_of(alloc, text.as_str(), *both_days) {
@@ -342,11 +364,13 @@ fn told_of_job<'t>(
         IsWarned is_fed job.now.schedule.now (option_map (λ u. u.now) job.now.user) job.now.command.now (Some (meaning_of_job cron.now)) w.times w.warnings.items) }
     ensures met { IfOk result (λ w.
         TellsChanges settings.now (Some job.now.schedule.now) (Some (meaning_of_job cron.now)) w.times w.meetings) }
+    ensures dated { IfOk result (λ w. TellsDates (meaning_of_job cron.now) w.times w.dates) }
     ensures err { IfErr result (λ e. e ≡ CronError.OutOfMemory) }
 {
     let told = told_of(alloc, settings, cron)?;
     let meetings = meetings_of(alloc, settings, cron, Some(job.schedule), &told);
-    let warned = with_warnings(alloc, job, Some(cron), told, meetings, is_fed)?;
+    let dates = dates_of(cron, &told)?;
+    let warned = with_warnings(alloc, job, Some(cron), told, meetings, dates, is_fed)?;
     Ok(warned)
 }
 
@@ -366,6 +390,24 @@ fn meetings_of(
     settings.changes.meetings_of(alloc, job, text)
 }
 
+// What a job that was told so is told of its dates: where it runs on either day, those of the month of its first listed run.
+fn dates_of(job: &Cron, told: &Told<'_>) -> Result<Option<Dates>, CronError>
+    ensures dates { IfOk result (TellsDates (meaning_of_job job.now) told.now) }
+    ensures err { IfErr result (λ e. e ≡ CronError.OutOfMemory) }
+{
+    match told {
+        Told::Reboot | Told::Nothing => Ok(None),
+        Told::Runs { runs, .. } => {
+            if runs.items.is_empty() || !runs_on_either_day(job) {
+                return Ok(None);
+            }
+            let run = &runs.items[0];
+            let dates = dates_in_month_of(job, run.to_civil().date(), run.civil_weekday())?;
+            Ok(Some(dates))
+        }
+    }
+}
+
 // No run of a job is left.
 fn is_idle(told: &Told<'_>) -> bool
     ensures { result ≡ is_idle told.now }
@@ -380,10 +422,12 @@ fn with_warnings<'t>(
     cron: Option<&Cron>,
     times: Told<'t>,
     meetings: Meetings,
+    dates: Option<Dates>,
     is_fed: bool,
 ) -> Result<Warned<'t>, CronError>
     ensures times { IfOk result (λ w. w.times ≡ times.entry) }
     ensures met { IfOk result (λ w. w.meetings ≡ meetings) }
+    ensures dated { IfOk result (λ w. w.dates ≡ dates) }
     ensures warnings { IfOk result (λ w. IsWarned is_fed job.now.schedule.now (option_map (λ u. u.now) job.now.user) job.now.command.now
         (option_map (λ j. meaning_of_job j.now) cron.entry) w.times w.warnings.items) }
     ensures err { IfErr result (λ e. e ≡ CronError.OutOfMemory) }
@@ -398,6 +442,7 @@ fn with_warnings<'t>(
         times,
         warnings,
         meetings,
+        dates,
     })
 }
 
@@ -501,6 +546,7 @@ fn told_of_pattern<'l, 't>(
         Ok(job) => {
             let times = told_of(alloc, settings, &job)?;
             let meetings = meetings_of(alloc, settings, &job, None, &times);
+            let dates = dates_of(&job, &times)?;
             let warnings = warnings_of_pattern(alloc, text, &job, &times, is_fed)?;
             Ok(Report::Job(JobReport {
                 schedule: text.as_bytes(),
@@ -509,6 +555,7 @@ fn told_of_pattern<'l, 't>(
                 times,
                 warnings,
                 meetings,
+                dates,
             }))
         }
         Err(_) => Err(CronError::OutOfMemory),

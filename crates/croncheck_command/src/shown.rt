@@ -11,7 +11,7 @@ use crate::notes::{Note, is_nickname, is_noted, takes};
 use crate::report::{JobReport, Report, Told, Why};
 use crate::runs::{End, Listing, MOST_RUNS, Runs};
 use crate::setting::has;
-use crate::warnings::Warning;
+use crate::warnings::{Dates, Warning, push_warning_text};
 use croner::parser::PatternField;
 use croner::time::table::TableTime;
 use croner::time::{CronDateTime, Weekday};
@@ -454,7 +454,7 @@ fn push_job(
         push_notes(alloc, text, None, line)?;
     }
     push_told(text, shared, &job.times)?;
-    push_warnings(text, job.warnings.as_slice())?;
+    push_warnings(text, job)?;
     push_meetings(alloc, text, &job.meetings)
 }
 
@@ -480,24 +480,29 @@ fn push_compared(
 }
 
 // The warnings of a job below it. That its line feed is missing is said at the end of its file.
-fn push_warnings(text: &mut String, warnings: &[Warning]) -> Result<(), AllocError> {
-    for warning in warnings {
+fn push_warnings(text: &mut String, job: &JobReport<'_, '_>) -> Result<(), AllocError> {
+    for warning in job.warnings.as_slice() {
         if !matches!(warning, Warning::NoNewline) {
-            push_warning(text, *warning)?;
+            push_warning(text, *warning, &job.dates)?;
         }
     }
     Ok(())
 }
 
-fn push_warning(text: &mut String, warning: Warning) -> Result<(), AllocError> {
-    let (name, said) = (warning.name(), warning.text());
+fn push_warning(
+    text: &mut String,
+    warning: Warning,
+    dates: &Option<Dates>,
+) -> Result<(), AllocError> {
+    let name = warning.name();
     match warning.field() {
         Some(field) => {
             let field = field_name(field);
-            write!(text, "\n  warning: {name}: {field}: {said}")
+            write!(text, "\n  warning: {name}: {field}: ")?;
         }
-        None => write!(text, "\n  warning: {name}: {said}"),
+        None => write!(text, "\n  warning: {name}: ")?,
     }
+    push_warning_text(text, warning, dates)
 }
 
 // The name of a field as warnings have it.

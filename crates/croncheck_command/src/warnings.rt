@@ -14,8 +14,10 @@ use croner::Cron;
 use croner::errors::CronError;
 use croner::parser::PatternField;
 pub use fields::{Fields, fields_of_pattern, fields_of_schedule};
-pub use sides::{Month, Sides, month_behind, sides_of};
+pub use meaning::is_either_day as runs_on_either_day;
+pub use sides::{Dates, Month, Sides, dates_in_month_of, month_of, sides_of};
 use std::alloc::Global;
+pub use texts::push_warning_text;
 
 /// The most lines that cron takes.
 const MOST_LINES: u64 = 10_000;

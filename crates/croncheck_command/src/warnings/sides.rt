@@ -1,13 +1,12 @@
-//! The days of a month that each day field names by itself, for the text of `either-day`.
-ghost use Rattle.std.specs.Prelude.{◌≡◌, ◌==◌, ◌+◌, ◌-◌, ◌%◌, not, true, pos, ◌+ℤ◌, ◌<ℤ◌, IfOk, IfErr, if◌then◌else◌};
+//! The days of a month that each day field names by itself, for what `either-day` tells.
+ghost use Rattle.std.specs.Prelude.{◌≡◌, not, true, IfOk, IfErr};
 ghost use Rattle.std.specs.Int.{IsInRange};
-ghost use Rattle.jiff_core.specs.Calendar.{days_in_month};
 ghost use Rattle.croner_base.specs.Civil.{weekday_index};
 ghost use Rattle.croner_pattern.specs.Meaning.{meaning_of};
 ghost use Rattle.croner_pattern.specs.Schedule.{IsDayMask};
 ghost use Rattle.croner_pattern.specs.Shapes.{has_field_shapes};
 ghost use Rattle.croner.specs.Views.{job_of as meaning_of_job};
-ghost use Rattle.croncheck_command.specs.Warnings.{with_star_day, by_day_alone, by_weekday_alone};
+ghost use Rattle.croncheck_command.specs.Warnings.{with_star_day, by_day_alone, by_weekday_alone, IsMonthOf, NamesDates};
 
 use croner::errors::CronError;
 use croner::time::days_in_month;
@@ -62,23 +61,36 @@ fn days_in(pattern: &CronPattern, length: u32, first: Weekday) -> u32
     pattern.days_of_month(length, first.num_days_from_sunday())
 }
 
-/// The month behind that of a date, which has this weekday.
-pub fn month_behind(date: CivilDate, weekday: Weekday) -> Month
-    ensures year { date.year <ℤ pos 10_000 → result.year ≡ (if date.month == 12 then date.year +ℤ pos 1 else date.year) }
-    ensures month { result.month ≡ (if date.month == 12 then 1 else (date.month + 1)) }
-    ensures length { result.length ≡ days_in_month result.year result.month }
-    ensures first { weekday_index result.first ≡ (weekday_index weekday + ((days_in_month date.year date.month - date.day) + 1)) % 7 }
+/// The days of a month that each day field names by itself.
+#[derive(Clone, Copy, Drop)]
+pub struct Dates {
+    pub month: Month,
+    pub sides: Sides,
+}
+
+/// The days that each day field of a job names by itself in the month of a date, which has this weekday.
+///
+/// The only error is `OutOfMemory`.
+pub fn dates_in_month_of(job: &Cron, date: CivilDate, weekday: Weekday) -> Result<Dates, CronError>
+    ensures month { IfOk result (λ d. IsMonthOf date (weekday_index weekday) d.month) }
+    ensures sides { IfOk result (NamesDates (meaning_of_job job.now)) }
+    ensures err { IfErr result (λ e. e ≡ CronError.OutOfMemory) }
 {
-    let left = days_in_month(date.year(), date.month()) - date.day() + 1;
-    let (year, month) = if date.month() == 12 {
-        (date.year().saturating_add(1), 1)
-    } else {
-        (date.year(), date.month() + 1)
-    };
+    let month = month_of(date, weekday);
+    let sides = sides_of(job, month.length, month.first)?;
+    Ok(Dates { month, sides })
+}
+
+/// The month of a date, which has this weekday.
+pub fn month_of(date: CivilDate, weekday: Weekday) -> Month
+    ensures month { IsMonthOf date (weekday_index weekday) result }
+    ensures length { IsInRange 28 31 result.length }
+{
+    let (year, month) = (date.year(), date.month());
     Month {
         year,
         month,
         length: days_in_month(year, month),
-        first: Weekday::from_days_from_sunday(weekday.num_days_from_sunday() + left),
+        first: Weekday::from_days_from_sunday(weekday.num_days_from_sunday() + (36 - date.day())),
     }
 }

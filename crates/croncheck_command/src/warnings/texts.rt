@@ -3,7 +3,9 @@ ghost use Rattle.std.specs.Prelude.{◌≡◌};
 ghost use Rattle.croncheck_command.specs.Warnings.{field_of};
 
 use super::Warning;
+use super::sides::{Dates, Month};
 use croner::parser::PatternField;
+use std::alloc::AllocError;
 
 impl Warning {
     /// The name by which it is known, as `either-day`.
@@ -55,6 +57,51 @@ impl Warning {
             Warning::ManyLines => MANY_LINES,
         }
     }
+}
+
+/// Writes what happens, with the dates of `either-day` where there are some, and what to write instead.
+pub fn push_warning_text(
+    text: &mut String,
+    warning: Warning,
+    dates: &Option<Dates>,
+) -> Result<(), AllocError> {
+    text.push_str(warning.text())?;
+    match (warning, dates) {
+        (Warning::EitherDay, Some(dates)) => push_dates(text, dates),
+        _ => Ok(()),
+    }
+}
+
+// Writes the days of a month by each day field.
+fn push_dates(text: &mut String, dates: &Dates) -> Result<(), AllocError> {
+    let Month {
+        year,
+        month,
+        length,
+        ..
+    } = dates.month;
+    write!(text, " In {year:04}-{month:02} the day of the month names ")?;
+    push_days(text, dates.sides.by_day, length)?;
+    text.push_str(", and the weekday ")?;
+    push_days(text, dates.sides.by_weekday, length)?;
+    text.push_str(".")
+}
+
+// Writes the days of a month of so many days whose bits are set.
+fn push_days(text: &mut String, days: u32, length: u32) -> Result<(), AllocError> {
+    match days.count_ones() {
+        0 => return text.push_str("no day"),
+        named if named == length => return text.push_str("each day"),
+        _ => {}
+    }
+    let mut between = "";
+    for day in 1..=31u32 {
+        if (days >> (day - 1)) & 1 == 1 {
+            write!(text, "{between}{day}")?;
+            between = ", ";
+        }
+    }
+    Ok(())
 }
 
 const EITHER_DAY: &str =
