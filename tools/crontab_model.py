@@ -56,7 +56,7 @@ SPACES = b" \t\v\f\r"
 LINE_FEED = b"\n"
 END = b"\xff"  # cron keeps what follows a part in a char, where this byte is the end of the file
 SETTING_BYTES, COMMAND_BYTES, WORD_BYTES = 998, 998, 999
-YEAR_AND_A_DAY = 366 * DAY
+WATCHED = 372 * DAY
 LAST_YEAR = 5000
 
 
@@ -614,7 +614,7 @@ def has_run(times, zone, start):
     """Whether a pattern has a run behind a start: date after date, and second after second of each that is named."""
     job = times.job
     last = model.wall(LAST_YEAR + 1) - 1
-    for first, end in ((start, min(last, start + 2 * YEAR_AND_A_DAY)), (start, last)):
+    for first, end in ((start, min(last, start + 2 * WATCHED)), (start, last)):
         clock = Clock(zone, first, end)
         if any(is_met(times, clock, start, number) for number in dates_of(times, clock, start, end)):
             return True
@@ -658,9 +658,9 @@ def warnings_of_changes(times, zone, start):
     found = {}
     if len(times.hours) == 24:
         return []
-    for instant, before, after in Clock(zone, start, start + YEAR_AND_A_DAY).changes():
+    for instant, before, after in Clock(zone, start, start + WATCHED).changes():
         name = "gap" if before < after else "twice"
-        if name in found or not start < instant <= start + YEAR_AND_A_DAY:
+        if name in found or not start < instant <= start + WATCHED:
             continue
         if times.second_in(min(before, after), max(before, after)) is None:
             continue

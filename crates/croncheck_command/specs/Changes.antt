@@ -24,9 +24,9 @@ use Rattle.croncheck_command.specs.declared.changes.meetings.Meetings.{Meetings}
 
 -- ---- the changes of a clock
 
--- so many seconds behind a start changes are told: a year of 365 days and a day
+-- so many seconds behind a start changes are told: 372 days, since a change on a certain Sunday comes again after 364 or 371
 abbrev pub watched_seconds : ℕ
-watched_seconds = 31_622_400
+watched_seconds = 32_140_800
 
 -- 0001-01-02T00:00:00 UTC
 abbrev pub first_watched : ℤ
@@ -36,7 +36,7 @@ first_watched = neg_ℤ (pos 62_135_510_400)
 abbrev pub end_watched : ℤ
 end_watched = pos 95_617_497_600
 
--- an instant behind a start, by no more than a year and a day, at which each clock shows a year from 1 to 4999
+-- an instant behind a start, by no more than 372 days, at which each clock shows a year from 1 to 4999
 pub record IsWatched (start instant : ℤ) : Type 0 where
   pub behind : start <ℤ instant
   pub within : instant ≤ℤ (start +ℤ pos watched_seconds)

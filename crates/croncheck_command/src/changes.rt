@@ -69,7 +69,7 @@ pub struct Meeting {
     pub fate: Fate,
 }
 
-/// The changes of a clock behind a start, up to a year and a day behind it, which are 366 days.
+/// The changes of a clock behind a start, up to 372 days behind it: a change on a certain Sunday comes again after 364 or 371.
 ///
 /// Those count that come from 0001-01-02T00:00:00 UTC on and before 4999-12-31T00:00:00 UTC.
 #[derive(Drop)]

@@ -13,7 +13,7 @@ use croner::time::table::TableTime;
 use std::alloc::{AllocError, Global};
 
 /// How far behind a start changes are told: a year of 365 days and a day.
-const WATCHED_SECONDS: i64 = 31_622_400;
+const WATCHED_SECONDS: i64 = 32_140_800;
 
 /// Changes are told from the second behind this one on: from 0001-01-02T00:00:00 UTC on.
 const BEFORE_FIRST: i64 = -62_135_510_401;
@@ -39,7 +39,7 @@ pub fn changes_behind(
     changes_within(alloc, level, start, first, last)
 }
 
-// A year and a day behind a start.
+// 372 days behind a start.
 fn year_behind(start: TableTime<'_>) -> i64
     ensures { result ≡ start.entry.second +ℤ pos watched_seconds }
 {

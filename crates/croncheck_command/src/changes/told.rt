@@ -56,13 +56,13 @@ fn push_change(
 
 // What becomes of a second, here and in cron(8).
 fn push_here(text: &mut String, level: &Level, second: i64, fate: Fate) -> Result<(), AllocError> {
-    text.push_str(", and the run at ")?;
+    text.push_str(", and what is due in between, first at ")?;
     push_wall(text, level, second)?;
     text.push_str(match fate {
-        Fate::LeftOut => " is left out. Name an hour that isn't skipped, if it may not be missed.",
-        Fate::Moved => " is made as the clock goes on.",
-        Fate::Once => ", which comes twice, is made the first time alone.",
-        Fate::Twice => " is made twice. Name an hour that comes once, if that does harm.",
+        Fate::LeftOut => ", is left out. Name an hour that isn't skipped, if it may not be missed.",
+        Fate::Moved => ", is made as soon as the clock has gone on.",
+        Fate::Once => ", is made the first time alone.",
+        Fate::Twice => ", is made twice. Name an hour that comes once, if that does harm.",
     })
 }
 
@@ -75,17 +75,17 @@ fn push_in_cron(
 ) -> Result<(), AllocError> {
     text.push_str(". Cron ")?;
     text.push_str(match in_cron {
-        Fate::LeftOut => "leaves out the run at ",
-        Fate::Moved | Fate::Once | Fate::Twice => "makes the run at ",
+        Fate::LeftOut => "leaves out what is due in between, first at ",
+        Fate::Moved | Fate::Once | Fate::Twice => "makes what is due in between, first at ",
     })?;
     push_wall(text, level, second)?;
     text.push_str(match in_cron {
         Fate::LeftOut =>
-            ", and the runs listed here have it as the clock goes on. Name an hour that isn't skipped, if it may not be missed.",
-        Fate::Moved => " as the clock goes on, and the runs listed here leave it out.",
-        Fate::Once => " the first time alone, and the runs listed here have it twice.",
+            "; the runs listed here have it as soon as the clock has gone on. Name an hour that isn't skipped, if it may not be missed.",
+        Fate::Moved => ", as soon as the clock has gone on; the runs listed here leave it out.",
+        Fate::Once => ", the first time alone; the runs listed here have it twice.",
         Fate::Twice =>
-            " twice, and the runs listed here have it the first time alone. Name an hour that comes once, if that does harm.",
+            ", twice; the runs listed here have it the first time alone. Name an hour that comes once, if that does harm.",
     })
 }
 
