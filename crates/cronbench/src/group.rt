@@ -1,11 +1,12 @@
 //! The groups of calls that are measured.
 
 use crate::answers::Answers;
+use crate::job::Job;
 use crate::many;
 use crate::passes::{
     compare, copy, describe, iterate, limit, matching, next, parse, previous, read_hostile,
 };
-use crate::subjects::Subjects;
+use crate::subjects::{Subjects, Times};
 use crate::watch::Watch;
 use croner::describe::lang::english::English;
 use croner::describe::lang::swedish::Swedish;
@@ -17,26 +18,21 @@ use std::fmt;
 #[derive(Debug, Clone, Copy)]
 pub enum Group {
     Parse,
-    MatchCivil,
-    NextCivil,
-    PreviousCivil,
-    NextTable,
-    NextZoned,
-    IterateCivil,
-    IterateTable,
+    Match,
+    Next(Starts),
+    Previous,
+    Iterate,
+    IterateOnTable,
     DescribeEnglish,
     DescribeSwedish,
     Compare,
     Copy,
-    LeapMonday,
-    NoDate,
-    NoDateInOddYears,
-    NoMinute,
-    NextLongTable,
-    NextFarOnLongTable,
-    HostileShort,
-    HostileMiddle,
-    HostileLong,
+    /// The next run of one pattern.
+    NextOf(&'static str),
+    /// The same of one that never runs.
+    Limit(&'static str),
+    /// Texts of so many bytes that no crontab has.
+    Hostile(&'static str),
     NextOfEach,
     NextOfMany,
     IterateMany,
@@ -45,50 +41,59 @@ pub enum Group {
     IterateDaily,
     IterateDailyLong,
     IterateMore,
-    OverAnHour,
-    OverADay,
-    HourlyOverAnHour,
-    OftenOverAnHour,
+    /// The next run of one pattern from the second before a gap.
+    OverAnHour(&'static str),
+    OverADay(&'static str),
 }
 
-impl Group {
-    /// Every group, in the order in which they are shown.
-    pub const ALL: [Group; 33] = [
-        Group::Parse,
-        Group::MatchCivil,
-        Group::NextCivil,
-        Group::PreviousCivil,
-        Group::NextTable,
-        Group::NextZoned,
-        Group::IterateCivil,
-        Group::IterateTable,
-        Group::DescribeEnglish,
-        Group::DescribeSwedish,
-        Group::Compare,
-        Group::Copy,
-        Group::LeapMonday,
-        Group::NoDate,
-        Group::NoDateInOddYears,
-        Group::NoMinute,
-        Group::NextLongTable,
-        Group::NextFarOnLongTable,
-        Group::HostileShort,
-        Group::HostileMiddle,
-        Group::HostileLong,
-        Group::NextOfEach,
-        Group::NextOfMany,
-        Group::IterateMany,
-        Group::IterateManyLater,
-        Group::FirstOfMany,
-        Group::IterateDaily,
-        Group::IterateDailyLong,
-        Group::IterateMore,
-        Group::OverAnHour,
-        Group::OverADay,
-        Group::HourlyOverAnHour,
-        Group::OftenOverAnHour,
-    ];
+/// The times that the searches of each pattern start from.
+#[derive(Debug, Clone, Copy)]
+pub enum Starts {
+    Civil,
+    Table,
+    Zoned,
+    LongTable,
+    FarOnLongTable,
+}
 
+/// Every group, in the order in which they are shown.
+pub const GROUPS: [Group; 33] = [
+    Group::Parse,
+    Group::Match,
+    Group::Next(Starts::Civil),
+    Group::Previous,
+    Group::Next(Starts::Table),
+    Group::Next(Starts::Zoned),
+    Group::Iterate,
+    Group::IterateOnTable,
+    Group::DescribeEnglish,
+    Group::DescribeSwedish,
+    Group::Compare,
+    Group::Copy,
+    Group::NextOf("0 0 29 2 +MON"),
+    Group::Limit("0 0 31 2 *"),
+    Group::Limit("0 0 0 31 2 * */2"),
+    Group::Limit(", * * * *"),
+    Group::Next(Starts::LongTable),
+    Group::Next(Starts::FarOnLongTable),
+    Group::Hostile("10,000"),
+    Group::Hostile("100,000"),
+    Group::Hostile("1,000,000"),
+    Group::NextOfEach,
+    Group::NextOfMany,
+    Group::IterateMany,
+    Group::IterateManyLater,
+    Group::FirstOfMany,
+    Group::IterateDaily,
+    Group::IterateDailyLong,
+    Group::IterateMore,
+    Group::OverAnHour("* * * * * *"),
+    Group::OverADay("* * * * * *"),
+    Group::OverAnHour("0 * * * *"),
+    Group::OverAnHour("*/5 * * * *"),
+];
+
+impl Group {
     /// Makes each call of the group once. What comes before a restart of the watch is not measured.
     pub fn pass(
         self,
@@ -96,102 +101,79 @@ impl Group {
         subjects: &Subjects<'_>,
         watch: &mut Watch<'_>,
     ) -> Result<Answers, CronError> {
-        let jobs = subjects.jobs.as_slice();
+        let (jobs, times) = (subjects.jobs.as_slice(), &subjects.times);
         match self {
             Group::Parse => parse(alloc, subjects.patterns.as_slice()),
-            Group::HostileShort => read_hostile(alloc, subjects.hostile.short.as_slice()),
-            Group::HostileMiddle => read_hostile(alloc, subjects.hostile.middle.as_slice()),
-            Group::HostileLong => read_hostile(alloc, subjects.hostile.long.as_slice()),
-            Group::MatchCivil => matching(jobs, subjects.times.civil.as_slice()),
+            Group::Hostile(bytes) => read_hostile(alloc, subjects.hostile(bytes)?),
+            Group::Match => matching(jobs, times.civil.as_slice()),
             Group::DescribeEnglish => describe(jobs, English),
             Group::DescribeSwedish => describe(jobs, Swedish),
             Group::Compare => compare(jobs),
             Group::Copy => copy(jobs),
+            Group::Next(starts) => next_from(jobs, times, starts),
+            Group::Previous => previous(jobs, times.civil.as_slice()),
+            Group::Iterate => iterate(jobs, times.civil.as_slice()),
+            Group::IterateOnTable => iterate(jobs, times.table.as_slice()),
             _ => self.search(subjects, watch),
         }
     }
 
-    // The searches of one job at a time.
+    // The searches of one pattern, and those of many.
     fn search(self, subjects: &Subjects<'_>, watch: &mut Watch<'_>) -> Result<Answers, CronError> {
-        let jobs = subjects.jobs.as_slice();
-        let (times, never) = (&subjects.times, &subjects.never);
+        let (times, table) = (&subjects.times, &subjects.table);
+        let starts = times.civil.as_slice();
         match self {
-            Group::NextCivil => next(jobs, times.civil.as_slice()),
-            Group::PreviousCivil => previous(jobs, times.civil.as_slice()),
-            Group::NextTable => next(jobs, times.table.as_slice()),
-            Group::NextZoned => next(jobs, times.zoned.as_slice()),
-            Group::IterateCivil => iterate(jobs, times.civil.as_slice()),
-            Group::IterateTable => iterate(jobs, times.table.as_slice()),
-            Group::LeapMonday => next(subjects.rare.as_slice(), times.civil.as_slice()),
-            Group::NoDate => limit(&never.no_date, &never.first),
-            Group::NoDateInOddYears => limit(&never.no_date_in_odd_years, &never.first),
-            Group::NoMinute => limit(&never.no_minute, &never.first),
-            Group::NextLongTable => next(jobs, times.long_table.as_slice()),
-            Group::NextFarOnLongTable => next(jobs, times.far_on_long_table.as_slice()),
-            _ => self.search_many(subjects, watch),
-        }
-    }
-
-    // The searches of many jobs.
-    fn search_many(
-        self,
-        subjects: &Subjects<'_>,
-        watch: &mut Watch<'_>,
-    ) -> Result<Answers, CronError> {
-        let starts = subjects.times.civil.as_slice();
-        match self {
+            Group::NextOf(pattern) => next(subjects.only(pattern)?, starts),
+            Group::Limit(pattern) => limit(subjects.only(pattern)?, &times.first),
+            Group::OverAnHour(pattern) => {
+                next(subjects.only(pattern)?, times.before_an_hour.as_slice())
+            }
+            Group::OverADay(pattern) => {
+                next(subjects.only(pattern)?, times.before_a_day.as_slice())
+            }
             Group::NextOfEach => many::next_each(subjects.jobs.as_slice(), starts),
-            Group::NextOfMany => many::next(&subjects.table, starts),
-            Group::IterateMany => many::iterate(&subjects.table, starts),
-            Group::IterateManyLater => many::iterate_later(&subjects.table, starts, watch),
-            Group::FirstOfMany => many::first(&subjects.table, starts),
-            Group::IterateDaily => many::iterate(&subjects.daily_table, starts),
-            Group::IterateDailyLong => many::iterate_long(&subjects.daily_table, starts),
-            Group::IterateMore => many::iterate(&subjects.larger_table, starts),
-            _ => self.search_over_gap(subjects),
+            Group::NextOfMany => many::next(table, starts),
+            Group::IterateMany => many::iterate(table, starts, many::ITEMS),
+            Group::IterateManyLater => many::iterate_later(table, starts, watch),
+            Group::IterateDaily => many::iterate(&subjects.daily_table, starts, many::ITEMS),
+            Group::IterateDailyLong => many::iterate(
+                &subjects.daily_table,
+                starts,
+                many::LONG_ITEMS,
+            ),
+            Group::IterateMore => many::iterate(&subjects.larger_table, starts, many::ITEMS),
+            _ => many::first(table, starts),
         }
     }
+}
 
-    // The searches from a second before a gap: those of every second where no other job is named, and over an hour where no
-    // day is.
-    fn search_over_gap(self, subjects: &Subjects<'_>) -> Result<Answers, CronError> {
-        let jobs = match self {
-            Group::HourlyOverAnHour => subjects.hourly.as_slice(),
-            Group::OftenOverAnHour => subjects.often.as_slice(),
-            _ => subjects.each_second.as_slice(),
-        };
-        let starts = match self {
-            Group::OverADay => subjects.times.before_a_day.as_slice(),
-            _ => subjects.times.before_an_hour.as_slice(),
-        };
-        next(jobs, starts)
+fn next_from(jobs: &[Job], times: &Times<'_>, starts: Starts) -> Result<Answers, CronError> {
+    match starts {
+        Starts::Civil => next(jobs, times.civil.as_slice()),
+        Starts::Table => next(jobs, times.table.as_slice()),
+        Starts::Zoned => next(jobs, times.zoned.as_slice()),
+        Starts::LongTable => next(jobs, times.long_table.as_slice()),
+        Starts::FarOnLongTable => next(jobs, times.far_on_long_table.as_slice()),
     }
 }
 
 impl fmt::Display for Group {
     fn fmt<W: fmt::Write>(&self, f: &mut fmt::Formatter<W>) -> fmt::Result {
-        let name = match self {
+        let name = match *self {
             Group::Parse => "parse",
-            Group::MatchCivil => "match, civil time",
-            Group::NextCivil => "next run, civil time",
-            Group::PreviousCivil => "previous run, civil time",
-            Group::NextTable => "next run, table",
-            Group::NextZoned => "next run, time zone",
-            Group::IterateCivil => "1,000 runs, civil time",
-            Group::IterateTable => "1,000 runs, table",
+            Group::Match => "match, civil time",
+            Group::Next(Starts::Civil) => "next run, civil time",
+            Group::Next(Starts::Table) => "next run, table",
+            Group::Next(Starts::Zoned) => "next run, time zone",
+            Group::Next(Starts::LongTable) => "next run, table of 20,000 changes",
+            Group::Next(Starts::FarOnLongTable) => "next run, far on that table",
+            Group::Previous => "previous run, civil time",
+            Group::Iterate => "1,000 runs, civil time",
+            Group::IterateOnTable => "1,000 runs, table",
             Group::DescribeEnglish => "describe, English",
             Group::DescribeSwedish => "describe, Swedish",
             Group::Compare => "clone and compare",
             Group::Copy => "clone",
-            Group::LeapMonday => "next run of 0 0 29 2 +MON",
-            Group::NoDate => "next run of 0 0 31 2 *",
-            Group::NoDateInOddYears => "next run of 0 0 0 31 2 * */2",
-            Group::NoMinute => "next run of , * * * *",
-            Group::NextLongTable => "next run, table of 20,000 changes",
-            Group::NextFarOnLongTable => "next run, far on that table",
-            Group::HostileShort => "hostile texts of 10,000 bytes",
-            Group::HostileMiddle => "hostile texts of 100,000 bytes",
-            Group::HostileLong => "hostile texts of 1,000,000 bytes",
             Group::NextOfEach => "next run of 1,000 patterns, each by itself",
             Group::NextOfMany => "next run of a table of 1,000 patterns",
             Group::IterateMany => "64 runs of a table of 1,000 patterns",
@@ -200,10 +182,19 @@ impl fmt::Display for Group {
             Group::IterateDaily => "64 runs of a table of 1,000 patterns, one at a time",
             Group::IterateDailyLong => "10,000 runs of that table",
             Group::IterateMore => "64 runs of a table of 100,000 patterns",
-            Group::OverAnHour => "next run of * * * * * *, over a gap of an hour",
-            Group::OverADay => "next run of * * * * * *, over a gap of a day",
-            Group::HourlyOverAnHour => "next run of 0 * * * *, over a gap of an hour",
-            Group::OftenOverAnHour => "next run of */5 * * * *, over a gap of an hour",
+            Group::Hostile(bytes) => return write!(f, "hostile texts of {bytes} bytes"),
+            Group::NextOf(pattern) | Group::Limit(pattern) => return write!(
+                f,
+                "next run of {pattern}"
+            ),
+            Group::OverAnHour(pattern) => return write!(
+                f,
+                "next run of {pattern}, over a gap of an hour"
+            ),
+            Group::OverADay(pattern) => return write!(
+                f,
+                "next run of {pattern}, over a gap of a day"
+            ),
         };
         write!(f, "{name}")
     }

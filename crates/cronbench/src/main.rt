@@ -20,7 +20,7 @@ mod stop;
 mod subjects;
 mod watch;
 
-use group::Group;
+use group::{GROUPS, Group};
 use measure::{Measured, measure};
 use paris::Clocks;
 use std::io;
@@ -58,7 +58,7 @@ fn bench_by(rt: &HostRuntime, clocks: &Clocks, rounds: u32) -> Result<(), Stop> 
 }
 
 fn bench_on(rt: &HostRuntime, subjects: &Subjects<'_>, rounds: u32) -> Result<(), Stop> {
-    for group in Group::ALL {
+    for group in GROUPS {
         let measured = measure(rt, group, subjects, rounds)?;
         show(rt, group, measured)?;
     }

@@ -118,13 +118,15 @@ pub fn copy(jobs: &[Job]) -> Result<Answers, CronError> {
     Ok(answers)
 }
 
-/// Seeks the next run of a job. The answer is the run, or -1 where the search comes to the limit.
-pub fn limit<T: Moment>(job: &Job, start: &T) -> Result<Answers, CronError> {
+/// Seeks the next run of each job. An answer is the run, or -1 where the search comes to the limit.
+pub fn limit<T: Moment>(jobs: &[Job], start: &T) -> Result<Answers, CronError> {
     let mut answers = Answers::default();
-    match job.cron.find_next_occurrence(start, false) {
-        Ok(run) => answers.add(run.second()),
-        Err(CronError::TimeSearchLimitExceeded) => answers.add(-1),
-        Err(error) => return Err(error),
+    for job in jobs {
+        match job.cron.find_next_occurrence(start, false) {
+            Ok(run) => answers.add(run.second()),
+            Err(CronError::TimeSearchLimitExceeded) => answers.add(-1),
+            Err(error) => return Err(error),
+        }
     }
     Ok(answers)
 }

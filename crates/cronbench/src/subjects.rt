@@ -12,35 +12,25 @@ use croner::time::table::{ClockTable, TableTime};
 use jiff::Zoned;
 use jiff::civil::DateTime;
 use jiff::tz::TimeZone;
-use std::alloc::Global;
+use std::alloc::{AllocError, Global};
 
-/// A pattern whose date is in 15 of 400 years.
-const LEAP_MONDAY: &str = "0 0 29 2 +MON";
-
-/// A pattern of every second.
-const EACH_SECOND: &str = "* * * * * *";
-
-/// A pattern of every hour.
-const HOURLY: &str = "0 * * * *";
-
-/// A pattern of twelve times an hour.
-const OFTEN: &str = "*/5 * * * *";
-
-/// A pattern whose date is in no year.
-const NO_DATE: &str = "0 0 31 2 *";
-
-/// A pattern of every second year, from year 1 on, whose date is in no year.
-const NO_DATE_IN_ODD_YEARS: &str = "0 0 0 31 2 * */2";
-
-/// A pattern whose minutes name nothing.
-const NO_MINUTE: &str = ", * * * *";
+/// The patterns that are searched by themselves: one in 15 of 400 years, three that never run, and those over a gap.
+const ONES: [&str; 7] = [
+    "0 0 29 2 +MON",
+    "0 0 31 2 *",
+    "0 0 0 31 2 * */2",
+    ", * * * *",
+    "* * * * * *",
+    "0 * * * *",
+    "*/5 * * * *",
+];
 
 /// How many bytes a hostile text has: of the short ones, of those ten times as long, and of those a hundred times.
-const SHORT_BYTES: usize = 10_000;
-
-const MIDDLE_BYTES: usize = 100_000;
-
-const LONG_BYTES: usize = 1_000_000;
+const LENGTHS: [(&str, usize); 3] = [
+    ("10,000", 10_000),
+    ("100,000", 100_000),
+    ("1,000,000", 1_000_000),
+];
 
 /// The jobs, and the times that searches start from.
 #[derive(Drop)]
@@ -55,20 +45,10 @@ pub struct Subjects<'t> {
     pub larger_table: CronTable,
     /// The table of which one job runs at a time.
     pub daily_table: CronTable,
-    /// A job that runs in each second.
-    pub each_second: Vec<Job>,
-    /// A job that runs at each hour.
-    pub hourly: Vec<Job>,
-    /// A job that runs twelve times an hour.
-    pub often: Vec<Job>,
-    /// A job that runs in few years.
-    pub rare: Vec<Job>,
-    /// The jobs that never run.
-    pub never: Never,
     /// The times that searches start from.
     pub times: Times<'t>,
-    /// Texts that no crontab has.
-    pub hostile: Hostile,
+    ones: Vec<(&'static str, Vec<Job>)>,
+    hostile: Vec<(&'static str, Vec<String>)>,
 }
 
 impl<'t> Subjects<'t> {
@@ -79,86 +59,66 @@ impl<'t> Subjects<'t> {
         clocks: &'t Clocks,
     ) -> Result<Subjects<'t>, Stop> {
         let jobs = jobs(alloc, patterns.as_slice())?;
-        let table = many::table(alloc, patterns.as_slice())?;
-        let larger_table = many::larger_table(alloc, patterns.as_slice())?;
+        let table = many::table_of(alloc, patterns.as_slice(), many::TIMES)?;
+        let larger_table = many::table_of(alloc, patterns.as_slice(), many::LARGER_TIMES)?;
         let daily_table = many::daily_table(alloc)?;
-        let each_second = one(alloc, EACH_SECOND)?;
-        let hourly = one(alloc, HOURLY)?;
-        let often = one(alloc, OFTEN)?;
-        let rare = one(alloc, LEAP_MONDAY)?;
-        let never = Never::new(alloc)?;
-        let hostile = Hostile::new(alloc)?;
         let times = Times::new(alloc, clocks)?;
+        let ones = ones(alloc)?;
+        let hostile = hostile(alloc)?;
         Ok(Subjects {
             patterns,
             jobs,
             table,
             larger_table,
             daily_table,
-            each_second,
-            hourly,
-            often,
-            rare,
-            never,
             times,
+            ones,
             hostile,
         })
     }
-}
 
-/// Three jobs that never run, and where their searches start.
-#[derive(Drop)]
-pub struct Never {
-    /// Its date is in no year.
-    pub no_date: Job,
-    /// Its date is in no year, and it names every second year.
-    pub no_date_in_odd_years: Job,
-    /// Its minutes name nothing.
-    pub no_minute: Job,
-    /// Where the searches start.
-    pub first: DateTime,
-}
+    /// The job of a pattern that is searched by itself.
+    pub fn only(&self, pattern: &str) -> Result<&[Job], CronError> {
+        for (text, jobs) in &self.ones {
+            if *text == pattern {
+                return Ok(jobs.as_slice());
+            }
+        }
+        Err(CronError::EmptyPattern)
+    }
 
-impl Never {
-    /// Reads the three patterns.
-    fn new(alloc: Global) -> Result<Never, Stop> {
-        let first = civil_at(FIRST_SECOND)?;
-        let no_date = Job::read(alloc, NO_DATE)?;
-        let no_date_in_odd_years = Job::read(alloc, NO_DATE_IN_ODD_YEARS)?;
-        let no_minute = Job::read(alloc, NO_MINUTE)?;
-        Ok(Never {
-            no_date,
-            no_date_in_odd_years,
-            no_minute,
-            first,
-        })
+    /// Texts of so many bytes that no crontab has.
+    pub fn hostile(&self, bytes: &str) -> Result<&[String], CronError> {
+        for (name, texts) in &self.hostile {
+            if *name == bytes {
+                return Ok(texts.as_slice());
+            }
+        }
+        Err(CronError::EmptyPattern)
     }
 }
 
-/// Texts of three lengths that no crontab has.
-#[derive(Drop)]
-pub struct Hostile {
-    pub short: Vec<String>,
-    pub middle: Vec<String>,
-    pub long: Vec<String>,
+fn ones(alloc: Global) -> Result<Vec<(&'static str, Vec<Job>)>, CronError> {
+    let mut ones = Vec::new(alloc);
+    for pattern in ONES {
+        ones.push((pattern, one(alloc, pattern)?))?;
+    }
+    Ok(ones)
 }
 
-impl Hostile {
-    fn new(alloc: Global) -> Result<Hostile, Stop> {
-        let short = texts(alloc, SHORT_BYTES)?;
-        let middle = texts(alloc, MIDDLE_BYTES)?;
-        let long = texts(alloc, LONG_BYTES)?;
-        Ok(Hostile {
-            short,
-            middle,
-            long,
-        })
+fn hostile(alloc: Global) -> Result<Vec<(&'static str, Vec<String>)>, AllocError> {
+    let mut hostile = Vec::new(alloc);
+    for (name, bytes) in LENGTHS {
+        hostile.push((name, texts(alloc, bytes)?))?;
     }
+    Ok(hostile)
 }
 
 /// The times that searches start from, of each kind.
 #[derive(Drop)]
 pub struct Times<'t> {
+    /// The first of the span of times, in civil time.
+    pub first: DateTime,
     /// The times in civil time.
     pub civil: Vec<DateTime>,
     /// The times on a table.
@@ -178,6 +138,7 @@ pub struct Times<'t> {
 impl<'t> Times<'t> {
     /// Places the times on the clocks.
     fn new(alloc: Global, clocks: &'t Clocks) -> Result<Times<'t>, Stop> {
+        let first = civil_at(FIRST_SECOND)?;
         let seconds = seconds(alloc)?;
         let civil = civil_times(alloc, seconds.as_slice())?;
         let table = table_times(alloc, &clocks.table, seconds.as_slice())?;
@@ -187,6 +148,7 @@ impl<'t> Times<'t> {
         let before_an_hour = table_times(alloc, &clocks.gap_of_an_hour, &[FIRST_SECOND - 1])?;
         let before_a_day = table_times(alloc, &clocks.gap_of_a_day, &[FIRST_SECOND - 1])?;
         Ok(Times {
+            first,
             civil,
             table,
             zoned,
