@@ -1,122 +1,97 @@
 //! Copies of each type that has memory.
 
-use crate::case::Outcome;
-use crate::fault::Fault;
-use crate::fields::read_field;
-use crate::iterators::{fault_of, shown_item};
-use crate::jobs::job;
-use crate::marks::{begin, end};
-use crate::shown;
-use crate::time_calls::instants;
-use crate::times::{OverTime, Place, Shown, over_time};
+use crate::iterators::item_text;
+use crate::tables::texts_of;
+use croner::crontable::CronTable;
 use croner::errors::CronError;
-use croner::time::{Direction, Resolution};
-use croner::{Cron, CronComponent, CronIterator, CronPattern};
+use croner::time::Resolution;
+use croner::{Cron, CronComponent, CronPattern};
+use croner_rows::{
+    Answer, Caller, Fault, How, Job, Moment, Outcome, OverTime, Runs, Subject, Table, bare,
+    instants, over_time, read_field, shown, text,
+};
+use serde_json::Value;
 use std::alloc::{AllocError, Global};
 
-// A copy, or want of memory by its name in the library.
-fn lacking<T: Drop>(copy: Result<T, AllocError>) -> Result<T, CronError> {
-    match copy {
-        Ok(copy) => Ok(copy),
-        Err(_) => Err(CronError::OutOfMemory),
+// What is copied, and shown as a text.
+trait Shown: Clone + Drop {
+    fn text(&self, alloc: Global) -> Result<String, Fault>;
+}
+
+impl Shown for CronComponent {
+    fn text(&self, alloc: Global) -> Result<String, Fault> {
+        shown::field(alloc, self)
     }
 }
 
-// Want of memory, as an answer.
-fn no_memory(alloc: Global) -> Result<String, Fault> {
-    shown::refused(alloc, &CronError::OutOfMemory)
-}
-
-/// A copy of a field of a shape that has read a text, and the field afterwards.
-pub fn field_clone(rt: &HostRuntime, given: &[&str]) -> Result<Outcome, Fault> {
-    let [shape, text] = given else {
-        return Err(Fault::Malformed);
-    };
-    let field = read_field(rt.alloc(), shape, text)?;
-    let outcome = copy_of_field(rt, &field);
-    drop(field);
-    outcome
-}
-
-fn copy_of_field(rt: &HostRuntime, field: &CronComponent) -> Result<Outcome, Fault> {
-    begin(rt);
-    let copy: Result<CronComponent, AllocError> = field.clone();
-    end(rt);
-    let copy = lacking(copy);
-    let answer = shown::field_or_refusal(rt.alloc(), &copy);
-    drop(copy);
-    Outcome::of_both(answer, shown::field(rt.alloc(), field))
-}
-
-/// A copy of the pattern of a text, and the pattern afterwards.
-pub fn pattern_clone(rt: &HostRuntime, given: &[&str]) -> Result<Outcome, Fault> {
-    let [text] = given else {
-        return Err(Fault::Malformed);
-    };
-    let cron = job(rt.alloc(), text)?;
-    let outcome = copy_of_pattern(rt, &cron.pattern);
-    drop(cron);
-    outcome
-}
-
-fn copy_of_pattern(rt: &HostRuntime, pattern: &CronPattern) -> Result<Outcome, Fault> {
-    begin(rt);
-    let copy: Result<CronPattern, AllocError> = pattern.clone();
-    end(rt);
-    let copy = lacking(copy);
-    let answer = shown::pattern_or_refusal(rt.alloc(), &copy);
-    drop(copy);
-    Outcome::of_both(answer, shown::pattern(rt.alloc(), pattern))
-}
-
-/// A copy of the job of a text, and the job afterwards.
-pub fn job_clone(rt: &HostRuntime, given: &[&str]) -> Result<Outcome, Fault> {
-    let [text] = given else {
-        return Err(Fault::Malformed);
-    };
-    let cron = job(rt.alloc(), text)?;
-    let outcome = copy_of_job(rt, &cron);
-    drop(cron);
-    outcome
-}
-
-fn copy_of_job(rt: &HostRuntime, cron: &Cron) -> Result<Outcome, Fault> {
-    begin(rt);
-    let copy: Result<Cron, AllocError> = cron.clone();
-    end(rt);
-    let copy = lacking(copy);
-    let answer = shown::job_or_refusal(rt.alloc(), &copy);
-    drop(copy);
-    Outcome::of_both(answer, shown::job(rt.alloc(), cron))
-}
-
-/// A copy of the refusal of a text: its message, and that of the refusal afterwards.
-pub fn error_clone(rt: &HostRuntime, given: &[&str]) -> Result<Outcome, Fault> {
-    let [text] = given else {
-        return Err(Fault::Malformed);
-    };
-    match Cron::from_str(rt.alloc(), text) {
-        Err(error) => copy_of_error(rt, &error),
-        Ok(job) => {
-            drop(job);
-            Err(Fault::Malformed)
-        }
+impl Shown for CronPattern {
+    fn text(&self, alloc: Global) -> Result<String, Fault> {
+        shown::pattern(alloc, self)
     }
 }
 
-fn copy_of_error(rt: &HostRuntime, error: &CronError) -> Result<Outcome, Fault> {
-    begin(rt);
-    let copy: Result<CronError, AllocError> = error.clone();
-    end(rt);
-    let answer = match &copy {
-        Ok(copy) => message(rt.alloc(), copy),
-        Err(_) => no_memory(rt.alloc()),
-    };
-    Outcome::of_both(answer, message(rt.alloc(), error))
+impl Shown for Cron {
+    fn text(&self, alloc: Global) -> Result<String, Fault> {
+        shown::job(alloc, self)
+    }
 }
 
-fn message(alloc: Global, error: &CronError) -> Result<String, Fault> {
-    Ok(error.to_string(alloc)?)
+impl Shown for CronTable {
+    fn text(&self, alloc: Global) -> Result<String, Fault> {
+        texts_of(alloc, self, self.len())
+    }
+}
+
+// Its message.
+impl Shown for CronError {
+    fn text(&self, alloc: Global) -> Result<String, Fault> {
+        Ok(self.to_string(alloc)?)
+    }
+}
+
+impl<T: Moment> Shown for Resolution<T> {
+    fn text(&self, alloc: Global) -> Result<String, Fault> {
+        let instants = instants(alloc, self)?;
+        Ok(instants.to_string(alloc)?)
+    }
+}
+
+fn copied<S: Shown>(caller: Caller<'_>, original: &S) -> Result<Outcome, Fault> {
+    caller.begin();
+    let copy: Result<S, AllocError> = original.clone();
+    caller.end();
+    Outcome::new(shown_copy(caller.alloc, copy), original.text(caller.alloc))
+}
+
+fn shown_copy<S: Shown>(alloc: Global, copy: Result<S, AllocError>) -> Result<Answer, Fault> {
+    let copy = copy?;
+    let text = copy.text(alloc);
+    drop(copy);
+    Ok(Answer::Text(text?))
+}
+
+/// A copy, and afterwards what was copied: the kind of the operation `clone of a`.
+pub fn clone_of(caller: Caller<'_>, question: &Value, kind: &str) -> Result<Outcome, Fault> {
+    match kind {
+        " field" => copied(caller, &read_field(caller.alloc, question)?),
+        " pattern" => copied(caller, &Job::read(caller.alloc, question)?.cron.pattern),
+        " job" => copied(caller, &Job::read(caller.alloc, question)?.cron),
+        " table" => copied(caller, &Table::read(caller.alloc, question)?.jobs),
+        "n error" => error_clone(caller, question),
+        " time" => over_time(caller, question, &CopyOfTime),
+        " resolution" => over_time(caller, question, &CopyOfResolution),
+        "n iterator" => iterator_clone(caller, question),
+        _ => Err(Fault::Unsupported),
+    }
+}
+
+// A copy of the refusal of a text: its message.
+fn error_clone(caller: Caller<'_>, question: &Value) -> Result<Outcome, Fault> {
+    match Job::of_text(caller.alloc, question, text(question, "text")?) {
+        Err(Fault::Refused(error)) => copied(caller, &error),
+        Err(fault) => Err(fault),
+        Ok(_) => Err(Fault::Malformed),
+    }
 }
 
 // A time that is copied.
@@ -124,29 +99,17 @@ fn message(alloc: Global, error: &CronError) -> Result<String, Fault> {
 struct CopyOfTime;
 
 impl OverTime for CopyOfTime {
-    fn outcome<T: Shown>(&self, rt: &HostRuntime, time: T) -> Result<Outcome, Fault> {
-        begin(rt);
+    fn outcome<T: Moment>(&self, caller: Caller<'_>, time: T) -> Result<Outcome, Fault> {
+        caller.begin();
         let copy: Result<T, AllocError> = time.clone();
-        end(rt);
-        let answer = match &copy {
-            Ok(copy) => copy.shown(rt.alloc()),
-            Err(_) => no_memory(rt.alloc()),
-        };
-        Outcome::of_both(answer, time.shown(rt.alloc()))
+        caller.end();
+        Outcome::new(shown_time(caller.alloc, copy), bare(caller.alloc, &time))
     }
 }
 
-/// A copy of a time, and the time afterwards: a backend, a clock and a time.
-pub fn time_clone(rt: &HostRuntime, given: &[&str]) -> Result<Outcome, Fault> {
-    let [backend, clock, time] = given else {
-        return Err(Fault::Malformed);
-    };
-    let place = Place {
-        backend,
-        clock,
-        time,
-    };
-    over_time(rt, &CopyOfTime, place)
+fn shown_time<T: Moment>(alloc: Global, time: Result<T, AllocError>) -> Result<Answer, Fault> {
+    let time = time?;
+    Ok(Answer::Value(time.shown(alloc)?))
 }
 
 // The instants of what a time shows, which are copied.
@@ -154,87 +117,47 @@ pub fn time_clone(rt: &HostRuntime, given: &[&str]) -> Result<Outcome, Fault> {
 struct CopyOfResolution;
 
 impl OverTime for CopyOfResolution {
-    fn outcome<T: Shown>(&self, rt: &HostRuntime, time: T) -> Result<Outcome, Fault> {
-        let found = time.resolve_civil(rt.alloc(), time.to_civil())?;
-        begin(rt);
-        let copy: Result<Resolution<T>, AllocError> = found.clone();
-        end(rt);
-        let answer = match &copy {
-            Ok(copy) => instants(rt.alloc(), copy),
-            Err(_) => no_memory(rt.alloc()),
-        };
-        Outcome::of_both(answer, instants(rt.alloc(), &found))
+    fn outcome<T: Moment>(&self, caller: Caller<'_>, time: T) -> Result<Outcome, Fault> {
+        copied(caller, &time.resolve_civil(caller.alloc, time.to_civil())?)
     }
 }
 
-/// A copy of the instants that show what a time shows, and these afterwards: a backend, a clock and a time.
-pub fn resolution_clone(rt: &HostRuntime, given: &[&str]) -> Result<Outcome, Fault> {
-    let [backend, clock, time] = given else {
-        return Err(Fault::Malformed);
-    };
-    let place = Place {
-        backend,
-        clock,
-        time,
-    };
-    over_time(rt, &CopyOfResolution, place)
-}
-
-// An iterator over a text's runs, which is copied after its first call.
+// An iterator over a job's runs, which is copied after its first call: the fault and the next item of each.
 #[derive(Clone, Copy)]
-struct CopyOfIterator<'t> {
-    text: &'t str,
+struct CopyOfIterator<'j> {
+    job: &'j Job,
 }
 
-impl<'t> OverTime for CopyOfIterator<'t> {
-    fn outcome<T: Shown>(&self, rt: &HostRuntime, start: T) -> Result<Outcome, Fault> {
-        let cron = job(rt.alloc(), self.text)?;
-        let mut iterator = CronIterator::new(cron, start, false, Direction::Forward);
-        let _ = iterator.next();
-        let outcome = copy_of_iterator(rt, &mut iterator);
-        drop(iterator);
-        outcome
+impl<'j> OverTime for CopyOfIterator<'j> {
+    fn outcome<T: Moment>(&self, caller: Caller<'_>, start: T) -> Result<Outcome, Fault> {
+        let mut runs = Runs::new(Subject::Job(self.job), start, How::After)?;
+        let _ = runs.next();
+        caller.begin();
+        let copy = runs.copied();
+        caller.end();
+        Outcome::new(
+            copy_and_item(caller.alloc, copy),
+            fault_and_item(caller.alloc, &mut runs),
+        )
     }
 }
 
-fn copy_of_iterator<T: Shown>(
-    rt: &HostRuntime,
-    iterator: &mut CronIterator<T>,
-) -> Result<Outcome, Fault> {
-    begin(rt);
-    let copy: Result<CronIterator<T>, AllocError> = iterator.clone();
-    end(rt);
-    let answer = match copy {
-        Ok(mut copy) => {
-            let answer = fault_and_item(rt.alloc(), &mut copy);
-            drop(copy);
-            answer
-        }
-        Err(_) => no_memory(rt.alloc()),
-    };
-    Outcome::of_both(answer, fault_and_item(rt.alloc(), iterator))
+fn copy_and_item<T: Moment>(
+    alloc: Global,
+    copy: Result<Runs<'_, T>, Fault>,
+) -> Result<Answer, Fault> {
+    let mut runs = copy?;
+    Ok(Answer::Text(fault_and_item(alloc, &mut runs)?))
 }
 
 // The fault that an iterator keeps, and the item that it gives then.
-fn fault_and_item<T: Shown>(
-    alloc: Global,
-    iterator: &mut CronIterator<T>,
-) -> Result<String, Fault> {
-    let fault = fault_of(iterator);
-    let item = shown_item(alloc, iterator.next())?;
+fn fault_and_item<T: Moment>(alloc: Global, runs: &mut Runs<'_, T>) -> Result<String, Fault> {
+    let fault = runs.fault_name();
+    let item = item_text(alloc, runs.next())?;
     Ok(format!(in alloc; "{fault} {item}")?)
 }
 
-/// A copy of an iterator after its first call: its fault and next item, and afterwards those of the iterator: a backend, a clock,
-/// a text and a start.
-pub fn iterator_clone(rt: &HostRuntime, given: &[&str]) -> Result<Outcome, Fault> {
-    let [backend, clock, text, time] = given else {
-        return Err(Fault::Malformed);
-    };
-    let place = Place {
-        backend,
-        clock,
-        time,
-    };
-    over_time(rt, &CopyOfIterator { text }, place)
+fn iterator_clone(caller: Caller<'_>, question: &Value) -> Result<Outcome, Fault> {
+    let job = Job::read(caller.alloc, question)?;
+    over_time(caller, question, &CopyOfIterator { job: &job })
 }

@@ -1,199 +1,124 @@
 //! Iterators: their makers and their items.
-use crate::case::Outcome;
-use crate::cells::number;
-use crate::fault::Fault;
-use crate::jobs::job;
-use crate::marks::{begin, end};
-use crate::shown::{add_item, refusal, refused};
-use crate::times::{OverTime, Place, Shown, civil, over_time};
+
+use croner::CronIterator;
 use croner::errors::CronError;
 use croner::time::Direction;
-use croner::{Cron, CronIterator};
+use croner_rows::shown::add_item;
+use croner_rows::{
+    Answer, Caller, Fault, How, Job, Moment, Outcome, OverTime, Run, Runs, Subject, bare,
+    civil_value, number_at, over_time,
+};
+use serde_json::Value;
 use std::alloc::Global;
 
-/// How an iterator is made.
-#[derive(Clone, Copy)]
-pub enum How {
-    From(Direction),
-    After,
-    Before,
-}
-
-/// How an iterator is made, by its words.
-pub fn how_made(word: &str) -> Result<How, Fault> {
-    match word {
-        "from forward" => Ok(How::From(Direction::Forward)),
-        "from backward" => Ok(How::From(Direction::Backward)),
-        "after" => Ok(How::After),
-        "before" => Ok(How::Before),
-        _ => Err(Fault::Malformed),
-    }
-}
-
-/// An iterator over the runs of a job.
-pub fn made<T: Shown>(cron: &Cron, start: T, how: How) -> Result<CronIterator<T>, CronError> {
-    match how {
-        How::From(direction) => cron.iter_from(start, direction),
-        How::After => cron.iter_after(start),
-        How::Before => cron.iter_before(start),
-    }
-}
-
-/// An item, or null where a call gives none.
-pub fn shown_item<T: Shown>(alloc: Global, item: Option<T>) -> Result<String, Fault> {
+/// A run as a text, with its places where it has any, or null.
+pub fn item_text<T: Moment>(alloc: Global, item: Option<Run<T>>) -> Result<String, Fault> {
     match item {
-        Some(item) => item.shown(alloc),
+        Some(run) => run_text(alloc, &run),
         None => Ok(String::from_str(alloc, "null")?),
     }
 }
 
-fn lacks_memory<T: Shown>(iterator: &CronIterator<T>) -> bool {
-    matches!(iterator.fault(), Some(CronError::OutOfMemory))
+/// A run as a text.
+pub fn run_text<T: Moment>(alloc: Global, run: &Run<T>) -> Result<String, Fault> {
+    let instant = bare(alloc, &run.instant)?;
+    match &run.places {
+        None => Ok(instant),
+        Some(places) => Ok(format!(in alloc; "{instant} {places:?}")?),
+    }
 }
 
-// What so many calls gave: the items, where a call that lacked memory was made again with memory, and whether one was.
-#[derive(Drop)]
-struct Items {
-    items: String,
-    lacked: bool,
-}
-
-// One call between the marks. Where it lacks memory the call that comes next has memory.
-fn add_next<T: Shown>(
-    rt: &HostRuntime,
-    iterator: &mut CronIterator<T>,
-    items: &mut Items,
-) -> Result<(), Fault> {
-    begin(rt);
-    let mut item = iterator.next();
-    let lacks = lacks_memory(iterator);
-    end(rt);
+// One call between the marks: its item. Where it lacks memory, which is then noted, the call that comes next has memory.
+fn next_item<T: Moment>(
+    caller: Caller<'_>,
+    runs: &mut Runs<'_, T>,
+    lacked: &mut bool,
+) -> Result<String, Fault> {
+    caller.begin();
+    let mut item = runs.next();
+    let lacks = runs.lacks_memory();
+    caller.end();
     if item.is_none() && lacks {
-        items.lacked = true;
-        item = iterator.next();
+        *lacked = true;
+        item = runs.next();
     }
-    let shown = shown_item(rt.alloc(), item)?;
-    add_item(&mut items.items, shown.as_str())?;
-    Ok(())
-}
-
-fn items_of<T: Shown>(
-    rt: &HostRuntime,
-    iterator: &mut CronIterator<T>,
-    count: u32,
-) -> Result<Items, Fault> {
-    let mut items = Items {
-        items: String::new(rt.alloc()),
-        lacked: false,
-    };
-    for _ in 0..count {
-        add_next(rt, iterator, &mut items)?;
-    }
-    Ok(items)
-}
-
-/// The name of the fault that an iterator keeps.
-pub fn fault_of<T: Shown>(iterator: &CronIterator<T>) -> &'static str {
-    match iterator.fault() {
-        Some(error) => refusal(error),
-        None => "no fault",
-    }
-}
-
-// The iterator, or one that is made again with memory.
-fn made_at_last<T: Shown>(
-    first: Result<CronIterator<T>, CronError>,
-    cron: &Cron,
-    again: T,
-    how: How,
-) -> Result<CronIterator<T>, Fault> {
-    match first {
-        Ok(iterator) => Ok(iterator),
-        Err(_error) => Ok(made(cron, again, how)?),
-    }
+    item_text(caller.alloc, item)
 }
 
 // The items of an iterator, or want of memory where its maker or one of its calls lacked it; afterwards all of the items, and
 // the fault.
-fn outcome_of<T: Shown>(
-    rt: &HostRuntime,
-    iterator: &mut CronIterator<T>,
+fn items<T: Moment>(
+    caller: Caller<'_>,
+    runs: &mut Runs<'_, T>,
     count: u32,
     is_refused: bool,
 ) -> Result<Outcome, Fault> {
-    let Items { items, lacked } = items_of(rt, iterator, count)?;
-    let fault = fault_of(iterator);
-    let after = format!(in rt.alloc(); "{items} {fault}")?;
-    let answer = if is_refused || lacked {
-        refused(rt.alloc(), &CronError::OutOfMemory)?
-    } else {
-        items
-    };
-    Ok(Outcome { answer, after })
+    let (mut items, mut lacked) = (String::new(caller.alloc), is_refused);
+    for _ in 0..count {
+        let item = next_item(caller, runs, &mut lacked)?;
+        add_item(&mut items, item.as_str())?;
+    }
+    let after = with_fault(caller.alloc, items.as_str(), runs.fault_name());
+    Outcome::new(or_lacking(items, lacked), after)
 }
 
-// What an iterator is asked.
+fn with_fault(alloc: Global, items: &str, fault: &str) -> Result<String, Fault> {
+    Ok(format!(in alloc; "{items} {fault}")?)
+}
+
+/// A text, or want of memory where a call lacked it.
+pub fn or_lacking(text: String, lacked: bool) -> Result<Answer, Fault> {
+    if lacked {
+        return Err(Fault::from(CronError::OutOfMemory));
+    }
+    Ok(Answer::Text(text))
+}
+
+// The items of an iterator that is made between the marks, and that is made again with memory where that was refused.
 #[derive(Clone, Copy)]
-struct Asked<'t> {
-    text: &'t str,
+struct Listed<'j> {
+    job: &'j Job,
     how: How,
     count: u32,
 }
 
-// The items of an iterator that is made between the marks, and that is made again with memory where that was refused.
-fn listed_from<T: Shown>(
-    rt: &HostRuntime,
-    cron: &Cron,
-    start: T,
-    again: T,
-    asked: Asked<'_>,
-) -> Result<Outcome, Fault> {
-    begin(rt);
-    let first = made(cron, start, asked.how);
-    end(rt);
-    let is_refused = first.is_err();
-    let mut iterator = made_at_last(first, cron, again, asked.how)?;
-    let outcome = outcome_of(rt, &mut iterator, asked.count, is_refused);
-    drop(iterator);
-    outcome
-}
-
-impl<'t> OverTime for Asked<'t> {
-    fn outcome<T: Shown>(&self, rt: &HostRuntime, start: T) -> Result<Outcome, Fault> {
+impl<'j> OverTime for Listed<'j> {
+    fn outcome<T: Moment>(&self, caller: Caller<'_>, start: T) -> Result<Outcome, Fault> {
         let again = start.clone()?;
-        let cron = job(rt.alloc(), self.text)?;
-        let outcome = listed_from(rt, &cron, start, again, *self);
-        drop(cron);
-        outcome
+        caller.begin();
+        let first = Runs::new(Subject::Job(self.job), start, self.how);
+        caller.end();
+        match first {
+            Ok(mut runs) => items(caller, &mut runs, self.count, false),
+            Err(_) => {
+                let mut runs = Runs::new(Subject::Job(self.job), again, self.how)?;
+                items(caller, &mut runs, self.count, true)
+            }
+        }
     }
 }
 
-/// The items of an iterator over times of a backend: a backend, a clock, a text, a maker, a start, and how many calls.
-pub fn listing(rt: &HostRuntime, given: &[&str]) -> Result<Outcome, Fault> {
-    let [backend, clock, text, maker, time, count] = given else {
-        return Err(Fault::Malformed);
+/// The items of an iterator over the runs of a job from the start of a question, at so many calls.
+pub fn listing(caller: Caller<'_>, question: &Value) -> Result<Outcome, Fault> {
+    let job = Job::read(caller.alloc, question)?;
+    let (how, count) = (How::read(question)?, number_at(question, "count")?);
+    let listed = Listed {
+        job: &job,
+        how,
+        count,
     };
-    let (how, count) = (how_made(maker)?, number(count)?);
-    let place = Place {
-        backend,
-        clock,
-        time,
-    };
-    over_time(rt, &Asked { text, how, count }, place)
+    over_time(caller, question, &listed)
 }
 
-/// The items of an iterator that is handed its job, which makes no request over civil time: a text, a start, and how many
-/// calls.
-pub fn handed(rt: &HostRuntime, given: &[&str]) -> Result<Outcome, Fault> {
-    let [text, start, count] = given else {
-        return Err(Fault::Malformed);
-    };
-    let (start, count) = (civil(start)?, number(count)?);
-    let cron = job(rt.alloc(), text)?;
-    begin(rt);
-    let mut iterator = CronIterator::new(cron, start, false, Direction::Forward);
-    end(rt);
-    let outcome = outcome_of(rt, &mut iterator, count, false);
-    drop(iterator);
-    outcome
+/// The items of an iterator that is handed its job, which makes no request over civil time.
+pub fn handed(caller: Caller<'_>, question: &Value) -> Result<Outcome, Fault> {
+    let (start, count) = (
+        civil_value(question, "start")?,
+        number_at(question, "count")?,
+    );
+    let cron = Job::read(caller.alloc, question)?.into_cron();
+    caller.begin();
+    let iterator = CronIterator::new(cron, start, false, Direction::Forward);
+    caller.end();
+    items(caller, &mut Runs::OfJob(iterator), count, false)
 }

@@ -1,123 +1,92 @@
-//! Searches for one run, and whether a time is named.
-use crate::case::Outcome;
-use crate::fault::Fault;
-use crate::jobs::job;
-use crate::marks::{begin, end};
-use crate::shown;
-use crate::times::{OverTime, Place, Shown, over_time};
-use croner::Cron;
+//! Searches for one run, and what a time shows.
+
+use crate::iterators::run_text;
+use crate::tables::texts_of;
 use croner::errors::CronError;
+use croner::time::Direction;
+use croner_rows::{
+    Answer, Caller, Fault, Job, Moment, Outcome, OverTime, Run, Subject, bare, direction, flag,
+    over_time, time_and_job,
+};
+use serde_json::Value;
 use std::alloc::Global;
 
-/// The run after a time or from it on, or the one before it or back from it.
+// A search for a run of a subject.
 #[derive(Clone, Copy)]
-pub enum Way {
-    After,
-    From,
-    Before,
-    BackFrom,
+struct Searching<'j> {
+    subject: Subject<'j>,
+    inclusive: bool,
+    direction: Direction,
 }
 
-/// Which run a search is for, by its word.
-pub fn read_way(word: &str) -> Result<Way, Fault> {
-    match word {
-        "after" => Ok(Way::After),
-        "from" => Ok(Way::From),
-        "before" => Ok(Way::Before),
-        "back from" => Ok(Way::BackFrom),
-        _ => Err(Fault::Malformed),
+impl<'j> OverTime for Searching<'j> {
+    fn outcome<T: Moment>(&self, caller: Caller<'_>, start: T) -> Result<Outcome, Fault> {
+        caller.begin();
+        let run = self
+            .subject
+            .run_from(&start, self.inclusive, self.direction);
+        caller.end();
+        let after = start_and_subject(caller.alloc, &start, self.subject);
+        Outcome::new(found(caller.alloc, run), after)
     }
 }
 
-fn run_found<T: Shown>(cron: &Cron, way: Way, start: &T) -> Result<T, CronError> {
-    match way {
-        Way::After => cron.find_next_occurrence(start, false),
-        Way::From => cron.find_next_occurrence(start, true),
-        Way::Before => cron.find_previous_occurrence(start, false),
-        Way::BackFrom => cron.find_previous_occurrence(start, true),
-    }
+fn found<T: Moment>(alloc: Global, run: Result<Run<T>, CronError>) -> Result<Answer, Fault> {
+    let run = run?;
+    Ok(Answer::Text(run_text(alloc, &run)?))
 }
 
-// The run or the refusal, and afterwards the start and the job.
-fn outcome_of<T: Shown>(
+fn start_and_subject<T: Moment>(
     alloc: Global,
-    answer: &Result<T, CronError>,
     start: &T,
-    cron: &Cron,
+    subject: Subject<'_>,
+) -> Result<String, Fault> {
+    match subject {
+        Subject::Job(job) => time_and_job(alloc, start, job),
+        Subject::Table(table) => {
+            let (start, texts) = (bare(alloc, start)?, texts_of(alloc, table, table.len())?);
+            Ok(format!(in alloc; "{start} [{texts}]")?)
+        }
+    }
+}
+
+/// A search for a run of a subject from the start of a question, and afterwards the start and the subject.
+pub fn search_of(
+    caller: Caller<'_>,
+    question: &Value,
+    subject: Subject<'_>,
 ) -> Result<Outcome, Fault> {
-    let answer = match answer {
-        Ok(run) => run.shown(alloc),
-        Err(error) => shown::refused(alloc, error),
+    let searching = Searching {
+        subject,
+        inclusive: flag(question, "inclusive")?,
+        direction: direction(question)?,
     };
-    Outcome::of_both(answer, start_and_job(alloc, start, cron))
+    over_time(caller, question, &searching)
 }
 
-fn start_and_job<T: Shown>(alloc: Global, start: &T, cron: &Cron) -> Result<String, Fault> {
-    let (start, job) = (start.shown(alloc)?, shown::job(alloc, cron)?);
-    Ok(format!(in alloc; "{start} {job}")?)
+/// A search for a run of a job.
+pub fn search(caller: Caller<'_>, question: &Value) -> Result<Outcome, Fault> {
+    let job = Job::read(caller.alloc, question)?;
+    search_of(caller, question, Subject::Job(&job))
 }
 
-// A search for a run of a text's job.
+// What a time shows.
 #[derive(Clone, Copy)]
-struct Searching<'t> {
-    text: &'t str,
-    way: Way,
-}
+struct Showing;
 
-impl<'t> OverTime for Searching<'t> {
-    fn outcome<T: Shown>(&self, rt: &HostRuntime, start: T) -> Result<Outcome, Fault> {
-        let cron = job(rt.alloc(), self.text)?;
-        begin(rt);
-        let answer = run_found(&cron, self.way, &start);
-        end(rt);
-        let outcome = outcome_of(rt.alloc(), &answer, &start, &cron);
-        drop(cron);
-        outcome
+impl OverTime for Showing {
+    fn outcome<T: Moment>(&self, caller: Caller<'_>, time: T) -> Result<Outcome, Fault> {
+        caller.begin();
+        let (civil, weekday) = (time.to_civil(), time.civil_weekday());
+        let same = time.cmp_instant(&time).is_eq();
+        caller.end();
+        let weekday = weekday.num_days_from_sunday();
+        let text = format!(in caller.alloc; "[{civil},{weekday},{same}]")?;
+        Outcome::new(Ok(Answer::Text(text)), bare(caller.alloc, &time))
     }
 }
 
-/// A search over times of a backend: a backend, a clock, a text, a way and a start.
-pub fn search(rt: &HostRuntime, given: &[&str]) -> Result<Outcome, Fault> {
-    let [backend, clock, text, way, time] = given else {
-        return Err(Fault::Malformed);
-    };
-    let way = read_way(way)?;
-    let place = Place {
-        backend,
-        clock,
-        time,
-    };
-    over_time(rt, &Searching { text, way }, place)
-}
-
-// Whether a text's job names a time.
-#[derive(Clone, Copy)]
-struct Asking<'t> {
-    text: &'t str,
-}
-
-impl<'t> OverTime for Asking<'t> {
-    fn outcome<T: Shown>(&self, rt: &HostRuntime, time: T) -> Result<Outcome, Fault> {
-        let cron = job(rt.alloc(), self.text)?;
-        begin(rt);
-        let answer = cron.is_time_matching(&time);
-        end(rt);
-        let answer = shown::truth_or_refusal(rt.alloc(), answer);
-        let after = start_and_job(rt.alloc(), &time, &cron);
-        drop(cron);
-        Outcome::of_both(answer, after)
-    }
-}
-
-/// Whether a text's job names a time: a backend, a clock, a text and a time.
-pub fn matching(rt: &HostRuntime, given: &[&str]) -> Result<Outcome, Fault> {
-    let [backend, clock, text, time] = given else {
-        return Err(Fault::Malformed);
-    };
-    let place = Place {
-        backend,
-        clock,
-        time,
-    };
-    over_time(rt, &Asking { text }, place)
+/// What the start of a question shows, its weekday from Sunday, and whether it is the same instant as itself.
+pub fn reading(caller: Caller<'_>, question: &Value) -> Result<Outcome, Fault> {
+    over_time(caller, question, &Showing)
 }

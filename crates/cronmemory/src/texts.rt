@@ -1,82 +1,132 @@
-//! Descriptions, and the parts of a language that are texts of their own.
+//! Parsers, refused texts, questions of what was read, languages, and fields that are made new.
 
-use crate::case::Outcome;
-use crate::fault::Fault;
-use crate::jobs::job;
-use crate::marks::{begin, end};
-use crate::shown;
-use croner::Cron;
 use croner::describe::Language;
 use croner::describe::lang::english::English;
 use croner::describe::lang::swedish::Swedish;
 use croner::errors::CronError;
-use croner_backends::{OwnYears, TwelveHours};
+use croner::parser::{CronParser, PatternFault};
+use croner::{Cron, CronComponent};
+use croner_rows::{
+    Answer, Caller, Fault, Job, Outcome, are_alike, civil_value, member, new_component, printed,
+    read_parser, shown, text,
+};
+use jiff::civil::DateTime;
+use serde_json::Value;
 use std::alloc::Global;
 
-// A language of cases.
-#[derive(Clone, Copy)]
-enum Tongue {
-    English,
-    Swedish,
-    TwelveHours,
-    OwnYears,
+/// A field that is made new.
+pub fn new_field(caller: Caller<'_>, question: &Value) -> Result<Outcome, Fault> {
+    let new = member(question, "new")?;
+    caller.begin();
+    let field = new_component(caller.alloc, new);
+    caller.end();
+    Ok(Outcome::of(caller.alloc, shown_field(caller.alloc, field)))
 }
 
-fn read_tongue(word: &str) -> Result<Tongue, Fault> {
-    match word {
-        "english" => Ok(Tongue::English),
-        "swedish" => Ok(Tongue::Swedish),
-        "twelve hours" => Ok(Tongue::TwelveHours),
-        "own years" => Ok(Tongue::OwnYears),
-        _ => Err(Fault::Malformed),
-    }
+fn shown_field(alloc: Global, field: Result<CronComponent, Fault>) -> Result<Answer, Fault> {
+    let field = field?;
+    let text = shown::field(alloc, &field);
+    drop(field);
+    Ok(Answer::Text(text?))
 }
 
-fn described(cron: &Cron, language: Tongue) -> Result<String, CronError> {
-    match language {
-        Tongue::English => cron.describe(),
-        Tongue::Swedish => cron.describe_lang(Swedish),
-        Tongue::TwelveHours => cron.describe_lang(TwelveHours),
-        Tongue::OwnYears => cron.describe_lang(OwnYears),
-    }
+/// Why a text is refused: the bytes of the fault, and its words.
+pub fn explanation(caller: Caller<'_>, question: &Value) -> Result<Outcome, Fault> {
+    let (parser, text) = (read_parser(question)?, text(question, "text")?);
+    caller.begin();
+    let explained = parser.explain(caller.alloc, text);
+    caller.end();
+    Ok(Outcome::of(caller.alloc, shown_fault(caller.alloc, explained)))
 }
 
-/// The description of the job of a text in a language, and the job afterwards.
-pub fn description(rt: &HostRuntime, given: &[&str]) -> Result<Outcome, Fault> {
-    let [word, text] = given else {
-        return Err(Fault::Malformed);
-    };
-    let language = read_tongue(word)?;
-    let cron = job(rt.alloc(), text)?;
-    begin(rt);
-    let answer = described(&cron, language);
-    end(rt);
-    let outcome = outcome_of(rt.alloc(), answer, &cron);
-    drop(cron);
-    outcome
-}
-
-// The text or the refusal, and the job afterwards.
-fn outcome_of(
+fn shown_fault(
     alloc: Global,
-    answer: Result<String, CronError>,
-    cron: &Cron,
-) -> Result<Outcome, Fault> {
-    let answer = shown::text_or_refusal(alloc, answer);
-    Outcome::of_both(answer, shown::job(alloc, cron))
+    explained: Result<Option<PatternFault>, CronError>,
+) -> Result<Answer, Fault> {
+    match explained? {
+        Some(fault) => Ok(Answer::Text(fault_text(alloc, &fault)?)),
+        None => Ok(Answer::Value(shown::text(alloc, "accepted")?)),
+    }
+}
+
+fn fault_text(alloc: Global, fault: &PatternFault) -> Result<String, Fault> {
+    let (start, end) = (fault.start, fault.end);
+    Ok(format!(in alloc; "{start}-{end} {fault}")?)
+}
+
+/// A parser that is built from settings: its order beside a new one.
+pub fn parser(caller: Caller<'_>, question: &Value) -> Result<Outcome, Fault> {
+    caller.begin();
+    let built = read_parser(question);
+    let new = CronParser::new();
+    caller.end();
+    let order = shown::ordering(built?.cmp(&new));
+    Ok(Outcome::of_value(caller.alloc, shown::text(caller.alloc, order)?))
+}
+
+/// The JSON of a job, and the job afterwards.
+pub fn to_json(caller: Caller<'_>, question: &Value) -> Result<Outcome, Fault> {
+    let job = Job::read(caller.alloc, question)?;
+    caller.begin();
+    let json = job.cron.to_json();
+    caller.end();
+    Outcome::new(
+        printed_json(caller.alloc, json),
+        shown::job(caller.alloc, &job.cron),
+    )
+}
+
+fn printed_json(alloc: Global, json: Result<Value, CronError>) -> Result<Answer, Fault> {
+    let json = json?;
+    Ok(Answer::Text(printed(alloc, &json)?))
+}
+
+/// Questions of a job that make no request, about a date and time: whether it is named, the kind of job, whether the fields have
+/// their shapes, the three flags, and whether the pattern is equal to itself, hashes alike and has the job's text. Then both day
+/// fields must match.
+pub fn questions(caller: Caller<'_>, question: &Value) -> Result<Outcome, Fault> {
+    let at = civil_value(question, "at")?;
+    let mut job = Job::read(caller.alloc, question)?;
+    let answer = asked(caller, &job.cron, &at);
+    caller.begin();
+    job.cron.pattern.set_flags(false, false, true);
+    caller.end();
+    Outcome::new(answer, shown::job(caller.alloc, &job.cron))
+}
+
+fn asked(caller: Caller<'_>, cron: &Cron, at: &DateTime) -> Result<Answer, Fault> {
+    let pattern = &cron.pattern;
+    caller.begin();
+    let matching = is_true(&cron.is_time_matching(at));
+    let (kind, shapes) = (
+        shown::job_type(cron.determine_job_type()),
+        pattern.has_field_shapes(),
+    );
+    let (day, weekday) = (pattern.is_dom_wildcard(), pattern.is_dow_wildcard());
+    let and = pattern.matches_dom_and_dow();
+    let same = are_alike(pattern, pattern) && cron.as_str() == pattern.as_str();
+    caller.end();
+    let text = format!(in caller.alloc;
+        "[{matching},\"{kind}\",{shapes},{day},{weekday},{and},{same}]"
+    );
+    Ok(Answer::Text(text?))
+}
+
+fn is_true(answer: &Result<bool, CronError>) -> bool {
+    matches!(answer, Ok(true))
 }
 
 /// The texts of a language that are no sentences about a number.
-pub fn words_of_language(rt: &HostRuntime, given: &[&str]) -> Result<Outcome, Fault> {
-    match given {
-        ["english"] => words_of(rt, &English),
-        ["swedish"] => words_of(rt, &Swedish),
+pub fn words_of_language(caller: Caller<'_>, question: &Value) -> Result<Outcome, Fault> {
+    match text(question, "language")? {
+        "english" => words_of(caller, &English),
+        "swedish" => words_of(caller, &Swedish),
         _ => Err(Fault::Malformed),
     }
 }
 
-fn words_of<L: Language>(rt: &HostRuntime, language: &L) -> Result<Outcome, Fault> {
-    begin(rt);
+fn words_of<L: Language>(caller: Caller<'_>, language: &L) -> Result<Outcome, Fault> {
+    caller.begin();
     let (minute, second) = (language.every_minute(), language.every_second_phrase());
     let last = language.the_last_day_of_the_month();
     let (and, or) = (
@@ -85,10 +135,10 @@ fn words_of<L: Language>(rt: &HostRuntime, language: &L) -> Result<Outcome, Faul
     );
     let comma = language.list_conjunction_and_comma();
     let (days, months) = (language.day_of_week_names(), language.month_names());
-    end(rt);
+    caller.end();
     let (sunday, december) = (days[0], months[11]);
-    let answer = format!(in rt.alloc();
+    let text = format!(in caller.alloc;
         "{minute};{second};{last};{and};{or};{comma};{sunday};{december}"
-    )?;
-    Ok(Outcome::of(rt.alloc(), answer))
+    );
+    Outcome::of_text(caller.alloc, text)
 }

@@ -1,9 +1,7 @@
 //! Calls of the program `cronrun`.
 
-use crate::fault::Fault;
-use crate::member::list;
-use crate::shown::Record;
 use crate::writer::Failing;
+use croner_rows::{Fault, list, shown, word};
 use cronrun_command::run;
 use serde_json::Value;
 use std::alloc::{AllocError, Global};
@@ -19,15 +17,14 @@ pub fn cronrun(alloc: Global, question: &Value) -> Result<Value, Fault> {
 
 fn answer(alloc: Global, status: u8, out: &[u8], err: &[u8]) -> Result<Value, Fault> {
     let (out, err) = (written(alloc, out)?, written(alloc, err)?);
-    let answer = Record::new(alloc).with("status", Value::from(status))?;
-    Ok(answer.with("stdout", out)?.with("stderr", err)?.shown())
+    let answer = format!(in alloc; "{{\"status\":{status},\"stdout\":{out},\"stderr\":{err}}}");
+    shown::object(alloc, answer)
 }
 
 fn words(alloc: Global, items: &[Value]) -> Result<Vec<String>, Fault> {
     let mut words = Vec::new(alloc);
     for item in items {
-        let word = item.as_str().ok_or(Fault::Malformed)?;
-        words.push(String::from_str(alloc, word)?)?;
+        words.push(String::from_str(alloc, word(item)?)?)?;
     }
     Ok(words)
 }

@@ -1,16 +1,15 @@
 //! What `Debug` shows, once for each type.
 
-use crate::fault::Fault;
-use crate::member::text;
-use crate::shown::debugged;
 use croner::component::{CronComponent, NONE_BIT};
 use croner::errors::CronError;
 use croner::parser::{CronParser, Seconds, Year};
 use croner::time::table::{ClockTable, TableTime};
 use croner::time::{CivilDateTime, CronDateTime};
 use croner::{Cron, Direction, JobType, TimeComponent, Weekday};
+use croner_rows::{Fault, text};
 use serde_json::Value;
 use std::alloc::Global;
+use std::fmt::Debug;
 
 /// What `Debug` shows of a value by its name; where the question says how that begins and ends, true if it does.
 pub fn debug(alloc: Global, question: &Value) -> Result<Value, Fault> {
@@ -61,6 +60,10 @@ fn copied_error(alloc: Global) -> Result<String, Fault> {
 fn time(alloc: Global) -> Result<String, Fault> {
     let clock = clock(alloc, 0, (0, 7200))?;
     debugged(alloc, &TableTime::new(&clock, 5)?)
+}
+
+fn debugged<T: Debug>(alloc: Global, value: &T) -> Result<String, Fault> {
+    Ok(format!(in alloc; "{value:?}")?)
 }
 
 // A second that a clock shows twice.

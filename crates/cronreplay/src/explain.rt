@@ -1,19 +1,15 @@
 //! Why a text is refused: the message of `parse` and the fault of `explain`, and what the message suggests.
 
-use crate::fault::Fault;
-use crate::job::{Job, parser};
-use crate::member::text;
-use crate::shown;
-use crate::shown::Record;
 use crate::values::values;
 use croner::errors::CronError;
 use croner::parser::{FaultKind, PatternFault};
+use croner_rows::{Fault, Job, read_parser, shown, text};
 use serde_json::Value;
 use std::alloc::Global;
 
 /// The bytes of the fault and the message of a refused text; `"accepted"` where neither `explain` nor `parse` refuses it.
 pub fn explain(alloc: Global, question: &Value) -> Result<Value, Fault> {
-    let (parser, text) = (parser(question)?, text(question, "text")?);
+    let (parser, text) = (read_parser(question)?, text(question, "text")?);
     match (
         parser.explain(alloc, text)?,
         Job::of_text(alloc, question, text),
@@ -35,9 +31,9 @@ fn told(alloc: Global, fault: &PatternFault, error: &CronError) -> Result<Value,
     if fault.kind != FaultKind::EmptyPattern && !message.contains(said.as_str()) {
         return Ok(Value::String(said));
     }
-    let answer = Record::new(alloc).with("start", Value::from(fault.start))?;
-    let answer = answer.with("end", Value::from(fault.end))?;
-    Ok(answer.with("message", Value::String(message))?.shown())
+    let (start, end, message) = (fault.start, fault.end, Value::String(message));
+    let answer = format!(in alloc; "{{\"start\":{start},\"end\":{end},\"message\":{message}}}");
+    shown::object(alloc, answer)
 }
 
 fn is_kind(error: &CronError, kind: FaultKind) -> bool {
@@ -53,7 +49,7 @@ fn is_kind(error: &CronError, kind: FaultKind) -> bool {
 /// What is suggested for a refused text, and the values of a field where it stands in the fault's place; null where nothing is.
 pub fn suggest(alloc: Global, question: &Value) -> Result<Value, Fault> {
     let text = text(question, "text")?;
-    let Some(fault) = parser(question)?.explain(alloc, text)? else {
+    let Some(fault) = read_parser(question)?.explain(alloc, text)? else {
         return shown::text(alloc, "accepted");
     };
     let said = fault.to_string(alloc)?;
@@ -84,8 +80,9 @@ fn followed(
     let rest = text.get(fault.end..).ok_or(Fault::Malformed)?;
     let mended = format!(in alloc; "{front}{suggestion}{rest}")?;
     let values = values_of(alloc, question, mended.as_str())?;
-    let answer = Record::new(alloc).with("suggestion", Value::try_from_str(alloc, suggestion)?)?;
-    Ok(answer.with("values", values)?.shown())
+    let suggestion = shown::text(alloc, suggestion)?;
+    let answer = format!(in alloc; "{{\"suggestion\":{suggestion},\"values\":{values}}}");
+    shown::object(alloc, answer)
 }
 
 fn values_of(alloc: Global, question: &Value, mended: &str) -> Result<Value, Fault> {

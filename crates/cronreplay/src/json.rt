@@ -1,19 +1,9 @@
 //! Jobs as JSON: what is printed of them, and texts that are read again.
 
-use crate::fault::Fault;
-use crate::job::Job;
-use crate::member::member;
-use crate::pattern::parsed;
-use crate::shown::Record;
 use croner::Cron;
+use croner_rows::{Fault, Job, member, printed, shown};
 use serde_json::Value;
 use std::alloc::Global;
-
-/// What a JSON value reads as.
-pub fn from_json(alloc: Global, question: &Value) -> Result<Value, Fault> {
-    let job = Job::from_json(alloc, member(question, "value")?)?;
-    parsed(alloc, &job)
-}
 
 /// The JSON of the job that a JSON value reads as.
 pub fn json_again(alloc: Global, question: &Value) -> Result<Value, Fault> {
@@ -25,14 +15,11 @@ pub fn json_again(alloc: Global, question: &Value) -> Result<Value, Fault> {
 /// the same text.
 pub fn reread(alloc: Global, question: &Value, job: &Job) -> Result<Value, Fault> {
     let again = is_read_again(alloc, question, &job.cron)?;
-    let json = printed(alloc, &job.cron)?;
-    let answer = Record::new(alloc).with("json", Value::String(json))?;
-    Ok(answer.with("again", Value::Bool(again))?.shown())
-}
-
-fn printed(alloc: Global, cron: &Cron) -> Result<String, Fault> {
-    let json = cron.to_json()?;
-    Ok(json.to_string(alloc)?)
+    let json = Value::String(printed(alloc, &job.cron.to_json()?)?);
+    shown::object(
+        alloc,
+        format!(in alloc; "{{\"json\":{json},\"again\":{again}}}"),
+    )
 }
 
 // A text that is refused is not read again.

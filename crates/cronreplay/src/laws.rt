@@ -1,12 +1,5 @@
 //! The laws whose calls take memory, once each with enough of it.
 
-use crate::fault::Fault;
-use crate::job::{Job, parser};
-use crate::member::{civil, member, number_at, text};
-use crate::shown;
-use crate::shown::{Record, Shown, times};
-use crate::subject::{How, Runs, Subject};
-use crate::zone::{bounds, civil_value, table};
 use croner::CronIterator;
 use croner::describe::lang::english::English;
 use croner::laws::equality::equal_and_described;
@@ -17,6 +10,11 @@ use croner::time::table::TableTime;
 use croner_backends::laws::listings::{next_boxed_runs, next_narrow_runs};
 use croner_backends::laws::searches::{nearest_boxed_run, nearest_narrow_run};
 use croner_backends::{BoxedTime, NarrowTime};
+use croner_rows::shown::times;
+use croner_rows::{
+    Fault, How, Job, Moment, Runs, Subject, civil_value, clock_table, member, narrow_time,
+    number_at, read_parser, shown, text,
+};
 use jiff::civil::DateTime;
 use serde_json::Value;
 use std::alloc::Global;
@@ -35,7 +33,7 @@ pub fn law(alloc: Global, question: &Value) -> Result<Value, Fault> {
 
 // The text that a job keeps, and that of the job read from it.
 fn texts_read(alloc: Global, question: &Value) -> Result<Value, Fault> {
-    let (first, second) = read_twice(&parser(question)?, alloc, text(question, "text")?)?;
+    let (first, second) = read_twice(&read_parser(question)?, alloc, text(question, "text")?)?;
     let (first, second) = (Job::new(first), Job::new(second));
     let first = shown::text(alloc, first.cron.as_str())?;
     let second = shown::text(alloc, second.cron.as_str())?;
@@ -47,26 +45,20 @@ fn descriptions(alloc: Global, question: &Value) -> Result<Value, Fault> {
     let a = Job::read(alloc, member(question, "a")?)?;
     let b = Job::read(alloc, member(question, "b")?)?;
     let (equal, a, b) = equal_and_described(alloc, &a.cron, &b.cron, &English)?;
-    let answer = Record::new(alloc).with("eq", Value::Bool(equal))?;
-    Ok(
-        answer
-            .with("a", Value::String(a))?
-            .with("b", Value::String(b))?
-            .shown(),
+    let (a, b) = (Value::String(a), Value::String(b));
+    shown::object(
+        alloc,
+        format!(in alloc; "{{\"eq\":{equal},\"a\":{a},\"b\":{b}}}"),
     )
 }
 
 fn law_of_job(alloc: Global, question: &Value, name: &str, job: &Job) -> Result<Value, Fault> {
     match name {
-        "next_runs" => runs(alloc, job, civil_start(question)?),
-        "items_in_order" => order(alloc, job, civil_start(question)?),
-        "there_and_back" => back(alloc, job, &civil_start(question)?),
+        "next_runs" => runs(alloc, job, civil_value(question, "start")?),
+        "items_in_order" => order(alloc, job, civil_value(question, "start")?),
+        "there_and_back" => back(alloc, job, &civil_value(question, "start")?),
         _ => over_backend(alloc, question, name, job),
     }
-}
-
-fn civil_start(question: &Value) -> Result<DateTime, Fault> {
-    civil_value(civil(question, "start")?)
 }
 
 // The runs after a start, and whether they are all.
@@ -84,7 +76,7 @@ fn order(alloc: Global, job: &Job, start: DateTime) -> Result<Value, Fault> {
     let runs = times(alloc, runs.as_slice())?;
     let mut shown = Vec::new(alloc);
     for order in orders {
-        shown.push(shown::ordering(alloc, order)?)?;
+        shown.push(shown::text(alloc, shown::ordering(order))?)?;
     }
     shown::pair(alloc, runs, Value::Array(shown))
 }
@@ -95,7 +87,7 @@ fn back(alloc: Global, job: &Job, run: &DateTime) -> Result<Value, Fault> {
     times(alloc, [there, back?].as_slice())
 }
 
-fn iterator<'r, T: Shown>(runs: &'r mut Runs<'_, T>) -> Result<&'r mut CronIterator<T>, Fault> {
+fn iterator<'r, T: Moment>(runs: &'r mut Runs<'_, T>) -> Result<&'r mut CronIterator<T>, Fault> {
     match runs {
         Runs::OfJob(runs) => Ok(runs),
         Runs::OfTable(_) => Err(Fault::Malformed),
@@ -105,14 +97,11 @@ fn iterator<'r, T: Shown>(runs: &'r mut Runs<'_, T>) -> Result<&'r mut CronItera
 // The run before a start, and the runs after it, over a backend of the tests.
 fn over_backend(alloc: Global, question: &Value, name: &str, job: &Job) -> Result<Value, Fault> {
     let zone = member(question, "zone")?;
-    let table = table(alloc, zone)?;
+    let table = clock_table(alloc, zone)?;
     let start = TableTime::new(&table, number_at(question, "start")?)?;
     match name {
         "boxed" => boxed(alloc, job, BoxedTime::new(alloc, start)?),
-        "narrow" => {
-            let (low, high) = bounds(member(zone, "held")?)?;
-            narrow(alloc, job, NarrowTime::new(start, low, high)?)
-        }
+        "narrow" => narrow(alloc, job, narrow_time(start, member(zone, "held")?)?),
         _ => Err(Fault::Malformed),
     }
 }

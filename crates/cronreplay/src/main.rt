@@ -3,55 +3,45 @@
 //! differs is printed, and a summary comes last.
 #![tactic(auto)]
 
+mod answers;
 mod command;
 mod compare;
 mod component;
-mod day;
 mod debug;
 mod explain;
-mod fault;
-mod iterators;
-mod job;
 mod json;
 mod laws;
-mod member;
 mod narrow;
-mod pattern;
 mod question;
 mod replay;
-mod searches;
-mod shown;
-mod subject;
 mod tables;
-mod time;
 mod values;
 mod wanted;
 mod words;
 mod writer;
-mod zone;
 
-use replay::{Stop, replay};
+use croner_rows::{Fault, Summary, answer_lines, status};
+use replay::Replay;
 use std::io;
-use std::io::{BufReader, BufWriter, Write};
+use std::io::{BufWriter, Write};
 use std::process::ExitCode;
 
-fn run(rt: &HostRuntime) -> Result<bool, Stop> {
-    let mut input = BufReader::new(rt.alloc(), rt.stdin())?;
+fn run(rt: &HostRuntime) -> Result<bool, Fault> {
     let mut out = BufWriter::new(rt.alloc(), rt.stdout())?;
-    let summary = replay(rt.alloc(), &mut input, &mut out)?;
-    writeln!(out, "{summary}")?;
+    let summary = answer_lines(rt, &Replay::new(rt.alloc()), &mut out)?;
+    let Summary {
+        lines,
+        differing,
+        unsupported,
+    } = summary;
+    writeln!(
+        out,
+        "{lines} lines, {differing} differ, {unsupported} unsupported"
+    )?;
     out.flush()?;
     Ok(summary.is_clean())
 }
 
 fn main(rt: HostRuntime) -> io::Result<ExitCode> {
-    match run(&rt) {
-        Ok(true) => Ok(ExitCode::SUCCESS),
-        Ok(false) => Ok(ExitCode::FAILURE),
-        Err(Stop::OutOfMemory) => {
-            eprintln!(rt; "Out of memory.")?;
-            Ok(ExitCode::FAILURE)
-        }
-        Err(Stop::Failed(error)) => Err(error),
-    }
+    status(&rt, run(&rt))
 }

@@ -1,28 +1,23 @@
 //! Searches over a backend that holds what lies between two instants, and iterators over it, as the two are moved.
 
-use crate::fault::Fault;
-use crate::iterators::{how_made, item};
-use crate::job::{Job, switch};
-use crate::member::{list, member, number_at};
-use crate::shown;
-use crate::shown::refusal;
-use crate::subject::{How, Run, Runs, Subject};
-use crate::zone::{bounds, table};
 use croner::errors::CronError;
 use croner::time::table::TableTime;
 use croner_backends::NarrowTime;
+use croner_rows::{
+    Fault, How, Job, Run, Runs, Subject, clock_table, list, member, narrow_time, number_at, shown,
+    switch,
+};
 use serde_json::Value;
 use std::alloc::Global;
 
 /// The answer between each two bounds; where the question says `once`, each answer once.
 pub fn as_bounds_move(alloc: Global, question: &Value, job: &Job) -> Result<Value, Fault> {
-    let (how, once) = (how_made(question)?, switch(question, "once")?);
-    let table = table(alloc, member(question, "zone")?)?;
+    let (how, once) = (How::read(question)?, switch(question, "once")?);
+    let table = clock_table(alloc, member(question, "zone")?)?;
     let start = TableTime::new(&table, number_at(question, "start")?)?;
     let mut answers = Vec::new(alloc);
     for held in list(question, "bounds")? {
-        let (low, high) = bounds(held)?;
-        let start = NarrowTime::new(start, low, high)?;
+        let start = narrow_time(start, held)?;
         let answer = answer_between(alloc, Subject::Job(job), how, start)?;
         if !once || !answers.contains(&answer) {
             answers.push(answer)?;
@@ -42,7 +37,7 @@ fn answer_between(
     let found = found(alloc, subject.run_from(&start, inclusive, direction))?;
     let mut runs = Runs::new(subject, start, how)?;
     let given = given(alloc, &mut runs)?;
-    let again = runs.fault().is_none() || item(alloc, &mut runs)? == given;
+    let again = runs.fault().is_none() || runs.item(alloc)? == given;
     if given == found && again {
         return Ok(found);
     }
@@ -52,14 +47,14 @@ fn answer_between(
 fn found(alloc: Global, found: Result<Run<NarrowTime<'_>>, CronError>) -> Result<Value, Fault> {
     match found {
         Ok(run) => run.shown(alloc),
-        Err(error) => Ok(refusal(alloc, &error)?),
+        Err(error) => shown::refused(alloc, &error),
     }
 }
 
 // The answer of a call. No item without a fault is the limit.
 fn given(alloc: Global, runs: &mut Runs<'_, NarrowTime<'_>>) -> Result<Value, Fault> {
-    match item(alloc, runs)? {
-        Value::Null => Ok(refusal(alloc, &CronError::TimeSearchLimitExceeded)?),
+    match runs.item(alloc)? {
+        Value::Null => shown::refused(alloc, &CronError::TimeSearchLimitExceeded),
         answer => Ok(answer),
     }
 }

@@ -1,132 +1,57 @@
-//! The lines one after another: what each answers, and how many differ.
+//! The replay: what each question answers, and whether that is what is wanted.
 
-use crate::fault::Fault;
 use crate::question::answer;
-use crate::shown::refused;
 use crate::wanted::is_wanted;
+use croner::errors::CronError;
+use croner_rows::{Fault, Tool, shown};
 use serde_json::Value;
-use std::alloc::{AllocError, Global};
-use std::io::{BufRead, Write};
-use std::{fmt, io};
+use std::alloc::Global;
 
-/// What ends the program before its summary.
-#[derive(Debug, Drop)]
-pub enum Stop {
-    OutOfMemory,
-    Failed(io::Error),
-}
-
-impl From<io::Error> for Stop {
-    fn from(error: io::Error) -> Stop {
-        match error.kind() {
-            io::ErrorKind::OutOfMemory => Stop::OutOfMemory,
-            _ => Stop::Failed(error),
-        }
-    }
-}
-
-impl From<AllocError> for Stop {
-    fn from(_error: AllocError) -> Stop {
-        Stop::OutOfMemory
-    }
-}
-
-/// How many lines there were, how many of them differ, and how many ask what is not known.
-#[derive(Debug, Clone, Copy, Default)]
-pub struct Summary {
-    lines: u64,
-    differing: u64,
-    unsupported: u64,
-}
-
-impl Summary {
-    /// Whether each line was asked and gave the answer that is wanted.
-    pub fn is_clean(&self) -> bool {
-        self.differing == 0 && self.unsupported == 0
-    }
-
-    fn count(&mut self, outcome: &Outcome) {
-        self.lines = self.lines.saturating_add(1);
-        match outcome {
-            Outcome::Same => {}
-            Outcome::Differs(_) | Outcome::Malformed => {
-                self.differing = self.differing.saturating_add(1);
-            }
-            Outcome::Unsupported => self.unsupported = self.unsupported.saturating_add(1),
-        }
-    }
-}
-
-impl fmt::Display for Summary {
-    fn fmt<W: fmt::Write>(&self, f: &mut fmt::Formatter<W>) -> fmt::Result {
-        let (lines, differing, unsupported) = (self.lines, self.differing, self.unsupported);
-        write!(
-            f,
-            "{lines} lines, {differing} differ, {unsupported} unsupported"
-        )
-    }
-}
-
-/// What became of a line.
-#[derive(Drop)]
-enum Outcome {
-    Same,
-    /// The answer differs: what was got and what is wanted, as JSON.
-    Differs(String),
-    Malformed,
-    Unsupported,
-}
-
-/// Replays each line of the input, and prints those that differ.
-pub fn replay<R: BufRead, W: Write>(
+/// The replay.
+#[derive(Clone, Copy)]
+pub struct Replay {
     alloc: Global,
-    input: &mut R,
-    out: &mut W,
-) -> Result<Summary, Stop> {
-    let mut summary = Summary::default();
-    let mut line = Vec::new(alloc);
-    for _ in 0..u64::MAX {
-        line.clear();
-        if input.read_until(b'\n', &mut line)? == 0 {
-            break;
+}
+
+impl Replay {
+    /// The replay.
+    pub fn new(alloc: Global) -> Replay {
+        Replay { alloc }
+    }
+}
+
+impl Tool for Replay {
+    fn answer(&self, question: &Value) -> Result<Value, Fault> {
+        let got = match answer(self.alloc, question) {
+            Err(Fault::Refused(error)) => refused(self.alloc, question, &error)?,
+            answered => answered?,
+        };
+        match question.get("want") {
+            Some(_) => Ok(got),
+            None => Err(Fault::Malformed),
         }
-        let outcome = outcome_of(alloc, line.as_slice())?;
-        summary.count(&outcome);
-        print(out, summary.lines, &outcome)?;
     }
-    Ok(summary)
-}
 
-fn print<W: Write>(out: &mut W, number: u64, outcome: &Outcome) -> io::Result<()> {
-    match outcome {
-        Outcome::Same | Outcome::Unsupported => Ok(()),
-        Outcome::Differs(both) => writeln!(out, "line {number}: {both}"),
-        Outcome::Malformed => writeln!(out, "line {number}: malformed"),
+    fn is_wanted(&self, got: &Value, want: &Value) -> bool {
+        is_wanted(got, want)
     }
 }
 
-fn outcome_of(alloc: Global, line: &[u8]) -> Result<Outcome, Stop> {
-    match Value::from_slice(alloc, line) {
-        Ok(question) => judged(alloc, &question),
-        Err(error) if error.is_memory() => Err(Stop::OutOfMemory),
-        Err(_) => Ok(Outcome::Malformed),
+// A refusal as a question wants it: the name of its variant; where its `message` is `"whole"`, the message; and where that is
+// a number of bytes, the name of a refusal whose message has no more of them, else how many it has.
+fn refused(alloc: Global, question: &Value, error: &CronError) -> Result<Value, Fault> {
+    match question.get("message") {
+        None => shown::refused(alloc, error),
+        Some(form) => told(alloc, form.as_u64(), error),
     }
 }
 
-fn judged(alloc: Global, question: &Value) -> Result<Outcome, Stop> {
-    let got = match answer(alloc, question) {
-        Ok(got) => got,
-        Err(Fault::Refused(error)) => refused(alloc, question, &error)?,
-        Err(Fault::Malformed) => return Ok(Outcome::Malformed),
-        Err(Fault::Unsupported) => return Ok(Outcome::Unsupported),
-        Err(Fault::OutOfMemory) => return Err(Stop::OutOfMemory),
-    };
-    let Some(want) = question.get("want") else {
-        return Ok(Outcome::Malformed);
-    };
-    if is_wanted(&got, want) {
-        return Ok(Outcome::Same);
+fn told(alloc: Global, most: Option<u64>, error: &CronError) -> Result<Value, Fault> {
+    let message = error.to_string(alloc)?;
+    let bytes = message.len() as u64;
+    match most {
+        None => Ok(Value::String(message)),
+        Some(most) if bytes <= most => shown::refused(alloc, error),
+        Some(_) => Ok(Value::from(bytes)),
     }
-    let (got, want) = (got.to_string(alloc)?, want.to_string(alloc)?);
-    Ok(Outcome::Differs(format!(in alloc; "got {got}, want {want}")?))
 }

@@ -1,12 +1,8 @@
 //! Single values: those of a field, the numbers of parts, weekdays, and texts.
 
-use crate::day::time_component;
-use crate::fault::Fault;
-use crate::job::Job;
-use crate::member::{list, number, number_at, text, weekday};
-use crate::shown;
 use croner::time::CivilDate;
-use croner::{CronComponent, CronPattern};
+use croner_rows::shown::field_of;
+use croner_rows::{Fault, Job, list, number, number_at, shown, text, time_component, weekday};
 use serde_json::Value;
 use std::alloc::Global;
 
@@ -14,20 +10,6 @@ use std::alloc::Global;
 pub fn values(alloc: Global, question: &Value, job: &Job) -> Result<Value, Fault> {
     let field = field_of(&job.cron.pattern, text(question, "field")?)?;
     shown::runs(alloc, field.values()?.as_slice())
-}
-
-/// The field of a pattern by its name.
-pub fn field_of<'p>(pattern: &'p CronPattern, name: &str) -> Result<&'p CronComponent, Fault> {
-    match name {
-        "seconds" => Ok(&pattern.seconds),
-        "minutes" => Ok(&pattern.minutes),
-        "hours" => Ok(&pattern.hours),
-        "days" => Ok(&pattern.days),
-        "months" => Ok(&pattern.months),
-        "days_of_week" => Ok(&pattern.days_of_week),
-        "years" => Ok(&pattern.years),
-        _ => Err(Fault::Malformed),
-    }
 }
 
 /// The number of a part of a date and time.
@@ -48,12 +30,4 @@ pub fn date(alloc: Global, question: &Value) -> Result<Value, Fault> {
     };
     let date = CivilDate::from_ymd(number(year)?, number(month)?, number(day)?)?;
     Ok(Value::String(date.to_string(alloc)?))
-}
-
-/// The text of a pattern that is made of it, and not parsed.
-pub fn unparsed(alloc: Global, question: &Value) -> Result<Value, Fault> {
-    let pattern = CronPattern::new(alloc, text(question, "text")?)?;
-    let kept = shown::text(alloc, pattern.as_str());
-    drop(pattern);
-    kept
 }

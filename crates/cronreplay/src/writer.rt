@@ -1,7 +1,6 @@
 //! A writer that fails.
 
-use crate::fault::Fault;
-use crate::member::number;
+use croner_rows::{Fault, number};
 use serde_json::Value;
 use std::alloc::Global;
 use std::io;

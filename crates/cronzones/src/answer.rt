@@ -1,13 +1,13 @@
 //! What a line asks, and its answer.
 
-use crate::compare::{Clocks, compare, runs_of_table, seconds};
-use crate::fault::Fault;
-use crate::member::{items, number};
+use crate::compare::{Clocks, compare, runs_of_table};
 use crate::runs::Asked;
 use crate::source::Source;
 use crate::window::Window;
 use croner::time::table::{ClockTable, TableTime};
 use croner::time::{CronDateTime, Direction};
+use croner_rows::shown::numbers;
+use croner_rows::{Fault, items, number};
 use jiff::tz::TimeZone;
 use serde_json::Value;
 use std::alloc::Global;
@@ -21,15 +21,12 @@ pub fn answer(rt: &HostRuntime, line: &Value) -> Result<Value, Fault> {
 fn answer_in(alloc: Global, line: &Value, zone: TimeZone<'_>) -> Result<Value, Fault> {
     let window = Window::read(line)?;
     let table = ClockTable::of_zone(alloc, &zone, window.first, window.last)?;
-    answer_on(
-        alloc,
-        line,
-        Clocks {
-            window,
-            table: &table,
-            zone,
-        },
-    )
+    let clocks = Clocks {
+        window,
+        table: &table,
+        zone,
+    };
+    answer_on(alloc, line, clocks)
 }
 
 fn answer_on(alloc: Global, line: &Value, clocks: Clocks<'_>) -> Result<Value, Fault> {
@@ -56,7 +53,7 @@ fn runs(
 ) -> Result<Value, Fault> {
     let asked = Asked::read(alloc, value)?;
     let runs = runs_of_table(alloc, &asked, table, direction)?;
-    seconds(alloc, runs.as_slice())
+    numbers(alloc, runs.as_slice())
 }
 
 // What the table's clock shows at each of a list of seconds.

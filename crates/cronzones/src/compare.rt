@@ -1,14 +1,13 @@
 //! Runs over the table of a window beside those in the zone itself.
 
-use crate::fault::Fault;
-use crate::member::items;
 use crate::runs::Asked;
 use crate::window::Window;
 use croner::time::Direction;
 use croner::time::table::{ClockTable, TableTime};
+use croner_rows::{Fault, items, shown};
 use jiff::tz::TimeZone;
 use jiff::{Timestamp, Zoned};
-use serde_json::{Map, Value, put};
+use serde_json::Value;
 use std::alloc::Global;
 
 /// A zone, and the table of its clock in a window.
@@ -38,10 +37,9 @@ impl Drop for Tally {
 impl Tally {
     fn into_value(self, alloc: Global) -> Result<Value, Fault> {
         let Tally { runs, differences } = self;
-        let mut answer = Map::new(alloc);
-        put(&mut answer, alloc, "runs", Value::from(runs))?;
-        put(&mut answer, alloc, "differences", Value::Array(differences))?;
-        Ok(Value::Object(answer))
+        let differences = Value::Array(differences);
+        let answer = format!(in alloc; "{{\"runs\":{runs},\"differences\":{differences}}}");
+        shown::object(alloc, answer)
     }
 }
 
@@ -120,20 +118,12 @@ fn difference(
     by_table: &[i64],
     in_zone: &[i64],
 ) -> Result<Value, Fault> {
-    let (by_table, in_zone) = (seconds(alloc, by_table)?, seconds(alloc, in_zone)?);
+    let by_table = shown::numbers(alloc, by_table)?;
+    let in_zone = shown::numbers(alloc, in_zone)?;
     let mut parts = Vec::new(alloc);
     parts.push(Value::from(of.0 as u64))?;
     parts.push(Value::Bool(of.1 == Direction::Forward))?;
     parts.push(by_table)?;
     parts.push(in_zone)?;
     Ok(Value::Array(parts))
-}
-
-/// Runs as a list of numbers.
-pub fn seconds(alloc: Global, runs: &[i64]) -> Result<Value, Fault> {
-    let mut list = Vec::new(alloc);
-    for run in runs {
-        list.push(Value::from(*run))?;
-    }
-    Ok(Value::Array(list))
 }

@@ -5,35 +5,42 @@
 
 mod answer;
 mod compare;
-mod fault;
-mod lines;
-mod member;
 mod runs;
 mod source;
 mod window;
 
-use lines::{Stop, answer_lines};
+use answer::answer;
+use croner_rows::{Fault, Tool, answer_lines, shown, status};
+use serde_json::Value;
 use std::io;
-use std::io::{BufReader, BufWriter, Write};
+use std::io::{BufWriter, Write};
 use std::process::ExitCode;
 
-fn run(rt: &HostRuntime) -> Result<bool, Stop> {
-    let mut input = BufReader::new(rt.alloc(), rt.stdin())?;
+// The tool.
+#[derive(Clone, Copy)]
+struct Zones<'r> {
+    rt: &'r HostRuntime,
+}
+
+impl<'r> Tool for Zones<'r> {
+    fn answer(&self, line: &Value) -> Result<Value, Fault> {
+        shown::or_refusal(self.rt.alloc(), answer(self.rt, line))
+    }
+
+    fn is_wanted(&self, got: &Value, want: &Value) -> bool {
+        *got == *want
+    }
+}
+
+fn run(rt: &HostRuntime) -> Result<bool, Fault> {
     let mut out = BufWriter::new(rt.alloc(), rt.stdout())?;
-    let summary = answer_lines(rt, &mut input, &mut out)?;
-    writeln!(out, "{summary}")?;
+    let summary = answer_lines(rt, &Zones { rt }, &mut out)?;
+    let (lines, differing) = (summary.lines, summary.differing);
+    writeln!(out, "{lines} lines, {differing} differ")?;
     out.flush()?;
     Ok(summary.is_clean())
 }
 
 fn main(rt: HostRuntime) -> io::Result<ExitCode> {
-    match run(&rt) {
-        Ok(true) => Ok(ExitCode::SUCCESS),
-        Ok(false) => Ok(ExitCode::FAILURE),
-        Err(Stop::OutOfMemory) => {
-            eprintln!(rt; "Out of memory.")?;
-            Ok(ExitCode::FAILURE)
-        }
-        Err(Stop::Failed(error)) => Err(error),
-    }
+    status(&rt, run(&rt))
 }

@@ -1,17 +1,15 @@
 //! Runs of a job on a clock.
 
-use crate::fault::Fault;
-use crate::member::{items, number, text};
 use croner::errors::CronError;
+use croner::time::Direction;
 use croner::time::table::TableTime;
-use croner::time::{CronDateTime, Direction};
-use croner::{Cron, CronIterator};
+use croner_rows::{Fault, How, Job, Moment, Run, Runs, Subject, items, number, word};
 use jiff::Zoned;
 use serde_json::Value;
 use std::alloc::Global;
 
 /// A time of which the seconds since 1970-01-01T00:00:00 UTC are known.
-pub trait OnClock: CronDateTime {
+pub trait OnClock: Moment {
     fn second(&self) -> i64;
 }
 
@@ -37,21 +35,11 @@ pub enum Kind {
 }
 
 /// A job, a start and what is asked.
+#[derive(Drop)]
 pub struct Asked {
-    cron: Cron,
+    job: Job,
     pub start: i64,
     kind: Kind,
-}
-
-// By hand, so that a function that lets one go calls this one: its proof doesn't go through the job at each exit.
-impl Drop for Asked {
-    fn drop(self) {
-        let Asked {
-            cron: _,
-            start: _,
-            kind: _,
-        } = self;
-    }
 }
 
 impl Asked {
@@ -60,9 +48,9 @@ impl Asked {
         let [pattern, start, kind] = items(value)? else {
             return Err(Fault::Malformed);
         };
-        let (pattern, start, kind) = (text(pattern)?, number(start)?, kind_of(kind)?);
-        let cron = Cron::from_str(alloc, pattern)?;
-        Ok(Asked { cron, start, kind })
+        let (pattern, start, kind) = (word(pattern)?, number(start)?, kind_of(kind)?);
+        let job = Job::of_text(alloc, value, pattern)?;
+        Ok(Asked { job, start, kind })
     }
 
     /// The runs from a time on, nearest first. None where a search answers the limit.
@@ -72,9 +60,18 @@ impl Asked {
         start: T,
         direction: Direction,
     ) -> Result<Vec<i64>, Fault> {
+        let subject = Subject::Job(&self.job);
         match self.kind {
-            Kind::Search { inclusive } => found(alloc, &self.cron, &start, inclusive, direction),
-            Kind::Listing { count } => listed(alloc, &self.cron, start, count, direction),
+            Kind::Search { inclusive } => {
+                found(alloc, subject.run_from(&start, inclusive, direction))
+            }
+            Kind::Listing { count } => {
+                listed(
+                    alloc,
+                    &mut Runs::new(subject, start, How::From(direction))?,
+                    count,
+                )
+            }
         }
     }
 }
@@ -89,58 +86,28 @@ fn kind_of(value: &Value) -> Result<Kind, Fault> {
     }
 }
 
-fn found<T: OnClock>(
-    alloc: Global,
-    cron: &Cron,
-    start: &T,
-    inclusive: bool,
-    direction: Direction,
-) -> Result<Vec<i64>, Fault> {
-    match search(cron, start, inclusive, direction) {
-        Ok(run) => only(alloc, run.second()),
-        Err(CronError::TimeSearchLimitExceeded) => Ok(Vec::new(alloc)),
-        Err(error) => Err(Fault::from(error)),
-    }
-}
-
-fn search<T: OnClock>(
-    cron: &Cron,
-    start: &T,
-    inclusive: bool,
-    direction: Direction,
-) -> Result<T, CronError> {
-    match direction {
-        Direction::Forward => cron.find_next_occurrence(start, inclusive),
-        Direction::Backward => cron.find_previous_occurrence(start, inclusive),
-    }
-}
-
-fn only(alloc: Global, run: i64) -> Result<Vec<i64>, Fault> {
+fn found<T: OnClock>(alloc: Global, run: Result<Run<T>, CronError>) -> Result<Vec<i64>, Fault> {
     let mut runs = Vec::new(alloc);
-    runs.push(run)?;
-    Ok(runs)
-}
-
-fn listed<T: OnClock>(
-    alloc: Global,
-    cron: &Cron,
-    start: T,
-    count: i64,
-    direction: Direction,
-) -> Result<Vec<i64>, Fault> {
-    let mut listing = cron.iter_from(start, direction)?;
-    let mut runs = Vec::new(alloc);
-    for _ in 0..count {
-        match next_of(&mut listing) {
-            Some(run) => runs.push(run)?,
-            None => break,
-        }
+    match run {
+        Ok(run) => runs.push(run.instant.second())?,
+        Err(CronError::TimeSearchLimitExceeded) => {}
+        Err(error) => return Err(Fault::from(error)),
     }
     Ok(runs)
 }
 
 // Neither clock asks for memory, so an iterator over it ends at the limit alone.
-fn next_of<T: OnClock>(listing: &mut CronIterator<T>) -> Option<i64> {
-    let run = listing.next()?;
-    Some(run.second())
+fn listed<T: OnClock>(
+    alloc: Global,
+    listing: &mut Runs<'_, T>,
+    count: i64,
+) -> Result<Vec<i64>, Fault> {
+    let mut runs = Vec::new(alloc);
+    for _ in 0..count {
+        match listing.next() {
+            Some(run) => runs.push(run.instant.second())?,
+            None => break,
+        }
+    }
+    Ok(runs)
 }

@@ -1,10 +1,9 @@
 //! The zones of lines: a file of the time zone database, a POSIX rule, or an offset that never changes.
 
-use crate::fault::Fault;
-use crate::member::{member, number, text};
+use croner_rows::{Fault, member, number, read_rule, word};
 use jiff::tz::{Offset, TimeZone, Tzif};
 use serde_json::Value;
-use std::fs;
+use std::{fs, io};
 
 /// What a zone was read from.
 pub enum Source {
@@ -27,7 +26,7 @@ impl Source {
     pub fn read(rt: &HostRuntime, line: &Value) -> Result<Source, Fault> {
         let zone = member(line, "zone")?;
         match zone.get("file") {
-            Some(path) => Ok(Source::File(of_file(rt, text(path)?)?)),
+            Some(path) => Ok(Source::File(of_file(rt, word(path)?)?)),
             None => Ok(Source::Plain(of_words(zone)?)),
         }
     }
@@ -42,13 +41,16 @@ impl Source {
 }
 
 fn of_file(rt: &HostRuntime, path: &str) -> Result<Tzif, Fault> {
-    let bytes = fs::read(rt, path)?;
-    Ok(Tzif::parse(rt.alloc(), None, bytes.as_slice())?)
+    match fs::read(rt, path) {
+        Ok(bytes) => Ok(Tzif::parse(rt.alloc(), None, bytes.as_slice())?),
+        Err(error) if error.kind() == io::ErrorKind::OutOfMemory => Err(Fault::OutOfMemory),
+        Err(_) => Err(Fault::Malformed),
+    }
 }
 
 fn of_words(zone: &Value) -> Result<TimeZone<'static>, Fault> {
     match zone.get("rule") {
-        Some(rule) => Ok(TimeZone::posix(text(rule)?)?),
+        Some(rule) => read_rule(rule),
         None => of_offset(number(member(zone, "offset")?)?),
     }
 }

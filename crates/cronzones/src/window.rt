@@ -1,7 +1,6 @@
 //! Windows: from a first second to a last one.
 
-use crate::fault::Fault;
-use crate::member::{member, number};
+use croner_rows::{Fault, number_at};
 use serde_json::Value;
 
 /// So many seconds behind a window's first one no earlier reading of the zone comes again.
@@ -17,8 +16,8 @@ pub struct Window {
 impl Window {
     /// The window of the members `first` and `last`.
     pub fn read(line: &Value) -> Result<Window, Fault> {
-        let first = number(member(line, "first")?)?;
-        let last = number(member(line, "last")?)?;
+        let first = number_at(line, "first")?;
+        let last = number_at(line, "last")?;
         Ok(Window { first, last })
     }
 

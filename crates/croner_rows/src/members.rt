@@ -1,7 +1,8 @@
 //! Reading the members of a question.
 
-use crate::fault::Fault;
-use croner::time::{CivilDateTime, Weekday};
+use crate::Fault;
+use croner::time::{CivilDateTime, CronDateTime, Direction, Weekday};
+use jiff::civil::DateTime;
 use serde_json::Value;
 
 /// The member of that name.
@@ -11,12 +12,25 @@ pub fn member<'v>(question: &'v Value, name: &str) -> Result<&'v Value, Fault> {
 
 /// A text.
 pub fn text<'v>(question: &'v Value, name: &str) -> Result<&'v str, Fault> {
-    member(question, name)?.as_str().ok_or(Fault::Malformed)
+    word(member(question, name)?)
+}
+
+/// A value that is a text.
+pub fn word(value: &Value) -> Result<&str, Fault> {
+    value.as_str().ok_or(Fault::Malformed)
 }
 
 /// A yes or no.
 pub fn flag(question: &Value, name: &str) -> Result<bool, Fault> {
     member(question, name)?.as_bool().ok_or(Fault::Malformed)
+}
+
+/// A yes or no that may be left out, which is no.
+pub fn switch(question: &Value, name: &str) -> Result<bool, Fault> {
+    match question.get(name) {
+        None => Ok(false),
+        Some(switch) => switch.as_bool().ok_or(Fault::Malformed),
+    }
 }
 
 /// A list.
@@ -59,21 +73,32 @@ pub fn weekday(question: &Value, name: &str) -> Result<Weekday, Fault> {
     Ok(Weekday::from_days_from_sunday(days))
 }
 
+/// A direction by its name.
+pub fn direction(question: &Value) -> Result<Direction, Fault> {
+    match text(question, "direction")? {
+        "forward" => Ok(Direction::Forward),
+        "backward" => Ok(Direction::Backward),
+        _ => Err(Fault::Malformed),
+    }
+}
+
 /// A date and time as the list of its six parts.
 pub fn civil(question: &Value, name: &str) -> Result<CivilDateTime, Fault> {
+    Ok(civil_value(question, name)?.to_civil())
+}
+
+/// A date and time as a value of civil time.
+pub fn civil_value(question: &Value, name: &str) -> Result<DateTime, Fault> {
     let [year, month, day, hour, minute, second] = list(question, name)? else {
         return Err(Fault::Malformed);
     };
-    let civil = CivilDateTime::from_ymd_hms(
+    Ok(DateTime::new(
         number(year)?,
         number(month)?,
         number(day)?,
         number(hour)?,
         number(minute)?,
         number(second)?,
-    );
-    match civil {
-        Ok(civil) => Ok(civil),
-        Err(_) => Err(Fault::Malformed),
-    }
+        0,
+    )?)
 }

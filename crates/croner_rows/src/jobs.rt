@@ -1,6 +1,6 @@
 //! Jobs: the pattern of a question, read by the parser of its settings.
-use crate::fault::Fault;
-use crate::member::{items, member, number};
+
+use crate::{Fault, items, member, number, switch, word};
 use croner::Cron;
 use croner::parser::{CronParser, Seconds, Year};
 use serde_json::Value;
@@ -24,20 +24,15 @@ impl Job {
         Job { cron }
     }
 
-    /// The job of a question: its text, read by the parser of its settings. A text that is a list has pieces, each with how often
-    /// it stands there.
+    /// The job of a question: its text, read by the parser of its settings.
     pub fn read(alloc: Global, question: &Value) -> Result<Job, Fault> {
-        let text = member(question, "text")?;
-        if let Some(text) = text.as_str() {
-            return Job::of_text(alloc, question, text);
-        }
-        let text = put_together(alloc, items(text)?)?;
+        let text = whole_text(alloc, question)?;
         Job::of_text(alloc, question, text.as_str())
     }
 
     /// The job of a text, read by the parser of a question's settings.
     pub fn of_text(alloc: Global, question: &Value, text: &str) -> Result<Job, Fault> {
-        let parser = parser(question)?;
+        let parser = read_parser(question)?;
         let cron = parser.parse(alloc, text)?;
         Ok(Job { cron })
     }
@@ -55,17 +50,22 @@ impl Job {
     }
 }
 
+/// The text of a question. One that is a list has pieces, each with how often it stands there.
+pub fn whole_text(alloc: Global, question: &Value) -> Result<String, Fault> {
+    let given = member(question, "text")?;
+    match given.as_str() {
+        Some(text) => Ok(String::from_str(alloc, text)?),
+        None => put_together(alloc, items(given)?),
+    }
+}
+
 fn put_together(alloc: Global, pieces: &[Value]) -> Result<String, Fault> {
     let mut text = String::new(alloc);
     for piece in pieces {
         let [piece, count] = items(piece)? else {
             return Err(Fault::Malformed);
         };
-        add_piece(
-            &mut text,
-            piece.as_str().ok_or(Fault::Malformed)?,
-            number(count)?,
-        )?;
+        add_piece(&mut text, word(piece)?, number(count)?)?;
     }
     Ok(text)
 }
@@ -78,7 +78,7 @@ fn add_piece(text: &mut String, piece: &str, count: u32) -> Result<(), Fault> {
 }
 
 /// The parser of the settings; those that a question leaves out are the parser's own.
-pub fn parser(question: &Value) -> Result<CronParser, Fault> {
+pub fn read_parser(question: &Value) -> Result<CronParser, Fault> {
     let Some(settings) = question.get("settings") else {
         return Ok(CronParser::new());
     };
@@ -95,27 +95,26 @@ pub fn parser(question: &Value) -> Result<CronParser, Fault> {
 }
 
 fn seconds(settings: &Value) -> Result<Seconds, Fault> {
-    match settings.get("seconds").map(Value::as_str) {
-        None | Some(Some("optional")) => Ok(Seconds::Optional),
-        Some(Some("required")) => Ok(Seconds::Required),
-        Some(Some("disallowed")) => Ok(Seconds::Disallowed),
-        Some(_) => Err(Fault::Malformed),
+    match presence(settings, "seconds")? {
+        "optional" => Ok(Seconds::Optional),
+        "required" => Ok(Seconds::Required),
+        "disallowed" => Ok(Seconds::Disallowed),
+        _ => Err(Fault::Malformed),
     }
 }
 
 fn year(settings: &Value) -> Result<Year, Fault> {
-    match settings.get("year").map(Value::as_str) {
-        None | Some(Some("optional")) => Ok(Year::Optional),
-        Some(Some("required")) => Ok(Year::Required),
-        Some(Some("disallowed")) => Ok(Year::Disallowed),
-        Some(_) => Err(Fault::Malformed),
+    match presence(settings, "year")? {
+        "optional" => Ok(Year::Optional),
+        "required" => Ok(Year::Required),
+        "disallowed" => Ok(Year::Disallowed),
+        _ => Err(Fault::Malformed),
     }
 }
 
-/// A yes or no that may be left out, which is no.
-pub fn switch(settings: &Value, name: &str) -> Result<bool, Fault> {
-    match settings.get(name) {
-        None => Ok(false),
-        Some(switch) => switch.as_bool().ok_or(Fault::Malformed),
+fn presence<'v>(settings: &'v Value, field: &str) -> Result<&'v str, Fault> {
+    match settings.get(field) {
+        None => Ok("optional"),
+        Some(presence) => word(presence),
     }
 }

@@ -1,0 +1,24 @@
+//! The operations that more than one tool has, by their names.
+
+use crate::field_calls::call_of_field;
+use crate::pattern_calls::call_of_pattern;
+use crate::texts::{describe, from_json, parse, unparsed};
+use crate::times::{add, matching, resolve};
+use crate::{Caller, Fault, Outcome, text};
+use serde_json::Value;
+
+/// What the calls of an operation give.
+pub fn ask(caller: Caller<'_>, question: &Value, op: &str) -> Result<Outcome, Fault> {
+    match op {
+        "component_call" | "field" => call_of_field(caller, question),
+        "parse" => parse(caller, question),
+        "unparsed" | "new pattern" => unparsed(caller, question),
+        "from_json" => from_json(caller, question),
+        "describe" => describe(caller, question),
+        "match" => matching(caller, question),
+        "resolve" | "resolution" => resolve(caller, question),
+        "add" | "sum" => add(caller, question),
+        "pattern" => call_of_pattern(caller, question, text(question, "call")?),
+        op => call_of_pattern(caller, question, op),
+    }
+}

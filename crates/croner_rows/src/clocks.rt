@@ -1,0 +1,133 @@
+//! Clocks: civil time, tables and rules, and calls that are made over a time of any of them.
+
+use crate::{
+    Caller, Fault, Moment, Outcome, civil_value, items, list, number, number_at, switch, word,
+};
+use croner::time::table::{ClockTable, TableTime};
+use croner_backends::{BoxedTime, NarrowTime};
+use jiff::civil::DateTime;
+use jiff::tz::TimeZone;
+use jiff::{Timestamp, Zoned};
+use serde_json::Value;
+use std::alloc::Global;
+
+/// Calls that are made over a time of any clock.
+pub trait OverTime {
+    /// Makes the calls, and gives what they gave.
+    fn outcome<T: Moment>(&self, caller: Caller<'_>, time: T) -> Result<Outcome, Fault>;
+}
+
+/// Makes calls over the start of a question, on the clock of its member `zone`: civil time where there is none, a rule, or a
+/// table, which may be `boxed`, over the backend that takes memory for each answer, or `held`, over the one that holds what lies
+/// between two instants.
+pub fn over_time<C: OverTime>(
+    caller: Caller<'_>,
+    question: &Value,
+    calls: &C,
+) -> Result<Outcome, Fault> {
+    match question.get("zone") {
+        None | Some(Value::Null) => calls.outcome(caller, civil_start(question)?),
+        Some(zone) => match zone.get("rule") {
+            Some(rule) => calls.outcome(caller, zoned(rule, question)?),
+            None => over_table(caller, question, zone, calls),
+        },
+    }
+}
+
+fn over_table<C: OverTime>(
+    caller: Caller<'_>,
+    question: &Value,
+    zone: &Value,
+    calls: &C,
+) -> Result<Outcome, Fault> {
+    let table = clock_table(caller.alloc, zone)?;
+    let start = TableTime::new(&table, start_second(question)?)?;
+    if switch(zone, "boxed")? {
+        return calls.outcome(caller, BoxedTime::new(caller.alloc, start)?);
+    }
+    match zone.get("held") {
+        None => calls.outcome(caller, start),
+        Some(held) => calls.outcome(caller, narrow_time(start, held)?),
+    }
+}
+
+/// A time over the backend that holds what lies between two instants.
+pub fn narrow_time<'t>(time: TableTime<'t>, held: &Value) -> Result<NarrowTime<'t>, Fault> {
+    let [low, high] = items(held)? else {
+        return Err(Fault::Malformed);
+    };
+    Ok(NarrowTime::new(time, number(low)?, number(high)?)?)
+}
+
+// The start in civil time. Where there is none, any value of the clock will do.
+fn civil_start(question: &Value) -> Result<DateTime, Fault> {
+    match question.get("start") {
+        None => Ok(DateTime::MIN),
+        Some(_) => civil_value(question, "start"),
+    }
+}
+
+fn start_second(question: &Value) -> Result<i64, Fault> {
+    match question.get("start") {
+        None => Ok(0),
+        Some(start) => number(start),
+    }
+}
+
+fn zoned(rule: &Value, question: &Value) -> Result<Zoned<'static>, Fault> {
+    Ok(Zoned::new(start_instant(question)?, read_rule(rule)?))
+}
+
+// The start as a second, or as a second and a nanosecond of it.
+fn start_instant(question: &Value) -> Result<Timestamp, Fault> {
+    let start = question.get("start").and_then(Value::as_array);
+    let (second, nanosecond) = match start.map(Vec::as_slice) {
+        None => (start_second(question)?, 0),
+        Some([second, nanosecond]) => (number(second)?, number(nanosecond)?),
+        Some(_) => return Err(Fault::Malformed),
+    };
+    Ok(Timestamp::new(second, nanosecond)?)
+}
+
+/// The zone of a rule.
+pub fn read_rule(rule: &Value) -> Result<TimeZone<'static>, Fault> {
+    Ok(TimeZone::posix(word(rule)?)?)
+}
+
+/// The table of the members `first` and `changes`, or its refusal.
+pub fn clock_table(alloc: Global, zone: &Value) -> Result<ClockTable, Fault> {
+    let changes = clock_changes(alloc, zone)?;
+    Ok(ClockTable::new(number_at(zone, "first")?, changes)?)
+}
+
+/// The changes of a table, each its instant and its offset, or a series of them.
+pub fn clock_changes(alloc: Global, zone: &Value) -> Result<Vec<(i64, i32)>, Fault> {
+    let mut changes = Vec::new(alloc);
+    for change in list(zone, "changes")? {
+        if change.is_object() {
+            add_series(change, &mut changes)?;
+        } else {
+            let [instant, offset] = items(change)? else {
+                return Err(Fault::Malformed);
+            };
+            changes.push((number(instant)?, number(offset)?))?;
+        }
+    }
+    Ok(changes)
+}
+
+// So many changes, each so many seconds after the one before, whose offsets are the two that are given in turn.
+fn add_series(series: &Value, changes: &mut Vec<(i64, i32)>) -> Result<(), Fault> {
+    let [even, odd] = list(series, "offsets")? else {
+        return Err(Fault::Malformed);
+    };
+    let (even, odd): (i32, i32) = (number(even)?, number(odd)?);
+    let (count, apart): (u32, i64) = (number_at(series, "count")?, number_at(series, "apart")?);
+    let mut instant: i64 = number_at(series, "from")?;
+    for place in 0..count {
+        let offset = if place % 2 == 0 { even } else { odd };
+        changes.push((instant, offset))?;
+        instant = instant.saturating_add(apart);
+    }
+    Ok(())
+}

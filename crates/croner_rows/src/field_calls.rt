@@ -1,0 +1,187 @@
+//! Calls of one field.
+
+use crate::{Answer, Caller, Fault, Outcome, items, list, member, number, shown, word};
+use croner::CronComponent;
+use croner::component::{ALL_BIT, LAST_BIT};
+use croner::errors::CronError;
+use serde_json::Value;
+use std::alloc::Global;
+use std::hash::{DefaultHasher, Hash, Hasher};
+
+/// What a call of a field answers.
+#[derive(Drop)]
+pub enum Given {
+    Done,
+    Truth(bool),
+    Count(usize),
+    Value(Option<u16>),
+    Values(Vec<u16>),
+    Readers([i64; 8], u64),
+}
+
+/// Makes a call of a field: a list of its name and what it is given.
+pub fn make(alloc: Global, field: &mut CronComponent, call: &Value) -> Result<Given, Fault> {
+    match items(call)? {
+        [name] => ask(alloc, field, word(name)?),
+        [name, given] => call_with(field, word(name)?, given),
+        [name, value, bit] => mark(field, word(name)?, number(value)?, number(bit)?),
+        _ => Err(Fault::Malformed),
+    }
+}
+
+fn ask(alloc: Global, field: &CronComponent, name: &str) -> Result<Given, Fault> {
+    match name {
+        "values" => Ok(Given::Values(field.values()?)),
+        "has_modifiers" => Ok(Given::Truth(field.has_modifiers())),
+        "readers" => Ok(readers(field)),
+        "compare" => Ok(Given::Truth(are_alike(field, field))),
+        "default" => {
+            let empty = CronComponent::default(alloc);
+            Ok(Given::Truth(empty == *field))
+        }
+        _ => Err(Fault::Malformed),
+    }
+}
+
+// What the reading functions and the questions on modifiers answer.
+fn readers(field: &CronComponent) -> Given {
+    let answers = [
+        i64::from(field.min()),
+        i64::from(field.max()),
+        i64::from(field.step()),
+        i64::from(field.from_wildcard()),
+        i64::from(field.features()),
+        i64::from(field.input_offset()),
+        i64::from(field.is_feature_allowed(LAST_BIT)),
+        i64::from(field.is_feature_enabled(LAST_BIT)),
+    ];
+    Given::Readers(answers, field.low_word(ALL_BIT))
+}
+
+fn call_with(field: &mut CronComponent, name: &str, given: &Value) -> Result<Given, Fault> {
+    match name {
+        "parse" => done(field.parse(word(given)?)),
+        "handle_stepping" => done(field.handle_stepping(word(given)?)),
+        "set_sloppy_ranges" => {
+            field.set_sloppy_ranges(given.as_bool().ok_or(Fault::Malformed)?);
+            Ok(Given::Done)
+        }
+        "least_from" => Ok(Given::Value(field.least_from(number(given)?))),
+        "greatest_to" => Ok(Given::Value(field.greatest_to(number(given)?))),
+        _ => call_with_bit(field, name, number(given)?),
+    }
+}
+
+fn done(outcome: Result<(), CronError>) -> Result<Given, Fault> {
+    outcome?;
+    Ok(Given::Done)
+}
+
+fn call_with_bit(field: &mut CronComponent, name: &str, bit: u8) -> Result<Given, Fault> {
+    match name {
+        "enable_feature" => done(field.enable_feature(bit)),
+        "is_feature_allowed" => Ok(Given::Truth(field.is_feature_allowed(bit))),
+        "is_feature_enabled" => Ok(Given::Truth(field.is_feature_enabled(bit))),
+        "count_set_values" => Ok(Given::Count(field.count_set_values(bit))),
+        "get_set_values" => Ok(Given::Values(field.get_set_values(bit)?)),
+        _ => Err(Fault::Malformed),
+    }
+}
+
+fn mark(field: &mut CronComponent, name: &str, value: u16, bit: u8) -> Result<Given, Fault> {
+    match name {
+        "set_bit" => done(field.set_bit(value, bit)),
+        "unset_bit" => done(field.unset_bit(value, bit)),
+        "is_bit_set" => Ok(Given::Truth(field.is_bit_set(value, bit)?)),
+        _ => Err(Fault::Malformed),
+    }
+}
+
+/// The hash of a value by the standard hasher.
+pub fn hash_of<T: Hash>(value: &T) -> u64 {
+    let mut state = DefaultHasher::new();
+    value.hash(&mut state);
+    state.finish()
+}
+
+/// Whether two values are equal, compare so and are hashed alike.
+pub fn are_alike<T: Ord + Hash>(one: &T, other: &T) -> bool {
+    let is_equal = *one == *other && one.cmp(other).is_eq();
+    is_equal && hash_of(one) == hash_of(other)
+}
+
+// What a call answers, as a JSON value.
+fn shown(alloc: Global, given: Given) -> Result<Value, Fault> {
+    match given {
+        Given::Done => shown::text(alloc, "ok"),
+        Given::Truth(truth) => Ok(Value::Bool(truth)),
+        Given::Count(count) => Ok(Value::from(count)),
+        Given::Value(value) => Ok(Value::from(value)),
+        Given::Values(values) => shown::numbers(alloc, values.as_slice()),
+        Given::Readers(answers, word) => shown_readers(alloc, &answers, word),
+    }
+}
+
+fn shown_readers(alloc: Global, answers: &[i64], word: u64) -> Result<Value, Fault> {
+    let answers = shown::numbers(alloc, answers)?;
+    Ok(Value::String(format!(in alloc; "{answers} {word}")?))
+}
+
+/// A new field of `[min, max, features, offset]`, or the empty one.
+pub fn new_component(alloc: Global, new: &Value) -> Result<CronComponent, Fault> {
+    if new.as_str() == Some("default") {
+        return Ok(CronComponent::default(alloc));
+    }
+    let [min, max, features, offset] = items(new)? else {
+        return Err(Fault::Malformed);
+    };
+    let (min, max): (u16, u16) = (number(min)?, number(max)?);
+    let (features, offset): (u8, u16) = (number(features)?, number(offset)?);
+    if min > max || max > u16::MAX - offset {
+        return Err(Fault::Malformed);
+    }
+    Ok(CronComponent::new(alloc, min, max, features, offset)?)
+}
+
+/// A new field that has read the text of a question, where there is one; what a refused text leaves is kept.
+pub fn read_field(alloc: Global, question: &Value) -> Result<CronComponent, Fault> {
+    let mut field = new_component(alloc, member(question, "new")?)?;
+    if let Some(text) = question.get("text") {
+        let _ = field.parse(word(text)?);
+    }
+    Ok(field)
+}
+
+/// The answer of one call of a new field, and what it holds afterwards.
+pub fn call_of_field(caller: Caller<'_>, question: &Value) -> Result<Outcome, Fault> {
+    let call = member(question, "call")?;
+    let mut field = read_field(caller.alloc, question)?;
+    caller.begin();
+    let given = make(caller.alloc, &mut field, call);
+    caller.end();
+    let answer = answer(caller.alloc, given);
+    let outcome = Outcome::new(
+        answer.map(Answer::Value),
+        shown::field(caller.alloc, &field),
+    );
+    drop(field);
+    outcome
+}
+
+fn answer(alloc: Global, given: Result<Given, Fault>) -> Result<Value, Fault> {
+    shown(alloc, given?)
+}
+
+/// The answers of calls of a field, one after another, as a list; where one is refused, the refusal.
+pub fn calls_in_turn(
+    alloc: Global,
+    field: &mut CronComponent,
+    question: &Value,
+) -> Result<Value, Fault> {
+    let mut answers = Vec::new(alloc);
+    for call in list(question, "calls")? {
+        let given = make(alloc, field, call);
+        answers.push(shown::or_refusal(alloc, answer(alloc, given))?)?;
+    }
+    Ok(Value::Array(answers))
+}

@@ -1,0 +1,36 @@
+//! What the tools of the tests share: questions as JSON values, the calls that they ask for, and what is shown of answers.
+#![tactic(auto)]
+
+mod asked;
+mod clocks;
+mod faults;
+mod field_calls;
+mod jobs;
+mod lines;
+mod marks;
+mod members;
+mod moments;
+mod outcomes;
+mod pattern_calls;
+pub mod shown;
+mod subjects;
+mod texts;
+mod times;
+
+pub use asked::ask;
+pub use clocks::{OverTime, clock_changes, clock_table, narrow_time, over_time, read_rule};
+pub use faults::Fault;
+pub use field_calls::{are_alike, calls_in_turn, hash_of, new_component, read_field};
+pub use jobs::{Job, read_parser, whole_text};
+pub use lines::{Summary, Tool, answer_lines, status};
+pub use marks::Caller;
+pub use members::{
+    civil, civil_value, direction, flag, items, list, member, number, number_at, switch, text,
+    weekday, word,
+};
+pub use moments::Moment;
+pub use outcomes::{Answer, Outcome};
+pub use pattern_calls::time_component;
+pub use subjects::{How, Run, Runs, Subject, Table, asked_runs};
+pub use texts::printed;
+pub use times::{bare, instants, time_and_job};

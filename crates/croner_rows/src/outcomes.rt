@@ -1,0 +1,100 @@
+//! What the calls of a question gave.
+
+use crate::Fault;
+use crate::shown::{json, refusal};
+use croner::errors::CronError;
+use serde_json::Value;
+use std::alloc::{AllocError, Global};
+
+/// What a call answered.
+#[derive(Drop)]
+pub enum Answer {
+    Value(Value),
+    /// JSON as a text, which keeps the order of members.
+    Text(String),
+}
+
+impl Answer {
+    /// The answer as a JSON value.
+    pub fn into_value(self, alloc: Global) -> Result<Value, Fault> {
+        match self {
+            Answer::Value(value) => Ok(value),
+            Answer::Text(text) => json(alloc, text.as_str()),
+        }
+    }
+
+    /// The answer as a text; one that is a text is itself, without quotes.
+    pub fn into_text(self, alloc: Global) -> Result<String, Fault> {
+        match self {
+            Answer::Value(Value::String(text)) | Answer::Text(text) => Ok(text),
+            Answer::Value(value) => Ok(value.to_string(alloc)?),
+        }
+    }
+}
+
+/// What the calls of a question gave.
+pub struct Outcome {
+    /// What they answered, or why they were refused.
+    answer: Result<Answer, Fault>,
+    /// What they were lent, afterwards, or what comes after them.
+    after: String,
+}
+
+// By hand, so that a function that lets an outcome go calls this one: its proof doesn't go through the parts at each exit.
+impl Drop for Outcome {
+    fn drop(self) {
+        let Outcome {
+            answer: _,
+            after: _,
+        } = self;
+    }
+}
+
+impl Outcome {
+    /// An answer, and what was lent, as its text.
+    pub fn new(
+        answer: Result<Answer, Fault>,
+        after: Result<String, Fault>,
+    ) -> Result<Outcome, Fault> {
+        let after = after?;
+        Ok(Outcome { answer, after })
+    }
+
+    /// An answer, where nothing was lent.
+    pub fn of(alloc: Global, answer: Result<Answer, Fault>) -> Outcome {
+        let after = String::new(alloc);
+        Outcome { answer, after }
+    }
+
+    /// An answer that is a JSON value, where nothing was lent.
+    pub fn of_value(alloc: Global, answer: Value) -> Outcome {
+        Outcome::of(alloc, Ok(Answer::Value(answer)))
+    }
+
+    /// An answer that is a text, where nothing was lent.
+    pub fn of_text(alloc: Global, answer: Result<String, AllocError>) -> Result<Outcome, Fault> {
+        let answer = answer?;
+        Ok(Outcome::of(alloc, Ok(Answer::Text(answer))))
+    }
+
+    /// The answer as a JSON value.
+    pub fn into_value(self, alloc: Global) -> Result<Value, Fault> {
+        let Outcome { answer, after: _ } = self;
+        answer?.into_value(alloc)
+    }
+
+    /// The answer as a text, which is its name where it is a refusal, and what was lent.
+    pub fn into_texts(self, alloc: Global) -> Result<(String, String), Fault> {
+        let Outcome { answer, after } = self;
+        Ok((told(alloc, answer)?, after))
+    }
+}
+
+fn told(alloc: Global, answer: Result<Answer, Fault>) -> Result<String, Fault> {
+    match answer {
+        Ok(answer) => answer.into_text(alloc),
+        Err(Fault::Refused(error)) => Ok(String::from_str(alloc, refusal(&error))?),
+        Err(Fault::OutOfMemory) => Ok(String::from_str(alloc, refusal(&CronError::OutOfMemory))?),
+        Err(fault) => Err(fault),
+    }
+}

@@ -1,0 +1,114 @@
+//! Calls of one pattern: what its fields match.
+
+use crate::{
+    Answer, Caller, Fault, Job, Outcome, direction, list, number, number_at, shown, text, weekday,
+    word,
+};
+use croner::time::TimeComponent;
+use croner::{Cron, CronComponent, CronPattern};
+use serde_json::Value;
+
+/// A part of a date and time by its name.
+pub fn time_component(question: &Value) -> Result<TimeComponent, Fault> {
+    match text(question, "component")? {
+        "second" => Ok(TimeComponent::Second),
+        "minute" => Ok(TimeComponent::Minute),
+        "hour" => Ok(TimeComponent::Hour),
+        "day" => Ok(TimeComponent::Day),
+        "month" => Ok(TimeComponent::Month),
+        "year" => Ok(TimeComponent::Year),
+        _ => Err(Fault::Malformed),
+    }
+}
+
+// The answer of a call, which is given members of the question; one that is given what no month has is malformed.
+fn made(pattern: &CronPattern, question: &Value, op: &str) -> Result<Value, Fault> {
+    match op {
+        "find" => found(pattern, question),
+        "closest_weekday" => Ok(Value::Bool(is_closest(pattern, question)?)),
+        "day_mask" => Ok(Value::from(mask(pattern, question)?)),
+        "day_match" => Ok(Value::Bool(is_day(pattern, question)?)),
+        op => Ok(Value::Bool(is_matched(pattern, question, op)?)),
+    }
+}
+
+fn found(pattern: &CronPattern, question: &Value) -> Result<Value, Fault> {
+    let (value, part) = (number_at(question, "value")?, time_component(question)?);
+    let found = pattern.find_match_in_component(value, part, direction(question)?)?;
+    Ok(Value::from(found))
+}
+
+fn is_closest(pattern: &CronPattern, question: &Value) -> Result<bool, Fault> {
+    let (length, day): (u32, u32) = (number_at(question, "length")?, number_at(question, "day")?);
+    let weekday = weekday(question, "weekday")?;
+    if length < 28 || length > 31 || day < 1 || day > length {
+        return Err(Fault::Malformed);
+    }
+    Ok(pattern.closest_weekday(length, day, weekday)?)
+}
+
+fn mask(pattern: &CronPattern, question: &Value) -> Result<u32, Fault> {
+    let (length, first): (u32, _) = (number_at(question, "length")?, weekday(question, "first")?);
+    if length < 28 || length > 31 {
+        return Err(Fault::Malformed);
+    }
+    Ok(pattern.day_mask(length, first)?)
+}
+
+fn is_day(pattern: &CronPattern, question: &Value) -> Result<bool, Fault> {
+    let [year, month, day] = list(question, "date")? else {
+        return Err(Fault::Malformed);
+    };
+    let (year, month, day) = (number(year)?, number(month)?, number(day)?);
+    Ok(pattern.day_match(year, month, day, weekday(question, "weekday")?)?)
+}
+
+fn is_matched(pattern: &CronPattern, question: &Value, op: &str) -> Result<bool, Fault> {
+    match op {
+        "year_match" => Ok(pattern.year_match(number_at(question, "value")?)?),
+        "month_match" => Ok(pattern.month_match(number_at(question, "value")?)?),
+        "hour_match" => Ok(pattern.hour_match(number_at(question, "value")?)?),
+        "minute_match" => Ok(pattern.minute_match(number_at(question, "value")?)?),
+        "second_match" => Ok(pattern.second_match(number_at(question, "value")?)?),
+        _ => Err(Fault::Unsupported),
+    }
+}
+
+fn field_at<'p>(pattern: &'p mut CronPattern, name: &str) -> Result<&'p mut CronComponent, Fault> {
+    match name {
+        "seconds" => Ok(&mut pattern.seconds),
+        "minutes" => Ok(&mut pattern.minutes),
+        "hours" => Ok(&mut pattern.hours),
+        "days" => Ok(&mut pattern.days),
+        "months" => Ok(&mut pattern.months),
+        "days_of_week" => Ok(&mut pattern.days_of_week),
+        "years" => Ok(&mut pattern.years),
+        _ => Err(Fault::Malformed),
+    }
+}
+
+/// A call of the pattern of a text, one of whose fields is emptied where the question names it; and what it holds afterwards.
+pub fn call_of_pattern(caller: Caller<'_>, question: &Value, op: &str) -> Result<Outcome, Fault> {
+    let Cron { mut pattern } = Job::read(caller.alloc, question)?.into_cron();
+    let outcome = called(caller, &mut pattern, question, op);
+    drop(pattern);
+    outcome
+}
+
+fn called(
+    caller: Caller<'_>,
+    pattern: &mut CronPattern,
+    question: &Value,
+    op: &str,
+) -> Result<Outcome, Fault> {
+    if let Some(name) = question.get("emptied") {
+        *field_at(pattern, word(name)?)? = CronComponent::default(caller.alloc);
+    }
+    caller.begin();
+    let answer = made(pattern, question, op);
+    caller.end();
+    Outcome::new(
+        answer.map(Answer::Value),
+        shown::pattern(caller.alloc, pattern),
+    )
+}

@@ -1,0 +1,261 @@
+//! What is shown: refusals, orders and lists as JSON values, and what fields, patterns and jobs hold as JSON texts.
+
+use crate::{Fault, Moment};
+use croner::component::{
+    ALL_BIT, CLOSEST_WEEKDAY_BIT, CronComponent, LAST_BIT, NTH_1ST_BIT, NTH_2ND_BIT, NTH_3RD_BIT,
+    NTH_4TH_BIT, NTH_5TH_BIT,
+};
+use croner::errors::CronError;
+use croner::{Cron, CronPattern, JobType};
+use serde_json::Value;
+use std::alloc::{AllocError, Global};
+use std::cmp::Ordering;
+
+const MODIFIERS: [(&str, u8); 8] = [
+    ("plain", ALL_BIT),
+    ("nth1", NTH_1ST_BIT),
+    ("nth2", NTH_2ND_BIT),
+    ("nth3", NTH_3RD_BIT),
+    ("nth4", NTH_4TH_BIT),
+    ("nth5", NTH_5TH_BIT),
+    ("last", LAST_BIT),
+    ("nearest", CLOSEST_WEEKDAY_BIT),
+];
+
+const FIELDS: [&str; 7] = [
+    "seconds",
+    "minutes",
+    "hours",
+    "days",
+    "months",
+    "days_of_week",
+    "years",
+];
+
+/// A refusal: the name of its variant.
+pub fn refusal(error: &CronError) -> &'static str {
+    match error {
+        CronError::EmptyPattern => "EmptyPattern",
+        CronError::InvalidDate => "InvalidDate",
+        CronError::InvalidTime => "InvalidTime",
+        CronError::TimeSearchLimitExceeded => "TimeSearchLimitExceeded",
+        CronError::InvalidPattern(_) => "InvalidPattern",
+        CronError::IllegalCharacters(_) => "IllegalCharacters",
+        CronError::ComponentError(_) => "ComponentError",
+        CronError::OutOfMemory => "OutOfMemory",
+    }
+}
+
+/// A refusal as a JSON value. Want of memory is none, but a fault.
+pub fn refused(alloc: Global, error: &CronError) -> Result<Value, Fault> {
+    match error {
+        CronError::OutOfMemory => Err(Fault::OutOfMemory),
+        error => text(alloc, refusal(error)),
+    }
+}
+
+/// An answer, or its refusal.
+pub fn or_refusal(alloc: Global, answer: Result<Value, Fault>) -> Result<Value, Fault> {
+    match answer {
+        Err(Fault::Refused(error)) => refused(alloc, &error),
+        answer => answer,
+    }
+}
+
+/// An order: the name of its variant.
+pub fn ordering(order: Ordering) -> &'static str {
+    match order {
+        Ordering::Less => "Less",
+        Ordering::Equal => "Equal",
+        Ordering::Greater => "Greater",
+    }
+}
+
+/// A text.
+pub fn text(alloc: Global, text: &str) -> Result<Value, Fault> {
+    Ok(Value::try_from_str(alloc, text)?)
+}
+
+/// The JSON value of a text.
+pub fn json(alloc: Global, text: &str) -> Result<Value, Fault> {
+    match Value::from_str(alloc, text) {
+        Ok(value) => Ok(value),
+        Err(error) if error.is_memory() => Err(Fault::OutOfMemory),
+        Err(_) => Err(Fault::Malformed),
+    }
+}
+
+/// The JSON value of a text that was put together.
+pub fn object(alloc: Global, text: Result<String, AllocError>) -> Result<Value, Fault> {
+    let text = text?;
+    json(alloc, text.as_str())
+}
+
+/// Two values as a list.
+pub fn pair(alloc: Global, one: Value, other: Value) -> Result<Value, Fault> {
+    let mut both = Vec::new(alloc);
+    both.push(one)?;
+    both.push(other)?;
+    Ok(Value::Array(both))
+}
+
+/// Numbers as a list.
+pub fn numbers<N: Copy + Into<Value>>(alloc: Global, numbers: &[N]) -> Result<Value, Fault> {
+    let mut list = Vec::new(alloc);
+    for number in numbers {
+        list.push((*number).into())?;
+    }
+    Ok(Value::Array(list))
+}
+
+/// Times as a list.
+pub fn times<T: Moment>(alloc: Global, times: &[T]) -> Result<Value, Fault> {
+    let mut list = Vec::new(alloc);
+    for time in times {
+        list.push(time.shown(alloc)?)?;
+    }
+    Ok(Value::Array(list))
+}
+
+/// Puts an item behind the others of a text, with a comma between.
+pub fn add_item(list: &mut String, item: &str) -> Result<(), AllocError> {
+    if !list.is_empty() {
+        list.push_str(",")?;
+    }
+    list.push_str(item)
+}
+
+// Puts a member behind the others: its name and its value.
+fn add_member(alloc: Global, members: &mut String, name: &str, value: &str) -> Result<(), Fault> {
+    let member = format!(in alloc; "\"{name}\":{value}")?;
+    Ok(add_item(members, member.as_str())?)
+}
+
+// Ascending values as the list of their longest runs, each its first and its last value.
+fn spans(alloc: Global, values: &[u16]) -> Result<String, Fault> {
+    let mut list = String::new(alloc);
+    let mut open = None;
+    for value in values {
+        open = match open {
+            Some((first, last)) if continues(last, *value) => Some((first, *value)),
+            Some((first, last)) => {
+                add_span(alloc, &mut list, first, last)?;
+                Some((*value, *value))
+            }
+            None => Some((*value, *value)),
+        };
+    }
+    if let Some((first, last)) = open {
+        add_span(alloc, &mut list, first, last)?;
+    }
+    Ok(format!(in alloc; "[{list}]")?)
+}
+
+fn continues(last: u16, value: u16) -> bool {
+    last.checked_add(1) == Some(value)
+}
+
+fn add_span(alloc: Global, list: &mut String, first: u16, last: u16) -> Result<(), AllocError> {
+    let span = format!(in alloc; "[{first},{last}]")?;
+    add_item(list, span.as_str())
+}
+
+/// Ascending values as the list of their longest runs.
+pub fn runs(alloc: Global, values: &[u16]) -> Result<Value, Fault> {
+    let spans = spans(alloc, values)?;
+    json(alloc, spans.as_str())
+}
+
+// The values of each modifier that has any.
+fn marks(alloc: Global, component: &CronComponent) -> Result<String, Fault> {
+    let mut marks = String::new(alloc);
+    for (name, bit) in MODIFIERS {
+        let values = component.get_set_values(bit)?;
+        if !values.is_empty() {
+            let spans = spans(alloc, values.as_slice())?;
+            add_member(alloc, &mut marks, name, spans.as_str())?;
+        }
+    }
+    Ok(marks)
+}
+
+// The sum of the bits that are enabled.
+fn enabled(component: &CronComponent) -> u8 {
+    let mut enabled = 0;
+    for (_, bit) in MODIFIERS {
+        if component.is_feature_enabled(bit) {
+            enabled |= bit;
+        }
+    }
+    enabled
+}
+
+/// What a field holds.
+pub fn field(alloc: Global, component: &CronComponent) -> Result<String, Fault> {
+    let marks = marks(alloc, component)?;
+    let (enabled, step) = (enabled(component), component.step());
+    let wildcard = component.from_wildcard();
+    Ok(format!(in alloc;
+        "{{\"marks\":{{{marks}}},\"enabled\":{enabled},\"step\":{step},\"wildcard\":{wildcard}}}"
+    )?)
+}
+
+/// The field of a pattern by its name.
+pub fn field_of<'p>(pattern: &'p CronPattern, name: &str) -> Result<&'p CronComponent, Fault> {
+    match name {
+        "seconds" => Ok(&pattern.seconds),
+        "minutes" => Ok(&pattern.minutes),
+        "hours" => Ok(&pattern.hours),
+        "days" => Ok(&pattern.days),
+        "months" => Ok(&pattern.months),
+        "days_of_week" => Ok(&pattern.days_of_week),
+        "years" => Ok(&pattern.years),
+        _ => Err(Fault::Malformed),
+    }
+}
+
+fn fields(alloc: Global, pattern: &CronPattern) -> Result<String, Fault> {
+    let mut fields = String::new(alloc);
+    for name in FIELDS {
+        let field = field(alloc, field_of(pattern, name)?)?;
+        add_member(alloc, &mut fields, name, field.as_str())?;
+    }
+    Ok(fields)
+}
+
+// The text and the flags of a pattern.
+fn head(alloc: Global, pattern: &CronPattern) -> Result<String, Fault> {
+    let (text, and) = (
+        text(alloc, pattern.as_str())?,
+        pattern.matches_dom_and_dow(),
+    );
+    let (day, weekday) = (pattern.is_dom_wildcard(), pattern.is_dow_wildcard());
+    Ok(format!(in alloc;
+        "\"as_str\":{text},\"star_day\":{day},\"star_weekday\":{weekday},\"and\":{and}"
+    )?)
+}
+
+/// What a pattern holds.
+pub fn pattern(alloc: Global, pattern: &CronPattern) -> Result<String, Fault> {
+    held(alloc, pattern, "")
+}
+
+fn held(alloc: Global, pattern: &CronPattern, kind: &str) -> Result<String, Fault> {
+    let (head, fields) = (head(alloc, pattern)?, fields(alloc, pattern)?);
+    Ok(format!(in alloc; "{{{head}{kind},\"fields\":{{{fields}}}}}")?)
+}
+
+/// The name of a kind of job.
+pub fn job_type(kind: JobType) -> &'static str {
+    match kind {
+        JobType::FixedTime => "FixedTime",
+        JobType::IntervalWildcard => "IntervalWildcard",
+    }
+}
+
+/// What a job holds: its pattern, and its kind.
+pub fn job(alloc: Global, cron: &Cron) -> Result<String, Fault> {
+    let kind = job_type(cron.determine_job_type());
+    let kind = format!(in alloc; ",\"job_type\":\"{kind}\"")?;
+    held(alloc, &cron.pattern, kind.as_str())
+}

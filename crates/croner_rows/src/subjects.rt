@@ -1,0 +1,266 @@
+//! Whose runs are asked for, those of a job or of a table of jobs: searches and iterators over them.
+
+use crate::{
+    Caller, Fault, Job, Moment, civil_value, list, member, number_at, shown, switch, text,
+};
+use croner::crontable::{CronTable, CronTableIterator};
+use croner::errors::CronError;
+use croner::time::Direction;
+use croner::{Cron, CronIterator};
+use jiff::civil::DateTime;
+use serde_json::Value;
+use std::alloc::Global;
+
+/// Whose runs are asked for.
+#[derive(Clone, Copy)]
+pub enum Subject<'j> {
+    Job(&'j Job),
+    Table(&'j CronTable),
+}
+
+/// A run, and of a table the places of the jobs that run then.
+#[derive(Drop)]
+pub struct Run<T> {
+    pub instant: T,
+    pub places: Option<Vec<usize>>,
+}
+
+impl<T: Moment> Run<T> {
+    fn of_job(instant: T) -> Run<T> {
+        Run {
+            instant,
+            places: None,
+        }
+    }
+
+    fn of_table(run: (T, Vec<usize>)) -> Run<T> {
+        let (instant, places) = run;
+        Run {
+            instant,
+            places: Some(places),
+        }
+    }
+
+    /// The instant, and behind it the places where there are any, as a list.
+    pub fn shown(&self, alloc: Global) -> Result<Value, Fault> {
+        let instant = self.instant.shown(alloc)?;
+        match &self.places {
+            None => Ok(instant),
+            Some(places) => {
+                let places = shown::numbers(alloc, places.as_slice())?;
+                shown::pair(alloc, instant, places)
+            }
+        }
+    }
+}
+
+impl<'j> Subject<'j> {
+    /// The nearest run from a time on in a direction.
+    pub fn run_from<T: Moment>(
+        self,
+        position: &T,
+        inclusive: bool,
+        direction: Direction,
+    ) -> Result<Run<T>, CronError> {
+        match (self, direction) {
+            (Subject::Job(job), Direction::Forward) => {
+                let run = job.cron.find_next_occurrence(position, inclusive)?;
+                Ok(Run::of_job(run))
+            }
+            (Subject::Job(job), Direction::Backward) => {
+                let run = job.cron.find_previous_occurrence(position, inclusive)?;
+                Ok(Run::of_job(run))
+            }
+            (Subject::Table(table), Direction::Forward) => {
+                let run = table.find_next_occurrence(position, inclusive)?;
+                Ok(Run::of_table(run))
+            }
+            (Subject::Table(table), Direction::Backward) => {
+                let run = table.find_previous_occurrence(position, inclusive)?;
+                Ok(Run::of_table(run))
+            }
+        }
+    }
+}
+
+/// How an iterator is made.
+#[derive(Clone, Copy)]
+pub enum How {
+    From(Direction),
+    After,
+    Before,
+}
+
+impl How {
+    /// How the iterator of a question is made.
+    pub fn read(question: &Value) -> Result<How, Fault> {
+        match text(question, "how")? {
+            "from_forward" => Ok(How::From(Direction::Forward)),
+            "from_backward" => Ok(How::From(Direction::Backward)),
+            "after" => Ok(How::After),
+            "before" => Ok(How::Before),
+            _ => Err(Fault::Malformed),
+        }
+    }
+
+    /// The search whose answer is the first item: its direction, and whether it counts its start.
+    pub fn search(self) -> (Direction, bool) {
+        match self {
+            How::From(direction) => (direction, true),
+            How::After => (Direction::Forward, false),
+            How::Before => (Direction::Backward, false),
+        }
+    }
+}
+
+/// An iterator over the runs of a job or of a table.
+pub enum Runs<'j, T: Moment> {
+    OfJob(CronIterator<T>),
+    OfTable(CronTableIterator<'j, T>),
+}
+
+// By hand, as that of `Job`.
+impl<T: Moment> Drop for Runs<'_, T> {
+    fn drop(self) {
+        match self {
+            Runs::OfJob(_) => {}
+            Runs::OfTable(_) => {}
+        }
+    }
+}
+
+impl<'j, T: Moment> Runs<'j, T> {
+    /// The runs of a subject from a start.
+    pub fn new(subject: Subject<'j>, start: T, how: How) -> Result<Runs<'j, T>, CronError> {
+        match subject {
+            Subject::Job(job) => Ok(Runs::OfJob(match how {
+                How::From(direction) => job.cron.iter_from(start, direction)?,
+                How::After => job.cron.iter_after(start)?,
+                How::Before => job.cron.iter_before(start)?,
+            })),
+            Subject::Table(table) => Ok(Runs::OfTable(match how {
+                How::From(direction) => table.iter_from(start, direction),
+                How::After => table.iter_after(start),
+                How::Before => table.iter_before(start),
+            })),
+        }
+    }
+
+    /// A copy of the iterator.
+    pub fn copied(&self) -> Result<Runs<'j, T>, Fault> {
+        match self {
+            Runs::OfJob(runs) => Ok(Runs::OfJob(runs.clone()?)),
+            Runs::OfTable(runs) => Ok(Runs::OfTable(runs.clone()?)),
+        }
+    }
+
+    /// What the next call gives.
+    pub fn next(&mut self) -> Option<Run<T>> {
+        match self {
+            Runs::OfJob(runs) => Some(Run::of_job(runs.next()?)),
+            Runs::OfTable(runs) => Some(Run::of_table(runs.next()?)),
+        }
+    }
+
+    /// The fault that is kept.
+    pub fn fault(&self) -> Option<&CronError> {
+        match self {
+            Runs::OfJob(runs) => runs.fault(),
+            Runs::OfTable(runs) => runs.fault(),
+        }
+    }
+
+    /// The name of the fault that is kept.
+    pub fn fault_name(&self) -> &'static str {
+        match self.fault() {
+            Some(error) => shown::refusal(error),
+            None => "no fault",
+        }
+    }
+
+    /// Whether the fault that is kept is want of memory.
+    pub fn lacks_memory(&self) -> bool {
+        matches!(self.fault(), Some(CronError::OutOfMemory))
+    }
+
+    /// The answer of one call: where a fault is kept behind it, the name of the fault, and else the item, or null for None. Want
+    /// of memory is a fault.
+    pub fn item(&mut self, alloc: Global) -> Result<Value, Fault> {
+        let run = self.next();
+        if let Some(fault) = self.fault() {
+            return shown::refused(alloc, fault);
+        }
+        match run {
+            Some(run) => run.shown(alloc),
+            None => Ok(Value::Null),
+        }
+    }
+}
+
+/// An iterator over the runs of a job from a civil start, made as a member of the question says, and asked for one run where that
+/// says so.
+pub fn asked_runs<'j>(
+    job: &'j Job,
+    question: &Value,
+    name: &str,
+) -> Result<Runs<'j, DateTime>, Fault> {
+    let (start, side) = (civil_value(question, "start")?, member(question, name)?);
+    let mut runs = Runs::new(Subject::Job(job), start, How::read(side)?)?;
+    if switch(side, "asked")? {
+        let _ = runs.next();
+    }
+    Ok(runs)
+}
+
+/// A table of jobs.
+pub struct Table {
+    pub jobs: CronTable,
+}
+
+// By hand, as that of `Job`.
+impl Drop for Table {
+    fn drop(self) {
+        let Table { jobs: _ } = self;
+    }
+}
+
+impl Table {
+    /// The table of the patterns of a question.
+    pub fn read(alloc: Global, question: &Value) -> Result<Table, Fault> {
+        let mut jobs = CronTable::new(alloc);
+        for pattern in list(question, "patterns")? {
+            jobs.push(Job::read(alloc, pattern)?.into_cron())?;
+        }
+        Ok(Table { jobs })
+    }
+
+    /// The change of a question, and the job that comes out.
+    pub fn change(&mut self, caller: Caller<'_>, question: &Value) -> Result<Option<Job>, Fault> {
+        let (change, place) = (text(question, "change")?, number_at(question, "place")?);
+        let by = match question.get("by") {
+            Some(by) => Some(Job::read(caller.alloc, by)?.into_cron()),
+            None => None,
+        };
+        caller.begin();
+        let out = changed(&mut self.jobs, change, place, by);
+        caller.end();
+        Ok(out?.map(Job::new))
+    }
+}
+
+fn changed(
+    jobs: &mut CronTable,
+    change: &str,
+    place: usize,
+    by: Option<Cron>,
+) -> Result<Option<Cron>, Fault> {
+    match (change, by) {
+        ("replace", Some(by)) => Ok(jobs.replace(place, by)),
+        ("remove", None) => Ok(jobs.remove(place)),
+        ("clear", None) => {
+            jobs.clear();
+            Ok(None)
+        }
+        _ => Err(Fault::Malformed),
+    }
+}

@@ -1,0 +1,97 @@
+//! Texts and JSON values that are read, and descriptions.
+
+use crate::{Answer, Caller, Fault, Job, Outcome, member, read_parser, shown, text, whole_text};
+use croner::describe::lang::english::English;
+use croner::describe::lang::swedish::Swedish;
+use croner::errors::CronError;
+use croner::{Cron, CronPattern};
+use croner_backends::{OwnYears, TwelveHours};
+use serde_json::Value;
+use std::alloc::Global;
+
+/// What the text of a question is read as.
+pub fn parse(caller: Caller<'_>, question: &Value) -> Result<Outcome, Fault> {
+    let (parser, text) = (read_parser(question)?, whole_text(caller.alloc, question)?);
+    caller.begin();
+    let read = parser.parse(caller.alloc, text.as_str());
+    caller.end();
+    Ok(Outcome::of(caller.alloc, held(caller.alloc, read)))
+}
+
+/// What a job that was read holds.
+pub fn held(alloc: Global, read: Result<Cron, CronError>) -> Result<Answer, Fault> {
+    let job = Job::new(read?);
+    Ok(Answer::Text(shown::job(alloc, &job.cron)?))
+}
+
+/// What the JSON value of a question is read as, and the value afterwards.
+pub fn from_json(caller: Caller<'_>, question: &Value) -> Result<Outcome, Fault> {
+    let value = member(question, "value")?;
+    caller.begin();
+    let read = Cron::from_json(caller.alloc, value);
+    caller.end();
+    Outcome::new(held(caller.alloc, read), printed(caller.alloc, value))
+}
+
+/// A JSON value as its text.
+pub fn printed(alloc: Global, value: &Value) -> Result<String, Fault> {
+    Ok(value.to_string(alloc)?)
+}
+
+/// The text of a pattern that is made of it, and not parsed.
+pub fn unparsed(caller: Caller<'_>, question: &Value) -> Result<Outcome, Fault> {
+    let text = text(question, "text")?;
+    caller.begin();
+    let made = CronPattern::new(caller.alloc, text);
+    caller.end();
+    Ok(Outcome::of(caller.alloc, kept_text(caller.alloc, made)))
+}
+
+fn kept_text(alloc: Global, made: Result<CronPattern, CronError>) -> Result<Answer, Fault> {
+    let pattern = made?;
+    let kept = shown::text(alloc, pattern.as_str());
+    drop(pattern);
+    Ok(Answer::Value(kept?))
+}
+
+// A language of questions.
+#[derive(Clone, Copy)]
+enum Tongue {
+    English,
+    Swedish,
+    TwelveHours,
+    OwnYears,
+}
+
+fn read_tongue(question: &Value) -> Result<Tongue, Fault> {
+    match text(question, "language")? {
+        "english" => Ok(Tongue::English),
+        "swedish" => Ok(Tongue::Swedish),
+        "twelve_hours" => Ok(Tongue::TwelveHours),
+        "own_years" => Ok(Tongue::OwnYears),
+        _ => Err(Fault::Malformed),
+    }
+}
+
+fn described(cron: &Cron, language: Tongue) -> Result<String, CronError> {
+    match language {
+        Tongue::English => cron.describe(),
+        Tongue::Swedish => cron.describe_lang(Swedish),
+        Tongue::TwelveHours => cron.describe_lang(TwelveHours),
+        Tongue::OwnYears => cron.describe_lang(OwnYears),
+    }
+}
+
+/// The description of a job in a language, and the job afterwards.
+pub fn describe(caller: Caller<'_>, question: &Value) -> Result<Outcome, Fault> {
+    let language = read_tongue(question)?;
+    let job = Job::read(caller.alloc, question)?;
+    caller.begin();
+    let text = described(&job.cron, language);
+    caller.end();
+    Outcome::new(text_answer(text), shown::job(caller.alloc, &job.cron))
+}
+
+fn text_answer(text: Result<String, CronError>) -> Result<Answer, Fault> {
+    Ok(Answer::Value(Value::String(text?)))
+}

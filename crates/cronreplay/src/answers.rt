@@ -1,0 +1,108 @@
+//! Questions of a clock that have lists of runs or readings as answers.
+
+use croner::time::Direction;
+use croner_rows::{
+    Caller, Fault, How, Moment, Outcome, OverTime, Runs, Subject, flag, number_at, over_time,
+    shown, switch,
+};
+use serde_json::Value;
+use std::alloc::Global;
+
+/// What is asked of a start.
+#[derive(Clone, Copy)]
+pub enum Ask<'j> {
+    /// Searches in a direction.
+    Search(Subject<'j>, Direction),
+    /// The items of an iterator.
+    Items(Subject<'j>),
+    /// What the clock shows.
+    Reading,
+}
+
+// What is asked, with the question.
+#[derive(Clone, Copy)]
+struct Asked<'j> {
+    question: &'j Value,
+    ask: Ask<'j>,
+}
+
+impl<'j> OverTime for Asked<'j> {
+    fn outcome<T: Moment>(&self, caller: Caller<'_>, start: T) -> Result<Outcome, Fault> {
+        let (alloc, question) = (caller.alloc, self.question);
+        let answer = match self.ask {
+            Ask::Search(subject, direction) => runs(alloc, question, subject, start, direction),
+            Ask::Items(subject) => items(alloc, question, subject, start),
+            Ask::Reading => reading(alloc, &start),
+        };
+        Ok(Outcome::of_value(alloc, answer?))
+    }
+}
+
+/// Answers a question on the clock that it names.
+pub fn answer_from_start(
+    caller: Caller<'_>,
+    question: &Value,
+    ask: Ask<'_>,
+) -> Result<Outcome, Fault> {
+    over_time(caller, question, &Asked { question, ask })
+}
+
+// The runs from a start on in a direction, nearest first. Where a search is refused, the refusal is the last item.
+fn runs<T: Moment>(
+    alloc: Global,
+    question: &Value,
+    subject: Subject<'_>,
+    start: T,
+    direction: Direction,
+) -> Result<Value, Fault> {
+    let (mut inclusive, count): (bool, u64) = (
+        flag(question, "inclusive")?,
+        number_at(question, "count")?,
+    );
+    let mut position = start;
+    let mut runs = Vec::new(alloc);
+    for _ in 0..count {
+        match subject.run_from(&position, inclusive, direction) {
+            Ok(run) => {
+                runs.push(run.shown(alloc)?)?;
+                position = run.instant;
+                inclusive = false;
+            }
+            Err(refused) => {
+                runs.push(shown::refused(alloc, &refused)?)?;
+                break;
+            }
+        }
+    }
+    Ok(Value::Array(runs))
+}
+
+// The answers of so many calls of `next`.
+fn items<T: Moment>(
+    alloc: Global,
+    question: &Value,
+    subject: Subject<'_>,
+    start: T,
+) -> Result<Value, Fault> {
+    let (how, count) = (How::read(question)?, number_at(question, "count")?);
+    let mut runs = Runs::new(subject, start, how)?;
+    if switch(question, "copied")? {
+        return listed(alloc, &mut runs.copied()?, count);
+    }
+    listed(alloc, &mut runs, count)
+}
+
+fn listed<T: Moment>(alloc: Global, runs: &mut Runs<'_, T>, count: u64) -> Result<Value, Fault> {
+    let mut items = Vec::new(alloc);
+    for _ in 0..count {
+        items.push(runs.item(alloc)?)?;
+    }
+    Ok(Value::Array(items))
+}
+
+// What the clock shows, and the weekday from Sunday.
+fn reading<T: Moment>(alloc: Global, start: &T) -> Result<Value, Fault> {
+    let shown = Value::String(start.to_civil().to_string(alloc)?);
+    let weekday = Value::from(start.civil_weekday().num_days_from_sunday());
+    shown::pair(alloc, shown, weekday)
+}
