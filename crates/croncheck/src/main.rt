@@ -108,6 +108,7 @@ fn check(rt: &HostRuntime, call: &Call<'_>, zone: TimeZone<'_>) -> Result<u8, Pr
         changes: &changes,
         listing,
         is_strict: call.is_strict,
+        compares_jobs: call.compares_jobs,
     };
     let shared = Shared { zone, listing };
     check_in(rt, call, &settings, &shared).map_err(Problem::Unwritten)

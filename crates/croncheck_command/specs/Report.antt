@@ -1,5 +1,5 @@
 -- What a line is told. Source: this crate's documentation of `Report`.
-use Rattle.std.specs.Prelude.{◌≡◌, ◌↔◌, ◌⊎◌, ◌<◌, get_or, not, ◌&&◌, ◌||◌, ◌==◌, ◌≤ℤ◌, ℕ, ◌+◌, Bool, true, false, IsTrue, ℤ, List, length, Option, Some, None, option_map, Result, Ok, Err, string_bytes, IsUtf8, if◌then◌else◌}
+use Rattle.std.specs.Prelude.{◌≡◌, ◌↔◌, ◌⊎◌, ◌<◌, get_or, not, ◌&&◌, ◌||◌, ◌==◌, ◌≤ℤ◌, ℕ, ◌+◌, Bool, true, false, IsTrue, ℤ, List, length, Option, Some, None, option_map, is_some, Result, Ok, Err, string_bytes, IsUtf8, if◌then◌else◌}
 use Rattle.std.specs.declared.string.String.{String}
 use Rattle.std.specs.declared.alloc.Global.{Global}
 use Rattle.croner_base.specs.declared.errors.CronError.{CronError}
@@ -206,7 +206,8 @@ DatesOf (Some m) told dates = TellsDates m told dates
 
 -- ---- the report of a job
 
--- a job's report has these texts, its times are told so, these are its warnings, and this is told of changes of the clock and of its dates
+-- a job's report has these texts, its times are told so, these are its warnings, and this is told of changes of the clock and of its dates.
+-- Whether an earlier job is the same, it doesn't say
 pub record IsJobTold (schedule : List ℕ) (user command : Option (List ℕ)) (tells : Told → Type 0) (warns : Told → List Warning → Type 0)
     (meets : Told → Meetings → Type 0) (dates_are : Told → Option Dates → Type 0) (j : JobReport) : Type 0 where
   pub schedule_is : j.schedule.now ≡ schedule
@@ -292,9 +293,9 @@ IsReport s line entry r = IsReportOfLine true s line entry r
 
 -- ---- lines with a warning
 
--- a job or a pattern has a warning
+-- a job or a pattern has a warning, or is the same as an earlier one
 abbrev pub has_job_warnings : JobReport → Bool
-has_job_warnings j = not (length j.warnings.items == 0) || are_told j.meetings
+has_job_warnings j = (not (length j.warnings.items == 0) || are_told j.meetings) || is_some j.same
 
 -- a line has a warning. Those of a setting are said in other words: it sets a zone elsewhere, or has no line feed
 abbrev pub has_warnings : Report → Bool

@@ -13,7 +13,8 @@ use crate::escaped::shown;
 use crate::line::{Entry, Fault};
 use crate::report::{JobReport, Report, Settings, Tally, Told, Why, report_of_line};
 use crate::runs::{End, Runs};
-use crate::shown::{Shared, ahead_of, field_name, reason_of};
+use crate::same::Seen;
+use crate::shown::{Place, SAME_JOB, Shared, ahead_of, field_name, push_same, reason_of};
 use crate::warnings::{Dates, Warning, push_warning_text};
 use croner::time::table::TableTime;
 use serde_json::{Value, json};
@@ -31,6 +32,7 @@ pub struct JsonReporter<'s, 't, W> {
     shared: &'s Shared<'t>,
     out: W,
     tally: Tally,
+    seen: Seen,
     // The lines of the file that were read.
     line: u64,
     // Its name, as it is shown.
@@ -47,6 +49,7 @@ impl<W: Drop> Drop for JsonReporter<'_, '_, W> {
             shared: _,
             out: _,
             tally: _,
+            seen: _,
             line: _,
             name: _,
             is_refused: _,
@@ -72,6 +75,7 @@ impl<'s, 't, W: Write + Drop> JsonReporter<'s, 't, W> {
             shared,
             out,
             tally: Tally::new(),
+            seen: Seen::new(alloc),
             line: 0,
             name: String::new(alloc),
             is_refused: false,
@@ -159,7 +163,12 @@ impl<'s, 't, W: Write + Drop> Entries for JsonReporter<'s, 't, W> {
     fn take(&mut self, line: &[u8], entry: Entry<'_>, is_fed: bool) -> io::Result<()> {
         self.line = self.line.saturating_add(1);
         let kind = kind_of_entry(&entry);
-        let Ok(report) = report_of_line(self.alloc, self.settings, line, entry, is_fed) else {
+        let place = Place {
+            file: self.name.as_str(),
+            line: self.line,
+        };
+        let same = self.seen.earlier(self.alloc, self.settings, &entry, place)?;
+        let Ok(report) = report_of_line(self.alloc, self.settings, line, entry, is_fed, same) else {
             return Err(io::Error::from(ErrorKind::OutOfMemory));
         };
         self.tally.add(self.settings.dialect, &report);
@@ -356,7 +365,7 @@ fn run_object(
 // The warnings of a line.
 fn warnings_of(alloc: Global, report: &Report<'_, '_>) -> Result<Value, AllocError> {
     match report {
-        Report::Job(job) => warning_list(alloc, job.warnings.as_slice(), &job.meetings, &job.dates),
+        Report::Job(job) => job_warnings(alloc, job),
         Report::Setting { is_zone, is_fed } => setting_warnings(alloc, *is_zone, *is_fed),
         Report::Silent | Report::Refused { .. } => warning_list(
             alloc,
@@ -382,20 +391,45 @@ fn setting_warnings(alloc: Global, is_zone: bool, is_fed: bool) -> Result<Value,
     }
 }
 
-// Warnings, and behind them what is told of changes of the clock.
+// The warnings of a job.
+fn job_warnings(alloc: Global, job: &JobReport<'_, '_>) -> Result<Value, AllocError> {
+    let mut items = warning_items(alloc, job.warnings.as_slice(), &job.meetings, &job.dates)?;
+    if job.same.is_some() {
+        items.push(same_object(alloc, job)?)?;
+    }
+    Ok(Value::Array(items))
+}
+
+fn same_object(alloc: Global, job: &JobReport<'_, '_>) -> Result<Value, AllocError> {
+    let mut text = String::new(alloc);
+    push_same(&mut text, job)?;
+    json!(in alloc; {"name": SAME_JOB, "field": null, "text": text})
+}
+
 fn warning_list(
     alloc: Global,
     warnings: &[Warning],
     meetings: &Meetings,
     dates: &Option<Dates>,
 ) -> Result<Value, AllocError> {
+    let items = warning_items(alloc, warnings, meetings, dates)?;
+    Ok(Value::Array(items))
+}
+
+// Warnings, and behind them what is told of changes of the clock.
+fn warning_items(
+    alloc: Global,
+    warnings: &[Warning],
+    meetings: &Meetings,
+    dates: &Option<Dates>,
+) -> Result<Vec<Value>, AllocError> {
     let mut items = Vec::new(alloc);
     for warning in warnings {
         items.push(warning_object(alloc, *warning, dates)?)?;
     }
     push_compared(alloc, &mut items, &meetings.gap)?;
     push_compared(alloc, &mut items, &meetings.twice)?;
-    Ok(Value::Array(items))
+    Ok(items)
 }
 
 fn push_compared(

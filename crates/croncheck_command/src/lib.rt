@@ -22,6 +22,7 @@ pub mod problem;
 pub mod report;
 pub mod reporter;
 pub mod runs;
+pub mod same;
 mod setting;
 pub mod shown;
 pub mod warnings;

@@ -245,7 +245,7 @@ fn job_of_pattern(
 }
 
 // What was read, if it wasn't refused.
-fn accepted(read: Result<Cron, CronError>) -> Result<Option<Cron>, AllocError>
+pub(crate) fn accepted(read: Result<Cron, CronError>) -> Result<Option<Cron>, AllocError>
     ensures { IfOk result (λ found. (meaning : Result Meaning Refusal) → Gives meaning_of_job read meaning
         → option_map meaning_of_job found ≡ accepted meaning) }
 {

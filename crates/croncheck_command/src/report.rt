@@ -57,6 +57,8 @@ pub struct Settings<'t> {
     pub listing: Listing,
     /// The status is 1 where a line has a warning, too.
     pub is_strict: bool,
+    /// Each job is compared with those before it, for `same-job`.
+    pub compares_jobs: bool,
 }
 
 /// What a line is told.
@@ -108,6 +110,8 @@ pub struct JobReport<'l, 't> {
     pub user: Option<&'l [u8]>,
     /// Its command, where the line is no pattern alone.
     pub command: Option<&'l [u8]>,
+    /// Where the first job stands that is the same, if there is one, and jobs are compared.
+    pub same: Option<Same>,
     pub times: Told<'t>,
     /// In the order of the table in docs/CRONTAB.md.
     pub warnings: Vec<Warning>,
@@ -115,6 +119,21 @@ pub struct JobReport<'l, 't> {
     pub meetings: Meetings,
     /// Of a job that runs on either day: the days of the month of its first listed run by each day field.
     pub dates: Option<Dates>,
+}
+
+/// The place of a job.
+pub struct Same {
+    /// The name of its file, as it is shown.
+    pub file: String,
+    /// The number of its line in that file, from 1.
+    pub line: u64,
+}
+
+// By hand, as that of `Report`.
+impl Drop for Same {
+    fn drop(self) {
+        let Same { file: _, line: _ } = self;
+    }
 }
 
 /// When a job runs.
@@ -178,7 +197,7 @@ impl JobReport<'_, '_> {
     pub fn has_warnings(&self) -> bool
         ensures { result ≡ has_job_warnings self.now }
     {
-        !self.warnings.is_empty() || self.meetings.is_told()
+        !self.warnings.is_empty() || self.meetings.is_told() || self.same.is_some()
     }
 }
 
@@ -230,16 +249,18 @@ pub fn report_of<'l, 't>(
     ensures report { IfOk result (IsReport settings.now line.now entry.entry) }
     ensures err { IfErr result (λ e. e ≡ CronError.OutOfMemory) }
 {
-    report_of_line(alloc, settings, line, entry, true)
+    report_of_line(alloc, settings, line, entry, true, None)
 }
 
-/// The report of the entry of a line that has its line feed or hasn't, and is given without it. The only error is `OutOfMemory`.
+/// The report of the entry of a line that has its line feed or hasn't, and is given without it. The place of an earlier job that is the same
+/// is passed on: no clause speaks of it. The only error is `OutOfMemory`.
 pub fn report_of_line<'l, 't>(
     alloc: Global,
     settings: &Settings<'t>,
     line: &[u8],
     entry: Entry<'l>,
     is_fed: bool,
+    same: Option<Same>,
 ) -> Result<Report<'l, 't>, CronError>
     ensures report { IfOk result (IsReportOfLine is_fed settings.now line.now entry.entry) }
     ensures err { IfErr result (λ e. e ≡ CronError.OutOfMemory) }
@@ -252,8 +273,8 @@ pub fn report_of_line<'l, 't>(
             end,
             why: Why::Cron(fault),
         }),
-        Entry::Job(job) => report_of_job(alloc, settings, line, job, is_fed),
-        Entry::Pattern(text) => report_of_pattern(alloc, settings, line, text, is_fed),
+        Entry::Job(job) => report_of_job(alloc, settings, line, job, is_fed, same),
+        Entry::Pattern(text) => report_of_pattern(alloc, settings, line, text, is_fed, same),
     }
 }
 
@@ -272,6 +293,7 @@ fn report_of_job<'l, 't>(
     line: &[u8],
     job: Job<'l>,
     is_fed: bool,
+    same: Option<Same>,
 ) -> Result<Report<'l, 't>, CronError>
     ensures report { IfOk result (IsReportOfJob is_fed settings.now (blanks_of line.now) (job_seen job.entry)) }
     ensures err { IfErr result (λ e. e ≡ CronError.OutOfMemory) }
@@ -281,6 +303,7 @@ fn report_of_job<'l, 't>(
             schedule: job.schedule,
             user: job.user,
             command: Some(job.command),
+            same,
             times: warned.times,
             warnings: warned.warnings,
             meetings: warned.meetings,
@@ -519,6 +542,7 @@ fn report_of_pattern<'l, 't>(
     line: &[u8],
     bytes: &'l [u8],
     is_fed: bool,
+    same: Option<Same>,
 ) -> Result<Report<'l, 't>, CronError>
     ensures report { IfOk result (IsReportOfPattern is_fed settings.now (blanks_of line.now) bytes.now) }
     ensures err { IfErr result (λ e. e ≡ CronError.OutOfMemory) }
@@ -528,7 +552,7 @@ fn report_of_pattern<'l, 't>(
     };
     match settings.parser.explain(alloc, text)? {
         Some(fault) => Ok(pattern_refused(line, text, fault)),
-        None => told_of_pattern(alloc, settings, text, is_fed),
+        None => told_of_pattern(alloc, settings, text, is_fed, same),
     }
 }
 
@@ -538,6 +562,7 @@ fn told_of_pattern<'l, 't>(
     settings: &Settings<'t>,
     text: &'l str,
     is_fed: bool,
+    same: Option<Same>,
 ) -> Result<Report<'l, 't>, CronError>
     ensures report { (blanks : ℕ) → IfOk result (IsReportOfPattern is_fed settings.now blanks text.now) }
     ensures err { IfErr result (λ e. e ≡ CronError.OutOfMemory) }
@@ -552,6 +577,7 @@ fn told_of_pattern<'l, 't>(
                 schedule: text.as_bytes(),
                 user: None,
                 command: None,
+                same,
                 times,
                 warnings,
                 meetings,

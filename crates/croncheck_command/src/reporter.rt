@@ -8,6 +8,7 @@ use crate::escaped::shown;
 use crate::file_seen::FileSeen;
 use crate::line::Entry;
 use crate::report::{Report, Settings, Tally, report_of_line};
+use crate::same::Seen;
 use crate::shown::{Place, Shared, text_of};
 use std::alloc::Global;
 use std::io;
@@ -23,6 +24,7 @@ pub struct Reporter<'s, 't, W> {
     shared: &'s Shared<'t>,
     out: W,
     tally: Tally,
+    seen: Seen,
     file: FileSeen,
     is_begun: bool,
     is_refused: bool,
@@ -37,6 +39,7 @@ impl<W: Drop> Drop for Reporter<'_, '_, W> {
             shared: _,
             out: _,
             tally: _,
+            seen: _,
             file: _,
             is_begun: _,
             is_refused: _,
@@ -61,6 +64,7 @@ impl<'s, 't, W: Write + Drop> Reporter<'s, 't, W> {
             shared,
             out,
             tally: Tally::new(),
+            seen: Seen::new(alloc),
             file: FileSeen::new(String::new(alloc)),
             is_begun: false,
             is_refused: false,
@@ -167,7 +171,12 @@ impl<'s, 't, W: Write + Drop> Entries for Reporter<'s, 't, W> {
 
     fn take(&mut self, line: &[u8], entry: Entry<'_>, is_fed: bool) -> io::Result<()> {
         self.file.add_line(&entry, is_fed);
-        match report_of_line(self.alloc, self.settings, line, entry, is_fed) {
+        let place = Place {
+            file: self.file.name(),
+            line: self.tally.file_lines.saturating_add(1),
+        };
+        let same = self.seen.earlier(self.alloc, self.settings, &entry, place)?;
+        match report_of_line(self.alloc, self.settings, line, entry, is_fed, same) {
             Ok(report) => self.tell(line, &report),
             Err(_) => Err(io::Error::from(ErrorKind::OutOfMemory)),
         }

@@ -32,6 +32,9 @@ pub(crate) const COMMAND_BYTES: usize = 40;
 /// The byte that cron takes for the end of the file.
 const END_OF_FILE: u8 = 255;
 
+/// The name of the warning of a job that is the same as an earlier one.
+pub(crate) const SAME_JOB: &str = "same-job";
+
 /// What stands where something is left out.
 const LEFT_OUT: &str = "..";
 
@@ -455,7 +458,29 @@ fn push_job(
     }
     push_told(text, shared, &job.times)?;
     push_warnings(text, job)?;
-    push_meetings(alloc, text, &job.meetings)
+    push_meetings(alloc, text, &job.meetings)?;
+    if job.same.is_some() {
+        write!(text, "\n  warning: {SAME_JOB}: ")?;
+        push_same(text, job)?;
+    }
+    Ok(())
+}
+
+// What is said of a job that is the same as an earlier one.
+pub(crate) fn push_same(text: &mut String, job: &JobReport<'_, '_>) -> Result<(), AllocError> {
+    let Some(same) = &job.same else {
+        return Ok(());
+    };
+    let what = if job.command.is_some() {
+        "times and command"
+    } else {
+        "times"
+    };
+    let (file, line) = (same.file.as_str(), same.line);
+    write!(
+        text,
+        "The same {what} stand in {file}, line {line}: both lines run. Take one out, if one run is meant."
+    )
 }
 
 // What a job is told of changes of the clock, below its other warnings.

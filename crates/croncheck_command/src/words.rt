@@ -54,6 +54,8 @@ pub struct Call<'w> {
     pub form: Form,
     /// The status is 1 where a line has a warning, too. Never with [`Form::Plan`].
     pub is_strict: bool,
+    /// Each job is compared with those before it. Never with [`Form::Plan`].
+    pub compares_jobs: bool,
     /// The files, in order; none is standard input.
     pub files: Vec<&'w str>,
 }
@@ -191,10 +193,18 @@ fn with_output<'w>(alloc: Global, command: Command<'w>) -> Result<Command<'w>, A
             .help("One JSON object a line of input")
             .conflicts_with("plan"),
     )?;
-    add(
+    let command = add(
         command,
         flag(alloc, "strict")
             .help("A warning makes the status 1, as a refused line does")
+            .conflicts_with("plan"),
+    )?;
+    add(
+        command,
+        flag(alloc, "same-job")
+            .help(
+                "Warns of a job that is the same as an earlier one; takes memory in proportion to the jobs",
+            )
             .conflicts_with("plan"),
     )
 }
@@ -277,6 +287,7 @@ fn call_of<'w>(alloc: Global, matches: &ArgMatches<'w>) -> Result<Call<'w>, NoCa
         language: language(matches),
         form: output_form(matches),
         is_strict: matches.get_flag("strict"),
+        compares_jobs: matches.get_flag("same-job"),
         files: files(alloc, matches)?,
     })
 }

@@ -4,8 +4,8 @@ use Rattle.croner.specs.parser.Grammar.{Refusal}
 use Rattle.croncheck_command.specs.Report.{TellsMeaning, WarnsPattern, MeetsPattern, DatesOf, meaning_read}
 use Rattle.croncheck_command.proofs.report.told_of_pattern.Goals as goal
 
-pub returns-in-Ok-clause-report : goal.returns-in-Ok-clause-report
-returns-in-Ok-clause-report c = λ blanks. record {
+pub returns-in_ok-warnings-in-Ok-clause-report : goal.returns-in_ok-warnings-in-Ok-clause-report
+returns-in_ok-warnings-in-Ok-clause-report c = λ blanks. record {
   schedule_is = c.as_bytes.ensures.value;
   user_is = refl;
   command_is = refl;

@@ -1,0 +1,114 @@
+//! The jobs that were seen, of which each has one place: that of the first that is the same.
+
+use crate::line::{Entry, Times, words_of};
+use crate::parsed::job_of;
+use crate::plan::{accepted, job_of_entry};
+use crate::report::{Same, Settings};
+use crate::shown::Place;
+use croner::Cron;
+use std::alloc::{AllocError, Global};
+use std::collections::BTreeMap;
+
+/// The jobs that were seen so far. It takes memory in proportion to them.
+pub struct Seen {
+    // By the bytes of user and command, and the times.
+    jobs: BTreeMap<(Vec<u8>, Cron), Same>,
+}
+
+// By hand, so that a function that lets one go calls this one: its proof doesn't go through the fields at each exit.
+impl Drop for Seen {
+    fn drop(self) {
+        let Seen { jobs: _ } = self;
+    }
+}
+
+impl Seen {
+    /// None was seen yet.
+    pub fn new(alloc: Global) -> Seen {
+        Seen {
+            jobs: BTreeMap::new(alloc),
+        }
+    }
+
+    /// The place of the first job that is the same as that of an entry: its times have the same meaning, and its user and its command have
+    /// the same bytes. Where there is none, this one is kept, with its place. Nothing, where the settings compare no jobs, or the entry has
+    /// no job or one without times.
+    pub fn earlier(
+        &mut self,
+        alloc: Global,
+        settings: &Settings<'_>,
+        entry: &Entry<'_>,
+        place: Place<'_>,
+    ) -> Result<Option<Same>, AllocError> {
+        if !settings.compares_jobs {
+            return Ok(None);
+        }
+        match job_compared(alloc, settings, entry)? {
+            Some(job) => self.earlier_job(alloc, owner_of(alloc, entry)?, job, place),
+            None => Ok(None),
+        }
+    }
+
+    // The same of a job with these words.
+    fn earlier_job(
+        &mut self,
+        alloc: Global,
+        words: Vec<u8>,
+        job: Cron,
+        place: Place<'_>,
+    ) -> Result<Option<Same>, AllocError> {
+        let key = (words, job);
+        let earlier = match self.jobs.get(&key) {
+            Some(same) => Some(same_at(alloc, same.file.as_str(), same.line)?),
+            None => None,
+        };
+        if earlier.is_none() {
+            let same = same_at(alloc, place.file, place.line)?;
+            self.jobs.insert(key, same)?;
+        }
+        Ok(earlier)
+    }
+}
+
+// The job of an entry as it is compared. Where a day field is `*`, a day has to match the other, whether both must or either: so `@hourly`
+// and `0 * * * *` are one.
+fn job_compared(
+    alloc: Global,
+    settings: &Settings<'_>,
+    entry: &Entry<'_>,
+) -> Result<Option<Cron>, AllocError> {
+    if let Entry::Job(job) = entry {
+        if let Times::Named { text, .. } = &job.times {
+            if has_star_day(text.as_str().as_bytes()) {
+                return accepted(job_of(alloc, text.as_str(), false));
+            }
+        }
+    }
+    job_of_entry(alloc, settings, entry)
+}
+
+// Whether a day field of five is `*`.
+fn has_star_day(text: &[u8]) -> bool {
+    let words = words_of(text);
+    is_star(words.days) || is_star(words.weekdays)
+}
+
+fn is_star(field: &[u8]) -> bool {
+    field == "*".as_bytes()
+}
+
+fn same_at(alloc: Global, file: &str, line: u64) -> Result<Same, AllocError> {
+    let file = String::from_str(alloc, file)?;
+    Ok(Same { file, line })
+}
+
+// The user and the command of an entry, with a byte 0 between, which is in none of them. A pattern has neither.
+fn owner_of(alloc: Global, entry: &Entry<'_>) -> Result<Vec<u8>, AllocError> {
+    let mut words = Vec::new(alloc);
+    if let Entry::Job(job) = entry {
+        words.extend_from_slice(job.user.unwrap_or(&[]))?;
+        words.push(0)?;
+        words.extend_from_slice(job.command)?;
+    }
+    Ok(words)
+}
