@@ -56,7 +56,7 @@ told_of_written : {S : Type 0} (noted : S → Noted) (settings_of : S → Settin
     → WritesOne noted settings_of old y new → Tells (λ r. (noted r).tally) settings_of old y new
 told_of_written noted settings_of old y new h =
     let w = h.0 in
-    ((w.text, w.entry, w.report, w.seen, w.reported, w.tallied), h.1)
+    ((w.text, w.entry, w.report, w.seen, w.reported, w.alone, w.tallied), h.1)
 
 -- what was told of each line of a file of which objects were written
 pub checked_objects : {S : Type 0} (new : S) (noted : S → Noted) (settings_of : S → Settings) (s : Settings) (remaining : Option (List ℕ))

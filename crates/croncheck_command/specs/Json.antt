@@ -17,7 +17,7 @@ use Rattle.croncheck_command.specs.Checked.{entry_of_line, TakesInTurn}
 use Rattle.croncheck_command.specs.Entries.{entry_seen}
 use Rattle.croncheck_command.specs.Line.{Line, blank, comment, setting, job, pattern, refused}
 use Rattle.croncheck_command.specs.Lines.{AreLines}
-use Rattle.croncheck_command.specs.Report.{IsReportOfLine, added, one_more}
+use Rattle.croncheck_command.specs.Report.{IsReportOfLine, IsAlone, added, one_more}
 
 -- ---- kinds
 
@@ -101,6 +101,7 @@ pub record Writes (s : Settings) (old : Noted) (y : Line × Bool) (new : Noted) 
   pub report : Report
   pub seen : entry_seen entry ≡ y.0
   pub reported : IsReportOfLine y.1 s text entry report
+  pub alone : IsAlone s report
   pub same : new.file ≡ old.file
   pub next : new.line ≡ one_more old.line
   pub tallied : new.tally ≡ added s.dialect old.tally report

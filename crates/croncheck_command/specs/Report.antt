@@ -28,6 +28,7 @@ use Rattle.croncheck_command.specs.declared.line.Entry.TheVariants as entries
 use Rattle.croncheck_command.specs.declared.report.JobReport.{JobReport}
 use Rattle.croncheck_command.specs.declared.report.Report.{Report}
 use Rattle.croncheck_command.specs.declared.report.Report.TheVariants as reports
+use Rattle.croncheck_command.specs.declared.report.Same.{Same}
 use Rattle.croncheck_command.specs.declared.report.Settings.{Settings}
 use Rattle.croncheck_command.specs.declared.report.Tally.{Tally}
 use Rattle.croncheck_command.specs.declared.report.Told.{Told}
@@ -290,6 +291,19 @@ IsReportOfLine is_fed s line (entries.Refused fault start end) r = r ≡ reports
 -- the same of a line that has it
 abbrev pub IsReport : Settings → List ℕ → Entry → Report → Type 0
 IsReport s line entry r = IsReportOfLine true s line entry r
+
+-- ---- the same job
+
+-- the place of an earlier job that is the same, where the report has one
+abbrev pub earlier_of : Report → Option Same
+earlier_of reports.Silent = None
+earlier_of (reports.Setting is_zone has_feed) = None
+earlier_of (reports.Job j) = j.same
+earlier_of (reports.Refused start end why) = None
+
+-- where the settings compare no jobs, a report has none
+abbrev pub IsAlone : Settings → Report → Type 0
+IsAlone s r = s.compares_jobs ≡ false → earlier_of r ≡ None
 
 -- ---- lines with a warning
 

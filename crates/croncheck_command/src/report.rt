@@ -11,7 +11,7 @@ ghost use Rattle.croner.specs.parser.Gives.{Fails};
 ghost use Rattle.croner.specs.parser.Grammar.{Refusal};
 ghost use Rattle.croner.specs.Views.{job_of as meaning_of_job};
 ghost use Rattle.croncheck_command.specs.Entries.{job_seen, times_seen};
-ghost use Rattle.croncheck_command.specs.Report.{wording_of, NamesNoneFrom, IsPastAt, IsTold, TellsMeaning, TellsTiming, IsRefusalOf, IsUnreadTiming, IsReportOfJob, IsPatternRefused, IsReportOfPattern, blanks_of, IsReport, IsReportOfLine, start_of, is_over, is_never, is_told_past, is_idle, TellsChanges, subject_of, IsWarned, WarnsJob, WarnsPattern, MeetsJob, MeetsPattern, DatesOf, TellsDates, meaning_of_timing, has_job_warnings, has_warnings, none_counted, counted, begun, is_too_many, is_line_warned, one_more, one_more_if, added, status_of};
+ghost use Rattle.croncheck_command.specs.Report.{wording_of, NamesNoneFrom, IsPastAt, IsTold, TellsMeaning, TellsTiming, IsRefusalOf, IsUnreadTiming, IsReportOfJob, IsPatternRefused, IsReportOfPattern, blanks_of, IsReport, IsReportOfLine, start_of, is_over, is_never, is_told_past, is_idle, TellsChanges, subject_of, IsWarned, WarnsJob, WarnsPattern, MeetsJob, MeetsPattern, DatesOf, TellsDates, meaning_of_timing, earlier_of, has_job_warnings, has_warnings, none_counted, counted, begun, is_too_many, is_line_warned, one_more, one_more_if, added, status_of};
 ghost use Rattle.croncheck_command.specs.Warnings.{fields_seen, subject_seen};
 
 use crate::bytes::{Kind, cut};
@@ -253,7 +253,7 @@ pub fn report_of<'l, 't>(
 }
 
 /// The report of the entry of a line that has its line feed or hasn't, and is given without it. The place of an earlier job that is the same
-/// is passed on: no clause speaks of it. The only error is `OutOfMemory`.
+/// is passed on; where none is given, the report has none. The only error is `OutOfMemory`.
 pub fn report_of_line<'l, 't>(
     alloc: Global,
     settings: &Settings<'t>,
@@ -263,6 +263,7 @@ pub fn report_of_line<'l, 't>(
     same: Option<Same>,
 ) -> Result<Report<'l, 't>, CronError>
     ensures report { IfOk result (IsReportOfLine is_fed settings.now line.now entry.entry) }
+    ensures passed { same ≡ None → IfOk result (λ r. earlier_of r ≡ None) }
     ensures err { IfErr result (λ e. e ≡ CronError.OutOfMemory) }
 {
     match entry {
@@ -296,6 +297,7 @@ fn report_of_job<'l, 't>(
     same: Option<Same>,
 ) -> Result<Report<'l, 't>, CronError>
     ensures report { IfOk result (IsReportOfJob is_fed settings.now (blanks_of line.now) (job_seen job.entry)) }
+    ensures passed { same ≡ None → IfOk result (λ r. earlier_of r ≡ None) }
     ensures err { IfErr result (λ e. e ≡ CronError.OutOfMemory) }
 {
     match told_of_times(alloc, settings, &job, is_fed)? {
@@ -545,6 +547,7 @@ fn report_of_pattern<'l, 't>(
     same: Option<Same>,
 ) -> Result<Report<'l, 't>, CronError>
     ensures report { IfOk result (IsReportOfPattern is_fed settings.now (blanks_of line.now) bytes.now) }
+    ensures passed { same ≡ None → IfOk result (λ r. earlier_of r ≡ None) }
     ensures err { IfErr result (λ e. e ≡ CronError.OutOfMemory) }
 {
     let Ok(text) = std::str::from_utf8(bytes) else {
@@ -565,6 +568,7 @@ fn told_of_pattern<'l, 't>(
     same: Option<Same>,
 ) -> Result<Report<'l, 't>, CronError>
     ensures report { (blanks : ℕ) → IfOk result (IsReportOfPattern is_fed settings.now blanks text.now) }
+    ensures passed { same ≡ None → IfOk result (λ r. earlier_of r ≡ None) }
     ensures err { IfErr result (λ e. e ≡ CronError.OutOfMemory) }
 {
     match settings.parser.parse(alloc, text) {

@@ -1,4 +1,5 @@
 //! The jobs that were seen, of which each has one place: that of the first that is the same.
+ghost use Rattle.std.specs.Prelude.{◌≡◌, false, None, IfOk};
 
 use crate::line::{Entry, Times, words_of};
 use crate::parsed::job_of;
@@ -39,7 +40,9 @@ impl Seen {
         settings: &Settings<'_>,
         entry: &Entry<'_>,
         place: Place<'_>,
-    ) -> Result<Option<Same>, AllocError> {
+    ) -> Result<Option<Same>, AllocError>
+        ensures { settings.now.compares_jobs ≡ false → IfOk result (λ found. found ≡ None) }
+    {
         if !settings.compares_jobs {
             return Ok(None);
         }
