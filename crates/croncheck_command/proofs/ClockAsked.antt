@@ -8,9 +8,9 @@ use Rattle.croner_base.specs.Calm.{IsInReach}
 use Rattle.croner_base.specs.Table.{first_instant, last_instant, offset_at, offset_limit, is_table_second}
 use Rattle.croner_base.specs.TableZone.{clock, table_zone, table_moment}
 use Rattle.croner_base.specs.Zone.{IsMoved, later, at_instant}
-use Rattle.croner_base.proofs.TableOffsets.{offset_within}
-use Rattle.croner_base.proofs.TableReadings.{calm_offsets}
-use Rattle.croner_base.proofs.TableTests.{both_parts, le_of, instant_test}
+use Rattle.croner_base.proofs.tables.TableOffsets.{offset_within}
+use Rattle.croner_base.proofs.tables.TableReadings.{calm_offsets}
+use Rattle.croner_base.proofs.tables.TableTests.{both_parts, le_of, instant_test}
 use Rattle.croncheck_command.specs.declared.changes.Change.{Change}
 use Rattle.croncheck_command.specs.Private.Found.{IsAsked}
 use Rattle.croncheck_command.specs.Private.Met.{IsInYears, IsToldOf}

@@ -11,8 +11,8 @@ use Rattle.croner_base.specs.Calm.{IsChange}
 use Rattle.croner_base.specs.Table.{offset_at}
 use Rattle.croner_base.specs.TableZone.{clock, table_zone}
 use Rattle.croner_base.specs.Zone.{Zone}
-use Rattle.croner_base.proofs.TableOffsets.{between}
-use Rattle.croner_base.proofs.TableReadings.{calm_spread}
+use Rattle.croner_base.proofs.tables.TableOffsets.{between}
+use Rattle.croner_base.proofs.tables.TableReadings.{calm_spread}
 use Rattle.croncheck_command.specs.Changes.{IsJump, IsWatched, AreChanges}
 use Rattle.croncheck_command.specs.declared.changes.Change.{Change}
 use Rattle.croncheck_command.specs.Private.Found.{IsSpan, IsWithin, ahead, IsStill, IsTurn, IsOnlyJump, AreJumps}

@@ -14,7 +14,7 @@ use Rattle.croner_base.specs.Civil.{wall_second}
 use Rattle.croner_base.specs.Table.{is_calm_table}
 use Rattle.croner_base.specs.TableZone.{clock, HasParts, table_zone, table_moment}
 use Rattle.croner_base.specs.Zone.{reading, Names, IsResolved, IsUnheld}
-use Rattle.croner_base.proofs.TableCalm.{clock_calm}
+use Rattle.croner_base.proofs.tables.TableCalm.{clock_calm}
 use Rattle.croner_pattern.specs.Meaning.{Meaning}
 use Rattle.croner_pattern.specs.Schedule.{IsScheduled}
 use Rattle.croner.specs.search.Limit.{year_5000, InSpan}

@@ -17,9 +17,9 @@ use Rattle.croner_base.specs.Civil.{wall_second}
 use Rattle.croner_base.specs.declared.time.civil.CivilDateTime.{CivilDateTime}
 use Rattle.croner_base.specs.TableZone.{table_moment}
 use Rattle.croner_base.specs.Zone.{reading}
-use Rattle.croner_base.proofs.TableCalm.{clock_calm, table_holds}
-use Rattle.croner_base.proofs.Chronology.{start_years}
-use Rattle.croner_base.proofs.TableTests.{both_parts, le_of, le_test}
+use Rattle.croner_base.proofs.tables.TableCalm.{clock_calm, table_holds}
+use Rattle.croner_base.proofs.calendar.Chronology.{start_years}
+use Rattle.croner_base.proofs.tables.TableTests.{both_parts, le_of, le_test}
 use Rattle.croner_pattern.specs.Meaning.{Meaning}
 use Rattle.croner.specs.iterator.Faults.{IsMemoryAlone}
 use Rattle.croner.specs.iterator.Listing.{Standing, BeginsWhere, BeginsRest, IsLeft, GaveAll}

@@ -9,7 +9,7 @@ use Rattle.croner_base.specs.declared.time.Direction.TheVariants.{Forward}
 use Rattle.croner_base.specs.declared.time.table.TableTime.{TableTime}
 use Rattle.croner_base.specs.TableZone.{table_moment}
 use Rattle.croner_base.specs.Zone.{Zone, Moment, at_instant, reading}
-use Rattle.croner_base.proofs.TableTests.{both_parts}
+use Rattle.croner_base.proofs.tables.TableTests.{both_parts}
 use Rattle.croner_pattern.specs.Meaning.{Meaning}
 use Rattle.croner_pattern.specs.Schedule.{IsScheduled, DateMatches, is_fixed_time, is_plain, is_date_matching}
 use Rattle.croner.specs.declared.job.JobType.TheVariants as types

@@ -14,7 +14,7 @@ use Rattle.croner_base.specs.declared.time.table.TableTime.{TableTime}
 use Rattle.croner_base.specs.Calm.{IsStart}
 use Rattle.croner_base.specs.TableZone.{table_moment}
 use Rattle.croner_base.specs.Zone.{reading}
-use Rattle.croner_base.proofs.TableTests.{le_of}
+use Rattle.croner_base.proofs.tables.TableTests.{le_of}
 use Rattle.croner_pattern.specs.Meaning.{Meaning}
 use Rattle.croner.specs.crontable.TableItems.{item_instants, BeginsTableRest, GaveAllTable}
 use Rattle.croner.specs.crontable.TableListing.{TableStanding, IsLeftAt, IsTableLeft}

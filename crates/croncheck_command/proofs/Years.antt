@@ -4,8 +4,8 @@ use Rattle.std.specs.Prelude.{◌↔◌, IsTrue}
 use Rattle.std.proofs.lemmas.Bool.{cases_lt, false≢true}
 use Rattle.std.proofs.lemmas.Int.{ints}
 use Rattle.croner_base.specs.Limits.{first_year, last_year}
-use Rattle.croner_base.proofs.TableTests.{both_parts, le_of, le_test}
-use Rattle.croner_base.proofs.ZoneYears.{nonneg_abs}
+use Rattle.croner_base.proofs.tables.TableTests.{both_parts, le_of, le_test}
+use Rattle.croner_base.proofs.zones.ZoneYears.{nonneg_abs}
 use Rattle.croner_pattern.specs.Meaning.{Meaning}
 use Rattle.croner_pattern.specs.Schedule.{is_plain, is_year_matching}
 use Rattle.croncheck_command.specs.Report.{NamesNoneFrom}

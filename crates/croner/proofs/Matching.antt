@@ -6,11 +6,11 @@ use Rattle.croner_base.specs.declared.time.civil.CivilDate.{CivilDate}
 use Rattle.croner_base.specs.declared.time.civil.CivilDateTime.{CivilDateTime}
 use Rattle.croner_base.specs.Civil.{wall_second}
 use Rattle.croner_base.specs.Calendar.{IsRealDate, day_number, weekday_of_day}
-use Rattle.croner_base.proofs.Chronology.{wall_second-injective}
+use Rattle.croner_base.proofs.calendar.Chronology.{wall_second-injective}
 use Rattle.croner_pattern.specs.Meaning.{Meaning}
 use Rattle.croner_pattern.specs.Questions.{first_from}
 use Rattle.croner_pattern.specs.Schedule.{is_plain, is_date_matching, is_day_matching, first_weekday, is_scheduled, IsScheduled}
-use Rattle.croner_pattern.proofs.Firsts.{first_from-date}
+use Rattle.croner_pattern.proofs.days.FirstWeekdays.{first_from-date}
 
 pub same_schedule : (m : Meaning) (c : CivilDateTime) (w : ℤ) → wall_second c ≡ w → IsTrue (is_scheduled m c) ↔ IsScheduled m w
 same_schedule m c w e = (

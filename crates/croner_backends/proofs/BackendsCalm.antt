@@ -4,7 +4,7 @@ use Rattle.croner_base.specs.declared.time.table.ClockTable.{ClockTable}
 use Rattle.croner_base.specs.Calm.{IsCalm, IsStart}
 use Rattle.croner_base.specs.TableZone.{table_zone}
 use Rattle.croner_base.specs.Zone.{reading}
-use Rattle.croner_base.proofs.TableCalm.{clock_calm, table_holds}
+use Rattle.croner_base.proofs.tables.TableCalm.{clock_calm, table_holds}
 use Rattle.croner.specs.search.Premises.{IsSearchable, StartsCalm}
 use Rattle.croner_backends.specs.declared.boxed.BoxedTime.{BoxedTime}
 use Rattle.croner_backends.specs.declared.narrow.NarrowTime.{NarrowTime}

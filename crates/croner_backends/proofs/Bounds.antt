@@ -11,10 +11,10 @@ use Rattle.croner_base.specs.Civil.{wall_second}
 use Rattle.croner_base.specs.Table.{first_instant, last_instant, offset_limit, is_table_second}
 use Rattle.croner_base.specs.TableZone.{clock, table_zone}
 use Rattle.croner_base.specs.ZonedZone.{is_near_year}
-use Rattle.croner_base.proofs.JiffSeconds.{first_near, last_near, near_second}
-use Rattle.croner_base.proofs.TableTests.{both_parts, le_of, instant_bounds, instant_test}
-use Rattle.croner_base.proofs.TableOffsets.{offset_within}
-use Rattle.croner_base.proofs.TableReadings.{calm_offsets}
+use Rattle.croner_base.proofs.calendar.JiffSeconds.{first_near, last_near, near_second}
+use Rattle.croner_base.proofs.tables.TableTests.{both_parts, le_of, instant_bounds, instant_test}
+use Rattle.croner_base.proofs.tables.TableOffsets.{offset_within}
+use Rattle.croner_base.proofs.tables.TableReadings.{calm_offsets}
 
 pub less_of : (a b : ℤ) → a <ℤ b → int_cmp a b ≡ Less
 less_of a b h = grind (arith, ints)

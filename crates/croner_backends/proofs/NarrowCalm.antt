@@ -7,7 +7,7 @@ use Rattle.croner_base.specs.declared.time.value.Resolution.TheVariants.{Single,
 use Rattle.croner_base.specs.Calm.{IsCalm}
 use Rattle.croner_base.specs.Civil.{wall_second}
 use Rattle.croner_base.specs.Zone.{Zone}
-use Rattle.croner_base.proofs.TableTests.{both_parts, le_of, lt_of, le_test, lt_test}
+use Rattle.croner_base.proofs.tables.TableTests.{both_parts, le_of, lt_of, le_test, lt_test}
 use Rattle.croner.specs.Private.search.Halves.{Break}
 use Rattle.croner.proofs.zone.CalmZone.{Exactly, calm_of, exact_of}
 use Rattle.croner.proofs.zone.GapSides.{unread_is_in_gap}

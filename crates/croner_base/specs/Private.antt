@@ -1,4 +1,4 @@
 -- How tables are checked and marks are kept. Private contracts alone cite these definitions.
 pub mod TableSteps
-pub mod Words
+pub mod words
 pub mod ZoneSteps

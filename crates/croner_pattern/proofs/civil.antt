@@ -2,13 +2,13 @@
 pub mod Ahead
 pub mod CivilOrder
 pub mod DateSearch
-pub mod DayBits
+pub mod DaysOfMonths
 pub mod ExamplesCursor
 pub mod FieldBits
 pub mod Foremost
 pub mod MonthKinds
 pub mod Scheduled
-pub mod Singles
+pub mod SingleValues
 pub mod TimeSearch
 pub mod ValueSearch
 pub mod Weekdays

@@ -35,30 +35,30 @@ pub record Streak : Type 0 where
   pub first : ℕ
   pub last : ℕ
 
--- the maximal runs of ascending values: a value lengthens the run that begins right after it
+-- the maximal streaks of ascending values: a value lengthens the streak that begins right after it
 abbrev pub with_value : ℕ → List Streak → List Streak
 with_value value [] = record { first = value; last = value } ∷ []
-with_value value (run ∷ more) =
-    if run.first == value + 1 then (record { first = value; last = run.last } ∷ more)
-    else (record { first = value; last = value } ∷ run ∷ more)
+with_value value (streak ∷ more) =
+    if streak.first == value + 1 then (record { first = value; last = streak.last } ∷ more)
+    else (record { first = value; last = value } ∷ streak ∷ more)
 
-abbrev pub runs_of : List ℕ → List Streak
-runs_of [] = []
-runs_of (value ∷ more) = with_value value (runs_of more)
+abbrev pub streaks_of : List ℕ → List Streak
+streaks_of [] = []
+streaks_of (value ∷ more) = with_value value (streaks_of more)
 
 -- what a number list is made of
 pub data Item : Type 0 where
   number : ℕ → Item
   range : ℕ → ℕ → Item
 
--- a run of three or more is a range, and the values of a shorter one are numbers
+-- a streak of three or more is a range, and the values of a shorter one are numbers
 abbrev pub items_of : Streak → List Item
-items_of run =
-    if nat_le (run.first + 2) run.last then (range run.first run.last ∷ [])
-    else map number (values_between run.first run.last)
+items_of streak =
+    if nat_le (streak.first + 2) streak.last then (range streak.first streak.last ∷ [])
+    else map number (values_between streak.first streak.last)
 
 abbrev pub number_items : List ℕ → List Item
-number_items values = flat_map items_of (runs_of values)
+number_items values = flat_map items_of (streaks_of values)
 
 abbrev pub item_text : Item → List ℕ
 item_text (number n) = decimal n

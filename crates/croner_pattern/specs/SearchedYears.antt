@@ -8,7 +8,7 @@ use Rattle.croner_base.specs.declared.time.civil.CivilDateTime.{CivilDateTime}
 use Rattle.croner_base.specs.Civil.{wall_second}
 use Rattle.croner_base.specs.Limits.{first_year, last_year}
 use Rattle.croner_base.specs.Calm.{IsSearched}
-use Rattle.croner_base.proofs.Chronology.{searched_years}
+use Rattle.croner_base.proofs.calendar.Chronology.{searched_years}
 use Rattle.croner_pattern.specs.Meaning.{Meaning}
 use Rattle.croner_pattern.specs.Schedule.{IsScheduled, DateMatches, is_plain, is_day_matching, is_year_matching, is_date_matching, first_weekday}
 

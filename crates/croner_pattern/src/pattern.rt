@@ -181,7 +181,7 @@ impl CronPattern {
     /// let daily = Cron::from_str(alloc, "30 9 * * *")?.pattern.is_fixed_time(); // true
     /// let hourly = Cron::from_str(alloc, "30 * * * *")?.pattern.is_fixed_time(); // false
     /// ```
-    #[tactic(auto, using(crate::proofs::Tests::and_false))]
+    #[tactic(auto, using(crate::proofs::days::JoinedTests::and_false))]
     pub fn is_fixed_time(&self) -> bool
         ensures { result ≡ is_fixed_time (meaning_of self.now) }
     {

@@ -15,8 +15,8 @@ use Rattle.croner_base.specs.Calm.{IsCalm}
 use Rattle.croner_base.specs.Civil.{wall_second, seconds_of_time}
 use Rattle.croner_base.specs.Limits.{gap_limit}
 use Rattle.croner_base.specs.Zone.{Zone, Moment}
-use Rattle.croner_base.proofs.Chronology.{wall_second-injective}
-use Rattle.croner_base.proofs.JiffSeconds.{wall_second-parts}
+use Rattle.croner_base.proofs.calendar.Chronology.{wall_second-injective}
+use Rattle.croner_base.proofs.calendar.JiffSeconds.{wall_second-parts}
 use Rattle.croner_pattern.specs.Meaning.{Meaning}
 use Rattle.croner_pattern.specs.Schedule.{is_plain, is_scheduled, is_date_matching, is_fixed_time, IsScheduled, DateMatches}
 use Rattle.croner_pattern.specs.Shapes.{has_field_shapes}
@@ -25,7 +25,7 @@ use Rattle.croner.specs.search.PatternJob.{pattern_job, timetable_of}
 use Rattle.croner.specs.search.Searches.{IsFound}
 use Rattle.croner.specs.search.Runs.{Reaches, OwnRun, CarriedRun, Run, StartCounts, Counts}
 use Rattle.croner_pattern.proofs.civil.DateSearch.{and-split}
-use Rattle.croner_pattern.proofs.civil.Singles.{single-value, single_time, second_bounds, minute_bounds, hour_bounds}
+use Rattle.croner_pattern.proofs.civil.SingleValues.{single-value, single_time, second_bounds, minute_bounds, hour_bounds}
 use Rattle.croner.proofs.zone.Ahead.{either, not_both}
 use Rattle.croner.proofs.zone.CalmZone.{calm_of}
 use Rattle.croner.proofs.zone.RunsOfSeconds.{true_or_false, is_run}

@@ -11,7 +11,7 @@ use Rattle.croner_base.specs.Calendar.{day_number, year_start, days_since_zero, 
 use Rattle.croner_base.specs.Calm.{IsCalm}
 use Rattle.croner_base.specs.Civil.{wall_second}
 use Rattle.croner_base.specs.Zone.{Zone, Moment, at_instant}
-use Rattle.croner_base.proofs.Chronology.{year_reached}
+use Rattle.croner_base.proofs.calendar.Chronology.{year_reached}
 use Rattle.croner_base.specs.Limits.{fold_limit}
 use Rattle.croner_pattern.specs.Meaning.{Meaning}
 use Rattle.croner.specs.search.Limit.{InSpan, NoneInSpan, year_2}

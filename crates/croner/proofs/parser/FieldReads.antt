@@ -9,7 +9,7 @@ use Rattle.croner_base.specs.Answers.{IsFieldError}
 use Rattle.croner_base.specs.Field.{Shape, Field, empty_field, with_sloppy, has_all}
 use Rattle.croner_base.specs.Part.{field_of, contains_byte}
 use Rattle.croner_base.specs.Reading.{Reads}
-use Rattle.croner_base.proofs.Readings.{shape-applied}
+use Rattle.croner_base.proofs.fields.ReadingsInTurn.{shape-applied}
 use Rattle.croner_pattern.specs.Meaning.{Meaning}
 use Rattle.croner_pattern.specs.Shapes.{sixty_shape, hour_shape, day_shape, month_shape, weekday_shape, year_shape, new_meaning}
 use Rattle.croner.specs.parser.Settings.{Settings, seconds_required, year_required}

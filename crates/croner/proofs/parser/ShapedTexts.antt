@@ -2,7 +2,7 @@
 use Rattle.std.proofs.Common.{◌≡◌, ℕ, Bool, true, false, cond, ◌||◌, List, [], ◌∷◌, fold, Result, Ok, Err, refl, ap, ◌∙◌, subst}
 use Rattle.std.proofs.lemmas.Bool.{cond_both, and_from}
 use Rattle.croner_base.specs.Field.{Shape, Field, empty_field, with_sloppy, with_mark, without_mark, is_marked}
-use Rattle.croner_base.proofs.Readings.{shape-applied}
+use Rattle.croner_base.proofs.fields.ReadingsInTurn.{shape-applied}
 use Rattle.croner_pattern.specs.Meaning.{Meaning}
 use Rattle.croner_pattern.specs.Shapes.{sixty_shape, hour_shape, day_shape, month_shape, weekday_shape, year_shape, is_like, has_field_shapes}
 use Rattle.croner.specs.parser.Grammar.{Texts, Refusal, Component, of_legal, are_read, meaning, value_of, reading_of, start_of, weekdays_of, settled_weekdays, sunday_moved, weekday_modifiers}

@@ -6,7 +6,7 @@ use Rattle.croner_base.specs.declared.time.Direction.{Direction}
 use Rattle.croner_base.specs.declared.time.Direction.TheVariants.{Forward, Backward}
 use Rattle.croner_base.specs.declared.time.civil.CivilDateTime.{CivilDateTime}
 use Rattle.croner_base.specs.Civil.{wall_second, day_of_date}
-use Rattle.croner_base.proofs.JiffSeconds.{wall_second-parts}
+use Rattle.croner_base.proofs.calendar.JiffSeconds.{wall_second-parts}
 use Rattle.croner_pattern.specs.Meaning.{Meaning}
 use Rattle.croner_pattern.specs.Shapes.{has_field_shapes}
 use Rattle.croner_pattern.specs.Schedule.{IsScheduled, DateMatches, is_scheduled, is_date_matching, is_fixed_time}
@@ -19,7 +19,7 @@ use Rattle.croner_pattern.proofs.civil.Ahead.{not_both, precedes-reaches, reache
 use Rattle.croner_pattern.proofs.civil.CivilOrder.{seconds_bound, same_date, reach-date, no_room-past}
 use Rattle.croner_pattern.proofs.civil.DateSearch.{bool_cases, same_match, last_day-room, last_day-no_room}
 use Rattle.croner_pattern.proofs.civil.Scheduled.{scheduled_parts}
-use Rattle.croner_pattern.proofs.civil.Singles.{single-value, hour_bounds, minute_bounds, single_time}
+use Rattle.croner_pattern.proofs.civil.SingleValues.{single-value, hour_bounds, minute_bounds, single_time}
 use Rattle.croner.proofs.zone.WallSeconds.{first_of_5000, last_of_1}
 
 -- the nearest of date-times is the nearest of wall seconds

@@ -9,8 +9,8 @@ use Rattle.croner_base.specs.Calendar.{day_seconds, day_number, year_start, days
 use Rattle.croner_base.specs.Civil.{wall_second, seconds_of_time}
 use Rattle.croner_base.specs.Ends.{IsLastDate, IsFirstDate}
 use Rattle.croner_base.specs.Limits.{first_year, last_year, first_needed, last_needed}
-use Rattle.croner_base.proofs.Days.{day_number-next_year}
-use Rattle.croner_base.proofs.Chronology.{year_reached}
+use Rattle.croner_base.proofs.calendar.DayNumbers.{day_number-next_year}
+use Rattle.croner_base.proofs.calendar.Chronology.{year_reached}
 use Rattle.croner.specs.search.Limit.{IsWithin, year_5000, year_2}
 use Rattle.croner.specs.Private.search.Wall.{IsLastYear}
 use Rattle.croner.specs.Private.search.Walk.{one_on}

@@ -16,9 +16,9 @@ use Rattle.croner_base.specs.TableZone.{clock, table_zone}
 use Rattle.croner_base.specs.Zone.{Zone}
 use Rattle.croner_base.specs.ZonedZone.{zoned_zone, nearest_timestamp}
 use Rattle.croner_base.specs.ZoneTable.{ahead_at, nearest_in}
-use Rattle.croner_base.proofs.TableOffsets.{offset_within}
-use Rattle.croner_base.proofs.TableReadings.{calm_offsets}
-use Rattle.croner_base.proofs.ZonedMoments.{zone_reads-held}
+use Rattle.croner_base.proofs.tables.TableOffsets.{offset_within}
+use Rattle.croner_base.proofs.tables.TableReadings.{calm_offsets}
+use Rattle.croner_base.proofs.clocks.ZonedMoments.{zone_reads-held}
 use Rattle.croner.proofs.zone.Ahead.{either}
 use Rattle.croner.proofs.zone.RunsOfSeconds.{counts_reaches}
 use Rattle.croner.specs.laws.Zones.{day_margin, IsAtMostADayAhead, IsWellIn, IsClockOf}

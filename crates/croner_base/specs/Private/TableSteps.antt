@@ -6,7 +6,7 @@ use Rattle.croner_base.specs.Limits.{apart_limit, most_changes, most_gap_seconds
 use Rattle.croner_base.specs.Table.{first_instant, last_instant, offset_limit, is_offset, is_step, met_at, gap_at}
 
 -- a change can follow the changes so far: they leave an offset, the least instant of the next one, and the two sums
-pub record IsNext (offset earliest : ℤ) (met gaps : ℕ) (c : ℤ × ℤ) : Type 0 where
+pub record IsNextChange (offset earliest : ℤ) (met gaps : ℕ) (c : ℤ × ℤ) : Type 0 where
   pub late_enough : earliest ≤ℤ c.0
   pub early_enough : c.0 ≤ℤ last_instant
   pub offset_in : IsTrue (is_offset c.1)

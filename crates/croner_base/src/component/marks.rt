@@ -3,11 +3,11 @@
 ghost use Rattle.std.specs.Prelude.{◌≡◌, ℕ, ◌+◌, ◌*◌, ◌^◌, ◌<◌, ◌≤◌, ◌==◌, length, bit_and, nat_lt, slice_index, IfOk, IsOk, MatchOption};
 ghost use Rattle.std.specs.Int.{bit_at};
 ghost use Rattle.croner_base.specs.Field.{room};
-ghost use Rattle.croner_base.specs.Private.Words.Kept.{words_of, rows_of};
-ghost use Rattle.croner_base.specs.Private.Words.Marked.{Marked, is_set, set_at, unset_at, nothing_set, GainsRange};
-ghost use Rattle.croner_base.specs.Private.Words.Next.{NonePlainFrom, IsLeastPlain, NonePlainTo, IsGreatestPlain};
-ghost use Rattle.croner_base.specs.Private.Words.Rows.{in_row, rows_below, sums_of, width};
-ghost use Rattle.croner_base.specs.Private.Words.Word.{word_bits};
+ghost use Rattle.croner_base.specs.Private.words.Kept.{words_of, rows_of};
+ghost use Rattle.croner_base.specs.Private.words.Marked.{Marked, is_set, set_at, unset_at, nothing_set, GainsRange};
+ghost use Rattle.croner_base.specs.Private.words.Next.{NonePlainFrom, IsLeastPlain, NonePlainTo, IsGreatestPlain};
+ghost use Rattle.croner_base.specs.Private.words.Rows.{in_row, rows_below, sums_of, width};
+ghost use Rattle.croner_base.specs.Private.words.Word.{word_bits};
 
 use std::alloc::{AllocError, Global};
 use std::fmt;

@@ -160,7 +160,7 @@ impl CronComponent {
         }
     }
 
-    #[tactic(auto, using(crate::proofs::Texts::two_sides))]
+    #[tactic(auto, using(crate::proofs::fields::TextPieces::two_sides))]
     fn sides<'t>(
         &self,
         text: &'t str,

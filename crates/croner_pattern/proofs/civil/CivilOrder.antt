@@ -12,8 +12,8 @@ use Rattle.croner_base.specs.declared.time.Direction.{Direction}
 use Rattle.croner_base.specs.declared.time.Direction.TheVariants.{Forward, Backward}
 use Rattle.croner_pattern.specs.Directions.{Precedes, Reaches}
 use Rattle.croner_pattern.specs.Private.Cursor.{first_year, last_year, has_room, edge_day, place_in_day}
-use Rattle.croner_base.proofs.Days.{day_number-day, day_number-lt_year, day_number-lt_month}
-use Rattle.croner_base.proofs.JiffSeconds.{wall_second-parts}
+use Rattle.croner_base.proofs.calendar.DayNumbers.{day_number-day, day_number-lt_year, day_number-lt_month}
+use Rattle.croner_base.proofs.calendar.JiffSeconds.{wall_second-parts}
 
 -- a place for each year, month and day, in their order: as if each month had 31 days
 abbrev pub rank_at : ℤ → ℕ → ℕ → ℤ
@@ -38,12 +38,12 @@ date_bounds d = record {
 }
 
 -- two dates by their parts
-data Apart (a b : CivilDate) : Type 0 where
-  by_year : a.year <ℤ b.year → Apart a b
-  by_month : a.year ≡ b.year → a.month < b.month → Apart a b
-  by_day : a.year ≡ b.year → a.month ≡ b.month → a.day < b.day → Apart a b
+data DatesApart (a b : CivilDate) : Type 0 where
+  by_year : a.year <ℤ b.year → DatesApart a b
+  by_month : a.year ≡ b.year → a.month < b.month → DatesApart a b
+  by_day : a.year ≡ b.year → a.month ≡ b.month → a.day < b.day → DatesApart a b
 
-apart-days : (a b : CivilDate) → Apart a b → day_of_date a <ℤ day_of_date b
+apart-days : (a b : CivilDate) → DatesApart a b → day_of_date a <ℤ day_of_date b
 apart-days a b (by_year lt) = day_number-lt_year a.year a.month a.day b.year b.month b.day a.real b.real lt
 apart-days a b (by_month e lt) = rw (← e) (day_number-lt_month a.year a.month a.day b.month b.day a.real b.real.1.0 lt)
 apart-days a b (by_day e f lt) =
@@ -53,7 +53,7 @@ apart-days a b (by_day e f lt) =
     let zeros₂ : 0 + b.day ≡ b.day = omega arith in
     rw (← e, ← f) (omega (arith, signed_arith, rw zeros at here, rw zeros₂ at there))
 
-apart : (a b : CivilDate) → rank a <ℤ rank b → Apart a b
+apart : (a b : CivilDate) → rank a <ℤ rank b → DatesApart a b
 apart a b h =
     let x = date_bounds a in
     let y = date_bounds b in

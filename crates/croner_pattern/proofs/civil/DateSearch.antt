@@ -238,20 +238,20 @@ pub record InMonthAfter (m : Meaning) (dir : Direction) (date d : CivilDate) : T
   pub matches : is_date_matching m d ≡ true
 
 -- in a later month of its year, or in a later year
-abbrev pub Later : Meaning → Direction → CivilDate → CivilDate → Type 0
-Later m dir date d = IsInMonths m dir date.year (one_on dir (pos date.month)) d ⊎ IsInYears m dir (one_on dir date.year) d
+abbrev pub IsInLaterYear : Meaning → Direction → CivilDate → CivilDate → Type 0
+IsInLaterYear m dir date d = IsInMonths m dir date.year (one_on dir (pos date.month)) d ⊎ IsInYears m dir (one_on dir date.year) d
 
 in_room : (dir : Direction) (date d : CivilDate) → has_room dir date.year ≡ true → d.year ≡ date.year → Reaches dir (day_of_date d) (edge_day dir)
 in_room dir date d room same =
     omega (arith, signed_arith, room-before dir d (ap (has_room dir) same ∙ room))
 
-later-order : (m : Meaning) (dir : Direction) (date a b : CivilDate) → a.year ≡ date.year → a.month ≡ date.month → Later m dir date b → Precedes dir (day_of_date a) (day_of_date b)
+later-order : (m : Meaning) (dir : Direction) (date a b : CivilDate) → a.year ≡ date.year → a.month ≡ date.month → IsInLaterYear m dir date b → Precedes dir (day_of_date a) (day_of_date b)
 later-order m dir date a b e f (inl h) =
     month-ahead dir a b (h.among.same_year ∙ sym e) (subst (λ z. Precedes dir (pos z) (pos b.month)) (sym f) (beyond dir (pos date.month) (pos b.month) h.on))
 later-order m dir date a b e f (inr h) =
     year-ahead dir a b (subst (λ z. Precedes dir z b.year) (sym e) (beyond dir date.year b.year h.on))
 
-later-after : (m : Meaning) (dir : Direction) (date d : CivilDate) → has_room dir date.year ≡ true → Later m dir date d → IsAfter m dir date d
+later-after : (m : Meaning) (dir : Direction) (date d : CivilDate) → has_room dir date.year ≡ true → IsInLaterYear m dir date d → IsAfter m dir date d
 later-after m dir date d room (inl h) = record { ahead = later-order m dir date date d refl refl (inl h); within = in_room dir date d room h.among.same_year; matches = h.among.matches }
 later-after m dir date d room (inr h) = record { ahead = later-order m dir date date d refl refl (inr h); within = h.among.within; matches = h.among.matches }
 
@@ -262,7 +262,7 @@ not_itself dir date d h e f =
       | inl same ↦ absurd (omega (arith, signed_arith, day-reach dir d date (sym e) (sym f) (reaches-equal dir (pos d.day) (pos date.day) (sym same))))
     ]
 
-pub after-split : (m : Meaning) (dir : Direction) (date : CivilDate) → has_room dir date.year ≡ true → Split day_of_date dir (IsAfter m dir date) (InMonthAfter m dir date) (Later m dir date)
+pub after-split : (m : Meaning) (dir : Direction) (date : CivilDate) → has_room dir date.year ≡ true → Split day_of_date dir (IsAfter m dir date) (InMonthAfter m dir date) (IsInLaterYear m dir date)
 after-split m dir date room = record {
   parts = λ d h.
       let on : Reaches dir (day_of_date date) (day_of_date d) = omega (arith, signed_arith, h.ahead) in
@@ -280,7 +280,7 @@ after-split m dir date room = record {
   order = λ a b h k. omega (arith, signed_arith, later-order m dir date a b h.same_year h.same_month k);
 }
 
-pub later-split : (m : Meaning) (dir : Direction) (date : CivilDate) → Split day_of_date dir (Later m dir date) (IsInMonths m dir date.year (one_on dir (pos date.month))) (IsInYears m dir (one_on dir date.year))
+pub later-split : (m : Meaning) (dir : Direction) (date : CivilDate) → Split day_of_date dir (IsInLaterYear m dir date) (IsInMonths m dir date.year (one_on dir (pos date.month))) (IsInYears m dir (one_on dir date.year))
 later-split m dir date = record {
   parts = λ d h. h;
   first = λ d h. inl h;

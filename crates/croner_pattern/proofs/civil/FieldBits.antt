@@ -8,11 +8,11 @@ use Rattle.jiff_core.proofs.SignedLemmas.{signed_arith}
 use Rattle.croner_base.specs.declared.time.Direction.{Direction}
 use Rattle.croner_base.specs.declared.time.Direction.TheVariants.{Forward, Backward}
 use Rattle.croner_base.specs.Field.{Field, can_ask, is_marked}
-use Rattle.croner_base.proofs.Words.Search.{top_bit}
+use Rattle.croner_base.proofs.words.WordSearch.{top_bit}
 use Rattle.croner_pattern.specs.Meaning.{Meaning}
 use Rattle.croner_pattern.specs.Schedule.{is_plain}
 use Rattle.croner_pattern.specs.Shapes.{has_field_shapes}
-use Rattle.croner_pattern.proofs.Shaped.{shaped, asks_sixty, asks_hour, asks_month, marked-named}
+use Rattle.croner_pattern.proofs.questions.FieldShapes.{field_shapes, asks_sixty, asks_hour, asks_month, marked-named}
 use Rattle.croner_pattern.specs.Directions.{Reaches}
 use Rattle.croner_pattern.specs.Private.Cursor.{AreFrom, HoldsAll, IsOnTheWay, IsPlainWithin, IsForemost, IsNearest, NoneOn}
 
@@ -132,13 +132,13 @@ outside-ahead f dir min max from word ahead found small held shows bits h way ou
 -- ---- the fields of a pattern hold the values of their places
 
 pub holds_seconds : (m : Meaning) → has_field_shapes m ≡ true → HoldsAll m.seconds 0 59
-holds_seconds m h v low high = asks_sixty m.seconds.shape v (shaped m h).seconds high
+holds_seconds m h v low high = asks_sixty m.seconds.shape v (field_shapes m h).seconds high
 
 pub holds_minutes : (m : Meaning) → has_field_shapes m ≡ true → HoldsAll m.minutes 0 59
-holds_minutes m h v low high = asks_sixty m.minutes.shape v (shaped m h).minutes high
+holds_minutes m h v low high = asks_sixty m.minutes.shape v (field_shapes m h).minutes high
 
 pub holds_hours : (m : Meaning) → has_field_shapes m ≡ true → HoldsAll m.hours 0 23
-holds_hours m h v low high = asks_hour m.hours.shape v (shaped m h).hours high
+holds_hours m h v low high = asks_hour m.hours.shape v (field_shapes m h).hours high
 
 pub holds_months : (m : Meaning) → has_field_shapes m ≡ true → HoldsAll m.months 1 12
-holds_months m h v low high = asks_month m.months.shape v (shaped m h).months low high
+holds_months m h v low high = asks_month m.months.shape v (field_shapes m h).months low high

@@ -6,20 +6,20 @@ use Rattle.std.proofs.lemmas.Nat.{shr-shr}
 use Rattle.std.proofs.lemmas.Nat.Bits.{bit_at-lt, bit_at-trailing_zeros, bit_at_and, bit_at_or, bit_at_ones, bit_at_above, bit_at_cat_low, bit_at_cat_high, bit_at-zero, bit_at_set_same, bit_at_set_other}
 use Rattle.croner_pattern.specs.Meaning.{Meaning}
 use Rattle.croner_pattern.specs.Schedule.{IsDayMask}
-use Rattle.croner_pattern.proofs.DayTable.{all_from, all_from-at}
+use Rattle.croner_pattern.proofs.days.DayTable.{all_from, all_from-at}
 use Rattle.croner_pattern.specs.Private.Cursor.{month_kind, kind_of, HasOpenDay, AreMonthKinds}
-use Rattle.croner_pattern.proofs.civil.DayBits.{no_day}
+use Rattle.croner_pattern.proofs.civil.DaysOfMonths.{no_day}
 use Rattle.croner_pattern.proofs.civil.DateSearch.{mask-day, day-mask}
 
 -- the kinds up to a number of them: each has its bit where it is meant, and no other bit is set
-pub record Collected (Meant : ℕ → Type 0) (done bits : ℕ) : Type 0 where
+pub record CollectsBits (Meant : ℕ → Type 0) (done bits : ℕ) : Type 0 where
   pub known : (k : ℕ) → k < done → (bit_at bits k ≡ 1) ↔ Meant k
   pub rest : (k : ℕ) → done ≤ k → bit_at bits k ≡ 0
 
-pub collect-none : (Meant : ℕ → Type 0) → Collected Meant 0 0
+pub collect-none : (Meant : ℕ → Type 0) → CollectsBits Meant 0 0
 collect-none Meant = record { known = λ k lt. absurd (omega (arith, lt)); rest = λ k le. bit_at-zero k }
 
-pub collect-hit : (Meant : ℕ → Type 0) (done bits : ℕ) → done < 32 → Meant done → Collected Meant done bits → Collected Meant (done + 1) (bit_or bits (1 * 2 ^ done % 2 ^ 32))
+pub collect-hit : (Meant : ℕ → Type 0) (done bits : ℕ) → done < 32 → Meant done → CollectsBits Meant done bits → CollectsBits Meant (done + 1) (bit_or bits (1 * 2 ^ done % 2 ^ 32))
 collect-hit Meant done bits small meant h = record {
   known = λ k lt. elim (cases_eq k done) [
     | inl e ↦ (λ b. subst Meant (sym e) meant, λ q. ap (bit_at (bit_or bits (1 * 2 ^ done % 2 ^ 32))) e ∙ bit_at_set_same w32 bits done small)
@@ -31,7 +31,7 @@ collect-hit Meant done bits small meant h = record {
   rest = λ k le. bit_at_set_other w32 bits done small k (λ e. omega arith) ∙ h.rest k (omega arith);
 }
 
-pub collect-miss : (Meant : ℕ → Type 0) (done bits : ℕ) → ¬ (Meant done) → Collected Meant done bits → Collected Meant (done + 1) bits
+pub collect-miss : (Meant : ℕ → Type 0) (done bits : ℕ) → ¬ (Meant done) → CollectsBits Meant done bits → CollectsBits Meant (done + 1) bits
 collect-miss Meant done bits none h = record {
   known = λ k lt. elim (cases_eq k done) [
     | inl e ↦ (λ b. absurd (omega (arith, b, h.rest k (omega arith))), λ q. absurd (none (subst Meant e q)))
@@ -52,7 +52,7 @@ pub no_day_of_mask : (m : Meaning) (len first days : ℕ) → IsDayMask m len fi
 no_day_of_mask m len first days mask e h = no_day days h.day e (day-mask m len first days h.day mask h.low h.high h.fits)
 
 -- all 28 kinds
-pub month-kinds : (m : Meaning) (kinds : ℕ) → Collected (λ k. HasOpenDay m (28 + k / 7) (k % 7)) 28 kinds → AreMonthKinds m kinds
+pub month-kinds : (m : Meaning) (kinds : ℕ) → CollectsBits (λ k. HasOpenDay m (28 + k / 7) (k % 7)) 28 kinds → AreMonthKinds m kinds
 month-kinds m kinds h length first range small =
     let k = month_kind length first in
     let len : 28 + ((length - 28) * 7 + first) / 7 ≡ length = omega (arith, range.0) in

@@ -17,23 +17,23 @@ use Rattle.croner_pattern.proofs.civil.DateSearch.{and-split, and-join, same_mat
 use Rattle.croner_pattern.proofs.civil.TimeSearch.{first-least, first-matches, move-between}
 
 -- what is scheduled has a matching time on a matching date
-pub record Parts (m : Meaning) (c : CivilDateTime) : Type 0 where
+pub record ScheduledParts (m : Meaning) (c : CivilDateTime) : Type 0 where
   pub time : IsMatchingTime m c.time
   pub date : is_date_matching m c.date ≡ true
 
-pub scheduled_parts : (m : Meaning) (c : CivilDateTime) → is_scheduled m c ≡ true → Parts m c
+pub scheduled_parts : (m : Meaning) (c : CivilDateTime) → is_scheduled m c ≡ true → ScheduledParts m c
 scheduled_parts m c h =
     let one = and-split _ _ h in
     let two = and-split _ _ one.1 in
     let three = and-split _ _ two.1 in
     record { time = record { hour = three.0; minute = two.0; second = one.0 }; date = three.1 }
 
-pub parts_scheduled : (m : Meaning) (c : CivilDateTime) → Parts m c → is_scheduled m c ≡ true
+pub parts_scheduled : (m : Meaning) (c : CivilDateTime) → ScheduledParts m c → is_scheduled m c ≡ true
 parts_scheduled m c p =
     and-join _ _ p.time.second (and-join _ _ p.time.minute (and-join _ _ p.time.hour p.date))
 
 -- a date and time made of a date and a time
-pub parts_of : (m : Meaning) (c : CivilDateTime) (d : CivilDate) (t : CivilTime) → c.date ≡ d → c.time ≡ t → is_date_matching m d ≡ true → IsMatchingTime m t → Parts m c
+pub parts_of : (m : Meaning) (c : CivilDateTime) (d : CivilDate) (t : CivilTime) → c.date ≡ d → c.time ≡ t → is_date_matching m d ≡ true → IsMatchingTime m t → ScheduledParts m c
 parts_of m c d t e f date time = record {
   time = subst (IsMatchingTime m) (sym f) time;
   date = ap (is_date_matching m) e ∙ date;

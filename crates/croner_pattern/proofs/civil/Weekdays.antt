@@ -8,7 +8,7 @@ use Rattle.jiff_core.proofs.CalendarLemmas.{days_in_month_bounds, days_in_year_b
 use Rattle.jiff_core.proofs.MarchLemmas.{leap_day, days_in_year-leap_day}
 use Rattle.croner_pattern.specs.Schedule.{first_weekday}
 use Rattle.croner_base.specs.Calendar.{IsRealDate, days_since_zero, year_start, weekday_of_day}
-use Rattle.croner_base.proofs.Days.{day_number-parts, day_of_year_bound}
+use Rattle.croner_base.proofs.calendar.DayNumbers.{day_number-parts, day_of_year_bound}
 
 -- how many leap years lie from year 0 to before the year, for a year that is not negative
 abbrev leaps : ℕ → ℕ

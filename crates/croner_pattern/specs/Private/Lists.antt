@@ -5,7 +5,7 @@ use Rattle.std.specs.declared.vec.Vec.{Vec}
 use Rattle.std.specs.declared.alloc.Global.{Global}
 use Rattle.croner_base.specs.declared.errors.CronError.{CronError}
 use Rattle.croner_base.specs.declared.errors.CronError.TheVariants.{OutOfMemory}
-use Rattle.croner_pattern.specs.Lists.{runs_of, item_text, items_of}
+use Rattle.croner_pattern.specs.Lists.{streaks_of, item_text, items_of}
 
 -- a text is written behind another, or memory was wanted
 abbrev pub Appends : {X : Type 0} → List ℕ → String Global → String Global → Result X CronError → Type 0
@@ -44,20 +44,20 @@ ListsTexts texts answer = MatchResult answer (λ v. map string_bytes v.items ≡
 abbrev pub goes_on : List ℕ → ℕ → Bool
 goes_on values end = nat_lt (end + 1) (length values) && (slice_index values (end + 1) == slice_index values end + 1)
 
--- the run that begins at an index ends at another
-pub record EndsRun (values : List ℕ) (start end : ℕ) : Type 0 where
+-- the streak that begins at an index ends at another
+pub record EndsStreak (values : List ℕ) (start end : ℕ) : Type 0 where
   pub ahead : start ≤ end
   pub within : end < length values
   pub even : slice_index values end + start ≡ slice_index values start + end
-  pub run : runs_of (drop start values) ≡ record { first = slice_index values start; last = slice_index values end } ∷ runs_of (drop (end + 1) values)
+  pub streak : streaks_of (drop start values) ≡ record { first = slice_index values start; last = slice_index values end } ∷ streaks_of (drop (end + 1) values)
 
--- a run is written from a place on, and what comes behind it goes on from the place that is answered
-pub record RunWritten (and : List ℕ) (place : ℕ) (is_last : Bool) (first last : ℕ) (old new : List ℕ) (next : ℕ) : Type 0 where
+-- a streak is written from a place on, and what comes behind it goes on from the place that is answered
+pub record StreakWritten (and : List ℕ) (place : ℕ) (is_last : Bool) (first last : ℕ) (old new : List ℕ) (next : ℕ) : Type 0 where
   pub counted : next ≤ place + ((last + 1) - first)
   pub written : (rest : List (List ℕ)) → is_empty rest ≡ is_last
       → new ++ from_place (separator and) next rest
       ≡ old ++ from_place (separator and) place (map item_text (items_of (record { first = first; last = last })) ++ rest)
 
-abbrev pub WritesRun : List ℕ → ℕ → Bool → ℕ → ℕ → String Global → String Global → Result ℕ CronError → Type 0
-WritesRun and place is_last first last old new answer =
-    MatchResult answer (RunWritten and place is_last first last (string_bytes old) (string_bytes new)) (λ e. e ≡ OutOfMemory)
+abbrev pub WritesStreak : List ℕ → ℕ → Bool → ℕ → ℕ → String Global → String Global → Result ℕ CronError → Type 0
+WritesStreak and place is_last first last old new answer =
+    MatchResult answer (StreakWritten and place is_last first last (string_bytes old) (string_bytes new)) (λ e. e ≡ OutOfMemory)

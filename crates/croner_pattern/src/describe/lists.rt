@@ -3,7 +3,7 @@
 ghost use Rattle.std.specs.Prelude.{true, ◌≡◌, ◌+◌, ◌-◌, ◌<◌, ◌≤◌, ◌∷◌, ◌++◌, [], codes, decimal, length, map, string_bytes};
 ghost use Rattle.croner_pattern.specs.Description.{cyclic_name};
 ghost use Rattle.croner_pattern.specs.Lists.{joined, number_list, text_list};
-ghost use Rattle.croner_pattern.specs.Private.Lists.{AddsTexts, Appends, comma, goes_on, separator, WritesRun, EndsRun};
+ghost use Rattle.croner_pattern.specs.Private.Lists.{AddsTexts, Appends, comma, goes_on, separator, WritesStreak, EndsStreak};
 ghost use Rattle.croner_words.specs.Writes.{Writes};
 
 use croner_base::errors::CronError;
@@ -143,10 +143,10 @@ fn goes_on(values: &[u16], end: usize) -> bool
     end + 1 < values.len() && usize::from(values[end + 1]) == usize::from(values[end]) + 1
 }
 
-/// The index of the last value of the run that begins at an index.
-fn run_end(values: &[u16], start: usize) -> usize
+/// The index of the last value of the streak that begins at an index.
+fn streak_end(values: &[u16], start: usize) -> usize
     requires { start < length values.now }
-    ensures { EndsRun values.now start result }
+    ensures { EndsStreak values.now start result }
 {
     let mut end = start;
     while goes_on(values, end) {
@@ -184,8 +184,8 @@ fn push_range(
     Ok(write!(text, "{first}-{last}")?)
 }
 
-/// Writes a run of values from the first to the last: a range, or one or two numbers. Answers how many items there are then.
-fn push_run(
+/// Writes a streak of values from the first to the last: a range, or one or two numbers. Answers how many items there are then.
+fn push_streak(
     text: &mut String,
     and: &str,
     place: usize,
@@ -195,7 +195,7 @@ fn push_run(
 ) -> Result<usize, CronError>
     requires ordered { first ≤ last }
     requires fits { place + (last - first) < usize.MAX }
-    ensures { WritesRun and.now place is_last first last text.old text.new result }
+    ensures { WritesStreak and.now place is_last first last text.old text.new result }
 {
     if last - first >= RANGE_DISTANCE {
         push_range(text, and, place, is_last, first, last)?;
@@ -218,9 +218,9 @@ pub(crate) fn number_list(alloc: Global, and: &str, values: &[u16]) -> Result<St
     let mut place = 0;
     let mut start = 0;
     while start < values.len() {
-        let end = run_end(values, start);
+        let end = streak_end(values, start);
         let is_last = end + 1 == values.len();
-        place = push_run(&mut text, and, place, is_last, values[start], values[end])?;
+        place = push_streak(&mut text, and, place, is_last, values[start], values[end])?;
         start = end + 1;
     }
     Ok(text)

@@ -1,6 +1,6 @@
 use Rattle.std.proofs.Common.{◌∙◌, FitsSigned, w32}
 use Rattle.std.proofs.lemmas.Int.{to_z-of_z}
-use Rattle.croner_base.proofs.Days.{place_late, place_early, not_late}
+use Rattle.croner_base.proofs.calendar.DayNumbers.{place_late, place_early, not_late}
 use Rattle.croner_base.proofs.time.day_of_year.Goals as goal
 use Rattle.croner_base.proofs.time.day_of_year.Goals.{then-month-gt2, else-month-gt2}
 

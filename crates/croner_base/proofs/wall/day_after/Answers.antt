@@ -1,6 +1,6 @@
 use Rattle.std.proofs.Common.{◌≡◌, arith}
 use Rattle.std.proofs.lemmas.Int.{ints}
-use Rattle.croner_base.proofs.WallSteps.{last_of_year, next_day, next_month, next_year}
+use Rattle.croner_base.proofs.calendar.WallSteps.{last_of_year, next_day, next_month, next_year}
 use Rattle.croner_base.proofs.wall.day_after.Goals as goal
 
 pub returns-then-day-days_in_month : goal.returns-then-day-days_in_month

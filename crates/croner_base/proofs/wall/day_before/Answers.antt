@@ -1,6 +1,6 @@
 use Rattle.std.proofs.Common.{arith}
 use Rattle.std.proofs.lemmas.Int.{ints}
-use Rattle.croner_base.proofs.WallSteps.{day_before, month_before, year_before}
+use Rattle.croner_base.proofs.calendar.WallSteps.{day_before, month_before, year_before}
 use Rattle.croner_base.proofs.wall.day_before.Goals as goal
 
 pub returns-then-day-gt1 : goal.returns-then-day-gt1

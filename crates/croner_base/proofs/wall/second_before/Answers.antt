@@ -1,6 +1,6 @@
 use Rattle.std.proofs.Common.{arith, ◌∙◌, refl, sym}
 use Rattle.std.proofs.lemmas.Int.{ints}
-use Rattle.croner_base.proofs.WallSteps.{second_of}
+use Rattle.croner_base.proofs.calendar.WallSteps.{second_of}
 use Rattle.croner_base.proofs.wall.second_before.Goals as goal
 
 pub returns-in-Some : goal.returns-in-Some

@@ -3,9 +3,9 @@
 ghost use Rattle.std.specs.Prelude.{◌≡◌, ◌<◌, length, slice_index, IsTrue, MatchOption};
 ghost use Rattle.std.specs.Cmp.Lexicographic.{slice_cmp};
 ghost use Rattle.std.specs.Ordering.{nat_cmp};
-ghost use Rattle.croner_base.specs.Private.Words.Differences.{SameSums, IsFirstDifference, ShowsDifferences};
+ghost use Rattle.croner_base.specs.Private.words.Differences.{SameSums, IsFirstDifference, ShowsDifferences};
 ghost use Rattle.croner_base.specs.Field.{room};
-ghost use Rattle.croner_base.specs.Private.Words.Rows.{width};
+ghost use Rattle.croner_base.specs.Private.words.Rows.{width};
 
 use super::words::{ALL_ROWS, WORD_BITS, are_same};
 use super::{Marks, rows};

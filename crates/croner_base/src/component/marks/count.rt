@@ -2,10 +2,10 @@
 
 ghost use Rattle.std.specs.Prelude.{◌≡◌, ℕ, ◌+◌, ◌/◌, ◌<◌, ◌≤◌, ◌==◌, ◌++◌, length, IfOk, OnOk};
 ghost use Rattle.std.specs.Int.{bit_at};
-ghost use Rattle.croner_base.specs.Private.Words.Counts.{ShowsMarked, ShowsFrom, marked_from, values_in};
-ghost use Rattle.croner_base.specs.Private.Words.Marked.{is_set};
-ghost use Rattle.croner_base.specs.Private.Words.Rows.{width};
-ghost use Rattle.croner_base.specs.Private.Words.Word.{word_bits};
+ghost use Rattle.croner_base.specs.Private.words.Counts.{ShowsMarked, ShowsFrom, marked_from, values_in};
+ghost use Rattle.croner_base.specs.Private.words.Marked.{is_set};
+ghost use Rattle.croner_base.specs.Private.words.Rows.{width};
+ghost use Rattle.croner_base.specs.Private.words.Word.{word_bits};
 
 use super::row::{mask_from, mask_to};
 use super::rows::width;

@@ -1,9 +1,9 @@
 //! The hash of marks: for each supported modifier its set, word by word.
 
 ghost use Rattle.std.specs.Prelude.{◌≡◌, ◌*◌, ◌<◌, fold};
-ghost use Rattle.croner_base.specs.Private.Words.Rows.{width};
+ghost use Rattle.croner_base.specs.Private.words.Rows.{width};
 ghost use Rattle.croner_base.specs.Written.{digits_of, set_writes, sets_writes};
-ghost use Rattle.croner_base.specs.Private.Words.Word.{word_bits};
+ghost use Rattle.croner_base.specs.Private.words.Word.{word_bits};
 
 use super::Marks;
 use super::row::mask_to;

@@ -1,9 +1,9 @@
 //! One row of words: a set of values, one bit each.
 
 ghost use Rattle.std.specs.Prelude.{◌≡◌, ◌∷◌, [], ◌+◌, ◌*◌, ◌/◌, ◌<◌, ◌≤◌, length, MatchOption};
-ghost use Rattle.croner_base.specs.Private.Words.Search.{HasNoneFrom, IsLeastFrom, HasNoneTo, IsGreatestTo};
-ghost use Rattle.croner_base.specs.Private.Words.Masks.{MasksFrom, MasksTo, HasMarked};
-ghost use Rattle.croner_base.specs.Private.Words.Word.{word_bits};
+ghost use Rattle.croner_base.specs.Private.words.Search.{HasNoneFrom, IsLeastFrom, HasNoneTo, IsGreatestTo};
+ghost use Rattle.croner_base.specs.Private.words.Masks.{MasksFrom, MasksTo, HasMarked};
+ghost use Rattle.croner_base.specs.Private.words.Word.{word_bits};
 
 use super::words::WORD_BITS;
 

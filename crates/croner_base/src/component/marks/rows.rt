@@ -3,10 +3,10 @@
 ghost use Rattle.std.specs.Prelude.{◌≡◌, ℕ, ◌+◌, ◌*◌, ◌/◌, ◌^◌, ◌<◌, ◌≤◌, ◌==◌, ◌-◌, length, slice_index, slice_set, bit_or, bit_and};
 ghost use Rattle.std.specs.Int.{bit_at};
 ghost use Rattle.croner_base.specs.Field.{room};
-ghost use Rattle.croner_base.specs.Private.Words.Counts.{ShowsMarked};
-ghost use Rattle.croner_base.specs.Private.Words.Marked.{GainsRange};
-ghost use Rattle.croner_base.specs.Private.Words.Rows.{width, rows_below, in_row, mark_at, sums_of, marks_in};
-ghost use Rattle.croner_base.specs.Private.Words.Word.{word_bits};
+ghost use Rattle.croner_base.specs.Private.words.Counts.{ShowsMarked};
+ghost use Rattle.croner_base.specs.Private.words.Marked.{GainsRange};
+ghost use Rattle.croner_base.specs.Private.words.Rows.{width, rows_below, in_row, mark_at, sums_of, marks_in};
+ghost use Rattle.croner_base.specs.Private.words.Word.{word_bits};
 
 use super::row;
 use super::words::WORD_BITS;

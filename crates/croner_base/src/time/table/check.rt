@@ -75,11 +75,11 @@ struct Tally {
 }
 
 impl Tally {
-    ghost use Rattle.croner_base.specs.Private.TableSteps.{IsNext, HasTallied};
+    ghost use Rattle.croner_base.specs.Private.TableSteps.{IsNextChange, HasTallied};
 
     // One change more, or nothing where the table is refused for it.
     fn with(self, second: i64, offset: i32) -> Option<Tally>
-        ensures some { IsSome result ↔ IsNext self.offset self.earliest self.met self.gap_seconds (second, offset) }
+        ensures some { IsSome result ↔ IsNextChange self.offset self.earliest self.met self.gap_seconds (second, offset) }
         ensures value { IfSome result
             (HasTallied self.offset self.met self.gap_seconds (second, offset)) }
     {

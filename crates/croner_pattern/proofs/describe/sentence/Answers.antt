@@ -2,7 +2,7 @@ use Rattle.std.proofs.Common.{◌≡◌, ◌∙◌, ap, sym, rules, ◌++◌, st
 use Rattle.std.specs.Prelude.{codes}
 use Rattle.std.specs.Char.{encode_utf8}
 use Rattle.croner_pattern.specs.Description.{sentence}
-use Rattle.croner_pattern.proofs.Sentences.{raised}
+use Rattle.croner_pattern.proofs.descriptions.Sentences.{raised}
 use Rattle.croner_pattern.proofs.describe.sentence.Goals as goal
 
 pub returns : goal.returns

@@ -1,5 +1,5 @@
 use Rattle.std.proofs.Common.{◌∙◌}
-use Rattle.croner_base.proofs.Padded.{two_places_written}
+use Rattle.croner_base.proofs.texts.PaddedNumbers.{two_places_written}
 use Rattle.croner_words.proofs.Padded.{time_with_seconds, time_without_seconds}
 use Rattle.croner_words.proofs.english_form.time_of_day.Goals as goal
 

@@ -2,7 +2,7 @@ use Rattle.std.proofs.Common.{◌≡◌, ◌∙◌, ap, ℤ, pos, neg_ℤ, ◌�
 use Rattle.std.proofs.lemmas.Int.{ints, to_z-of_z}
 use Rattle.std.specs.Int.{int_max, int_min}
 use Rattle.croner_base.specs.TableZone.{table_zone}
-use Rattle.croner_base.proofs.TableTests.{le_of}
+use Rattle.croner_base.proofs.tables.TableTests.{le_of}
 use Rattle.croncheck_command.specs.declared.changes.Change.{Change}
 use Rattle.croncheck_command.proofs.ClockTurns.{first_asked, last_asked, none_watched, ok_watched}
 use Rattle.croncheck_command.proofs.changes.found.changes_behind.Goals as goal

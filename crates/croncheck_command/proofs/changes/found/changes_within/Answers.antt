@@ -1,7 +1,7 @@
 use Rattle.std.proofs.Common.{◌≡◌, ◌∙◌, sym, subst, ℤ, pos, ◌+ℤ◌, ◌≤ℤ◌, List, to_z, of_z, w64, FitsSigned, rules, arith}
 use Rattle.std.proofs.lemmas.Int.{ints, to_z-of_z}
 use Rattle.croner_base.specs.TableZone.{table_zone}
-use Rattle.croner_base.proofs.ZoneStays.{ge_of}
+use Rattle.croner_base.proofs.zones.ZoneStays.{ge_of}
 use Rattle.croncheck_command.specs.declared.changes.Change.{Change}
 use Rattle.croncheck_command.specs.Private.Found.{AreJumps}
 use Rattle.croncheck_command.proofs.ClockTurns.{jumps_found}

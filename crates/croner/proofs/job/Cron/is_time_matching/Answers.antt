@@ -2,7 +2,7 @@ use Rattle.std.proofs.Common.{ap, sym, ◌≡◌, ◌∙◌, true, false, Ok}
 use Rattle.croner_base.specs.Calendar.{weekday_of_day}
 use Rattle.croner_base.specs.Civil.{weekday_of_second, weekday_of_date}
 use Rattle.croner_base.specs.Zone.{reading}
-use Rattle.croner_base.proofs.JiffSeconds.{wall_second-day}
+use Rattle.croner_base.proofs.calendar.JiffSeconds.{wall_second-day}
 use Rattle.croner_pattern.specs.Schedule.{is_date_matching}
 use Rattle.croner.specs.Views.{job_of}
 use Rattle.croner.proofs.Matching.{same_ok, is_time_named, date_decides, missed_by_time}

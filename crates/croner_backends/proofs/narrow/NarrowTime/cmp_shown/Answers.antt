@@ -1,7 +1,7 @@
 use Rattle.std.proofs.Common.{◌≡◌, ◌∙◌, arith, FitsSigned, w64}
 use Rattle.std.proofs.lemmas.Int.{ints, to_z-of_z}
-use Rattle.croner_base.proofs.Chronology.{parts_cmp-chronological}
-use Rattle.croner_base.proofs.TableTests.{instant_bounds}
+use Rattle.croner_base.proofs.calendar.Chronology.{parts_cmp-chronological}
+use Rattle.croner_base.proofs.tables.TableTests.{instant_bounds}
 use Rattle.croner_backends.proofs.Bounds.{compares_beyond}
 use Rattle.croner_backends.proofs.narrow.NarrowTime.cmp_shown.Goals as goal
 

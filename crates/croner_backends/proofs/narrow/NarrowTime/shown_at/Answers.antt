@@ -1,7 +1,7 @@
 use Rattle.std.proofs.Common.{◌≡◌, arith, ◌+ℤ◌, FitsSigned, w64}
 use Rattle.std.proofs.lemmas.Int.{ints, to_z-of_z}
 use Rattle.croner_base.specs.TableZone.{clock}
-use Rattle.croner_base.proofs.TableTests.{instant_bounds}
+use Rattle.croner_base.proofs.tables.TableTests.{instant_bounds}
 use Rattle.croner_backends.proofs.narrow.NarrowTime.shown_at.Goals as goal
 
 pub returns-in-Ok-None-clause-none : goal.returns-in-Ok-None-clause-none

@@ -4,7 +4,7 @@ use Rattle.std.specs.declared.cmp.Ordering.TheVariants.{Less}
 use Rattle.croner_base.specs.Civil.{wall_second}
 use Rattle.croner_base.specs.Table.{first_instant}
 use Rattle.croner_base.specs.TableZone.{table_zone}
-use Rattle.croner_base.proofs.TableTests.{lt_test}
+use Rattle.croner_base.proofs.tables.TableTests.{lt_test}
 use Rattle.croner_backends.proofs.Bounds.{is_less, index_less, index_greater, shows_less}
 use Rattle.croner_backends.proofs.narrow.NarrowTime.skips.Goals as goal
 use Rattle.croner_backends.proofs.narrow.NarrowTime.skips.Goals.{in-Some, in-None}

@@ -1,7 +1,7 @@
 use Rattle.std.proofs.Common.{rules, ◌≡◌, subst, Some, leb, ◌&&◌, true}
 use Rattle.croner_base.specs.Part.{is_starred, stepped_marks, step_bounds}
 use Rattle.croner_base.specs.Reading.{Reads}
-use Rattle.croner_base.proofs.Stepping.{Reads-stepping, with_step}
+use Rattle.croner_base.proofs.fields.SteppedParts.{Reads-stepping, with_step}
 use Rattle.croner_base.proofs.component.CronComponent.handle_stepping.Goals as goal
 use Rattle.croner_base.proofs.component.CronComponent.handle_stepping.Goals.{then-is_starred, else-is_starred}
 

@@ -3,7 +3,7 @@ use Rattle.std.proofs.lemmas.Result.{err_from_is_err_and}
 use Rattle.croner_base.specs.Field.{values_between}
 use Rattle.croner_base.specs.Part.{all_marked}
 use Rattle.croner_base.specs.Reading.{Reads}
-use Rattle.croner_base.proofs.Filling.{Reads-gained, Reads-unfilled}
+use Rattle.croner_base.proofs.fields.MarkedRanges.{Reads-gained, Reads-unfilled}
 use Rattle.croner_base.proofs.component.CronComponent.mark_all.Goals as goal
 
 pub returns-in_err-first : goal.returns-in_err-first

@@ -1,8 +1,8 @@
 use Rattle.std.proofs.Common.{arith, ◌≡◌, ◌+◌, ◌<◌, ◌≤◌, subst}
 use Rattle.std.proofs.lemmas.Result.{err_from_is_err_and}
 use Rattle.croner_base.specs.Part.{stepped_marks}
-use Rattle.croner_base.proofs.Readings.{Completes}
-use Rattle.croner_base.proofs.Steps.{rest_from, stepped-fault, stepped-next, stepped-on, stepped-over}
+use Rattle.croner_base.proofs.fields.ReadingsInTurn.{Completes}
+use Rattle.croner_base.proofs.fields.StepsMarked.{rest_from, stepped-fault, stepped-next, stepped-on, stepped-over}
 use Rattle.croner_base.proofs.component.CronComponent.mark_stepped.Goals as goal
 
 pub returns-in_err-set_bit : goal.returns-in_err-set_bit

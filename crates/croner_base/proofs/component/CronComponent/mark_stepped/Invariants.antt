@@ -1,7 +1,7 @@
 use Rattle.std.proofs.Common.{◌≡◌, ◌+◌, ◌-◌}
 use Rattle.croner_base.specs.Part.{stepped_marks}
-use Rattle.croner_base.proofs.Readings.{Completes}
-use Rattle.croner_base.proofs.Steps.{rest_from}
+use Rattle.croner_base.proofs.fields.ReadingsInTurn.{Completes}
+use Rattle.croner_base.proofs.fields.StepsMarked.{rest_from}
 use Rattle.croner_base.proofs.component.CronComponent.mark_stepped.Given as goal
 
 abbrev pub invariant-loop-pos : goal.invariant-loop-pos

@@ -1,6 +1,6 @@
 use Rattle.std.proofs.Common.{◌≡◌, length, drop}
 use Rattle.croner_base.specs.Part.{parts_of, pieces_at}
-use Rattle.croner_base.proofs.Readings.{Completes}
+use Rattle.croner_base.proofs.fields.ReadingsInTurn.{Completes}
 use Rattle.croner_base.proofs.component.CronComponent.parse_list.Given as goal
 
 abbrev pub invariant-loop-part : goal.invariant-loop-part

@@ -1,4 +1,4 @@
-use Rattle.croner_base.proofs.Texts.{contains_is}
+use Rattle.croner_base.proofs.fields.TextPieces.{contains_is}
 use Rattle.croner_base.proofs.component.text.has.Goals as goal
 
 pub returns : goal.returns

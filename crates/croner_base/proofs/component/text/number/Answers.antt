@@ -1,5 +1,5 @@
 use Rattle.std.proofs.Common.{◌∙◌}
-use Rattle.croner_base.proofs.Texts.{number_from_parse}
+use Rattle.croner_base.proofs.fields.TextPieces.{number_from_parse}
 use Rattle.croner_base.proofs.component.text.number.Goals as goal
 
 pub returns : goal.returns

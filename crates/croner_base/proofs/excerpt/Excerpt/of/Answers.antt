@@ -1,4 +1,4 @@
-use Rattle.croner_base.proofs.Excerpts.{length_excerpt}
+use Rattle.croner_base.proofs.texts.ExcerptLengths.{length_excerpt}
 use Rattle.croner_base.proofs.excerpt.Excerpt.of.Goals as goal
 
 pub returns-clause-short : goal.returns-clause-short

@@ -1,7 +1,7 @@
 use Rattle.std.proofs.Common.{ap, ◌∙◌}
 use Rattle.std.proofs.Output.{has_written_of_eq}
 use Rattle.croner_base.specs.Excerpt.{excerpt}
-use Rattle.croner_base.proofs.Excerpts.{long_written}
+use Rattle.croner_base.proofs.texts.ExcerptLengths.{long_written}
 use Rattle.croner_base.proofs.excerpt.ExcerptDisplay.fmt.Goals as goal
 
 pub returns-clause-writes : goal.returns-clause-writes

@@ -3,7 +3,7 @@ use Rattle.std.proofs.lemmas.Str.{cons_from_encodes, encodes-chars}
 use Rattle.std.proofs.Output.{writes_in_calls_nil, has_written_append, has_written_of_eq}
 use Rattle.std.specs.Str.{chars}
 use Rattle.croner_base.specs.Excerpt.{shown}
-use Rattle.croner_base.proofs.Excerpts.{one_more_shown, none_more_shown}
+use Rattle.croner_base.proofs.texts.ExcerptLengths.{one_more_shown, none_more_shown}
 use Rattle.croner_base.proofs.excerpt.ShownDisplay.fmt.Goals as goal
 
 pub loop-left-init : goal.loop-left-init

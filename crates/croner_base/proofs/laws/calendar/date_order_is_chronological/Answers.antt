@@ -1,5 +1,5 @@
 use Rattle.std.proofs.Common.{◌∙◌}
-use Rattle.croner_base.proofs.Chronology.{date_cmp-chronological}
+use Rattle.croner_base.proofs.calendar.Chronology.{date_cmp-chronological}
 use Rattle.croner_base.proofs.laws.calendar.date_order_is_chronological.Goals as goal
 
 pub returns : goal.returns

@@ -1,5 +1,5 @@
 use Rattle.std.proofs.Common.{refl}
-use Rattle.croner_base.proofs.Days.{day_number-epoch, day_number-day, day_number-next_month, day_number-next_year}
+use Rattle.croner_base.proofs.calendar.DayNumbers.{day_number-epoch, day_number-day, day_number-next_month, day_number-next_year}
 use Rattle.croner_base.proofs.laws.calendar.day_numbers_count_dates.Goals as goal
 
 pub returns-clause-epoch : goal.returns-clause-epoch

@@ -1,5 +1,5 @@
 use Rattle.std.proofs.Common.{◌∙◌}
-use Rattle.croner_base.proofs.Chronology.{time_cmp-chronological}
+use Rattle.croner_base.proofs.calendar.Chronology.{time_cmp-chronological}
 use Rattle.croner_base.proofs.laws.calendar.time_order_is_chronological.Goals as goal
 
 pub returns : goal.returns

@@ -1,4 +1,4 @@
-use Rattle.croner_base.proofs.Chronology.{wall_second-injective}
+use Rattle.croner_base.proofs.calendar.Chronology.{wall_second-injective}
 use Rattle.croner_base.proofs.laws.calendar.wall_second_has_one_date_time.Goals as goal
 
 pub returns : goal.returns

@@ -1,4 +1,4 @@
-use Rattle.croner_base.proofs.Chronology.{weekday_of_day-epoch, weekday_of_day-next}
+use Rattle.croner_base.proofs.calendar.Chronology.{weekday_of_day-epoch, weekday_of_day-next}
 use Rattle.croner_base.proofs.laws.calendar.weekdays_follow_days.Goals as goal
 
 pub returns-clause-epoch : goal.returns-clause-epoch

@@ -1,4 +1,4 @@
-use Rattle.croner_base.proofs.Chronology.{year_reached}
+use Rattle.croner_base.proofs.calendar.Chronology.{year_reached}
 use Rattle.croner_base.proofs.laws.calendar.year_begins_on_its_first_day.Goals as goal
 
 pub returns : goal.returns

@@ -1,4 +1,4 @@
-use Rattle.croner_base.proofs.Chronology.{searched_years, needed_years, start_years}
+use Rattle.croner_base.proofs.calendar.Chronology.{searched_years, needed_years, start_years}
 use Rattle.croner_base.proofs.laws.calendar.years_of_the_limits.Goals as goal
 
 pub returns-clause-searched : goal.returns-clause-searched

@@ -1,4 +1,4 @@
-use Rattle.croner_base.proofs.CivilCalm.{civil_holds}
+use Rattle.croner_base.proofs.clocks.CivilCalm.{civil_holds}
 use Rattle.croner_base.proofs.laws.clocks.civil_time_holds_around.Goals as goal
 
 pub returns : goal.returns

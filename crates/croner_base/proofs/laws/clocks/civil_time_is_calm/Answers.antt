@@ -1,4 +1,4 @@
-use Rattle.croner_base.proofs.CivilCalm.{civil_calm, civil_single}
+use Rattle.croner_base.proofs.clocks.CivilCalm.{civil_calm, civil_single}
 use Rattle.croner_base.proofs.laws.clocks.civil_time_is_calm.Goals as goal
 
 pub returns-clause-calm : goal.returns-clause-calm

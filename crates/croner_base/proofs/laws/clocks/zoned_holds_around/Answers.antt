@@ -1,5 +1,5 @@
 use Rattle.jiff.specs.ZonedView.{plain_zoned}
-use Rattle.croner_base.proofs.ZonedHolds.{zoned_holds}
+use Rattle.croner_base.proofs.clocks.ZonedHolds.{zoned_holds}
 use Rattle.croner_base.proofs.laws.clocks.zoned_holds_around.Goals as goal
 
 pub returns : goal.returns

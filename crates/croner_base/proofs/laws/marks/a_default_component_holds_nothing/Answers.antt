@@ -1,7 +1,7 @@
 use Rattle.std.proofs.Common.{refl}
 use Rattle.croner_base.specs.Field.{default_field}
-use Rattle.croner_base.proofs.Defaults.{nothing_listed, no_feature, only_blank}
-use Rattle.croner_base.proofs.MarkSets.{zero-ask, zero-mark}
+use Rattle.croner_base.proofs.fields.DefaultField.{nothing_listed, no_feature, only_blank}
+use Rattle.croner_base.proofs.fields.MarkSets.{zero-ask, zero-mark}
 use Rattle.croner_base.proofs.laws.marks.a_default_component_holds_nothing.Goals as goal
 
 pub returns : goal.returns

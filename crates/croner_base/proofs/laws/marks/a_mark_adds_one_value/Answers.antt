@@ -1,4 +1,4 @@
-use Rattle.croner_base.proofs.MarkSets.{adds_one}
+use Rattle.croner_base.proofs.fields.MarkSets.{adds_one}
 use Rattle.croner_base.proofs.laws.marks.a_mark_adds_one_value.Goals as goal
 
 pub returns : goal.returns

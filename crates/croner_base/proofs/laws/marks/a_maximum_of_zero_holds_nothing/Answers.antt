@@ -1,4 +1,4 @@
-use Rattle.croner_base.proofs.MarkSets.{zero-ask, zero-mark}
+use Rattle.croner_base.proofs.fields.MarkSets.{zero-ask, zero-mark}
 use Rattle.croner_base.proofs.laws.marks.a_maximum_of_zero_holds_nothing.Goals as goal
 
 pub returns : goal.returns

@@ -1,4 +1,4 @@
-use Rattle.croner_base.proofs.MarkSets.{names-range}
+use Rattle.croner_base.proofs.fields.MarkSets.{names-range}
 use Rattle.croner_base.proofs.laws.marks.a_range_names_its_values.Goals as goal
 
 pub returns : goal.returns

@@ -1,4 +1,4 @@
-use Rattle.croner_base.proofs.MarkSets.{names-steps}
+use Rattle.croner_base.proofs.fields.MarkSets.{names-steps}
 use Rattle.croner_base.proofs.laws.marks.a_step_names_each_step.Goals as goal
 
 pub returns : goal.returns

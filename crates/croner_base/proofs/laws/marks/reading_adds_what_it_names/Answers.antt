@@ -1,4 +1,4 @@
-use Rattle.croner_base.proofs.MarkSets.{is_in-applied}
+use Rattle.croner_base.proofs.fields.MarkSets.{is_in-applied}
 use Rattle.croner_base.proofs.laws.marks.reading_adds_what_it_names.Goals as goal
 
 pub returns : goal.returns

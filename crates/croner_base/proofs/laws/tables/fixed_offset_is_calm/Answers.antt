@@ -1,7 +1,7 @@
 use Rattle.std.proofs.Common.{refl}
 use Rattle.croner_base.specs.Table.{is_calm_table}
 use Rattle.croner_base.specs.TableZone.{clock}
-use Rattle.croner_base.proofs.TableTests.{offset_test}
+use Rattle.croner_base.proofs.tables.TableTests.{offset_test}
 use Rattle.croner_base.proofs.laws.tables.fixed_offset_is_calm.Goals as goal
 
 pub returns-clause-calm : goal.returns-clause-calm

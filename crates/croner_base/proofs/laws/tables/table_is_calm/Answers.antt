@@ -1,4 +1,4 @@
-use Rattle.croner_base.proofs.TableCalm.{clock_calm}
+use Rattle.croner_base.proofs.tables.TableCalm.{clock_calm}
 use Rattle.croner_base.proofs.laws.tables.table_is_calm.Goals as goal
 
 pub returns : goal.returns

@@ -1,4 +1,4 @@
-use Rattle.croner_base.proofs.TableCalm.{table_holds}
+use Rattle.croner_base.proofs.tables.TableCalm.{table_holds}
 use Rattle.croner_base.proofs.laws.tables.table_time_holds_around.Goals as goal
 
 pub returns : goal.returns

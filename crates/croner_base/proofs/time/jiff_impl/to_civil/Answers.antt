@@ -1,6 +1,6 @@
 use Rattle.std.proofs.Common.{arith, ◌∙◌}
 use Rattle.std.proofs.lemmas.Int.{ints}
-use Rattle.croner_base.proofs.JiffSeconds.{wall_second-civil_seconds}
+use Rattle.croner_base.proofs.calendar.JiffSeconds.{wall_second-civil_seconds}
 use Rattle.croner_base.proofs.time.jiff_impl.to_civil.Goals as goal
 
 pub returns : goal.returns

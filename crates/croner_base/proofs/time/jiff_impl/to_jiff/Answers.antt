@@ -3,7 +3,7 @@ use Rattle.std.proofs.lemmas.Int.{ints}
 use Rattle.jiff_core.specs.declared.civil.datetime.DateTime.{DateTime as Plain}
 use Rattle.jiff_core.proofs.SignedLemmas.{signed_casts}
 use Rattle.jiff_core.proofs.CalendarLemmas.{days_in_month_bounds}
-use Rattle.croner_base.proofs.JiffSeconds.{wall_second-civil_seconds}
+use Rattle.croner_base.proofs.calendar.JiffSeconds.{wall_second-civil_seconds}
 use Rattle.croner_base.proofs.time.jiff_impl.to_jiff.Goals as goal
 
 pub returns-clause-value : goal.returns-clause-value

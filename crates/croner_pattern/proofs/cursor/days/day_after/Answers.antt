@@ -1,4 +1,4 @@
-use Rattle.croner_pattern.proofs.civil.DayBits.{later_days, no_later_day}
+use Rattle.croner_pattern.proofs.civil.DaysOfMonths.{later_days, no_later_day}
 use Rattle.croner_pattern.proofs.cursor.days.day_after.Goals as goal
 
 pub returns-in_err-next : goal.returns-in_err-next

@@ -1,5 +1,5 @@
 use Rattle.std.proofs.Common.{arith}
-use Rattle.croner_pattern.proofs.civil.DayBits.{day_place}
+use Rattle.croner_pattern.proofs.civil.DaysOfMonths.{day_place}
 use Rattle.croner_pattern.proofs.cursor.days.places.Goals as goal
 
 pub returns : goal.returns

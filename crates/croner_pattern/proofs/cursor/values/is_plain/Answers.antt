@@ -1,6 +1,6 @@
 use Rattle.std.proofs.Common.{◌==◌, ap, ◌∙◌}
 use Rattle.std.proofs.lemmas.Nat.Bits.{shr_and_one}
-use Rattle.croner_pattern.proofs.Shaped.{marked-named}
+use Rattle.croner_pattern.proofs.questions.FieldShapes.{marked-named}
 use Rattle.croner_pattern.proofs.cursor.values.is_plain.Goals as goal
 
 pub returns : goal.returns

@@ -1,5 +1,5 @@
 use Rattle.std.proofs.Common.{◌∙◌, ap, sym}
-use Rattle.croner_pattern.proofs.FieldWords.{begins_at_least, begins_with_none}
+use Rattle.croner_pattern.proofs.descriptions.PlainValues.{begins_at_least, begins_with_none}
 use Rattle.croner_pattern.specs.Schedule.{is_plain}
 use Rattle.croner_pattern.proofs.describe.fields.begins_at_least.Goals as goal
 

@@ -1,6 +1,6 @@
 use Rattle.std.proofs.Common.{◌∙◌, ap, sym, arith}
 use Rattle.croner_pattern.specs.Description.{begins_with, plain_values}
-use Rattle.croner_pattern.proofs.FieldWords.{not_with_zero}
+use Rattle.croner_pattern.proofs.descriptions.PlainValues.{not_with_zero}
 use Rattle.croner_pattern.proofs.describe.fields.begins_at_zero.Goals as goal
 
 pub returns-then-min-ne0 : goal.returns-then-min-ne0

@@ -1,6 +1,6 @@
 use Rattle.std.proofs.Common.{◌≡◌, eqb, false, sym, ◌∙◌, arith}
 use Rattle.std.proofs.lemmas.Bool.Decides.{nat_tests}
-use Rattle.croner_pattern.proofs.FieldWords.{first_is, first_of_none, first_of_zero}
+use Rattle.croner_pattern.proofs.descriptions.PlainValues.{first_is, first_of_none, first_of_zero}
 use Rattle.croner_pattern.proofs.describe.fields.first_value.Goals as goal
 
 pub returns-then-max-eq0 : goal.returns-then-max-eq0

@@ -1,5 +1,5 @@
 use Rattle.std.proofs.Common.{rules}
-use Rattle.croner_pattern.proofs.FieldWords.{all_by_count}
+use Rattle.croner_pattern.proofs.descriptions.PlainValues.{all_by_count}
 use Rattle.croner_pattern.proofs.describe.fields.is_all.Goals as goal
 
 pub returns-then-step-eq1 : goal.returns-then-step-eq1

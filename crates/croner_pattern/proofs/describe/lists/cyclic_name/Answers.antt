@@ -1,4 +1,4 @@
-use Rattle.croner_pattern.proofs.ListsWritten.{cyclic_name-map}
+use Rattle.croner_pattern.proofs.descriptions.ListsWritten.{cyclic_name-map}
 use Rattle.croner_pattern.proofs.describe.lists.cyclic_name.Goals as goal
 
 pub returns : goal.returns

@@ -3,7 +3,7 @@ use Rattle.std.specs.Prelude.{codes}
 use Rattle.std.proofs.lemmas.List.{get_or-map, length-map}
 use Rattle.croner_pattern.specs.Private.Lists.{comma}
 use Rattle.croner_pattern.specs.Lists.{joined}
-use Rattle.croner_pattern.proofs.ListsWritten.{joined-begun, item_more}
+use Rattle.croner_pattern.proofs.descriptions.ListsWritten.{joined-begun, item_more}
 use Rattle.croner_pattern.proofs.describe.lists.join.Goals as goal
 
 pub loop-place-init : goal.loop-place-init

@@ -3,7 +3,7 @@ use Rattle.std.proofs.lemmas.List.{get_or-map, length-map}
 use Rattle.croner_pattern.specs.Description.{cyclic_name}
 use Rattle.croner_pattern.specs.Private.Lists.{separator}
 use Rattle.croner_pattern.specs.Lists.{text_list}
-use Rattle.croner_pattern.proofs.ListsWritten.{text_list-begun, item_more}
+use Rattle.croner_pattern.proofs.descriptions.ListsWritten.{text_list-begun, item_more}
 use Rattle.croner_pattern.proofs.describe.lists.name_list.Goals as goal
 
 pub loop-place-init : goal.loop-place-init

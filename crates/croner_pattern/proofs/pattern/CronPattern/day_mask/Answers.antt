@@ -5,10 +5,10 @@ use Rattle.croner_pattern.specs.Meaning.{meaning_of}
 use Rattle.croner_pattern.specs.Questions.{date_answer, are_answered}
 use Rattle.croner_pattern.specs.Schedule.{is_day_matching, IsDayMask}
 use Rattle.croner_pattern.specs.Shapes.{has_field_shapes}
-use Rattle.croner_pattern.proofs.Shaped.{none-some}
-use Rattle.croner_pattern.proofs.Sides.{Kind, date_is}
-use Rattle.croner_pattern.proofs.Known.{date_answered}
-use Rattle.croner_pattern.proofs.Masks.{MaskUpTo, mask-hit, mask-miss, all-answered, one-lacks}
+use Rattle.croner_pattern.proofs.questions.FieldShapes.{none-some}
+use Rattle.croner_pattern.proofs.questions.ScheduledAnswers.{IsDayOfMonth, date_is}
+use Rattle.croner_pattern.proofs.questions.DayAnswers.{date_answered}
+use Rattle.croner_pattern.proofs.days.DayMasks.{MaskUpTo, mask-hit, mask-miss, all-answered, one-lacks}
 use Rattle.croner_pattern.proofs.pattern.CronPattern.day_mask.Goals as goal
 use Rattle.croner_pattern.proofs.pattern.CronPattern.day_mask.Goals.{then-branch, else-branch}
 
@@ -21,7 +21,7 @@ returns-then-has_field_shapes-clause-asked c =
     let small : first < 7 = subst (λ n. n < 7) c.num_days_from_sunday-first_index.ensures.value c.num_days_from_sunday-first_index.ensures.bound in
     let shapes : has_field_shapes m ≡ true = sym c.has_field_shapes.ensures ∙ c.if-has_field_shapes.true in
     all-answered (date_answer m len first) len (λ place low.
-    let k : Kind len first (place + 1) = record { shortest = c.requires.0; longest = c.requires.1; weekday = small; low = omega arith; high = omega arith } in
+    let k : IsDayOfMonth len first (place + 1) = record { shortest = c.requires.0; longest = c.requires.1; weekday = small; low = omega arith; high = omega arith } in
     ap is_some (date_answered m len first (place + 1) shapes k))
 
 pub returns-then-has_field_shapes-clause-value : goal.returns-then-has_field_shapes-clause-value
@@ -41,7 +41,7 @@ returns-in_err-fits-clause-asked c =
 pub returns-in_err-fits-clause-shaped : goal.returns-in_err-fits-clause-shaped
 returns-in_err-fits-clause-shaped c h =
     let day = c.loop-place.place + 1 in
-    let k : Kind c.args.month_length c.num_days_from_sunday-first_index.result day = record { shortest = c.requires.0; longest = c.requires.1; weekday = c.num_days_from_sunday-first_index.ensures.bound; low = omega arith; high = omega arith } in
+    let k : IsDayOfMonth c.args.month_length c.num_days_from_sunday-first_index.result day = record { shortest = c.requires.0; longest = c.requires.1; weekday = c.num_days_from_sunday-first_index.ensures.bound; low = omega arith; high = omega arith } in
     absurd (none-some _ (sym c.in_err-fits.ensures.0 ∙ date_answered (meaning_of c.args.self.now) c.args.month_length c.num_days_from_sunday-first_index.result day h k))
 
 pub loop-place-preserved : goal.loop-place-preserved
@@ -51,7 +51,7 @@ loop-place-preserved c =
     let first = c.num_days_from_sunday-first_index.result in
     let place = c.loop-place.place in
     let small : place < 32 = omega arith in
-    let k : Kind len first (place + 1) = record { shortest = c.requires.0; longest = c.requires.1; weekday = c.num_days_from_sunday-first_index.ensures.bound; low = omega arith; high = omega arith } in
+    let k : IsDayOfMonth len first (place + 1) = record { shortest = c.requires.0; longest = c.requires.1; weekday = c.num_days_from_sunday-first_index.ensures.bound; low = omega arith; high = omega arith } in
     let fits = is_day_matching m len first in
     let is : c.in_ok-fits.field-0 ≡ fits (place + 1) = date_is m len first (place + 1) c.in_ok-fits.field-0 k c.in_ok-fits.ensures in
     record {

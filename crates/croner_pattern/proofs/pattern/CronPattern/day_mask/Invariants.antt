@@ -2,7 +2,7 @@ use Rattle.std.proofs.Common.{◌≡◌, ℕ, ◌+◌, ◌<◌, true, is_some}
 use Rattle.croner_pattern.specs.Meaning.{meaning_of}
 use Rattle.croner_pattern.specs.Questions.{date_answer}
 use Rattle.croner_pattern.specs.Schedule.{is_day_matching}
-use Rattle.croner_pattern.proofs.Masks.{MaskUpTo}
+use Rattle.croner_pattern.proofs.days.DayMasks.{MaskUpTo}
 use Rattle.croner_pattern.proofs.pattern.CronPattern.day_mask.Given as goal
 
 abbrev pub invariant-loop-place : goal.invariant-loop-place

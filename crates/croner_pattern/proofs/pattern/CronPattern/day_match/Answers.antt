@@ -7,12 +7,12 @@ use Rattle.croner_base.specs.Civil.{weekday_index}
 use Rattle.croner_pattern.specs.Meaning.{meaning_of}
 use Rattle.croner_pattern.specs.Questions.{first_from, date_answer}
 use Rattle.croner_pattern.specs.Schedule.{is_day_matching}
-use Rattle.croner_pattern.proofs.Shaped.{Finds-some}
-use Rattle.croner_pattern.proofs.Sides.{Kind, date_is}
-use Rattle.croner_pattern.proofs.Known.{date_answered, Finds-value, Finds-moved}
+use Rattle.croner_pattern.proofs.questions.FieldShapes.{Finds-some}
+use Rattle.croner_pattern.proofs.questions.ScheduledAnswers.{IsDayOfMonth, date_is}
+use Rattle.croner_pattern.proofs.questions.DayAnswers.{date_answered, Finds-value, Finds-moved}
 use Rattle.croner_pattern.proofs.pattern.CronPattern.day_match.Goals as goal
 
-kind : (len first day l f : ℕ) → l ≡ len → f ≡ first → IsInRange 28 31 l → f < 7 → IsInRange 1 len day → Kind len first day
+kind : (len first day l f : ℕ) → l ≡ len → f ≡ first → IsInRange 28 31 l → f < 7 → IsInRange 1 len day → IsDayOfMonth len first day
 kind len first day l f el ef long small real =
     let long_is : IsInRange 28 31 len = subst (λ n. IsInRange 28 31 n) el long in
     record { shortest = long_is.0; longest = long_is.1; weekday = subst (λ n. n < 7) ef small; low = real.0; high = real.1 }
@@ -37,7 +37,7 @@ returns-clause-value c =
     let real = some.0 (c.is_none.ensures ∙ ap not c.if-is_none.false) in
     let first = first_from (weekday_index c.args.weekday) c.args.day in
     let len = days_in_month c.args.year c.args.month in
-    let k : Kind len first c.args.day = kind len first c.args.day c.days_in_month-length.result c.first_weekday.result length_is c.first_weekday.ensures.value c.days_in_month-length.ensures.bound c.first_weekday.ensures.bound real.1 in
+    let k : IsDayOfMonth len first c.args.day = kind len first c.args.day c.days_in_month-length.result c.first_weekday.result length_is c.first_weekday.ensures.value c.days_in_month-length.ensures.bound c.first_weekday.ensures.bound real.1 in
     Finds-value (date_answer (meaning_of c.args.self.now) len first c.args.day) c.fits.result (is_day_matching (meaning_of c.args.self.now) len first c.args.day)
     (λ b e. date_is (meaning_of c.args.self.now) len first c.args.day b k e)
     (Finds-moved (meaning_of c.args.self.now) c.args.day c.fits.result c.days_in_month-length.result len c.first_weekday.result first length_is c.first_weekday.ensures.value c.fits.ensures)
@@ -48,7 +48,7 @@ returns-clause-shaped c h real =
     let length_is = simp (to_z-of_z, year) at c.days_in_month-length.ensures.value in
     let first = first_from (weekday_index c.args.weekday) c.args.day in
     let len = days_in_month c.args.year c.args.month in
-    let k : Kind len first c.args.day = kind len first c.args.day c.days_in_month-length.result c.first_weekday.result length_is c.first_weekday.ensures.value c.days_in_month-length.ensures.bound c.first_weekday.ensures.bound real.1 in
+    let k : IsDayOfMonth len first c.args.day = kind len first c.args.day c.days_in_month-length.result c.first_weekday.result length_is c.first_weekday.ensures.value c.days_in_month-length.ensures.bound c.first_weekday.ensures.bound real.1 in
     Finds-some (is_day_matching (meaning_of c.args.self.now) len first c.args.day) (date_answer (meaning_of c.args.self.now) len first c.args.day) c.fits.result
     (date_answered (meaning_of c.args.self.now) len first c.args.day h k)
     (Finds-moved (meaning_of c.args.self.now) c.args.day c.fits.result c.days_in_month-length.result len c.first_weekday.result first length_is c.first_weekday.ensures.value c.fits.ensures)

@@ -3,8 +3,8 @@ use Rattle.std.proofs.lemmas.Bool.Decides.{nat_tests}
 use Rattle.croner_pattern.specs.Meaning.{meaning_of}
 use Rattle.croner_pattern.specs.Private.DayBits.{has_bit}
 use Rattle.croner_pattern.specs.Schedule.{is_day_matching}
-use Rattle.croner_pattern.proofs.DayBits.{has-and, bit-of}
-use Rattle.croner_pattern.proofs.Tests.{and_true, and_false}
+use Rattle.croner_pattern.proofs.days.DayBits.{has-and, bit-of}
+use Rattle.croner_pattern.proofs.days.JoinedTests.{and_true, and_false}
 use Rattle.croner_pattern.proofs.pattern.CronPattern.days_of_month.Goals as goal
 
 cut : (fits whole low is : Bool) → whole ≡ low → (low ≡ true → fits ≡ is) → (fits && whole) ≡ (low && is)

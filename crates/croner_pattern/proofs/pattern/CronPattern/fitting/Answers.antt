@@ -1,7 +1,7 @@
 use Rattle.std.proofs.Common.{◌≡◌, ◌+◌, Bool, true, false, not, ◌&&◌, ◌||◌, refl, sym, ◌∙◌}
 use mathlib.Core.Bool.{beq}
 use Rattle.croner_pattern.specs.Schedule.{are_joined, is_day_side, is_weekday_side}
-use Rattle.croner_pattern.proofs.DayBits.{has-or, has-and}
+use Rattle.croner_pattern.proofs.days.DayBits.{has-or, has-and}
 use Rattle.croner_pattern.proofs.pattern.CronPattern.fitting.Goals as goal
 use Rattle.croner_pattern.proofs.pattern.CronPattern.fitting.Goals.{else-self-3-via-then-self-3+else-not-self, else-self-3-via-else-self-3}
 

@@ -4,7 +4,7 @@ use Rattle.croner_base.specs.Field.{Field}
 use Rattle.croner_pattern.specs.Days.{weekday_of, occurrence}
 use Rattle.croner_pattern.specs.Questions.{asked, first_yes, last_answer, weekday_answer}
 use Rattle.croner_pattern.specs.Schedule.{bit_of_nth}
-use Rattle.croner_pattern.proofs.Turns.{first_yes-none, first_yes-yes, first_yes-no, first_yes-one, Finds-same}
+use Rattle.croner_pattern.proofs.questions.QuestionsInTurn.{first_yes-none, first_yes-yes, first_yes-no, first_yes-one, Finds-same}
 use Rattle.croner_pattern.proofs.pattern.days.fits_weekdays.Goals as goal
 
 -- the three questions, with the first one as it was asked

@@ -1,6 +1,6 @@
 use Rattle.std.proofs.Common.{ap, ◌∙◌, eqb, sym}
 use Rattle.croner_pattern.specs.Days.{resolved_day}
-use Rattle.croner_pattern.proofs.DayTable.{nearest_is}
+use Rattle.croner_pattern.proofs.days.DayTable.{nearest_is}
 use Rattle.croner_pattern.proofs.pattern.days.goes_to.Goals as goal
 
 pub returns : goal.returns

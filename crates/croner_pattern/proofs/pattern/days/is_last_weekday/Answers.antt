@@ -1,4 +1,4 @@
-use Rattle.croner_pattern.proofs.DayTable.{last_is}
+use Rattle.croner_pattern.proofs.days.DayTable.{last_is}
 use Rattle.croner_pattern.proofs.pattern.days.is_last_weekday.Goals as goal
 
 pub returns : goal.returns

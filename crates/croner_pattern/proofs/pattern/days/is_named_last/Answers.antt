@@ -1,8 +1,8 @@
 use Rattle.std.proofs.Common.{◌≡◌, true, false, ◌∙◌}
 use Rattle.croner_base.specs.Field.{has_all}
 use Rattle.croner_pattern.specs.Days.{is_last_day, is_last_working}
-use Rattle.croner_pattern.proofs.DayTable.{last_day_is}
-use Rattle.croner_pattern.proofs.Sides.{last_alone}
+use Rattle.croner_pattern.proofs.days.DayTable.{last_day_is}
+use Rattle.croner_pattern.proofs.questions.ScheduledAnswers.{last_alone}
 use Rattle.croner_pattern.proofs.pattern.days.is_named_last.Goals as goal
 
 pub returns-else-is_feature_enabled : goal.returns-else-is_feature_enabled

@@ -1,6 +1,6 @@
 use Rattle.std.proofs.Common.{ap, Some, ◌∙◌, arith}
 use Rattle.croner_pattern.specs.Questions.{near_answer}
-use Rattle.croner_pattern.proofs.Turns.{turn-yes, turn-no}
+use Rattle.croner_pattern.proofs.questions.QuestionsInTurn.{turn-yes, turn-no}
 use Rattle.croner_pattern.proofs.pattern.days.is_near_target.Goals as goal
 
 pub returns-then-branch : goal.returns-then-branch

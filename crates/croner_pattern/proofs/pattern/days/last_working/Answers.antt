@@ -1,7 +1,7 @@
 use Rattle.std.proofs.Common.{◌≡◌, ℕ, ◌-◌, eqb, arith, ap, sym, ◌∙◌}
 use Rattle.std.proofs.lemmas.Bool.Decides.{nat_tests}
 use Rattle.croner_pattern.specs.Days.{weekday_of}
-use Rattle.croner_pattern.proofs.DayTable.{working_is, last_working_day}
+use Rattle.croner_pattern.proofs.days.DayTable.{working_is, last_working_day}
 use Rattle.croner_pattern.proofs.pattern.days.last_working.Goals as goal
 
 on_saturday : (len w : ℕ) → w ≡ 6 → len - 1 ≡ last_working_day len w

@@ -1,5 +1,5 @@
 use Rattle.std.proofs.Common.{arith}
-use Rattle.croner_pattern.proofs.DayTable.{nth_is}
+use Rattle.croner_pattern.proofs.days.DayTable.{nth_is}
 use Rattle.croner_pattern.proofs.pattern.days.occurrence_bit.Goals as goal
 
 pub returns-in-0 : goal.returns-in-0

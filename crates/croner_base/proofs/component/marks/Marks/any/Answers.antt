@@ -1,9 +1,9 @@
 use Rattle.std.proofs.Common.{ap, sym, ◌∙◌, subst}
-use Rattle.croner_base.specs.Private.Words.Counts.{ShowsMarked}
-use Rattle.croner_base.specs.Private.Words.Kept.{words_of, rows_of}
-use Rattle.croner_base.specs.Private.Words.Rows.{sums_of, marks_in}
-use Rattle.croner_base.proofs.Words.Kept.{Keeps, keeps, shown_by}
-use Rattle.croner_base.proofs.Words.Plain.{shows_plain}
+use Rattle.croner_base.specs.Private.words.Counts.{ShowsMarked}
+use Rattle.croner_base.specs.Private.words.Kept.{words_of, rows_of}
+use Rattle.croner_base.specs.Private.words.Rows.{sums_of, marks_in}
+use Rattle.croner_base.proofs.words.KeptMarks.{Keeps, keeps, shown_by}
+use Rattle.croner_base.proofs.words.PlainRow.{shows_plain}
 use Rattle.croner_base.proofs.component.marks.Marks.any.Goals as goal
 
 pub returns-then-bits-eq-ALL_BIT : goal.returns-then-bits-eq-ALL_BIT

@@ -1,8 +1,8 @@
 use Rattle.std.proofs.Common.{arith, ◌≡◌, length, get_or, ap, sym, ◌∙◌}
 use Rattle.std.specs.Ordering.{nat_cmp}
-use Rattle.croner_base.specs.Private.Words.Differences.{IsFirstDifference, SameSums}
+use Rattle.croner_base.specs.Private.words.Differences.{IsFirstDifference, SameSums}
 use Rattle.croner_base.specs.Field.{room}
-use Rattle.croner_base.proofs.Words.Differing.{cmp_at, cmp_lengths}
+use Rattle.croner_base.proofs.words.Differing.{cmp_at, cmp_lengths}
 use Rattle.croner_base.proofs.component.marks.Marks.cmp_marks.Goals as goal
 
 pub returns-in-Some : goal.returns-in-Some

@@ -1,9 +1,9 @@
 use Rattle.std.proofs.Common.{arith, ◌≡◌, ◌<◌, ◌*◌, ◌-◌, ◌^◌, min, ap}
 use Rattle.std.proofs.lemmas.Nat.{ones-le}
 use Rattle.croner_base.specs.Field.{room}
-use Rattle.croner_base.specs.Private.Words.Marked.{is_set}
-use Rattle.croner_base.specs.Private.Words.Rows.{width}
-use Rattle.croner_base.proofs.Words.Counting.{count_up, count_step, count_only}
+use Rattle.croner_base.specs.Private.words.Marked.{is_set}
+use Rattle.croner_base.specs.Private.words.Rows.{width}
+use Rattle.croner_base.proofs.words.Counting.{count_up, count_step, count_only}
 use Rattle.croner_base.proofs.component.marks.Marks.count_from.Goals as goal
 
 pub returns-then-first-lt-WORD_BITS : goal.returns-then-first-lt-WORD_BITS

@@ -1,7 +1,7 @@
 use Rattle.std.proofs.Common.{◌≡◌, ◌≤◌, ◌*◌, ◌-◌, min}
 use Rattle.croner_base.specs.Field.{room}
-use Rattle.croner_base.specs.Private.Words.Marked.{is_set}
-use Rattle.croner_base.proofs.Words.Counting.{count_up}
+use Rattle.croner_base.specs.Private.words.Marked.{is_set}
+use Rattle.croner_base.proofs.words.Counting.{count_up}
 use Rattle.croner_base.proofs.component.marks.Marks.count_from.Given as goal
 
 abbrev pub invariant-loop-i : goal.invariant-loop-i

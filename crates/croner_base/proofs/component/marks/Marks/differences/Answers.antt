@@ -1,5 +1,5 @@
 use Rattle.std.proofs.Common.{arith, ◌≡◌, ◌<◌, subst}
-use Rattle.croner_base.proofs.Words.Differing.{ShowsBelow, shows_none, shows_more, shows_all}
+use Rattle.croner_base.proofs.words.Differing.{ShowsBelow, shows_none, shows_more, shows_all}
 use Rattle.croner_base.proofs.component.marks.Marks.differences.Goals as goal
 
 pub loop-k-init : goal.loop-k-init

@@ -1,5 +1,5 @@
 use Rattle.std.proofs.Common.{ℕ, ◌<◌, get_or}
-use Rattle.croner_base.proofs.Words.Differing.{ShowsBelow}
+use Rattle.croner_base.proofs.words.Differing.{ShowsBelow}
 use Rattle.croner_base.proofs.component.marks.Marks.differences.Given as goal
 
 abbrev pub invariant-loop-k : goal.invariant-loop-k

@@ -1,9 +1,9 @@
 use Rattle.std.proofs.Common.{◌≡◌, ◌<◌, ◌^◌, length, ap, subst}
 use Rattle.croner_base.specs.Field.{room}
-use Rattle.croner_base.specs.Private.Words.Kept.{words_of, rows_of}
-use Rattle.croner_base.specs.Private.Words.Masks.{MasksTo}
-use Rattle.croner_base.proofs.Words.Hashing.{masked_digits}
-use Rattle.croner_base.proofs.Words.Sums.{length-sums_of}
+use Rattle.croner_base.specs.Private.words.Kept.{words_of, rows_of}
+use Rattle.croner_base.specs.Private.words.Masks.{MasksTo}
+use Rattle.croner_base.proofs.words.Hashing.{masked_digits}
+use Rattle.croner_base.proofs.words.Sums.{length-sums_of}
 use Rattle.croner_base.proofs.component.marks.Marks.digits.Goals as goal
 
 pub returns : goal.returns

@@ -2,7 +2,7 @@ use Rattle.std.proofs.Common.{arith, ◌<◌, ◌≤◌, ◌+◌, ◌*◌, w64}
 use Rattle.std.specs.Int.{trailing_zeros}
 use Rattle.std.proofs.lemmas.Bool.Decides.{nat_tests}
 use Rattle.croner_base.specs.Field.{room}
-use Rattle.croner_base.proofs.Words.Differing.{same_more, same_first, first_differs}
+use Rattle.croner_base.proofs.words.Differing.{same_more, same_first, first_differs}
 use Rattle.croner_base.proofs.component.marks.Marks.first_difference.Goals as goal
 use Rattle.croner_base.proofs.component.marks.Marks.first_difference.Goals.{else-has-via-then-has+else-has-2, else-has-via-else-has}
 

@@ -1,5 +1,5 @@
 use Rattle.std.proofs.Common.{◌*◌}
-use Rattle.croner_base.proofs.Words.Differing.{SameBefore}
+use Rattle.croner_base.proofs.words.Differing.{SameBefore}
 use Rattle.croner_base.proofs.component.marks.Marks.first_difference.Given as goal
 
 abbrev pub invariant-loop-i : goal.invariant-loop-i

@@ -2,9 +2,9 @@ use Rattle.std.proofs.Common.{arith, ◌≡◌, ◌*◌, ap, ◌∙◌}
 use Rattle.std.specs.Hash as fed
 use Rattle.std.specs.Hash.{fed_then}
 use Rattle.std.specs.List.{fold}
-use Rattle.croner_base.specs.Private.Words.Rows.{width}
+use Rattle.croner_base.specs.Private.words.Rows.{width}
 use Rattle.croner_base.specs.Written.{digits_of, set_writes}
-use Rattle.croner_base.proofs.Words.Hashing.{set_writes-none, set_writes-more}
+use Rattle.croner_base.proofs.words.Hashing.{set_writes-none, set_writes-more}
 use Rattle.croner_base.proofs.component.marks.Marks.hash_set.Goals as goal
 
 pub loop-i-init : goal.loop-i-init

@@ -3,9 +3,9 @@ use Rattle.std.specs.Hash.{fed_then}
 use Rattle.std.specs.Int.{bit_at}
 use Rattle.std.specs.List.{fold}
 use Rattle.std.proofs.lemmas.Nat.Bits.{shr_and_one}
-use Rattle.croner_base.specs.Private.Words.Rows.{width}
+use Rattle.croner_base.specs.Private.words.Rows.{width}
 use Rattle.croner_base.specs.Written.{set_writes}
-use Rattle.croner_base.proofs.Words.Hashing.{sets_below, sets_below-none, sets_below-yes, sets_below-no, sets_below-all}
+use Rattle.croner_base.proofs.words.Hashing.{sets_below, sets_below-none, sets_below-yes, sets_below-no, sets_below-all}
 use Rattle.croner_base.proofs.component.marks.Marks.hash_sets.Goals as goal
 use Rattle.croner_base.proofs.component.marks.Marks.hash_sets.Goals.{then-self-k-eq1, else-self-k-eq1}
 

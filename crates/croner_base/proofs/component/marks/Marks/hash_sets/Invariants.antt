@@ -1,7 +1,7 @@
 use Rattle.std.proofs.Common.{◌≡◌}
 use Rattle.std.specs.List.{fold}
-use Rattle.croner_base.specs.Private.Words.Rows.{width}
-use Rattle.croner_base.proofs.Words.Hashing.{sets_below}
+use Rattle.croner_base.specs.Private.words.Rows.{width}
+use Rattle.croner_base.proofs.words.Hashing.{sets_below}
 use Rattle.croner_base.proofs.component.marks.Marks.hash_sets.Given as goal
 
 abbrev pub invariant-loop-k : goal.invariant-loop-k

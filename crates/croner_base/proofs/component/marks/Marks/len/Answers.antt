@@ -1,6 +1,6 @@
 use Rattle.std.proofs.Common.{length, ap, sym, ◌∙◌}
-use Rattle.croner_base.specs.Private.Words.Kept.{words_of, rows_of}
-use Rattle.croner_base.proofs.Words.Sums.{length-sums_of}
+use Rattle.croner_base.specs.Private.words.Kept.{words_of, rows_of}
+use Rattle.croner_base.proofs.words.Sums.{length-sums_of}
 use Rattle.croner_base.proofs.component.marks.Marks.len.Goals as goal
 
 pub returns-clause-marks : goal.returns-clause-marks

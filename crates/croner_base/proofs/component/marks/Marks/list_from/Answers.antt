@@ -1,6 +1,6 @@
 use Rattle.std.proofs.Common.{arith, ◌≡◌, ◌<◌, ap}
-use Rattle.croner_base.specs.Private.Words.Rows.{width}
-use Rattle.croner_base.proofs.Words.Counting.{list_step}
+use Rattle.croner_base.specs.Private.words.Rows.{width}
+use Rattle.croner_base.proofs.words.Counting.{list_step}
 use Rattle.croner_base.proofs.component.marks.Marks.list_from.Goals as goal
 
 pub loop-i-preserved : goal.loop-i-preserved

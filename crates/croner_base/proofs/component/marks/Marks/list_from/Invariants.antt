@@ -1,7 +1,7 @@
 use Rattle.std.proofs.Common.{◌≡◌, ◌*◌, ◌-◌, min}
 use Rattle.std.specs.List.{filter, range_with_len}
 use Rattle.croner_base.specs.Field.{room}
-use Rattle.croner_base.specs.Private.Words.Marked.{is_set}
+use Rattle.croner_base.specs.Private.words.Marked.{is_set}
 use Rattle.croner_base.proofs.component.marks.Marks.list_from.Given as goal
 
 abbrev pub invariant-loop-i : goal.invariant-loop-i

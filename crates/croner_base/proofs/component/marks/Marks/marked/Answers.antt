@@ -1,6 +1,6 @@
 use Rattle.std.proofs.Common.{◌≡◌, ap, subst}
-use Rattle.croner_base.specs.Private.Words.Masks.{MasksTo}
-use Rattle.croner_base.proofs.Words.Counting.{shows_from}
+use Rattle.croner_base.specs.Private.words.Masks.{MasksTo}
+use Rattle.croner_base.proofs.words.Counting.{shows_from}
 use Rattle.croner_base.proofs.component.marks.Marks.marked.Goals as goal
 
 pub returns : goal.returns

@@ -1,7 +1,7 @@
 use Rattle.std.proofs.Common.{◌≡◌, length, subst}
 use Rattle.croner_base.specs.Field.{room}
-use Rattle.croner_base.specs.Private.Words.Kept.{words_of, rows_of}
-use Rattle.croner_base.proofs.Words.Sums.{length-sums_of}
+use Rattle.croner_base.specs.Private.words.Kept.{words_of, rows_of}
+use Rattle.croner_base.proofs.words.Sums.{length-sums_of}
 use Rattle.croner_base.proofs.component.marks.Marks.max.Goals as goal
 
 pub returns-clause-places : goal.returns-clause-places

@@ -1,6 +1,6 @@
 use Rattle.std.proofs.Common.{ap, ◌∙◌}
-use Rattle.croner_base.specs.Private.Words.Rows.{sums_of}
-use Rattle.croner_base.proofs.Words.Sums.{sums_of-none, with_sums}
+use Rattle.croner_base.specs.Private.words.Rows.{sums_of}
+use Rattle.croner_base.proofs.words.Sums.{sums_of-none, with_sums}
 use Rattle.croner_base.proofs.component.marks.Marks.none.Goals as goal
 
 pub returns : goal.returns

@@ -1,7 +1,7 @@
 use Rattle.std.proofs.Common.{ℕ, ◌≡◌, ◌≤◌, get_or, subst}
 use Rattle.croner_base.specs.Field.{room}
-use Rattle.croner_base.specs.Private.Words.Kept.{words_of, rows_of}
-use Rattle.croner_base.proofs.Words.Sums.{sums_of-past}
+use Rattle.croner_base.specs.Private.words.Kept.{words_of, rows_of}
+use Rattle.croner_base.proofs.words.Sums.{sums_of-past}
 use Rattle.croner_base.proofs.component.marks.Marks.plain.Goals as goal
 
 pub returns-then-self-clause-past : goal.returns-then-self-clause-past

@@ -2,8 +2,8 @@ use Rattle.std.proofs.Common.{arith, ◌≡◌, ◌+◌, ◌<◌, ap, sym, ◌�
 use Rattle.std.specs.Int.{bit_at}
 use Rattle.std.proofs.lemmas.Nat.Bits.{shr_and_one}
 use Rattle.croner_base.specs.Field.{room}
-use Rattle.croner_base.proofs.Words.Gaining.{GainsFirst, gains-none, gains-skip, gains-more, gains-all}
-use Rattle.croner_base.proofs.Words.Several.{bit_supported}
+use Rattle.croner_base.proofs.words.RangesGained.{GainsFirst, gains-none, gains-skip, gains-more, gains-all}
+use Rattle.croner_base.proofs.words.ModifiersInTurn.{bit_supported}
 use Rattle.croner_base.proofs.component.marks.Marks.set_range.Goals as goal
 use Rattle.croner_base.proofs.component.marks.Marks.set_range.Goals.{then-bits-k-eq1, else-bits-k-eq1}
 

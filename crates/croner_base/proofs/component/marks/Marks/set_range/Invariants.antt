@@ -1,4 +1,4 @@
-use Rattle.croner_base.proofs.Words.Gaining.{GainsFirst}
+use Rattle.croner_base.proofs.words.RangesGained.{GainsFirst}
 use Rattle.croner_base.proofs.component.marks.Marks.set_range.Given as goal
 
 abbrev pub invariant-loop-k : goal.invariant-loop-k

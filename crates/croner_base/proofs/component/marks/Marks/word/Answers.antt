@@ -1,9 +1,9 @@
 use Rattle.std.proofs.Common.{ℕ, ◌≡◌, ◌<◌, ◌+◌, ◌*◌, get_or, ap, sym, ◌∙◌, subst}
 use Rattle.std.specs.Int.{bit_at}
-use Rattle.croner_base.specs.Private.Words.Kept.{words_of, rows_of}
-use Rattle.croner_base.specs.Private.Words.Rows.{width, mark_at, sums_of}
-use Rattle.croner_base.proofs.Words.Kept.{Keeps, keeps, word_by}
-use Rattle.croner_base.proofs.Words.Sums.{sums_of-small}
+use Rattle.croner_base.specs.Private.words.Kept.{words_of, rows_of}
+use Rattle.croner_base.specs.Private.words.Rows.{width, mark_at, sums_of}
+use Rattle.croner_base.proofs.words.KeptMarks.{Keeps, keeps, word_by}
+use Rattle.croner_base.proofs.words.Sums.{sums_of-small}
 use Rattle.croner_base.proofs.component.marks.Marks.word.Goals as goal
 
 pub returns-then-self-clause-small : goal.returns-then-self-clause-small

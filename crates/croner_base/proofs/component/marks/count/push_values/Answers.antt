@@ -1,7 +1,7 @@
 use Rattle.std.proofs.Common.{arith, ◌≡◌, ◌+◌, ◌*◌, ◌++◌, ap, sym, ◌∙◌, refl}
 use Rattle.std.specs.Int.{bit_at}
 use Rattle.std.proofs.lemmas.Nat.Bits.{shr_and_one}
-use Rattle.croner_base.proofs.Words.Counting.{values_all, values_yes, values_no}
+use Rattle.croner_base.proofs.words.Counting.{values_all, values_yes, values_no}
 use Rattle.croner_base.proofs.component.marks.count.push_values.Goals as goal
 use Rattle.croner_base.proofs.component.marks.count.push_values.Goals.{then-word-b-eq1+in_ok-push, else-word-b-eq1}
 

@@ -1,6 +1,6 @@
 use Rattle.std.proofs.Common.{arith, ◌^◌, ◌/◌, ◌-◌}
 use Rattle.std.proofs.lemmas.Nat.{and_le_l}
-use Rattle.croner_base.proofs.Words.Search.{none_up_in_word, greatest_of_word}
+use Rattle.croner_base.proofs.words.WordSearch.{none_up_in_word, greatest_of_word}
 use Rattle.croner_base.proofs.component.marks.row.greatest_in_word.Goals as goal
 
 pub returns-then-rest-eq0 : goal.returns-then-rest-eq0

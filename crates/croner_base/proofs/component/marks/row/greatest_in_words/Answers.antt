@@ -1,7 +1,7 @@
 use Rattle.std.proofs.Common.{arith, ◌≡◌, ◌<◌, ◌+◌, ◌*◌, ◌/◌, ◌^◌, ◌%◌, ◌-◌, get_or, subst}
 use Rattle.std.proofs.lemmas.Nat.{and_le_l}
-use Rattle.croner_base.specs.Private.Words.Masks.{MasksTo}
-use Rattle.croner_base.proofs.Words.Search.{HasNoneDown, last_mask, earlier_mask, word_of_none_down, word_of_greatest}
+use Rattle.croner_base.specs.Private.words.Masks.{MasksTo}
+use Rattle.croner_base.proofs.words.WordSearch.{HasNoneDown, last_mask, earlier_mask, word_of_none_down, word_of_greatest}
 use Rattle.croner_base.proofs.component.marks.row.greatest_in_words.Goals as goal
 
 pub loop-i-init : goal.loop-i-init

@@ -1,6 +1,6 @@
 use Rattle.std.proofs.Common.{◌≤◌, ◌<◌, ◌+◌, ◌-◌, ◌*◌, ◌/◌}
-use Rattle.croner_base.specs.Private.Words.Masks.{MasksTo}
-use Rattle.croner_base.proofs.Words.Search.{HasNoneDown}
+use Rattle.croner_base.specs.Private.words.Masks.{MasksTo}
+use Rattle.croner_base.proofs.words.WordSearch.{HasNoneDown}
 use Rattle.croner_base.proofs.component.marks.row.greatest_in_words.Given as goal
 
 abbrev pub invariant-loop-i : goal.invariant-loop-i

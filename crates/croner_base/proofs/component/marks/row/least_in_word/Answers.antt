@@ -1,6 +1,6 @@
 use Rattle.std.proofs.Common.{arith, ◌^◌, ◌*◌, ◌%◌, ◌-◌}
 use Rattle.std.proofs.lemmas.Nat.{and_le_l}
-use Rattle.croner_base.proofs.Words.Search.{none_in_word, least_of_word}
+use Rattle.croner_base.proofs.words.WordSearch.{none_in_word, least_of_word}
 use Rattle.croner_base.proofs.component.marks.row.least_in_word.Goals as goal
 
 pub returns-then-rest-eq0 : goal.returns-then-rest-eq0

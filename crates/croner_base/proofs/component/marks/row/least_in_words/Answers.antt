@@ -1,7 +1,7 @@
 use Rattle.std.proofs.Common.{arith, ◌≡◌, ◌<◌, ◌+◌, ◌*◌, ◌/◌, ◌^◌, ◌%◌, ◌-◌, get_or, sym, subst}
 use Rattle.std.proofs.lemmas.Nat.{and_le_l}
-use Rattle.croner_base.specs.Private.Words.Masks.{MasksFrom}
-use Rattle.croner_base.proofs.Words.Search.{first_mask, later_mask, word_of_none, word_of_least}
+use Rattle.croner_base.specs.Private.words.Masks.{MasksFrom}
+use Rattle.croner_base.proofs.words.WordSearch.{first_mask, later_mask, word_of_none, word_of_least}
 use Rattle.croner_base.proofs.component.marks.row.least_in_words.Goals as goal
 
 pub loop-i-init : goal.loop-i-init

@@ -1,6 +1,6 @@
 use Rattle.std.proofs.Common.{◌*◌}
-use Rattle.croner_base.specs.Private.Words.Masks.{MasksFrom}
-use Rattle.croner_base.proofs.Words.Search.{HasNone}
+use Rattle.croner_base.specs.Private.words.Masks.{MasksFrom}
+use Rattle.croner_base.proofs.words.WordSearch.{HasNone}
 use Rattle.croner_base.proofs.component.marks.row.least_in_words.Given as goal
 
 abbrev pub invariant-loop-i : goal.invariant-loop-i

@@ -1,5 +1,5 @@
 use Rattle.std.proofs.Common.{arith, ◌<◌, ◌+◌, length, length-set, ◌∙◌}
-use Rattle.croner_base.proofs.Words.Range.{range-more}
+use Rattle.croner_base.proofs.words.MarkedRange.{range-more}
 use Rattle.croner_base.proofs.component.marks.row.mark_between.Goals as goal
 
 pub loop-i-preserved : goal.loop-i-preserved

@@ -1,5 +1,5 @@
 use Rattle.std.proofs.Common.{◌≡◌, length}
-use Rattle.croner_base.proofs.Words.Range.{HasMarkedTo}
+use Rattle.croner_base.proofs.words.MarkedRange.{HasMarkedTo}
 use Rattle.croner_base.proofs.component.marks.row.mark_between.Given as goal
 
 abbrev pub invariant-loop-i : goal.invariant-loop-i

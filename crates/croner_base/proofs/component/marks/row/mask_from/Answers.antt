@@ -1,6 +1,6 @@
 use Rattle.std.proofs.Common.{arith, ◌≡◌, ◌*◌, ◌^◌, ◌%◌, ◌-◌, ◌/◌, subst}
-use Rattle.croner_base.specs.Private.Words.Masks.{MasksFrom}
-use Rattle.croner_base.proofs.Words.Search.{first_mask, later_mask}
+use Rattle.croner_base.specs.Private.words.Masks.{MasksFrom}
+use Rattle.croner_base.proofs.words.WordSearch.{first_mask, later_mask}
 use Rattle.croner_base.proofs.component.marks.row.mask_from.Goals as goal
 
 pub returns-then-i-from : goal.returns-then-i-from

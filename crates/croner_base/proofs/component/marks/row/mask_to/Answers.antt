@@ -1,6 +1,6 @@
 use Rattle.std.proofs.Common.{arith, ◌≡◌, ◌^◌, ◌%◌, ◌-◌, ◌/◌, subst}
-use Rattle.croner_base.specs.Private.Words.Masks.{MasksTo}
-use Rattle.croner_base.proofs.Words.Search.{last_mask, earlier_mask}
+use Rattle.croner_base.specs.Private.words.Masks.{MasksTo}
+use Rattle.croner_base.proofs.words.WordSearch.{last_mask, earlier_mask}
 use Rattle.croner_base.proofs.component.marks.row.mask_to.Goals as goal
 
 pub returns-then-i-from : goal.returns-then-i-from

@@ -1,9 +1,9 @@
 use Rattle.std.proofs.Common.{arith, ◌≡◌, ◌+◌, sym, ◌∙◌, subst}
 use Rattle.std.specs.Int.{bit_at}
 use Rattle.std.proofs.lemmas.Nat.Bits.{shr_and_one}
-use Rattle.croner_base.specs.Private.Words.Rows.{marks_in}
-use Rattle.croner_base.proofs.Words.Counting.{ShowsAny, any_none, any_skip, any_more, any_all}
-use Rattle.croner_base.proofs.Words.Sums.{sums_of-bit}
+use Rattle.croner_base.specs.Private.words.Rows.{marks_in}
+use Rattle.croner_base.proofs.words.Counting.{ShowsAny, any_none, any_skip, any_more, any_all}
+use Rattle.croner_base.proofs.words.Sums.{sums_of-bit}
 use Rattle.croner_base.proofs.component.marks.rows.any.Goals as goal
 use Rattle.croner_base.proofs.component.marks.rows.any.Goals.{then-bits-k-eq1, else-bits-k-eq1}
 

@@ -1,5 +1,5 @@
-use Rattle.croner_base.specs.Private.Words.Rows.{marks_in}
-use Rattle.croner_base.proofs.Words.Counting.{ShowsAny}
+use Rattle.croner_base.specs.Private.words.Rows.{marks_in}
+use Rattle.croner_base.proofs.words.Counting.{ShowsAny}
 use Rattle.croner_base.proofs.component.marks.rows.any.Given as goal
 
 abbrev pub invariant-loop-k : goal.invariant-loop-k

@@ -2,9 +2,9 @@ use Rattle.std.proofs.Common.{arith, ◌≡◌, length, ap, sym, ◌∙◌, ◌%
 use Rattle.std.proofs.lemmas.Bool.{ne_eqb}
 use Rattle.std.specs.Int.{bit_at}
 use Rattle.std.proofs.lemmas.Nat.Bits.{shr_and_one}
-use Rattle.croner_base.specs.Private.Words.Rows.{width}
-use Rattle.croner_base.proofs.Words.Places.{place_in}
-use Rattle.croner_base.proofs.Words.Sums.{mark_at-one, mark_at-none}
+use Rattle.croner_base.specs.Private.words.Rows.{width}
+use Rattle.croner_base.proofs.words.RowPlaces.{place_in}
+use Rattle.croner_base.proofs.words.Sums.{mark_at-one, mark_at-none}
 use Rattle.croner_base.proofs.component.marks.rows.has.Goals as goal
 
 pub offset_bounds-words-place : goal.offset_bounds-words-place

@@ -1,6 +1,6 @@
 use Rattle.std.proofs.Common.{arith, length}
-use Rattle.croner_base.proofs.Words.Places.{place_in}
-use Rattle.croner_base.proofs.Words.Sums.{sums_of-mark}
+use Rattle.croner_base.proofs.words.RowPlaces.{place_in}
+use Rattle.croner_base.proofs.words.Sums.{sums_of-mark}
 use Rattle.croner_base.proofs.component.marks.rows.mark.Goals as goal
 
 pub offset_bounds-words-place : goal.offset_bounds-words-place

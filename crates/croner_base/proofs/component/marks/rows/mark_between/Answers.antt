@@ -1,8 +1,8 @@
 use Rattle.std.proofs.Common.{arith, ◌≡◌, ◌≤◌, ◌<◌, ◌*◌, ◌/◌, subst}
-use Rattle.croner_base.specs.Private.Words.Masks.{HasMarked}
-use Rattle.croner_base.specs.Private.Words.Rows.{width, rows_below}
-use Rattle.croner_base.proofs.Words.Places.{place_within, word_within, value_within}
-use Rattle.croner_base.proofs.Words.Range.{sums_of-range, some_room}
+use Rattle.croner_base.specs.Private.words.Masks.{HasMarked}
+use Rattle.croner_base.specs.Private.words.Rows.{width, rows_below}
+use Rattle.croner_base.proofs.words.RowPlaces.{place_within, word_within, value_within}
+use Rattle.croner_base.proofs.words.MarkedRange.{sums_of-range, some_room}
 use Rattle.croner_base.proofs.component.marks.rows.mark_between.Goals as goal
 
 pub mark_between-requires-clause-within : goal.mark_between-requires-clause-within

@@ -1,9 +1,9 @@
 use Rattle.std.proofs.Common.{ℕ, arith, ◌≡◌, ◌^◌, ◌<◌, List, length, ap, sym, ◌∙◌, set, get_or, bit_or, refl}
 use Rattle.std.specs.Int.{bit_at}
 use Rattle.std.proofs.lemmas.Nat.Bits.{shr_and_one}
-use Rattle.croner_base.specs.Private.Words.Rows.{sums_of}
-use Rattle.croner_base.proofs.Words.Several.{marked, marked-none, marked-skip, marked-more, marked-all, bit_supported}
-use Rattle.croner_base.proofs.Words.Sums.{length-sums_of}
+use Rattle.croner_base.specs.Private.words.Rows.{sums_of}
+use Rattle.croner_base.proofs.words.ModifiersInTurn.{marked, marked-none, marked-skip, marked-more, marked-all, bit_supported}
+use Rattle.croner_base.proofs.words.Sums.{length-sums_of}
 use Rattle.croner_base.proofs.component.marks.rows.mark_each.Goals as goal
 use Rattle.croner_base.proofs.component.marks.rows.mark_each.Goals.{then-bits-k-eq1, else-bits-k-eq1}
 

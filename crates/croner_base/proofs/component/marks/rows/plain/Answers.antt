@@ -1,7 +1,7 @@
 use Rattle.std.proofs.Common.{arith, length, sym}
 use Rattle.std.proofs.lemmas.List.{length-take-le}
-use Rattle.croner_base.specs.Private.Words.Rows.{width}
-use Rattle.croner_base.proofs.Words.Plain.{plain_is_one, plain_is_none, row_is_there, plain_row, no_plain_row}
+use Rattle.croner_base.specs.Private.words.Rows.{width}
+use Rattle.croner_base.proofs.words.PlainRow.{plain_is_one, plain_is_none, row_is_there, plain_row, no_plain_row}
 use Rattle.croner_base.proofs.component.marks.rows.plain.Goals as goal
 
 pub slice_bounds-result-end-else-supported-eq0 : goal.slice_bounds-result-end-else-supported-eq0

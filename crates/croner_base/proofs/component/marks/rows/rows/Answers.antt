@@ -1,4 +1,4 @@
-use Rattle.croner_base.proofs.Words.Places.{count_all}
+use Rattle.croner_base.proofs.words.RowPlaces.{count_all}
 use Rattle.croner_base.proofs.component.marks.rows.rows.Goals as goal
 
 pub returns : goal.returns

@@ -1,4 +1,4 @@
-use Rattle.croner_base.proofs.Words.Places.{count_below}
+use Rattle.croner_base.proofs.words.RowPlaces.{count_below}
 use Rattle.croner_base.proofs.component.marks.rows.rows_below.Goals as goal
 
 pub returns : goal.returns

@@ -1,7 +1,7 @@
 use Rattle.std.proofs.Common.{arith, ◌≡◌, ◌+◌, ◌%◌, ◌^◌, ◌*◌, ap, sym, ◌∙◌, eq-eqb}
 use Rattle.std.proofs.lemmas.Bool.{eqb-true, false≢true}
-use Rattle.croner_base.specs.Private.Words.Rows.{width, sum_below}
-use Rattle.croner_base.proofs.Words.Sums.{sum_below-zero, sum_below-more, sum_below-same, sum_below-fits, get_or-sums_of}
+use Rattle.croner_base.specs.Private.words.Rows.{width, sum_below}
+use Rattle.croner_base.proofs.words.Sums.{sum_below-zero, sum_below-more, sum_below-same, sum_below-fits, get_or-sums_of}
 use Rattle.croner_base.proofs.component.marks.rows.sum.Goals as goal
 use Rattle.croner_base.proofs.component.marks.rows.sum.Goals.{then-has, else-has}
 

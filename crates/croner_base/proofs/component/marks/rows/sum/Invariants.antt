@@ -1,5 +1,5 @@
 use Rattle.std.proofs.Common.{◌≡◌}
-use Rattle.croner_base.specs.Private.Words.Rows.{width, sum_below}
+use Rattle.croner_base.specs.Private.words.Rows.{width, sum_below}
 use Rattle.croner_base.proofs.component.marks.rows.sum.Given as goal
 
 abbrev pub invariant-loop-k : goal.invariant-loop-k

@@ -1,6 +1,6 @@
 use Rattle.std.proofs.Common.{◌≡◌, length}
-use Rattle.croner_base.specs.Private.Words.Rows.{sums_of}
-use Rattle.croner_base.proofs.Words.Several.{unmarked}
+use Rattle.croner_base.specs.Private.words.Rows.{sums_of}
+use Rattle.croner_base.proofs.words.ModifiersInTurn.{unmarked}
 use Rattle.croner_base.proofs.component.marks.rows.unmark_each.Given as goal
 
 abbrev pub invariant-loop-k : goal.invariant-loop-k

@@ -1,9 +1,9 @@
 use Rattle.std.proofs.Common.{arith, ◌≡◌, ◌≢◌, ◌+◌, ◌*◌, ◌%◌, get_or, ap, sym, ◌∙◌}
 use Rattle.std.specs.Int.{bit_at}
 use Rattle.std.proofs.lemmas.Nat.Bits.{shr_and_one, bit_at-zero}
-use Rattle.croner_base.specs.Private.Words.Rows.{width}
-use Rattle.croner_base.proofs.Words.Places.{place_within, place_fits, width_small}
-use Rattle.croner_base.proofs.Words.Sums.{mark_at-one, mark_at-none}
+use Rattle.croner_base.specs.Private.words.Rows.{width}
+use Rattle.croner_base.proofs.words.RowPlaces.{place_within, place_fits, width_small}
+use Rattle.croner_base.proofs.words.Sums.{mark_at-one, mark_at-none}
 use Rattle.croner_base.proofs.component.marks.rows.word.Goals as goal
 
 pub overflow_add-result : goal.overflow_add-result

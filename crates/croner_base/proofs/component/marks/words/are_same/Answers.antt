@@ -1,6 +1,6 @@
 use Rattle.std.proofs.Common.{arith}
 use Rattle.std.proofs.lemmas.Bool.{eqb-true}
-use Rattle.croner_base.proofs.Words.Differing.{same_none, same_one_more, same_lists}
+use Rattle.croner_base.proofs.words.Differing.{same_none, same_one_more, same_lists}
 use Rattle.croner_base.proofs.component.marks.words.are_same.Goals as goal
 
 pub loop-i-init : goal.loop-i-init

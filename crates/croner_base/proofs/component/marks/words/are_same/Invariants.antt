@@ -1,4 +1,4 @@
-use Rattle.croner_base.proofs.Words.Differing.{SameUnless}
+use Rattle.croner_base.proofs.words.Differing.{SameUnless}
 use Rattle.croner_base.proofs.component.marks.words.are_same.Given as goal
 
 abbrev pub invariant-loop-i : goal.invariant-loop-i

@@ -1,7 +1,7 @@
 use Rattle.std.proofs.Common.{rules, FitsSigned, w32}
 use Rattle.std.proofs.Output.{has_written_of_eq}
 use Rattle.std.proofs.lemmas.Int.{to_z-of_z}
-use Rattle.croner_base.proofs.Padded.{two_places_written, year_written}
+use Rattle.croner_base.proofs.texts.PaddedNumbers.{two_places_written, year_written}
 use Rattle.croner_base.proofs.time.civil.CivilDateDisplay.fmt.Goals as goal
 
 pub returns-clause-writes : goal.returns-clause-writes

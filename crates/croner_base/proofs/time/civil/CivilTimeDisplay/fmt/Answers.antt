@@ -1,5 +1,5 @@
 use Rattle.std.proofs.Output.{has_written_of_eq}
-use Rattle.croner_base.proofs.Padded.{two_places_written}
+use Rattle.croner_base.proofs.texts.PaddedNumbers.{two_places_written}
 use Rattle.croner_base.proofs.time.civil.CivilTimeDisplay.fmt.Goals as goal
 
 pub returns-clause-writes : goal.returns-clause-writes

@@ -7,7 +7,7 @@ use Rattle.jiff.specs.ZoneView.{plain_zone, ambiguous_instant, ambiguous_zone}
 use Rattle.croner_base.specs.declared.time.value.Resolution.{Resolution}
 use Rattle.croner_base.specs.Zone.{IsResolved}
 use Rattle.croner_base.specs.ZonedValue.{value_moment, is_showing}
-use Rattle.croner_base.proofs.ZonedResolved.{false_is_not_true, sides, near_timestamp, whole_nanos, unheld_far, is_near_year-true, is_near_year-low, is_near_year-high, chosen_resolved}
+use Rattle.croner_base.proofs.clocks.ZonedResolved.{false_is_not_true, offset_choices, near_timestamp, whole_nanos, unheld_far, is_near_year-true, is_near_year-low, is_near_year-high, chosen_resolved}
 use Rattle.croner_base.proofs.time.jiff_impl.zoned.resolved.Goals as goal
 use Rattle.croner_base.proofs.time.jiff_impl.zoned.resolved.Goals.{then-year-via-then-year, then-year-via-else-year+then-year-gt-YEAR_LIMIT}
 
@@ -20,7 +20,7 @@ pub returns-clause-value : goal.returns-clause-value
 returns-clause-value c =
     let a = c.to_ambiguous_zoned-ambiguous in
     let tz = (plain_zoned c.args.zoned.now).time_zone in
-    let s = sides tz (plain_zone c.time_zone.result) c.args.civil c.in-Ok.datetime
+    let s = offset_choices tz (plain_zone c.time_zone.result) c.args.civil c.in-Ok.datetime
     (ambiguous_instant a.result).dt (ambiguous_instant a.result).offset (ambiguous_zone a.result)
     c.in-Ok-earlier.earlier c.in-Ok-later.later _ _
     c.time_zone.ensures a.ensures.datetime a.ensures.offsets a.ensures.zone

@@ -2,7 +2,7 @@ use Rattle.std.proofs.Common.{rules, of_calls, int_le, ◌≡◌, sym, subst, tr
 use Rattle.std.proofs.lemmas.Fn.{always_returns_same}
 use Rattle.croner_base.specs.Table.{is_calm_table}
 use Rattle.croner_base.specs.Private.TableSteps.{IsCountUntil}
-use Rattle.croner_base.proofs.TableReadings.{at_or_before_first, count_until}
+use Rattle.croner_base.proofs.tables.TableReadings.{at_or_before_first, count_until}
 use Rattle.croner_base.proofs.time.table.ClockTable.changes_until.Goals as goal
 
 pub returns-clause-count : goal.returns-clause-count

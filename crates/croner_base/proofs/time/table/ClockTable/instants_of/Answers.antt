@@ -3,8 +3,8 @@ use Rattle.std.proofs.Common.{◌≡◌, ◌≢◌, ℕ, ◌≤◌, ◌-◌, ℤ
 use Rattle.std.proofs.lemmas.Int.{ints, to_z-of_z}
 use Rattle.croner_base.specs.declared.time.table.ClockTable.{ClockTable}
 use Rattle.croner_base.specs.Private.TableSteps.{IsCountUntil, offset_past}
-use Rattle.croner_base.proofs.TableTests.{offset_bounds}
-use Rattle.croner_base.proofs.TableReadings.{Sides, sides_of, names_first, names_early, names_late, names_both, names_gap, calm_offsets}
+use Rattle.croner_base.proofs.tables.TableTests.{offset_bounds}
+use Rattle.croner_base.proofs.tables.TableReadings.{ReadsAroundChange, around_last_change, names_first, names_early, names_late, names_both, names_gap, calm_offsets}
 use Rattle.croner_base.proofs.time.table.ClockTable.instants_of.Goals as goal
 use Rattle.croner_base.specs.Table.{first_instant, last_instant, is_offset, offset_limit}
 
@@ -29,7 +29,7 @@ around : (t : ClockTable) (wall change before after : ℤ) (n : ℕ) → FitsSig
     → change ≡ (get_or t.changes.items (n - 1) (pos 0, pos 0)).0
     → before ≡ offset_past t.first_offset t.changes.items (n - 1) → IsTrue (is_offset before)
     → after ≡ offset_past t.first_offset t.changes.items n → IsTrue (is_offset after)
-    → Sides t.first_offset t.changes.items wall change (wall -ℤ before) (wall -ℤ after)
+    → ReadsAroundChange t.first_offset t.changes.items wall change (wall -ℤ before) (wall -ℤ after)
     × FitsSigned w64 before × FitsSigned w64 (wall -ℤ before) × FitsSigned w64 after × FitsSigned w64 (wall -ℤ after)
 around t wall change before after n fw low high some within count is_change is_before bound_before is_after bound_after =
     let u = offset_bounds after bound_after in
@@ -37,7 +37,7 @@ around t wall change before after n fw low high some within count is_change is_b
     let fd : FitsSigned w64 (wall +ℤ pos offset_limit) = omega (arith, ints) in
     let le : n ≤ length t.changes.items = omega (arith, t.changes.ok.0, within) in
     let until = simp to_z-of_z at count in (
-      sides_of t.first_offset t.changes.items wall change before after n (n - 1) t.calm (omega arith) le until is_change is_before is_after,
+      around_last_change t.first_offset t.changes.items wall change before after n (n - 1) t.calm (omega arith) le until is_change is_before is_after,
       omega (arith, ints, v),
       omega (arith, ints, v),
       omega (arith, ints, u),

@@ -5,7 +5,7 @@ use Rattle.jiff.specs.ZoneView.{plain_zone}
 use Rattle.croner_base.specs.TableZone.{HasParts, table_zone}
 use Rattle.croner_base.specs.ZoneTable.{IsWindow, ahead_at, window_changes, nearest_in}
 use Rattle.croner_base.specs.ZonedZone.{zone_reads}
-use Rattle.croner_base.proofs.ZoneChanges.{window_reads, window_beyond}
+use Rattle.croner_base.proofs.zones.ZoneChanges.{window_reads, window_beyond}
 use Rattle.croner_base.proofs.time.table.ClockTable.of_zone.Goals as goal
 
 pub returns-clause-reads : goal.returns-clause-reads

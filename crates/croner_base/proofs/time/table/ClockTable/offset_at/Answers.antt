@@ -1,7 +1,7 @@
 use Rattle.std.proofs.Common.{◌≤◌, length, arith, FitsSigned, w64}
 use Rattle.std.proofs.lemmas.Int.{ints, to_z-of_z}
-use Rattle.croner_base.proofs.TableTests.{offset_bounds}
-use Rattle.croner_base.proofs.TableReadings.{offset_by_count}
+use Rattle.croner_base.proofs.tables.TableTests.{offset_bounds}
+use Rattle.croner_base.proofs.tables.TableReadings.{offset_by_count}
 use Rattle.croner_base.proofs.time.table.ClockTable.offset_at.Goals as goal
 
 pub returns-clause-value : goal.returns-clause-value

@@ -1,8 +1,8 @@
 use Rattle.std.proofs.Common.{◌≡◌, ◌<◌, ◌-◌, true, length, arith, FitsSigned, w32, w64}
 use Rattle.std.proofs.lemmas.Int.{ints, to_z-of_z}
 use Rattle.croner_base.specs.Table.{is_offset}
-use Rattle.croner_base.proofs.TableTests.{offset_bounds}
-use Rattle.croner_base.proofs.TableReadings.{past_is_offset, each_is_offset}
+use Rattle.croner_base.proofs.tables.TableTests.{offset_bounds}
+use Rattle.croner_base.proofs.tables.TableReadings.{past_is_offset, each_is_offset}
 use Rattle.croner_base.proofs.time.table.ClockTable.offset_past.Goals as goal
 
 pub returns-then-count-eq0-clause-bound : goal.returns-then-count-eq0-clause-bound

@@ -1,8 +1,8 @@
 use Rattle.std.proofs.Common.{arith, FitsSigned, w64}
 use Rattle.std.proofs.lemmas.Int.{ints, to_z-of_z}
 use Rattle.croner_base.specs.TableZone.{clock}
-use Rattle.croner_base.proofs.TableTests.{offset_bounds, instant_bounds}
-use Rattle.croner_base.proofs.TableReadings.{reads_by}
+use Rattle.croner_base.proofs.tables.TableTests.{offset_bounds, instant_bounds}
+use Rattle.croner_base.proofs.tables.TableReadings.{reads_by}
 use Rattle.croner_base.proofs.time.table.TableTime.wall.Goals as goal
 
 pub returns-clause-value : goal.returns-clause-value

@@ -1,7 +1,7 @@
 use Rattle.std.proofs.Common.{◌∙◌, sym, arith, ◌+ℤ◌, FitsSigned, w64}
 use Rattle.std.proofs.lemmas.Int.{ints, to_z-of_z}
-use Rattle.croner_base.proofs.TableTests.{instant_bounds}
-use Rattle.croner_base.proofs.TableMoments.{moved, not_moved, too_far}
+use Rattle.croner_base.proofs.tables.TableTests.{instant_bounds}
+use Rattle.croner_base.proofs.tables.TableMoments.{moved, not_moved, too_far}
 use Rattle.croner_base.proofs.time.table.TableTimeCronDateTime.checked_add_seconds.Goals as goal
 
 pub returns-in-None-clause-value : goal.returns-in-None-clause-value

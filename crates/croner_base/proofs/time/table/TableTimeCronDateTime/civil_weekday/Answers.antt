@@ -1,7 +1,7 @@
 use Rattle.std.proofs.Common.{◌∙◌, ap, arith, pos, ◌+ℤ◌, FitsSigned, w64}
 use Rattle.std.proofs.lemmas.Int.{ints, to_z-of_z}
 use Rattle.croner_base.specs.Civil.{weekday_of_second}
-use Rattle.croner_base.proofs.TableCivil.{weekday_by, day_bounds}
+use Rattle.croner_base.proofs.calendar.CivilSeconds.{weekday_by, day_bounds}
 use Rattle.croner_base.proofs.time.table.TableTimeCronDateTime.civil_weekday.Goals as goal
 
 pub returns : goal.returns

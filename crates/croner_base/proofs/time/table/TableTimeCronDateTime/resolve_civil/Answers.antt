@@ -5,10 +5,10 @@ use Rattle.croner_base.specs.declared.time.table.ClockTable.{ClockTable}
 use Rattle.croner_base.specs.Civil.{wall_second}
 use Rattle.croner_base.specs.Table.{is_table_second}
 use Rattle.croner_base.specs.TableZone.{table_zone}
-use Rattle.croner_base.proofs.JiffSeconds.{first_near, last_near, near_second}
-use Rattle.croner_base.proofs.TableTests.{instant_bounds}
-use Rattle.croner_base.proofs.TableMoments.{near_year-false, unheld, named_held, resolved_single, resolved_ambiguous, resolved_gap}
-use Rattle.croner_base.proofs.ZonedResolved.{is_near_year-true}
+use Rattle.croner_base.proofs.calendar.JiffSeconds.{first_near, last_near, near_second}
+use Rattle.croner_base.proofs.tables.TableTests.{instant_bounds}
+use Rattle.croner_base.proofs.tables.TableMoments.{near_year-false, unheld, named_held, resolved_single, resolved_ambiguous, resolved_gap}
+use Rattle.croner_base.proofs.clocks.ZonedResolved.{is_near_year-true}
 use Rattle.croner_base.proofs.time.table.TableTimeCronDateTime.resolve_civil.Goals as goal
 use Rattle.croner_base.proofs.time.table.TableTimeCronDateTime.resolve_civil.Goals.{in-Single, in-Ambiguous, in-Gap, then-year-lt-FIRST_YEAR-via-then-year-lt-FIRST_YEAR, then-year-lt-FIRST_YEAR-via-else-year-lt-FIRST_YEAR+then-year-gt-LAST_YEAR}
 

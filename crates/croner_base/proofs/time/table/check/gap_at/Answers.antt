@@ -1,7 +1,7 @@
 use Rattle.std.proofs.Common.{◌∙◌, sym, arith, ◌<ℤ◌, ◌-ℤ◌, FitsSigned, w32, w64}
 use Rattle.std.proofs.lemmas.Int.{ints, to_z-of_z}
-use Rattle.croner_base.proofs.TableTests.{step_parts}
-use Rattle.croner_base.proofs.TableSums.{gap_is}
+use Rattle.croner_base.proofs.tables.TableTests.{step_parts}
+use Rattle.croner_base.proofs.tables.TableSums.{gap_is}
 use Rattle.croner_base.proofs.time.table.check.gap_at.Goals as goal
 
 pub overflow_cast-result : goal.overflow_cast-result

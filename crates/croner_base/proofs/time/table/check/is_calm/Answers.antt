@@ -1,7 +1,7 @@
 use Rattle.std.proofs.Common.{rules, ◌≡◌, ◌∙◌, sym, refl, true, arith, get_or, pos, FitsSigned, w32, w64}
 use Rattle.std.proofs.lemmas.Int.{ints, to_z-of_z}
 use Rattle.croner_base.specs.Table.{is_offset}
-use Rattle.croner_base.proofs.TableCheck.{calm_offset, calm_follow, stop, go, both_ways}
+use Rattle.croner_base.proofs.tables.TableCheck.{calm_offset, calm_follow, stop, go, both_ways}
 use Rattle.croner_base.proofs.time.table.check.is_calm.Goals as goal
 
 pub returns-then-not-is_offset : goal.returns-then-not-is_offset

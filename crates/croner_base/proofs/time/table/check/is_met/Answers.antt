@@ -1,6 +1,6 @@
 use Rattle.std.proofs.Common.{rules, refl, pos, ◌+ℤ◌, ◌-ℤ◌, FitsSigned, w32, w64}
 use Rattle.std.proofs.lemmas.Int.{to_z-of_z}
-use Rattle.croner_base.proofs.TableSums.{second_decides}
+use Rattle.croner_base.proofs.tables.TableSums.{second_decides}
 use Rattle.croner_base.proofs.time.table.check.is_met.Goals as goal
 
 pub returns-else-is_searched : goal.returns-else-is_searched

@@ -1,6 +1,6 @@
 use Rattle.std.proofs.Common.{◌∙◌, arith, FitsSigned, w64}
 use Rattle.std.proofs.lemmas.Int.{ints, to_z-of_z}
-use Rattle.croner_base.proofs.TableCivil.{second_of_parts}
+use Rattle.croner_base.proofs.calendar.CivilSeconds.{second_of_parts}
 use Rattle.croner_base.proofs.time.table.civil.civil_of_second.Goals as goal
 
 pub returns : goal.returns

@@ -1,7 +1,7 @@
 use Rattle.std.proofs.Common.{◌∙◌, arith}
 use Rattle.std.proofs.lemmas.Int.{ints}
-use Rattle.croner_base.proofs.JiffSeconds.{day_before, day_after}
-use Rattle.croner_base.proofs.TableCivil.{day_of_parts, same_day}
+use Rattle.croner_base.proofs.calendar.JiffSeconds.{day_before, day_after}
+use Rattle.croner_base.proofs.calendar.CivilSeconds.{day_of_parts, same_day}
 use Rattle.croner_base.proofs.time.table.civil.date_of_day.Goals as goal
 
 pub returns-then-day-lt-FIRST_DAY : goal.returns-then-day-lt-FIRST_DAY

@@ -3,7 +3,7 @@ use Rattle.std.proofs.lemmas.Int.{ints}
 use Rattle.jiff_core.proofs.CalendarLemmas.{days_in_month_bounds}
 use Rattle.croner_base.specs.declared.time.civil.CivilTime.{CivilTime}
 use Rattle.croner_base.specs.Civil.{wall_second, seconds_of_time}
-use Rattle.croner_base.proofs.TableCivil.{second_of_days}
+use Rattle.croner_base.proofs.calendar.CivilSeconds.{second_of_days}
 use Rattle.croner_base.specs.Calendar.{day_seconds}
 use Rattle.croner_base.proofs.time.table.civil.second_of_civil.Goals as goal
 

@@ -2,7 +2,7 @@ use Rattle.std.proofs.Common.{◌∙◌, ◌-◌, ◌+ℤ◌, pos, FitsSigned, w
 use Rattle.std.proofs.lemmas.Int.{ints}
 use Rattle.croner_base.specs.Private.ZoneSteps.{again}
 use Rattle.croner_base.specs.ZonedZone.{last_timestamp}
-use Rattle.croner_base.proofs.ZoneRepeats.{copied_until, copied_more}
+use Rattle.croner_base.proofs.zones.ZoneRepeats.{copied_until, copied_more}
 use Rattle.croner_base.proofs.time.table.of_zone.add_again.Goals as goal
 
 pub overflow_add-second : goal.overflow_add-second

@@ -5,7 +5,7 @@ use Rattle.croner_base.specs.Private.ZoneSteps.{IsShown, IsNextQuestion}
 use Rattle.croner_base.specs.ZoneTable.{ahead_at, window_changes}
 use Rattle.croner_base.specs.declared.time.table.of_zone.Shown.{Shown}
 use Rattle.jiff_tz.specs.declared.timezone.TimeZone.{TimeZone}
-use Rattle.croner_base.proofs.ZoneChanges.{no_changes, changes_kept, changes_added}
+use Rattle.croner_base.proofs.zones.ZoneChanges.{no_changes, changes_kept, changes_added}
 use Rattle.croner_base.proofs.time.table.of_zone.add_asked.Goals as goal
 
 -- nothing is added yet

@@ -6,8 +6,8 @@ use Rattle.jiff_core.proofs.SignedLemmas.{signed_arith}
 use Rattle.croner_base.specs.Private.ZoneSteps.{again, period, repeated_until}
 use Rattle.croner_base.specs.ZonedZone.{last_timestamp}
 use Rattle.croner_base.specs.ZoneTable.{window_changes}
-use Rattle.croner_base.proofs.TableTests.{le_of}
-use Rattle.croner_base.proofs.ZoneRepeats.{joined_part, last_part, part_count, period_count, period_more, window_until}
+use Rattle.croner_base.proofs.tables.TableTests.{le_of}
+use Rattle.croner_base.proofs.zones.ZoneRepeats.{joined_part, last_part, part_count, period_count, period_more, window_until}
 use Rattle.croner_base.proofs.time.table.of_zone.add_periods.Goals as goal
 
 pub loop-end-init : goal.loop-end-init

@@ -7,9 +7,9 @@ use Rattle.jiff_core.proofs.SignedLemmas.{signed_arith}
 use Rattle.croner_base.specs.Private.ZoneSteps.{IsHeld, period}
 use Rattle.croner_base.specs.ZonedZone.{last_timestamp}
 use Rattle.croner_base.specs.ZoneTable.{IsWindow, ahead_at, window_changes}
-use Rattle.croner_base.proofs.ZoneChanges.{no_changes}
-use Rattle.croner_base.proofs.ZoneStays.{ge_of}
-use Rattle.croner_base.proofs.ZoneRepeats.{joined_part}
+use Rattle.croner_base.proofs.zones.ZoneChanges.{no_changes}
+use Rattle.croner_base.proofs.zones.ZoneStays.{ge_of}
+use Rattle.croner_base.proofs.zones.ZoneRepeats.{joined_part}
 use Rattle.croner_base.proofs.time.table.of_zone.add_ruled.Goals as goal
 use Rattle.croner_base.proofs.time.table.of_zone.add_ruled.Goals.{After-min-end, In_ok-add_asked}
 

@@ -1,7 +1,7 @@
 use Rattle.std.proofs.Common.{◌∙◌, ap, [], ◌++◌, FitsSigned, w64, arith, to_z-of_z}
 use Rattle.std.proofs.lemmas.Int.{ints}
 use Rattle.croner_base.specs.ZoneTable.{window_changes}
-use Rattle.croner_base.proofs.ZoneRepeats.{joined_part}
+use Rattle.croner_base.proofs.zones.ZoneRepeats.{joined_part}
 use Rattle.croner_base.proofs.time.table.of_zone.changes_in.Goals as goal
 
 pub returns-clause-value : goal.returns-clause-value

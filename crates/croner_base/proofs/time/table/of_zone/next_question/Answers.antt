@@ -5,7 +5,7 @@ use Rattle.jiff_core.specs.Timestamp.{nanos_of_seconds}
 use Rattle.jiff_core.proofs.SignedLemmas.{signed_arith}
 use Rattle.jiff_tz.specs.PosixRule.{transition_view}
 use Rattle.croner_base.specs.Private.ZoneSteps.{IsFirstSecond}
-use Rattle.croner_base.proofs.ZoneStays.{question_is}
+use Rattle.croner_base.proofs.zones.ZoneStays.{question_is}
 use Rattle.croner_base.proofs.time.table.of_zone.next_question.Goals as goal
 
 -- the question at the next transition, or at the second after, but at most at an end

@@ -2,7 +2,7 @@ use Rattle.std.proofs.Common.{FitsSigned, w64, arith, to_z-of_z}
 use Rattle.std.proofs.lemmas.Int.{ints}
 use Rattle.jiff_core.proofs.SignedLemmas.{signed_arith}
 use Rattle.jiff_tz.specs.Tzif.{no_transition}
-use Rattle.croner_base.proofs.ZoneRepeats.{first_repeated, last_row, no_table, zone_repeats}
+use Rattle.croner_base.proofs.zones.ZoneRepeats.{first_repeated, last_row, no_table, zone_repeats}
 use Rattle.croner_base.proofs.time.table.of_zone.ruled_from.Goals as goal
 
 pub returns-in-Some-clause-repeats : goal.returns-in-Some-clause-repeats

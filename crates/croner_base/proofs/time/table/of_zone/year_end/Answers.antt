@@ -5,7 +5,7 @@ use Rattle.jiff_core.specs.Date.{epoch_day}
 use Rattle.jiff_core.proofs.SignedLemmas.{signed_arith}
 use Rattle.jiff_core.proofs.CalendarLemmas.{days_in_year_bounds}
 use Rattle.jiff_tz.proofs.YearLemmas.{back_year}
-use Rattle.croner_base.proofs.ZoneYears.{year_ends}
+use Rattle.croner_base.proofs.zones.ZoneYears.{year_ends}
 use Rattle.croner_base.proofs.time.table.of_zone.year_end.Goals as goal
 
 pub returns : goal.returns

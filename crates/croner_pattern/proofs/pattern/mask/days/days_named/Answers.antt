@@ -5,8 +5,8 @@ use Rattle.croner_pattern.specs.Days.{days_of, is_last_day, is_last_working, is_
 use Rattle.croner_pattern.specs.Private.DayBits.{has_bit}
 use Rattle.croner_pattern.specs.Schedule.{is_named, is_plain, is_near_target, names_last_day, names_last_working_day}
 use Rattle.croner_pattern.specs.Shapes.{day_shape}
-use Rattle.croner_pattern.proofs.DayBits.{has-or}
-use Rattle.croner_pattern.proofs.Shaped.{Alike, alike, asks_day, marked-named}
+use Rattle.croner_pattern.proofs.days.DayBits.{has-or}
+use Rattle.croner_pattern.proofs.questions.FieldShapes.{HasLikeShape, like_shape, asks_day, marked-named}
 use Rattle.croner_pattern.proofs.pattern.mask.days.days_named.Goals as goal
 
 any-same : (p q : ℕ → Bool) (a n : ℕ) → ((x : ℕ) → a ≤ x → x < a + n → p x ≡ q x) → list_any p (range_with_len a n) ≡ list_any q (range_with_len a n)
@@ -21,7 +21,7 @@ or_assoc false true c d = refl
 or_assoc false false c d = refl
 
 -- the targets are the days with the mark
-near_is : (f : Field) (targets len first day : ℕ) → Alike f.shape day_shape → len ≤ 31
+near_is : (f : Field) (targets len first day : ℕ) → HasLikeShape f.shape day_shape → len ≤ 31
     → ((place : ℕ) → place < 31 → has_bit targets place ≡ is_marked 128 f (place + 1))
     → list_any (λ target. has_bit targets (target - 1) && is_nearest len first target day) (days_of len) ≡ is_near_target f len first day
 near_is f targets len first day s long h =
@@ -37,7 +37,7 @@ returns c place low =
     let len = c.args.length in
     let first = c.args.first in
     let day = place + 1 in
-    let s = alike f.shape day_shape c.requires.shape in
+    let s = like_shape f.shape day_shape c.requires.shape in
     let long = c.requires.length.1 in
     let plain : has_bit c.marked-2.result place ≡ is_plain f day =
     c.marked-2.ensures place (omega arith) ∙ marked-named 1 f day (asks_day f.shape day 1 s refl (omega arith) (omega arith)) in

@@ -1,6 +1,6 @@
 use Rattle.std.proofs.Common.{◌≡◌, ◌+◌, ◌/◌, ◌^◌, ap, ◌∙◌, arith}
 use Rattle.croner_base.specs.Field.{is_marked}
-use Rattle.croner_pattern.proofs.DayBits.{has-cut, has-shr}
+use Rattle.croner_pattern.proofs.days.DayBits.{has-cut, has-shr}
 use Rattle.croner_pattern.proofs.pattern.mask.days.marked.Goals as goal
 
 pub returns : goal.returns

@@ -3,9 +3,9 @@ use Rattle.std.proofs.lemmas.Bool.Decides.{nat_tests}
 use Rattle.croner_base.specs.Field.{has_all}
 use Rattle.croner_pattern.specs.Days.{is_last_day, is_last_working}
 use Rattle.croner_pattern.specs.Private.DayBits.{has_bit}
-use Rattle.croner_pattern.proofs.DayBits.{has-one}
-use Rattle.croner_pattern.proofs.DayTable.{last_day_is}
-use Rattle.croner_pattern.proofs.Sides.{last_alone}
+use Rattle.croner_pattern.proofs.days.DayBits.{has-one}
+use Rattle.croner_pattern.proofs.days.DayTable.{last_day_is}
+use Rattle.croner_pattern.proofs.questions.ScheduledAnswers.{last_alone}
 use Rattle.croner_pattern.proofs.pattern.mask.days.named_last.Goals as goal
 use Rattle.croner_pattern.proofs.pattern.mask.days.named_last.Goals.{then-is_feature_enabled, else-is_feature_enabled}
 

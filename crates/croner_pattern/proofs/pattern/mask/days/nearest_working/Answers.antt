@@ -1,7 +1,7 @@
 use Rattle.std.proofs.Common.{◌≡◌, ℕ, ◌+◌, ◌*◌, ◌-◌, ◌/◌, ◌%◌, ◌^◌, ◌<◌, ◌&&◌, ◌||◌, eqb, ltb, bit_and, bit_or, ap, sym, ◌∙◌, arith}
 use Rattle.croner_pattern.specs.Private.DayBits.{has_bit}
-use Rattle.croner_pattern.proofs.DayBits.{has-or, has-and, has-none, has-shr, has-one, has-first, has-next}
-use Rattle.croner_pattern.proofs.NearestDays.{arrives-is, no_target}
+use Rattle.croner_pattern.proofs.days.DayBits.{has-or, has-and, has-none, has-shr, has-one, has-first, has-next}
+use Rattle.croner_pattern.proofs.days.NearestDays.{arrives-is, no_target}
 use Rattle.croner_pattern.proofs.pattern.mask.days.nearest_working.Goals as goal
 
 pub returns-then-targets-eq0 : goal.returns-then-targets-eq0

@@ -2,7 +2,7 @@ use Rattle.std.proofs.Common.{◌≡◌, ℕ, ◌+◌, ◌<◌, ◌≤◌, Bool,
 use Rattle.std.proofs.lemmas.Bool.Decides.{nat_tests}
 use Rattle.croner_pattern.specs.Days.{weekday_of}
 use Rattle.croner_pattern.specs.Private.DayBits.{has_bit}
-use Rattle.croner_pattern.proofs.DayBits.{has-and}
+use Rattle.croner_pattern.proofs.days.DayBits.{has-and}
 use Rattle.croner_pattern.proofs.pattern.mask.days.targets_on.Goals as goal
 
 below : (place len : ℕ) → len ≤ 31 → nat_lt place len ≡ true → place < 31

@@ -1,4 +1,4 @@
-use Rattle.croner_pattern.proofs.DayBits.{has-week}
+use Rattle.croner_pattern.proofs.days.DayBits.{has-week}
 use Rattle.croner_pattern.proofs.pattern.mask.month.days_of_weekdays.Goals as goal
 
 pub returns : goal.returns

@@ -1,4 +1,4 @@
-use Rattle.croner_pattern.proofs.DayBits.{has-last_week}
+use Rattle.croner_pattern.proofs.days.DayBits.{has-last_week}
 use Rattle.croner_pattern.proofs.pattern.mask.month.last_week.Goals as goal
 
 pub returns : goal.returns

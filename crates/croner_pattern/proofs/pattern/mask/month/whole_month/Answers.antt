@@ -1,5 +1,5 @@
 use Rattle.std.proofs.Common.{arith}
-use Rattle.croner_pattern.proofs.DayBits.{has-below}
+use Rattle.croner_pattern.proofs.days.DayBits.{has-below}
 use Rattle.croner_pattern.proofs.pattern.mask.month.whole_month.Goals as goal
 
 pub returns : goal.returns

@@ -1,7 +1,7 @@
 use Rattle.std.proofs.Common.{◌+◌, bit_and, ap, ◌∙◌, arith}
 use Rattle.croner_pattern.specs.Days.{weekday_of}
 use Rattle.croner_pattern.specs.Private.DayBits.{has_bit}
-use Rattle.croner_pattern.proofs.DayBits.{has-cut}
+use Rattle.croner_pattern.proofs.days.DayBits.{has-cut}
 use Rattle.croner_pattern.proofs.pattern.mask.weekdays.marked.Goals as goal
 
 pub returns : goal.returns

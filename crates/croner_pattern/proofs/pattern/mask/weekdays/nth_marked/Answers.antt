@@ -1,6 +1,6 @@
 use Rattle.std.proofs.Common.{◌≡◌, ◌*◌, ◌^◌, ◌%◌, Bool, true, false, ◌&&◌, refl, ◌∙◌}
 use Rattle.croner_pattern.specs.Private.DayBits.{has_bit}
-use Rattle.croner_pattern.proofs.DayBits.{has-and, has-nth_week}
+use Rattle.croner_pattern.proofs.days.DayBits.{has-and, has-nth_week}
 use Rattle.croner_pattern.proofs.pattern.mask.weekdays.nth_marked.Goals as goal
 
 swapped : (a b : Bool) → (a && b) ≡ (b && a)

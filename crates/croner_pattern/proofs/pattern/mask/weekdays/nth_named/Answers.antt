@@ -1,12 +1,12 @@
 use Rattle.std.proofs.Common.{◌≡◌, ℕ, zero, suc, ◌+◌, ◌-◌, ◌/◌, ◌<◌, ◌^◌, Bool, false, ◌&&◌, ◌||◌, eqb, bit_or, refl, ap, sym, ◌∙◌, arith}
 use Rattle.std.proofs.lemmas.Bool.{or_parts}
 use Rattle.croner_base.specs.Field.{has_any, is_marked}
-use Rattle.croner_base.proofs.MarkSets.{has_any-several}
+use Rattle.croner_base.proofs.fields.MarkSets.{has_any-several}
 use Rattle.croner_pattern.specs.Days.{weekday_of}
 use Rattle.croner_pattern.specs.Private.DayBits.{has_bit}
-use Rattle.croner_pattern.proofs.DayBits.{has-or, has-none}
-use Rattle.croner_pattern.proofs.DayTable.{occurrence_is}
-use Rattle.croner_pattern.proofs.Tests.{or_false}
+use Rattle.croner_pattern.proofs.days.DayBits.{has-or, has-none}
+use Rattle.croner_pattern.proofs.days.DayTable.{occurrence_is}
+use Rattle.croner_pattern.proofs.days.JoinedTests.{or_false}
 use Rattle.croner_pattern.proofs.pattern.mask.weekdays.nth_named.Goals as goal
 
 -- no place is marked

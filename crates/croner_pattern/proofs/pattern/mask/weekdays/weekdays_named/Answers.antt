@@ -2,10 +2,10 @@ use Rattle.std.proofs.Common.{◌≡◌, ◌+◌, ◌<◌, Bool, true, false, �
 use Rattle.croner_pattern.specs.Days.{weekday_of, occurrence, is_last_weekday}
 use Rattle.croner_pattern.specs.Private.DayBits.{has_bit}
 use Rattle.croner_pattern.specs.Schedule.{bit_of_nth, is_named, is_plain}
-use Rattle.croner_pattern.proofs.DayBits.{has-or, has-and}
-use Rattle.croner_pattern.proofs.DayTable.{last_is}
-use Rattle.croner_pattern.proofs.Known.{nth_of_day}
-use Rattle.croner_pattern.proofs.Shaped.{either_weekday, asks_weekday, marked-named}
+use Rattle.croner_pattern.proofs.days.DayBits.{has-or, has-and}
+use Rattle.croner_pattern.proofs.days.DayTable.{last_is}
+use Rattle.croner_pattern.proofs.questions.DayAnswers.{nth_of_day}
+use Rattle.croner_pattern.proofs.questions.FieldShapes.{either_weekday, asks_weekday, marked-named}
 use Rattle.croner_pattern.proofs.pattern.mask.weekdays.weekdays_named.Goals as goal
 
 or_assoc : (a b c : Bool) → ((a || b) || c) ≡ (a || (b || c))

@@ -1,4 +1,4 @@
-use Rattle.croner_base.proofs.CivilMoments.{civil_moment_later, civil_moment_past}
+use Rattle.croner_base.proofs.clocks.CivilMoments.{civil_moment_later, civil_moment_past}
 use Rattle.std.proofs.Common.{FitsSigned, w64}
 use Rattle.std.proofs.lemmas.Int.{to_z-of_z}
 use Rattle.croner_base.proofs.time.jiff_impl.civil.DateTimeCronDateTime.checked_add_seconds.Goals as goal

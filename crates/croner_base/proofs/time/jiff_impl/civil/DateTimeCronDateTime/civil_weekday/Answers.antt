@@ -1,5 +1,5 @@
 use Rattle.std.proofs.Common.{◌∙◌, ap, ◌+◌, ◌%◌}
-use Rattle.croner_base.proofs.JiffSeconds.{weekday-civil_seconds}
+use Rattle.croner_base.proofs.calendar.JiffSeconds.{weekday-civil_seconds}
 use Rattle.croner_base.proofs.time.jiff_impl.civil.DateTimeCronDateTime.civil_weekday.Goals as goal
 
 pub returns : goal.returns

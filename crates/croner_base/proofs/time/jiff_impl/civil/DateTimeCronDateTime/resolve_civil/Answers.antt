@@ -1,4 +1,4 @@
-use Rattle.croner_base.proofs.CivilMoments.{civil_resolved, civil_unresolved}
+use Rattle.croner_base.proofs.clocks.CivilMoments.{civil_resolved, civil_unresolved}
 use Rattle.std.proofs.Common.{refl}
 use Rattle.croner_base.proofs.time.jiff_impl.civil.DateTimeCronDateTime.resolve_civil.Goals as goal
 

@@ -1,4 +1,4 @@
-use Rattle.croner_base.proofs.ZonedMoments.{zoned_later, zoned_past}
+use Rattle.croner_base.proofs.clocks.ZonedMoments.{zoned_later, zoned_past}
 use Rattle.std.proofs.Common.{FitsSigned, w64}
 use Rattle.std.proofs.lemmas.Int.{to_z-of_z}
 use Rattle.jiff.specs.ZonedView.{plain_zoned}

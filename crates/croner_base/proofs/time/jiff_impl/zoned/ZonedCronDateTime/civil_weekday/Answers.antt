@@ -1,6 +1,6 @@
 use Rattle.std.proofs.Common.{◌∙◌, ap, ◌+◌, ◌%◌}
 use Rattle.croner_base.specs.Civil.{weekday_of_second}
-use Rattle.croner_base.proofs.JiffSeconds.{weekday-civil_seconds}
+use Rattle.croner_base.proofs.calendar.JiffSeconds.{weekday-civil_seconds}
 use Rattle.croner_base.proofs.time.jiff_impl.zoned.ZonedCronDateTime.civil_weekday.Goals as goal
 
 pub returns : goal.returns

@@ -1,6 +1,6 @@
 use Rattle.std.proofs.Common.{◌∙◌}
 use Rattle.jiff.specs.ZonedView.{plain_zoned}
-use Rattle.croner_base.proofs.ZonedMoments.{nanos_of-zoned}
+use Rattle.croner_base.proofs.clocks.ZonedMoments.{nanos_of-zoned}
 use Rattle.croner_base.proofs.time.jiff_impl.zoned.ZonedCronDateTime.cmp_instant.Goals as goal
 
 pub returns : goal.returns

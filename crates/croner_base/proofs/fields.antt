@@ -1,0 +1,13 @@
+-- Fields: what the reader of a text marks, part by part, and what the marks come to.
+pub mod CountedValues
+pub mod DefaultField
+pub mod ExamplesParts
+pub mod MarkSets
+pub mod MarkedRanges
+pub mod ModifierSets
+pub mod PartsInTurn
+pub mod ReadingsInTurn
+pub mod SteppedParts
+pub mod StepsMarked
+pub mod TextPieces
+pub mod ValueRanges

@@ -1,0 +1,10 @@
+-- Clocks that are given by tables of offsets: which tables are calm, and what their clocks read.
+pub mod ExamplesTable
+pub mod PickExact
+pub mod TableCalm
+pub mod TableCheck
+pub mod TableMoments
+pub mod TableOffsets
+pub mod TableReadings
+pub mod TableSums
+pub mod TableTests

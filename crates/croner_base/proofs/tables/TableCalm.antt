@@ -1,0 +1,208 @@
+-- The clock of a calm table is calm, and holds what a search needs.
+use Rattle.std.proofs.Common.{◌≡◌, ◌⊎◌, inl, inr, sym, ap, ◌∙◌, subst, Bool, true, false, refl, arith, ◌||◌, zero, suc, ◌≤◌, ℤ, pos, neg_ℤ, ◌+ℤ◌, ◌-ℤ◌, ◌<ℤ◌, ◌≤ℤ◌, int_lt, unsigned_abs, if◌then◌else◌, List, [], ◌∷◌, length, Some, None, IsSome}
+use Rattle.std.proofs.lemmas.Int.{ints, by_lt_z}
+use Rattle.std.specs.List.{All}
+use Rattle.jiff_core.proofs.SignedLemmas.{signed_arith}
+use Rattle.croner_base.specs.declared.time.civil.CivilDateTime.{CivilDateTime}
+use Rattle.croner_base.specs.declared.time.table.ClockTable.{ClockTable}
+use Rattle.croner_base.specs.declared.time.table.TableTime.{TableTime}
+use Rattle.croner_base.specs.declared.time.value.Resolution.{Resolution}
+use Rattle.croner_base.specs.Civil.{wall_second}
+use Rattle.croner_base.specs.Zone.{Zone, reading}
+use Rattle.croner_base.specs.Calm.{IsChange, IsMet, IsSearched, IsCalm, NamesAll, Rises, HoldsAround, jump, gap_seconds}
+use Rattle.croner_base.specs.ZonedZone.{is_near_year, first_timestamp, last_timestamp}
+use Rattle.croner_base.specs.Table.{offset_at, is_met, are_steps, is_step, met_at, gap_at, met_count, met_gaps, is_calm_table, offset_limit}
+use Rattle.croner_base.specs.TableZone.{clock, clock_reads, instants_of, table_zone, table_moment}
+use Rattle.croner_base.proofs.tables.TableTests.{IsSmallStep, both_parts, step_parts, searched_test, lt_test, instant_test}
+use Rattle.croner_base.proofs.tables.TableCheck.{rules_from_calm}
+use Rattle.croner_base.proofs.tables.TableOffsets.{IsSpread, int_le-true, int_le-false, offset_within, stays}
+use Rattle.croner_base.proofs.tables.TableReadings.{calm_spread, calm_offsets}
+use Rattle.croner_base.proofs.tables.TableMoments.{names_instants}
+use Rattle.croner_base.proofs.clocks.ZonedHolds.{farthest_offset, IsNearUtc, holds_around}
+use Rattle.croner_base.specs.Limits.{apart_limit, first_start, last_start}
+
+-- the offset in force changes at d
+abbrev pub IsOffsetChange : ℤ → List (ℤ × ℤ) → ℤ → Type 0
+IsOffsetChange o cs d = offset_at o cs d ≡ offset_at o cs (d -ℤ pos 1) → ⊥
+
+passed : (o : ℤ) (c : ℤ × ℤ) (cs : List (ℤ × ℤ)) (i : ℤ) → c.0 ≤ℤ i → offset_at o (c ∷ cs) i ≡ offset_at c.1 cs i
+passed o c cs i h = let t = int_le-true c.0 i h in rw t
+
+ahead : (o : ℤ) (c : ℤ × ℤ) (cs : List (ℤ × ℤ)) (i : ℤ) → i <ℤ c.0 → offset_at o (c ∷ cs) i ≡ o
+ahead o c cs i h = let t = int_le-false c.0 i h in rw t
+
+-- that is at a change of the table
+place : (o : ℤ) (c : ℤ × ℤ) (cs : List (ℤ × ℤ)) (d : ℤ) → IsOffsetChange o (c ∷ cs) d → (d ≡ c.0) ⊎ ((c.0 <ℤ d) × IsOffsetChange c.1 cs d)
+place o c cs d m =
+    by_lt_z d c.0
+    (λ lt. absurd (m (ahead o c cs d lt ∙ sym (ahead o c cs (d -ℤ pos 1) (omega (arith, signed_arith, lt))))))
+    (λ ge. by_lt_z c.0 d
+    (λ gt. inr (gt, λ e. m (passed o c cs d ge ∙ e ∙ sym (passed o c cs (d -ℤ pos 1) (omega (arith, signed_arith, gt))))))
+    (λ le. inl (omega (arith, signed_arith, ge, le))))
+
+-- there the offset is the change's, and was the one before
+at_change : (o : ℤ) (c : ℤ × ℤ) (cs : List (ℤ × ℤ)) (d : ℤ) → IsSpread (c ∷ cs) → d ≡ c.0 → (offset_at o (c ∷ cs) d ≡ c.1) × (offset_at o (c ∷ cs) (d -ℤ pos 1) ≡ o)
+at_change o c cs d s e = (
+  passed o c cs d (omega (arith, signed_arith, e)) ∙ stays c cs d s.0 (omega (arith, signed_arith, e)),
+  ahead o c cs (d -ℤ pos 1) (omega (arith, signed_arith, e)),
+)
+
+moved_by : (o : ℤ) (cs : List (ℤ × ℤ)) (d : ℤ) → IsSpread cs → are_steps o cs ≡ true → IsOffsetChange o cs d → IsSmallStep (offset_at o cs (d -ℤ pos 1)) (offset_at o cs d)
+moved_by o [] d s h m = absurd (m refl)
+moved_by o (c ∷ cs) d s h m =
+    let p = both_parts (is_step o c.1) (are_steps c.1 cs) h in
+    elim (place o c cs d m) [
+      | inl e ↦ let a = at_change o c cs d s e in rw (a.0, a.1) (step_parts o c.1 p.0)
+      | inr q ↦
+          let x = passed o c cs d (omega (arith, signed_arith, q.0)) in
+          let y = passed o c cs (d -ℤ pos 1) (omega (arith, signed_arith, q.0)) in
+          rw (x, y) (moved_by c.1 cs d s.1 p.1 q.1)
+    ]
+
+after_first : (c : ℤ × ℤ) (cs : List (ℤ × ℤ)) (e : ℤ) → IsSpread (c ∷ cs) → IsOffsetChange c.1 cs e → (c.0 +ℤ pos apart_limit) <ℤ e
+after_first c [] e s m = absurd (m refl)
+after_first c (d ∷ ds) e s m =
+    let a : (c.0 +ℤ pos apart_limit) <ℤ d.0 = s.0 in
+    elim (place c.1 d ds e m) [
+      | inl h ↦ omega (arith, signed_arith, a, h)
+      | inr q ↦ omega (arith, signed_arith, a, q.0)
+    ]
+
+far_apart : (o : ℤ) (cs : List (ℤ × ℤ)) (d e : ℤ) → IsSpread cs → IsOffsetChange o cs d → IsOffsetChange o cs e → d <ℤ e → (d +ℤ pos apart_limit) <ℤ e
+far_apart o [] d e s m n lt = absurd (m refl)
+far_apart o (c ∷ cs) d e s m n lt =
+    elim (place o c cs d m) [
+      | inl h ↦ elim (place o c cs e n) [
+        | inl k ↦ absurd (omega (arith, signed_arith, h, k, lt))
+        | inr q ↦ let a = after_first c cs e s q.1 in omega (arith, signed_arith, a, h)
+      ]
+      | inr p ↦ elim (place o c cs e n) [
+        | inl k ↦ absurd (omega (arith, signed_arith, p.0, k, lt))
+        | inr q ↦ far_apart c.1 cs d e s.1 p.1 q.1 lt
+      ]
+    ]
+
+or_right : (a b : Bool) → b ≡ true → (a || b) ≡ true
+or_right true b h = refl
+or_right false b h = h
+
+not_lt : (a b : ℤ) → b ≤ℤ a → int_lt a b ≡ false
+not_lt a b h = grind (arith, ints)
+
+-- a met change is counted, and so are the seconds that it skips
+seen : (o : ℤ) (c : ℤ × ℤ) (x y : ℤ) → x ≡ c.0 +ℤ c.1 → y ≡ c.0 -ℤ pos 1 +ℤ o → IsSearched x ⊎ IsSearched y → is_met o c ≡ true
+seen o c x y e f h =
+    elim h [
+      | inl p ↦ let t = searched_test (c.0 +ℤ c.1) (rw (← e) p.0) (rw (← e) p.1) in rw t
+      | inr p ↦ let t = searched_test (c.0 -ℤ pos 1 +ℤ o) (rw (← f) p.0) (rw (← f) p.1) in or_right _ _ t
+    ]
+
+skipped : (o : ℤ) (c : ℤ × ℤ) (j : ℤ) → is_met o c ≡ true → j ≡ c.1 -ℤ o → (if int_lt (pos 0) j then unsigned_abs j else 0) ≡ gap_at o c
+skipped o c j h e =
+    by_lt_z o c.1
+    (λ lt. let a = lt_test (pos 0) (c.1 -ℤ o) (omega (arith, signed_arith, lt)) in let b = lt_test o c.1 lt in rw (e, a, b, h))
+    (λ ge. let a = not_lt (pos 0) (c.1 -ℤ o) (omega (arith, signed_arith, ge)) in let b = not_lt o c.1 ge in rw (e, a, b, h))
+
+tail : (P : ℤ → Type 0) (d : ℤ) (ds : List ℤ) → All P (d ∷ ds) → All P ds
+tail P d ds h = λ k e l. h (suc k) e (omega arith)
+
+plain_change : (u v d x y : ℤ) → u ≡ d +ℤ x → v ≡ (d -ℤ pos 1) +ℤ y → x ≡ y → u ≡ v +ℤ pos 1
+plain_change u v d x y p q e = omega (arith, signed_arith)
+
+above_first : (d : ℤ) (ds : List ℤ) → All (λ e. d <ℤ e) ds → All (λ e. (d -ℤ pos 1) <ℤ e) (d ∷ ds)
+above_first d ds h zero e l = omega (arith, signed_arith)
+above_first d ds h (suc k) e l = let a = h k e (omega arith) in omega (arith, signed_arith, a)
+
+-- of a zone that reads as the table after f, the changes after f are counted
+few_in : (z : Zone) (f o : ℤ) (cs : List (ℤ × ℤ)) (ds : List ℤ) → ((i : ℤ) → f ≤ℤ i → z.reads i ≡ clock_reads o cs i) → All (λ e. f <ℤ e) ds → IsSpread cs → Rises ds → All (IsMet z) ds → (length ds ≤ met_count o cs) × (gap_seconds z ds ≤ met_gaps o cs)
+few_in z f o [] [] agree above s r met = (omega arith, omega arith)
+few_in z f o (c ∷ cs) [] agree above s r met = (omega arith, omega arith)
+few_in z f o [] (d ∷ ds) agree above s r met =
+    let m = met 0 d (omega arith) in
+    let a = above 0 d (omega arith) in
+    let p : z.reads d ≡ d +ℤ o = agree d (omega (arith, signed_arith, a)) in
+    let q : z.reads (d -ℤ pos 1) ≡ (d -ℤ pos 1) +ℤ o = agree (d -ℤ pos 1) (omega (arith, signed_arith, a)) in
+    absurd (m.0 (omega (arith, signed_arith, p, q)))
+few_in z f o (c ∷ cs) (d ∷ ds) agree above s r met =
+    let m = met 0 d (omega arith) in
+    let a = above 0 d (omega arith) in
+    let p : z.reads d ≡ d +ℤ offset_at o (c ∷ cs) d = agree d (omega (arith, signed_arith, a)) in
+    let q : z.reads (d -ℤ pos 1) ≡ (d -ℤ pos 1) +ℤ offset_at o (c ∷ cs) (d -ℤ pos 1) = agree (d -ℤ pos 1) (omega (arith, signed_arith, a)) in
+    elim (place o c cs d (λ e. m.0 (plain_change _ _ d _ _ p q e))) [
+      | inl h ↦
+          let w = at_change o c cs d s h in
+          let rest = few_in z d c.1 cs ds (λ i le. agree i (omega (arith, signed_arith, a, le)) ∙ ap (λ (x : ℤ). i +ℤ x) (passed o c cs i (omega (arith, signed_arith, h, le)))) r.0 s.1 r.1 (tail (IsMet z) d ds met) in
+          let x : z.reads d ≡ c.0 +ℤ c.1 = p ∙ rw w.0 (omega (arith, signed_arith, h)) in
+          let y : z.reads (d -ℤ pos 1) ≡ c.0 -ℤ pos 1 +ℤ o = q ∙ rw w.1 (omega (arith, signed_arith, h)) in
+          let seen1 = seen o c (z.reads d) (z.reads (d -ℤ pos 1)) x y m.1 in
+          let one : met_at o c ≡ 1 = rw seen1 refl in
+          let skip = skipped o c (jump z d) seen1 (omega (arith, signed_arith, x, y)) in
+          (omega (arith, one, rest.0), omega (arith, skip, rest.1))
+      | inr h ↦
+          let rest = few_in z (d -ℤ pos 1) c.1 cs (d ∷ ds) (λ i le. agree i (omega (arith, signed_arith, a, le)) ∙ ap (λ (x : ℤ). i +ℤ x) (passed o c cs i (omega (arith, signed_arith, h.0, le)))) (above_first d ds r.0) s.1 r met in
+          (omega (arith, rest.0), omega (arith, rest.1))
+    ]
+
+few_all : (z : Zone) (o : ℤ) (cs : List (ℤ × ℤ)) (ds : List ℤ) → ((i : ℤ) → z.reads i ≡ clock_reads o cs i) → IsSpread cs → Rises ds → All (IsMet z) ds → (length ds ≤ met_count o cs) × (gap_seconds z ds ≤ met_gaps o cs)
+few_all z o cs [] agree s r met = (omega arith, omega arith)
+few_all z o cs (d ∷ ds) agree s r met =
+    few_in z (d -ℤ pos 1) o cs (d ∷ ds) (λ i le. agree i) (above_first d ds r.0) s r met
+
+jump_plain : (d x y : ℤ) → ((d +ℤ x) -ℤ ((d -ℤ pos 1) +ℤ y)) -ℤ pos 1 ≡ x -ℤ y
+jump_plain d x y = omega (arith, signed_arith)
+
+jump_is : (o : ℤ) (cs : List (ℤ × ℤ)) (d : ℤ) → jump (clock o cs) d ≡ offset_at o cs d -ℤ offset_at o cs (d -ℤ pos 1)
+unfolding clock
+jump_is o cs d = jump_plain d (offset_at o cs d) (offset_at o cs (d -ℤ pos 1))
+
+change_moves : (o : ℤ) (cs : List (ℤ × ℤ)) (d : ℤ) → IsChange (clock o cs) d → IsOffsetChange o cs d
+unfolding clock
+change_moves o cs d h e = h (plain_change _ _ d _ _ refl refl e)
+
+clock_reads_is : (o : ℤ) (cs : List (ℤ × ℤ)) (i : ℤ) → (clock o cs).reads i ≡ clock_reads o cs i
+unfolding clock
+clock_reads_is o cs i = refl
+
+exact_by : (z : Zone) (w : ℤ) (b : Bool) (x r : Resolution ℤ) → (if b then Some x else None) ≡ Some r → NamesAll z w x → NamesAll z w r
+exact_by z w true x r e n = let same : x ≡ r = cc in subst (λ (y : Resolution ℤ). NamesAll z w y) same n
+exact_by z w false x r e n = absurd (cc)
+
+exact_all : (o : ℤ) (cs : List (ℤ × ℤ)) (c : CivilDateTime) (r : Resolution ℤ) → is_calm_table o cs ≡ true → (clock o cs).resolves c ≡ Some r → NamesAll (clock o cs) (wall_second c) r
+unfolding clock
+exact_all o cs c r h e =
+    exact_by (clock o cs) (wall_second c) (is_near_year c.date.year) (instants_of o cs (wall_second c)) r e (names_instants o cs (wall_second c) h)
+
+pub clock_calm : (o : ℤ) (cs : List (ℤ × ℤ)) → is_calm_table o cs ≡ true → IsCalm (clock o cs)
+clock_calm o cs h =
+    let rules = rules_from_calm o cs h in
+    let spread = calm_spread o cs h in
+    record {
+      exact = λ c r e. exact_all o cs c r h e;
+      small = λ d m. let s = moved_by o cs d spread rules.steps (change_moves o cs d m) in (
+        omega (arith, signed_arith, s.back, jump_is o cs d),
+        omega (arith, signed_arith, s.forward, jump_is o cs d),
+      );
+      apart = λ d e m n lt. far_apart o cs d e spread (change_moves o cs d m) (change_moves o cs e n) lt;
+      few = λ ds r m. let f = few_all (clock o cs) o cs ds (clock_reads_is o cs) spread r m in
+          (omega (arith, f.0, rules.few), omega (arith, f.1, rules.few_seconds));
+    }
+
+-- what a search needs held
+named : (t : ClockTable) (c : CivilDateTime) → is_near_year c.date.year ≡ true → IsSome ((table_zone t).resolves c)
+unfolding clock
+named t c near = rw near refl
+
+held : (t : ClockTable) (i : ℤ) → first_timestamp ≤ℤ i → i ≤ℤ last_timestamp → (table_zone t).holds i ≡ true
+unfolding clock
+held t i low high = instant_test i (omega (arith, signed_arith, low)) (omega (arith, signed_arith, high))
+
+near_plain : (i x : ℤ) → (neg_ℤ (pos offset_limit) ≤ℤ x) × (x ≤ℤ pos offset_limit) → ((i -ℤ pos farthest_offset) ≤ℤ (i +ℤ x)) × ((i +ℤ x) ≤ℤ (i +ℤ pos farthest_offset))
+near_plain i x h = (omega (arith, signed_arith, h), omega (arith, signed_arith, h))
+
+near_utc : (t : ClockTable) → IsNearUtc (table_zone t)
+unfolding clock
+near_utc t =
+    λ i. near_plain i (offset_at t.first_offset t.changes.items i) (offset_within t.first_offset t.changes.items i (calm_offsets t.first_offset t.changes.items t.calm))
+
+pub table_holds : (t : TableTime) → first_start ≤ℤ reading (table_moment t) → reading (table_moment t) ≤ℤ last_start → HoldsAround (table_moment t)
+table_holds t low high = holds_around (table_moment t) (named t.table.now) (held t.table.now) (near_utc t.table.now) low high
