@@ -1,5 +1,20 @@
 //! Limits that more than one crate goes by.
 
+/// The greatest second of a minute.
+pub const LAST_SECOND: u32 = 59;
+
+/// The greatest minute of an hour.
+pub const LAST_MINUTE: u32 = 59;
+
+/// The greatest hour of a day.
+pub const LAST_HOUR: u32 = 23;
+
+/// The greatest month of a year.
+pub const LAST_MONTH: u32 = 12;
+
+/// The days of a week.
+pub const DAYS_PER_WEEK: u32 = 7;
+
 /// The seconds of a day on a wall clock.
 pub const SECONDS_PER_DAY: u32 = 86_400;
 

@@ -4,16 +4,10 @@ ghost use Rattle.croner_base.specs.Calendar.{day_seconds};
 ghost use Rattle.croner_base.specs.Civil.{wall_second, day_of_date, seconds_of_time};
 ghost use Rattle.croner_base.specs.Ends.{IsLastDate, IsFirstDate};
 
+use crate::limits::{LAST_HOUR, LAST_MINUTE, LAST_MONTH, LAST_SECOND};
 use crate::time::{CivilDate, CivilDateTime, CivilTime, days_in_month};
 
-const LAST_HOUR: u32 = 23;
-
-const LAST_MINUTE: u32 = 59;
-
-const LAST_SECOND: u32 = 59;
-
-const LAST_MONTH: u32 = 12;
-
+/// The last day of December.
 const LAST_DAY_OF_YEAR: u32 = 31;
 
 // The next second of the same day.

@@ -20,22 +20,14 @@ use croner_base::component::{
     ALL_BIT, CLOSEST_WEEKDAY_BIT, CronComponent, LAST_BIT, NONE_BIT, NTH_ALL,
 };
 use croner_base::errors::CronError;
+use croner_base::limits::{LAST_HOUR, LAST_MINUTE, LAST_MONTH, LAST_SECOND};
 use croner_base::time::{Direction, TimeComponent, YEAR_LOWER_LIMIT, YEAR_UPPER_LIMIT};
 use std::alloc::{AllocError, Global};
 use std::fmt;
 use text::Text;
 
-/// The greatest second and the greatest minute.
-const LAST_SECOND: u16 = 59;
-
-/// The greatest hour.
-const LAST_HOUR: u16 = 23;
-
 /// The longest month, in days.
-const LAST_DAY: u16 = 31;
-
-/// The months of a year.
-const LAST_MONTH: u16 = 12;
+const LONGEST_MONTH: u16 = 31;
 
 /// Sunday once more: 0 is Sunday too.
 const LAST_WEEKDAY: u16 = 7;
@@ -100,11 +92,11 @@ impl CronPattern {
         let weekday_features = LAST_BIT | NTH_ALL;
         let (first_year, last_year) = (YEAR_LOWER_LIMIT as u16, YEAR_UPPER_LIMIT as u16);
         Ok(CronPattern {
-            seconds: CronComponent::new(alloc, 0, LAST_SECOND, NONE_BIT, 0)?,
-            minutes: CronComponent::new(alloc, 0, LAST_SECOND, NONE_BIT, 0)?,
-            hours: CronComponent::new(alloc, 0, LAST_HOUR, NONE_BIT, 0)?,
-            days: CronComponent::new(alloc, 1, LAST_DAY, day_features, 0)?,
-            months: CronComponent::new(alloc, 1, LAST_MONTH, NONE_BIT, 0)?,
+            seconds: CronComponent::new(alloc, 0, LAST_SECOND as u16, NONE_BIT, 0)?,
+            minutes: CronComponent::new(alloc, 0, LAST_MINUTE as u16, NONE_BIT, 0)?,
+            hours: CronComponent::new(alloc, 0, LAST_HOUR as u16, NONE_BIT, 0)?,
+            days: CronComponent::new(alloc, 1, LONGEST_MONTH, day_features, 0)?,
+            months: CronComponent::new(alloc, 1, LAST_MONTH as u16, NONE_BIT, 0)?,
             days_of_week: CronComponent::new(alloc, 0, LAST_WEEKDAY, weekday_features, 0)?,
             years: CronComponent::new(alloc, first_year, last_year, NONE_BIT, 0)?,
             text: Text::new(alloc, text)?,
@@ -128,11 +120,11 @@ impl CronPattern {
         ensures { result ≡ has_field_shapes (meaning_of self.now) }
     {
         let (first_year, last_year) = (YEAR_LOWER_LIMIT as u16, YEAR_UPPER_LIMIT as u16);
-        is_like(&self.seconds, 0, LAST_SECOND, NONE_BIT, 0)
-            && is_like(&self.minutes, 0, LAST_SECOND, NONE_BIT, 0)
-            && is_like(&self.hours, 0, LAST_HOUR, NONE_BIT, 0)
-            && is_like(&self.days, 1, LAST_DAY, CLOSEST_WEEKDAY_BIT, 0)
-            && is_like(&self.months, 1, LAST_MONTH, NONE_BIT, 0)
+        is_like(&self.seconds, 0, LAST_SECOND as u16, NONE_BIT, 0)
+            && is_like(&self.minutes, 0, LAST_MINUTE as u16, NONE_BIT, 0)
+            && is_like(&self.hours, 0, LAST_HOUR as u16, NONE_BIT, 0)
+            && is_like(&self.days, 1, LONGEST_MONTH, CLOSEST_WEEKDAY_BIT, 0)
+            && is_like(&self.months, 1, LAST_MONTH as u16, NONE_BIT, 0)
             && (is_like(&self.days_of_week, 0, LAST_WEEKDAY, NTH_ALL, 0)
                 || is_like(&self.days_of_week, 0, LAST_WEEKDAY, NTH_ALL, 1))
             && is_like(&self.years, first_year, last_year, NONE_BIT, 0)

@@ -7,6 +7,7 @@ ghost use Rattle.croner_base.specs.Calendar.{IsRealDate, place_in_year, day_seco
 ghost use Rattle.croner_base.specs.CivilText.{date_text, time_text, datetime_text};
 
 use crate::errors::CronError;
+use crate::limits::{DAYS_PER_WEEK, LAST_HOUR, LAST_MINUTE, LAST_MONTH, LAST_SECOND};
 use crate::time::{day_of_year, days_in_month};
 use std::fmt;
 
@@ -78,7 +79,7 @@ impl Weekday {
             ≡ unsigned_abs (int_rem_euclid (pos (weekday_index self) +ℤ days) (pos 7)) }
     {
         let number = self as i32 + days;
-        Weekday::from_days_from_sunday(number.rem_euclid(7) as u32)
+        Weekday::from_days_from_sunday(number.rem_euclid(DAYS_PER_WEEK as i32) as u32)
     }
 }
 
@@ -109,7 +110,7 @@ impl CivilDate {
         ensures some { IsSome result ↔ IsRealDate year month day }
         ensures value { IfSome result (HasYmd year month day) }
     {
-        if month < 1 || month > 12 || day < 1 || day > days_in_month(year, month) {
+        if month < 1 || month > LAST_MONTH || day < 1 || day > days_in_month(year, month) {
             return None;
         }
         Some(CivilDate::from_parts_unchecked(year, month, day))
@@ -225,9 +226,9 @@ impl CivilTime {
 
     /// 23:59:59, the last second of each day.
     pub const END_OF_DAY: CivilTime = CivilTime {
-        hour: 23,
-        minute: 59,
-        second: 59,
+        hour: LAST_HOUR as u8,
+        minute: LAST_MINUTE as u8,
+        second: LAST_SECOND as u8,
     };
 
     /// The time of these parts, or `None` where one of them is out of its range.
@@ -240,7 +241,7 @@ impl CivilTime {
         ensures some { IsSome result ↔ IsTimeOfDay hour minute second }
         ensures value { IfSome result (HasHms hour minute second) }
     {
-        if hour > 23 || minute > 59 || second > 59 {
+        if hour > LAST_HOUR || minute > LAST_MINUTE || second > LAST_SECOND {
             return None;
         }
         Some(CivilTime::from_parts_unchecked(hour, minute, second))

@@ -8,19 +8,13 @@ mod civil;
 mod of_zone;
 
 use crate::errors::CronError;
-use crate::limits::YEAR_LIMIT;
+use crate::limits::{DAYS_PER_WEEK, SECONDS_PER_DAY, YEAR_LIMIT};
 use crate::time::table::check::{OFFSET_LIMIT_SECONDS, is_calm, is_instant};
-use crate::time::table::civil::{SECONDS_PER_DAY, civil_of_second, second_of_civil};
+use crate::time::table::civil::{civil_of_second, second_of_civil};
 use crate::time::{CivilDateTime, CronDateTime, Resolution, Weekday};
 use jiff::Timestamp;
 use std::alloc::Global;
 use std::cmp::Ordering;
-
-/// The first year whose wall seconds are resolved.
-const FIRST_YEAR: i32 = -YEAR_LIMIT;
-
-/// The last one.
-const LAST_YEAR: i32 = YEAR_LIMIT;
 
 /// A clock that is some seconds ahead of UTC, up to its first change and from each change on.
 ///
@@ -272,8 +266,8 @@ impl<'t> CronDateTime for TableTime<'t> {
     }
 
     fn civil_weekday(&self) -> Weekday {
-        let day = self.wall().div_euclid(SECONDS_PER_DAY);
-        Weekday::from_days_from_sunday((day + 4).rem_euclid(7) as u32)
+        let day = self.wall().div_euclid(SECONDS_PER_DAY as i64);
+        Weekday::from_days_from_sunday((day + 4).rem_euclid(DAYS_PER_WEEK as i64) as u32)
     }
 
     #[inline(always)]
@@ -287,7 +281,7 @@ impl<'t> CronDateTime for TableTime<'t> {
         ensures err { IfErr result (IsUnheld false (table_moment self.now).zone civil) }
         ensures date { IfErr result (λ e. e ≡ CronError.InvalidDate) }
     {
-        if civil.year() < FIRST_YEAR || civil.year() > LAST_YEAR {
+        if civil.year() < -YEAR_LIMIT || civil.year() > YEAR_LIMIT {
             return Err(CronError::InvalidDate);
         }
         Ok(match self.table.instants_of(second_of_civil(civil)) {

@@ -10,12 +10,13 @@ ghost use Rattle.croner_pattern.specs.Schedule.{is_plain, is_year_matching, firs
 ghost use Rattle.croner_pattern.specs.Private.Cursor.{one_on, has_room, FindsForemost, IsOnTheWay, IsNamedYear, IsMonthDays, IsInMonth, IsInMonths, IsInYear, IsInYears, IsAfter};
 
 use crate::cursor::calendar::{
-    FIRST_YEAR, LAST_YEAR, MONTHS, first_weekday, is_reached, year_beyond,
+    FIRST_SEARCHED_YEAR, LAST_SEARCHED_YEAR, first_weekday, is_reached, year_beyond,
 };
 use crate::cursor::days::{day_after, first_day};
 use crate::cursor::kinds::{has_kind, year_kinds};
 use crate::cursor::values::{is_plain, nearest_value, nearest_year, neighbour};
 use crate::pattern::CronPattern;
+use croner_base::limits::LAST_MONTH;
 use croner_base::time::{CivilDate, Direction, days_in_month};
 
 // The number of a year that the pattern names.
@@ -34,8 +35,8 @@ fn named_year(pattern: &CronPattern, year: i32) -> Option<u32>
 // The days of a month that the day fields name.
 fn named_days(pattern: &CronPattern, year: u32, month: u32) -> u32
     requires shapes { has_field_shapes (meaning_of pattern.now) ≡ true }
-    requires year_in { IsInRange FIRST_YEAR LAST_YEAR year }
-    requires month_in { IsInRange 1 MONTHS month }
+    requires year_in { IsInRange FIRST_SEARCHED_YEAR LAST_SEARCHED_YEAR year }
+    requires month_in { IsInRange 1 LAST_MONTH month }
     ensures { IsDayMask (meaning_of pattern.now) (days_in_month (pos year) month) (first_weekday (pos year) month) result }
 {
     pattern.days_of_month(
@@ -62,8 +63,8 @@ pub(crate) fn month_days(pattern: &CronPattern, date: CivilDate) -> u32
 // The first date that matches in a named month of a named year.
 fn in_month(pattern: &CronPattern, year: u32, month: u32, direction: Direction) -> Option<CivilDate>
     requires shapes { has_field_shapes (meaning_of pattern.now) ≡ true }
-    requires year_in { IsInRange FIRST_YEAR LAST_YEAR year }
-    requires month_in { IsInRange 1 MONTHS month }
+    requires year_in { IsInRange FIRST_SEARCHED_YEAR LAST_SEARCHED_YEAR year }
+    requires month_in { IsInRange 1 LAST_MONTH month }
     ensures { is_year_matching (meaning_of pattern.now) (pos year) ≡ true → is_plain (meaning_of pattern.now).months month ≡ true
         → FindsForemost day_of_date (IsInMonth (meaning_of pattern.now) (pos year) month) direction result }
 {
@@ -80,13 +81,13 @@ fn in_months(
     direction: Direction,
 ) -> Option<CivilDate>
     requires shapes { has_field_shapes (meaning_of pattern.now) ≡ true }
-    requires year_in { IsInRange FIRST_YEAR LAST_YEAR year }
-    requires month_in { IsOnTheWay direction 1 MONTHS month }
+    requires year_in { IsInRange FIRST_SEARCHED_YEAR LAST_SEARCHED_YEAR year }
+    requires month_in { IsOnTheWay direction 1 LAST_MONTH month }
     ensures { is_year_matching (meaning_of pattern.now) (pos year) ≡ true
         → FindsForemost day_of_date (IsInMonths (meaning_of pattern.now) direction (pos year) (pos month)) direction result }
 {
     let mut from = month;
-    while let Some(month) = nearest_value(&pattern.months, 1, MONTHS, from, direction) {
+    while let Some(month) = nearest_value(&pattern.months, 1, LAST_MONTH, from, direction) {
         if let Some(found) = in_month(pattern, year, month, direction) {
             return Some(found);
         }
@@ -97,19 +98,19 @@ fn in_months(
 
 // The month with which a year begins in the direction.
 fn first_month(direction: Direction) -> u32
-    ensures way { IsOnTheWay direction 1 MONTHS result }
+    ensures way { IsOnTheWay direction 1 LAST_MONTH result }
     ensures first { (month : ℕ) → IsInRange 1 12 month → Reaches direction (pos result) (pos month) }
 {
     match direction {
         Direction::Forward => 1,
-        Direction::Backward => MONTHS,
+        Direction::Backward => LAST_MONTH,
     }
 }
 
 // The first date of a named year that matches and that a search comes to.
 fn in_year(pattern: &CronPattern, year: u32, direction: Direction) -> Option<CivilDate>
     requires shapes { has_field_shapes (meaning_of pattern.now) ≡ true }
-    requires year_in { IsInRange FIRST_YEAR LAST_YEAR year }
+    requires year_in { IsInRange FIRST_SEARCHED_YEAR LAST_SEARCHED_YEAR year }
     ensures { is_year_matching (meaning_of pattern.now) (pos year) ≡ true
         → FindsForemost day_of_date (IsInYear (meaning_of pattern.now) direction (pos year)) direction result }
 {
@@ -124,7 +125,7 @@ fn in_year(pattern: &CronPattern, year: u32, direction: Direction) -> Option<Civ
 // The first date that matches in the years from a year on, found by the kinds of the years.
 fn in_later_years(pattern: &CronPattern, year: u32, direction: Direction) -> Option<CivilDate>
     requires shapes { has_field_shapes (meaning_of pattern.now) ≡ true }
-    requires year_in { IsOnTheWay direction FIRST_YEAR LAST_YEAR year }
+    requires year_in { IsOnTheWay direction FIRST_SEARCHED_YEAR LAST_SEARCHED_YEAR year }
     ensures { FindsForemost day_of_date (IsInYears (meaning_of pattern.now) direction (pos year)) direction result }
 {
     let kinds = year_kinds(pattern);
@@ -147,7 +148,7 @@ fn in_later_years(pattern: &CronPattern, year: u32, direction: Direction) -> Opt
 // their kinds.
 fn in_years(pattern: &CronPattern, year: u32, direction: Direction) -> Option<CivilDate>
     requires shapes { has_field_shapes (meaning_of pattern.now) ≡ true }
-    requires year_in { IsOnTheWay direction FIRST_YEAR LAST_YEAR year }
+    requires year_in { IsOnTheWay direction FIRST_SEARCHED_YEAR LAST_SEARCHED_YEAR year }
     ensures { FindsForemost day_of_date (IsInYears (meaning_of pattern.now) direction (pos year)) direction result }
 {
     let year = nearest_year(&pattern.years, year, direction)?;

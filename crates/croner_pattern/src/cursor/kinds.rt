@@ -8,9 +8,10 @@ ghost use Rattle.croner_pattern.specs.Schedule.{first_weekday};
 ghost use Rattle.croner_pattern.specs.Shapes.{has_field_shapes};
 ghost use Rattle.croner_pattern.specs.Private.Cursor.{month_kind, year_kind, HasOpenDay, AreMonthKinds, AreYearKinds};
 
-use crate::cursor::calendar::{FIRST_YEAR, LAST_YEAR, MONTHS, WEEK, first_weekday};
+use crate::cursor::calendar::{FIRST_SEARCHED_YEAR, LAST_SEARCHED_YEAR, first_weekday};
 use crate::cursor::values::nearest_value;
 use crate::pattern::CronPattern;
+use croner_base::limits::{DAYS_PER_WEEK, LAST_MONTH};
 use croner_base::time::{Direction, day_of_year, days_in_month, is_leap_year};
 
 // A leap year and a common one. Each other year has the months of the one or of the other.
@@ -32,18 +33,18 @@ fn month_kind(length: u32, first: u32) -> u32
     ensures value { result ≡ month_kind length first }
     ensures bound { result < 28 }
 {
-    (length - SHORTEST_MONTH) * WEEK + first
+    (length - SHORTEST_MONTH) * DAYS_PER_WEEK + first
 }
 
 // The place of the kind of a year among the 14.
 fn year_kind(year: u32) -> u32
-    requires { IsInRange FIRST_YEAR LAST_YEAR year }
+    requires { IsInRange FIRST_SEARCHED_YEAR LAST_SEARCHED_YEAR year }
     ensures value { result ≡ year_kind (pos year) }
     ensures bound { result < 14 }
 {
     let first = first_weekday(year, 1);
     if is_leap_year(year as i32) {
-        first + WEEK
+        first + DAYS_PER_WEEK
     } else {
         first
     }
@@ -56,7 +57,7 @@ fn month_kinds(pattern: &CronPattern) -> u32
 {
     let mut kinds = 0;
     for kind in 0..MONTH_KINDS {
-        if pattern.days_of_month(SHORTEST_MONTH + kind / WEEK, kind % WEEK) != 0 {
+        if pattern.days_of_month(SHORTEST_MONTH + kind / DAYS_PER_WEEK, kind % DAYS_PER_WEEK) != 0 {
             kinds |= 1 << kind;
         }
     }
@@ -79,7 +80,7 @@ fn turned(week: u32, days: u32) -> u32
     ensures value { (weekday : ℕ) → weekday < 7 → bit_at result weekday ≡ bit_at week ((weekday + days) % 7) }
     ensures bound { result < 128 }
 {
-    (week | week << WEEK) >> days & WEEK_BITS
+    (week | week << DAYS_PER_WEEK) >> days & WEEK_BITS
 }
 
 fn like_year(leap: bool) -> i32
@@ -97,7 +98,7 @@ fn open_beginnings(months: u32, month: u32, leap: bool) -> u32
 {
     let year = like_year(leap);
     let week = kinds_of_length(months, days_in_month(year, month));
-    turned(week, (day_of_year(year, month, 1) - 1) % WEEK)
+    turned(week, (day_of_year(year, month, 1) - 1) % DAYS_PER_WEEK)
 }
 
 // Which kinds of year have a day that matches in the month, one bit a kind.
@@ -106,7 +107,7 @@ fn open_years(months: u32, month: u32) -> u32
     ensures { (m : Meaning) → AreMonthKinds m months → (year : ℤ)
         → (bit_at result (year_kind year) ≡ 1) ↔ HasOpenDay m (days_in_month year month) (first_weekday year month) }
 {
-    open_beginnings(months, month, false) | open_beginnings(months, month, true) << WEEK
+    open_beginnings(months, month, false) | open_beginnings(months, month, true) << DAYS_PER_WEEK
 }
 
 // Which kinds of year have a day that matches in a named month, one bit a kind.
@@ -118,7 +119,13 @@ pub(crate) fn year_kinds(pattern: &CronPattern) -> u32
     let months = month_kinds(pattern);
     let mut kinds = 0;
     let mut from = 1;
-    while let Some(month) = nearest_value(&pattern.months, 1, MONTHS, from, Direction::Forward) {
+    while let Some(month) = nearest_value(
+        &pattern.months,
+        1,
+        LAST_MONTH,
+        from,
+        Direction::Forward,
+    ) {
         kinds |= open_years(months, month);
         from = month + 1;
     }
@@ -127,7 +134,7 @@ pub(crate) fn year_kinds(pattern: &CronPattern) -> u32
 
 // Whether the kind of the year is one of the kinds.
 pub(crate) fn has_kind(kinds: u32, year: u32) -> bool
-    requires { IsInRange FIRST_YEAR LAST_YEAR year }
+    requires { IsInRange FIRST_SEARCHED_YEAR LAST_SEARCHED_YEAR year }
     ensures { IsTrue result ↔ (bit_at kinds (year_kind (pos year)) ≡ 1) }
 {
     kinds >> year_kind(year) & 1 == 1

@@ -7,13 +7,8 @@ ghost use Rattle.croner_pattern.specs.Private.Cursor.{FindsForemost, place_in_da
 
 use crate::cursor::values::{first_value, is_plain, nearest_beyond, nearest_value};
 use crate::pattern::CronPattern;
+use croner_base::limits::{LAST_HOUR, LAST_MINUTE, LAST_SECOND};
 use croner_base::time::{CivilTime, Direction};
-
-const LAST_HOUR: u32 = 23;
-
-const LAST_MINUTE: u32 = 59;
-
-const LAST_SECOND: u32 = 59;
 
 // The first time of day that matches, in the direction. None where a field names nothing.
 #[tactic(auto, using(crate::proofs::civil::FieldBits::holds_hours, crate::proofs::civil::FieldBits::holds_minutes, crate::proofs::civil::FieldBits::holds_seconds))]

@@ -5,13 +5,10 @@ ghost use Rattle.croner_base.specs.Field.{can_ask};
 ghost use Rattle.croner_pattern.specs.Schedule.{is_plain};
 ghost use Rattle.croner_pattern.specs.Private.Cursor.{one_on, FindsNearest, FindsForemost, AreFrom, HoldsAll, IsPlainWithin, IsOnTheWay, IsFirstValue};
 
-use crate::cursor::calendar::{FIRST_YEAR, LAST_YEAR};
+use crate::cursor::calendar::{FIRST_SEARCHED_YEAR, LAST_SEARCHED_YEAR};
 use crate::pattern::nearest_member;
 use croner_base::component::{ALL_BIT, CronComponent};
 use croner_base::time::Direction;
-
-// The places of a word.
-const WORD_BITS: u32 = 64;
 
 // Whether the field names the value by itself, which is one of those that it holds.
 #[inline(always)]
@@ -44,7 +41,7 @@ pub(crate) fn bits_from(word: u64, from: u32, direction: Direction) -> u64
 {
     match direction {
         Direction::Forward => word & (u64::MAX << from),
-        Direction::Backward => word & (u64::MAX >> (WORD_BITS - 1 - from)),
+        Direction::Backward => word & (u64::MAX >> (u64::BITS - 1 - from)),
     }
 }
 
@@ -58,7 +55,7 @@ pub(crate) fn first_bit(word: u64, direction: Direction) -> Option<u32>
     }
     match direction {
         Direction::Forward => Some(word.trailing_zeros()),
-        Direction::Backward => Some(WORD_BITS - 1 - word.leading_zeros()),
+        Direction::Backward => Some(u64::BITS - 1 - word.leading_zeros()),
     }
 }
 
@@ -87,11 +84,11 @@ pub(crate) fn nearest_value(
 
 // The nearest plain year, from a year on, itself included.
 pub(crate) fn nearest_year(years: &CronComponent, from: u32, direction: Direction) -> Option<u32>
-    requires { IsOnTheWay direction FIRST_YEAR LAST_YEAR from }
-    ensures { FindsNearest pos (IsPlainWithin years.now FIRST_YEAR LAST_YEAR) direction (pos from) result }
+    requires { IsOnTheWay direction FIRST_SEARCHED_YEAR LAST_SEARCHED_YEAR from }
+    ensures { FindsNearest pos (IsPlainWithin years.now FIRST_SEARCHED_YEAR LAST_SEARCHED_YEAR) direction (pos from) result }
 {
     let found = u32::from(nearest_member(years, from as u16, direction)?);
-    if found >= FIRST_YEAR && found <= LAST_YEAR {
+    if found >= FIRST_SEARCHED_YEAR && found <= LAST_SEARCHED_YEAR {
         Some(found)
     } else {
         None

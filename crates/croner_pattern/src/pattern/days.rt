@@ -18,10 +18,8 @@ use croner_base::component::{
     NTH_4TH_BIT, NTH_5TH_BIT,
 };
 use croner_base::errors::CronError;
+use croner_base::limits::DAYS_PER_WEEK;
 use croner_base::time::{CivilDate, Weekday, days_in_month};
-
-/// The days of a week.
-pub(super) const WEEK: u32 = 7;
 
 pub(super) const SUNDAY: u32 = 0;
 
@@ -125,7 +123,7 @@ fn first_weekday(day: u32, weekday: Weekday) -> u32
     ensures value { result ≡ first_from (weekday_index weekday) day }
     ensures bound { result < 7 }
 {
-    (weekday.num_days_from_sunday() + (WEEK - 1) * (day - 1)) % WEEK
+    (weekday.num_days_from_sunday() + (DAYS_PER_WEEK - 1) * (day - 1)) % DAYS_PER_WEEK
 }
 
 fn weekday_of(first: u32, day: u32) -> u32
@@ -134,7 +132,7 @@ fn weekday_of(first: u32, day: u32) -> u32
     ensures value { result ≡ weekday_of first day }
     ensures bound { result < 7 }
 {
-    (first + (day - 1)) % WEEK
+    (first + (day - 1)) % DAYS_PER_WEEK
 }
 
 fn fits_days(days: &CronComponent, length: u32, first: u32, day: u32) -> Result<bool, CronError>
@@ -323,7 +321,7 @@ fn occurrence_bit(day: u32) -> u8
     requires { IsInRange 1 31 day }
     ensures { (first : ℕ) → first < 7 → result ≡ bit_of_nth (occurrence first day) }
 {
-    match (day - 1) / WEEK {
+    match (day - 1) / DAYS_PER_WEEK {
         0 => NTH_1ST_BIT,
         1 => NTH_2ND_BIT,
         2 => NTH_3RD_BIT,
@@ -337,5 +335,5 @@ fn is_last_weekday(length: u32, day: u32) -> bool
     requires day { IsInRange 1 length day }
     ensures { (first : ℕ) → first < 7 → result ≡ is_last_weekday length first day }
 {
-    day + WEEK > length
+    day + DAYS_PER_WEEK > length
 }

@@ -9,9 +9,10 @@ ghost use Rattle.croner_pattern.specs.Questions.{asked};
 ghost use Rattle.croner_pattern.specs.Schedule.{is_plain, is_year_matching};
 ghost use Rattle.croner_pattern.specs.Shapes.{has_field_shapes};
 
-use super::{CronPattern, LAST_HOUR, LAST_MONTH, LAST_SECOND, ask};
+use super::{CronPattern, ask};
 use croner_base::component::ALL_BIT;
 use croner_base::errors::CronError;
+use croner_base::limits::{LAST_HOUR, LAST_MINUTE, LAST_MONTH, LAST_SECOND};
 use croner_base::time::{YEAR_LOWER_LIMIT, YEAR_UPPER_LIMIT};
 
 impl CronPattern {
@@ -54,7 +55,7 @@ impl CronPattern {
         ensures shaped { has_field_shapes (meaning_of self.now) ≡ true → IsInRange 1 12 month →
             result ≡ Ok (is_plain (meaning_of self.now).months month) }
     {
-        if month < 1 || month > u32::from(LAST_MONTH) {
+        if month < 1 || month > LAST_MONTH {
             return Err(CronError::InvalidDate);
         }
         ask(&self.months, month as u16, ALL_BIT)
@@ -76,7 +77,7 @@ impl CronPattern {
         ensures shaped { has_field_shapes (meaning_of self.now) ≡ true → hour ≤ 23 →
             result ≡ Ok (is_plain (meaning_of self.now).hours hour) }
     {
-        if hour > u32::from(LAST_HOUR) {
+        if hour > LAST_HOUR {
             return Err(CronError::InvalidTime);
         }
         ask(&self.hours, hour as u16, ALL_BIT)
@@ -97,7 +98,7 @@ impl CronPattern {
         ensures shaped { has_field_shapes (meaning_of self.now) ≡ true → minute ≤ 59 →
             result ≡ Ok (is_plain (meaning_of self.now).minutes minute) }
     {
-        if minute > u32::from(LAST_SECOND) {
+        if minute > LAST_MINUTE {
             return Err(CronError::InvalidTime);
         }
         ask(&self.minutes, minute as u16, ALL_BIT)
@@ -118,7 +119,7 @@ impl CronPattern {
         ensures shaped { has_field_shapes (meaning_of self.now) ≡ true → second ≤ 59 →
             result ≡ Ok (is_plain (meaning_of self.now).seconds second) }
     {
-        if second > u32::from(LAST_SECOND) {
+        if second > LAST_SECOND {
             return Err(CronError::InvalidTime);
         }
         ask(&self.seconds, second as u16, ALL_BIT)

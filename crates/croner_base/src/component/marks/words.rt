@@ -5,7 +5,7 @@ ghost use Rattle.std.specs.Prelude.{◌≡◌, IsTrue, IfOk};
 use std::alloc::{AllocError, Global};
 
 /// How many values a word has, one bit each.
-pub const WORD_BITS: u16 = 64;
+pub const WORD_BITS: u16 = u64::BITS as u16;
 
 /// The modifiers that there are, and so the most rows.
 pub const MODIFIERS: usize = 8;

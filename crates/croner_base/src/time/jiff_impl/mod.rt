@@ -16,10 +16,10 @@ use jiff::civil::DateTime;
 use jiff_core::civil::{Date, DateTime as Plain, Time};
 
 /// The first year of `jiff`.
-const FIRST_YEAR: i32 = -9999;
+const FIRST_JIFF_YEAR: i32 = -9999;
 
 /// The last one.
-const LAST_YEAR: i32 = 9999;
+const LAST_JIFF_YEAR: i32 = 9999;
 
 /// The date and time of a date-time of `jiff`, without its fraction of a second.
 pub(crate) fn to_civil(datetime: DateTime) -> CivilDateTime
@@ -38,7 +38,7 @@ pub(crate) fn to_jiff(civil: CivilDateTime) -> Result<DateTime, CronError>
     ensures value { IfOk result (IsWhole (wall_second civil)) }
     ensures err { IfErr result (λ e. e ≡ CronError.InvalidDate) }
 {
-    if civil.year() < FIRST_YEAR || civil.year() > LAST_YEAR {
+    if civil.year() < FIRST_JIFF_YEAR || civil.year() > LAST_JIFF_YEAR {
         return Err(CronError::InvalidDate);
     }
     let date = Date {

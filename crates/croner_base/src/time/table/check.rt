@@ -14,9 +14,6 @@ const LAST_INSTANT: i64 = 253_402_300_799;
 /// The most seconds that a clock is ahead of UTC or behind it.
 pub(crate) const OFFSET_LIMIT_SECONDS: i32 = 86_400;
 
-/// The most seconds that a change moves the clock forward.
-const LONGEST_GAP: i32 = GAP_LIMIT_SECONDS as i32;
-
 /// The most seconds that a change moves the clock back.
 const FOLD_LIMIT_SECONDS: i32 = 7_200;
 
@@ -119,7 +116,7 @@ fn is_step(before: i32, after: i32) -> bool
         return false;
     }
     let forward = after - before;
-    -FOLD_LIMIT_SECONDS <= forward && forward <= LONGEST_GAP
+    -FOLD_LIMIT_SECONDS <= forward && forward <= GAP_LIMIT_SECONDS as i32
 }
 
 // 1 for a change with a reading in the years that a pattern can name, at its instant or one second before it.

@@ -4,18 +4,15 @@ ghost use Rattle.croner_base.specs.Civil.{wall_second, day_of_date};
 ghost use Rattle.croner_base.specs.Private.TableSteps.{first_reading, last_reading};
 ghost use Rattle.jiff_core.specs.Calendar.{IsYear};
 
-use crate::limits;
+use crate::limits::SECONDS_PER_DAY;
 use crate::time::{CivilDate, CivilDateTime, CivilTime};
 use jiff_core::civil::Date;
 
 /// The day number of -9999-01-01.
-const FIRST_DAY: i64 = -4_371_587;
+const FIRST_DAY_NUMBER: i64 = -4_371_587;
 
 /// The day number of 9999-12-31.
-const LAST_DAY: i64 = 2_932_896;
-
-/// The seconds of a day on a wall clock.
-pub(crate) const SECONDS_PER_DAY: i64 = limits::SECONDS_PER_DAY as i64;
+const LAST_DAY_NUMBER: i64 = 2_932_896;
 
 // The date and time of a wall second, up to a day past the years -9999 to 9999.
 pub(crate) fn civil_of_second(wall: i64) -> CivilDateTime
@@ -23,8 +20,8 @@ pub(crate) fn civil_of_second(wall: i64) -> CivilDateTime
     requires high { wall ≤ℤ last_reading }
     ensures { wall_second result ≡ wall }
 {
-    let time = CivilTime::from_seconds_of_day(wall.rem_euclid(SECONDS_PER_DAY) as u32);
-    CivilDateTime::new(date_of_day(wall.div_euclid(SECONDS_PER_DAY)), time)
+    let time = CivilTime::from_seconds_of_day(wall.rem_euclid(SECONDS_PER_DAY as i64) as u32);
+    CivilDateTime::new(date_of_day(wall.div_euclid(SECONDS_PER_DAY as i64)), time)
 }
 
 // The date of a day number, up to a day past those years.
@@ -33,12 +30,12 @@ fn date_of_day(day: i64) -> CivilDate
     requires high { day ≤ℤ pos 2_932_897 }
     ensures { day_of_date result ≡ day }
 {
-    if day < FIRST_DAY {
+    if day < FIRST_DAY_NUMBER {
         CivilDate::from_parts_unchecked(-10_000, 12, 31)
-    } else if day > LAST_DAY {
+    } else if day > LAST_DAY_NUMBER {
         CivilDate::from_parts_unchecked(10_000, 1, 1)
     } else {
-        let date = Date::from_days_since_min((day - FIRST_DAY) as u32);
+        let date = Date::from_days_since_min((day - FIRST_DAY_NUMBER) as u32);
         CivilDate::from_parts_unchecked(date.year as i32, date.month as u32, date.day as u32)
     }
 }
@@ -53,5 +50,5 @@ pub(crate) fn second_of_civil(civil: CivilDateTime) -> i64
         month: civil.month() as u8,
         day: civil.day() as u8,
     };
-    date.to_unix_epoch_day() as i64 * SECONDS_PER_DAY + civil.time().seconds_of_day()
+    date.to_unix_epoch_day() as i64 * SECONDS_PER_DAY as i64 + civil.time().seconds_of_day()
 }

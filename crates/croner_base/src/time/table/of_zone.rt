@@ -9,18 +9,18 @@ ghost use Rattle.croner_base.specs.ZoneTable.{IsWindow, IsCalmWindow, IsNoTable,
 ghost use Rattle.croner_base.specs.ZonedZone.{zone_reads, last_timestamp};
 
 use crate::errors::CronError;
+use crate::limits::SECONDS_PER_DAY;
 use crate::time::table::ClockTable;
-use crate::time::table::civil::SECONDS_PER_DAY;
 use jiff::tz::TimeZone;
 use jiff_core::civil::{self, Date};
 use jiff_core::{Offset, Timestamp};
 use std::alloc::{AllocError, Global};
 
 /// The first second that `jiff` has as an instant.
-const FIRST_SECOND: i64 = -377_705_023_201;
+const FIRST_TIMESTAMP: i64 = -377_705_023_201;
 
 /// The last one.
-const LAST_SECOND: i64 = 253_402_207_200;
+const LAST_TIMESTAMP: i64 = 253_402_207_200;
 
 const NANOS_PER_SECOND: i128 = 1_000_000_000;
 
@@ -61,7 +61,7 @@ impl ClockTable {
         ensures beyond { IfOk result (λ t. (i : ℤ) → (table_zone t).reads i ≡ i +ℤ ahead_at (plain_zone zone.now) (nearest_in first last i)) }
         ensures err { IfErr result (IsNoTable (plain_zone zone.now) first last) }
     {
-        if first < FIRST_SECOND || last < first || last > LAST_SECOND {
+        if first < FIRST_TIMESTAMP || last < first || last > LAST_TIMESTAMP {
             return Err(CronError::InvalidTime);
         }
         let zone = zone.to_plain();
@@ -222,7 +222,7 @@ fn year_end(instant: Timestamp) -> i64
 {
     let year = Offset::UTC.to_datetime(instant).date.year;
     let days = civil::days_in_year(year) as i64;
-    (Date::constrain(year, 1, 1).to_unix_epoch_day() as i64 + days) * SECONDS_PER_DAY
+    (Date::constrain(year, 1, 1).to_unix_epoch_day() as i64 + days) * SECONDS_PER_DAY as i64
 }
 
 // The first whole second that is not before an instant.

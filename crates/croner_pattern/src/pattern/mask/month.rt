@@ -5,7 +5,7 @@ ghost use Rattle.std.specs.Int.{IsInRange};
 ghost use Rattle.croner_pattern.specs.Days.{weekday_of};
 ghost use Rattle.croner_pattern.specs.Private.DayBits.{has_bit, ShowsDays};
 
-use crate::pattern::days::WEEK;
+use croner_base::limits::DAYS_PER_WEEK;
 
 /// The seven days of a week, from the lowest bit.
 pub const WEEK_BITS: u32 = 0x7F;
@@ -26,7 +26,7 @@ pub fn last_week(length: u32) -> u32
     requires { IsInRange 28 31 length }
     ensures { ShowsDays length (λ day. nat_lt length (day + 7)) result }
 {
-    WEEK_BITS << (length - WEEK)
+    WEEK_BITS << (length - DAYS_PER_WEEK)
 }
 
 /// The days whose weekday is in a set of them, which has bit 0 for Sunday to bit 6 for Saturday.
@@ -35,6 +35,6 @@ pub fn days_of_weekdays(weekdays: u32, first: u32) -> u32
     requires first { first < 7 }
     ensures { ShowsDays 31 (λ day. has_bit weekdays (weekday_of first day)) result }
 {
-    let week = (weekdays | weekdays << WEEK) >> first & WEEK_BITS;
+    let week = (weekdays | weekdays << DAYS_PER_WEEK) >> first & WEEK_BITS;
     week.wrapping_mul(FIVE_WEEKS)
 }

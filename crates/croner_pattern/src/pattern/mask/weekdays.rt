@@ -9,11 +9,11 @@ ghost use Rattle.croner_pattern.specs.Schedule.{bit_of_nth, is_weekday_side};
 ghost use Rattle.croner_pattern.specs.Shapes.{weekday_shape, is_like};
 
 use super::month::{WEEK_BITS, days_of_weekdays, last_week};
-use crate::pattern::days::WEEK;
 use croner_base::component::{
     ALL_BIT, CronComponent, LAST_BIT, NTH_1ST_BIT, NTH_2ND_BIT, NTH_3RD_BIT, NTH_4TH_BIT,
     NTH_5TH_BIT, NTH_ALL,
 };
+use croner_base::limits::DAYS_PER_WEEK;
 
 /// The days that fit the field.
 #[inline(always)]
@@ -60,5 +60,5 @@ fn nth_marked(weekdays: &CronComponent, bit: u8, before: u32, first: u32) -> u32
     requires first { first < 7 }
     ensures { ShowsDays 31 (λ day. (day - 1) / 7 == before && is_marked bit weekdays.now (weekday_of first day)) result }
 {
-    marked(weekdays, bit, first) & (WEEK_BITS << (WEEK * before))
+    marked(weekdays, bit, first) & (WEEK_BITS << (DAYS_PER_WEEK * before))
 }

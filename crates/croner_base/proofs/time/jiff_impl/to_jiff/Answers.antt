@@ -10,8 +10,8 @@ pub returns-clause-value : goal.returns-clause-value
 returns-clause-value c =
     let long = days_in_month_bounds c.args.civil.date.year c.args.civil.date.month in
     let same = c.from_plain.ensures in
-    let low = c.if-year-lt-FIRST_YEAR.false in
-    let high = c.if-year-gt-LAST_YEAR.false in
+    let low = c.if-year-lt-FIRST_JIFF_YEAR.false in
+    let high = c.if-year-gt-LAST_JIFF_YEAR.false in
     record {
       second_is = sym (wall_second-civil_seconds c.args.civil _ (record {
         year = rw same (omega (arith, ints, signed_casts, low, high));

@@ -10,22 +10,22 @@ use Rattle.croner_base.proofs.tables.TableTests.{instant_bounds}
 use Rattle.croner_base.proofs.tables.TableMoments.{near_year-false, unheld, named_held, resolved_single, resolved_ambiguous, resolved_gap}
 use Rattle.croner_base.proofs.clocks.ZonedResolved.{is_near_year-true}
 use Rattle.croner_base.proofs.time.table.TableTimeCronDateTime.resolve_civil.Goals as goal
-use Rattle.croner_base.proofs.time.table.TableTimeCronDateTime.resolve_civil.Goals.{in-Single, in-Ambiguous, in-Gap, then-year-lt-FIRST_YEAR-via-then-year-lt-FIRST_YEAR, then-year-lt-FIRST_YEAR-via-else-year-lt-FIRST_YEAR+then-year-gt-LAST_YEAR}
+use Rattle.croner_base.proofs.time.table.TableTimeCronDateTime.resolve_civil.Goals.{in-Single, in-Ambiguous, in-Gap, then-year-via-then-year, then-year-via-else-year+then-year-gt-YEAR_LIMIT}
 
-pub returns-then-year-lt-FIRST_YEAR-clause-err : goal.returns-then-year-lt-FIRST_YEAR-clause-err
-returns-then-year-lt-FIRST_YEAR-clause-err c =
-    elim c.then-year-lt-FIRST_YEAR.branch [
-      | then-year-lt-FIRST_YEAR-via-then-year-lt-FIRST_YEAR w ↦ unheld c.args.self.now.table.now c.args.civil (λ low high. absurd (omega (arith, ints)))
-      | then-year-lt-FIRST_YEAR-via-else-year-lt-FIRST_YEAR+then-year-gt-LAST_YEAR w ↦ unheld c.args.self.now.table.now c.args.civil (λ low high. absurd (omega (arith, ints)))
+pub returns-then-year-clause-err : goal.returns-then-year-clause-err
+returns-then-year-clause-err c =
+    elim c.then-year.branch [
+      | then-year-via-then-year w ↦ unheld c.args.self.now.table.now c.args.civil (λ low high. absurd (omega (arith, ints)))
+      | then-year-via-else-year+then-year-gt-YEAR_LIMIT w ↦ unheld c.args.self.now.table.now c.args.civil (λ low high. absurd (omega (arith, ints)))
     ]
 
-pub returns-then-year-lt-FIRST_YEAR-clause-held : goal.returns-then-year-lt-FIRST_YEAR-clause-held
-returns-then-year-lt-FIRST_YEAR-clause-held c =
-    elim c.then-year-lt-FIRST_YEAR.branch [
-      | then-year-lt-FIRST_YEAR-via-then-year-lt-FIRST_YEAR w ↦
+pub returns-then-year-clause-held : goal.returns-then-year-clause-held
+returns-then-year-clause-held c =
+    elim c.then-year.branch [
+      | then-year-via-then-year w ↦
           let far = near_year-false c.args.civil.date.year (λ low high. absurd (omega (arith, ints))) in
           (λ h. absurd (cc), λ h. absurd (cc))
-      | then-year-lt-FIRST_YEAR-via-else-year-lt-FIRST_YEAR+then-year-gt-LAST_YEAR w ↦
+      | then-year-via-else-year+then-year-gt-YEAR_LIMIT w ↦
           let far = near_year-false c.args.civil.date.year (λ low high. absurd (omega (arith, ints))) in
           (λ h. absurd (cc), λ h. absurd (cc))
     ]
