@@ -1,5 +1,6 @@
 -- The limits of calm zones and of what a search needs held. Each number of these rules stands here alone.
-use Rattle.std.specs.Prelude.{ℕ, ℤ, pos, neg_ℤ}
+use Rattle.std.specs.Prelude.{ℕ, ◌+◌, ◌-◌, ◌*◌, ◌/◌, ℤ, pos, neg_ℤ, ◌-ℤ◌, ◌*ℤ◌}
+use Rattle.croner_base.specs.Calendar.{day_seconds}
 
 -- the most seconds that a calm zone's clock is moved forward at once
 abbrev pub gap_limit : ℕ
@@ -37,21 +38,26 @@ first_year = 1
 abbrev pub last_year : ℕ
 last_year = 5_000
 
--- their wall seconds: 0001-01-01T00:00:00
+-- the wall second with which a year from 0 on begins: each year before it has 365 days, and each fourth one more, but of the
+-- whole hundreds only each fourth; 1970-01-01 is 719,528 days after 0000-01-01
+abbrev pub year_second : ℕ → ℤ
+year_second y = (pos (365 * y + (y + 3) / 4 - (y + 99) / 100 + (y + 399) / 400) -ℤ pos 719_528) *ℤ pos day_seconds
+
+-- the wall seconds of these years: 0001-01-01T00:00:00
 abbrev pub first_searched : ℤ
-first_searched = neg_ℤ (pos 62_135_596_800)
+first_searched = year_second first_year
 
 -- to 5000-12-31T23:59:59
 abbrev pub last_searched : ℤ
-last_searched = pos 95_649_119_999
+last_searched = year_second (last_year + 1) -ℤ pos 1
 
--- the wall seconds that a search needs wherever it starts: 0000-01-01T00:00:00
+-- the wall seconds that a search needs wherever it starts, of a year more on either side: 0000-01-01T00:00:00
 abbrev pub first_needed : ℤ
-first_needed = neg_ℤ (pos 62_167_219_200)
+first_needed = year_second (first_year - 1)
 
 -- to 5001-12-31T23:59:59
 abbrev pub last_needed : ℤ
-last_needed = pos 95_680_655_999
+last_needed = year_second (last_year + 2) -ℤ pos 1
 
 -- the wall seconds from which a search may start: -9997-01-01T00:00:00
 abbrev pub first_start : ℤ

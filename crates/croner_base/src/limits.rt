@@ -1,5 +1,7 @@
 //! Limits that more than one crate goes by.
 
+use crate::time::{YEAR_LOWER_LIMIT, YEAR_UPPER_LIMIT};
+
 /// The greatest second of a minute.
 pub const LAST_SECOND: u32 = 59;
 
@@ -17,6 +19,31 @@ pub const DAYS_PER_WEEK: u32 = 7;
 
 /// The seconds of a day on a wall clock.
 pub const SECONDS_PER_DAY: u32 = 86_400;
+
+/// The days from 0000-01-01 to 1970-01-01.
+const DAYS_TO_EPOCH: i64 = 719_528;
+
+/// The first year that a pattern can name.
+const SEARCHED_FROM: i64 = YEAR_LOWER_LIMIT as i64;
+
+/// The year behind the last one.
+const SEARCHED_UNTIL: i64 = YEAR_UPPER_LIMIT as i64 + 1;
+
+/// The first wall second of the years that a pattern can name: 0001-01-01T00:00:00. Each year before them has 365 days, and
+/// each fourth one more, but of the whole hundreds only each fourth.
+pub const FIRST_SEARCHED_SECOND: i64 = (365 * SEARCHED_FROM + (SEARCHED_FROM + 3) / 4
+    - (SEARCHED_FROM + 99) / 100
+    + (SEARCHED_FROM + 399) / 400
+    - DAYS_TO_EPOCH)
+    * SECONDS_PER_DAY as i64;
+
+/// The last one: 5000-12-31T23:59:59.
+pub const LAST_SEARCHED_SECOND: i64 = (365 * SEARCHED_UNTIL + (SEARCHED_UNTIL + 3) / 4
+    - (SEARCHED_UNTIL + 99) / 100
+    + (SEARCHED_UNTIL + 399) / 400
+    - DAYS_TO_EPOCH)
+    * SECONDS_PER_DAY as i64
+    - 1;
 
 /// The most seconds that the clock of a calm zone is moved forward at once.
 pub const GAP_LIMIT_SECONDS: u32 = 86_400;

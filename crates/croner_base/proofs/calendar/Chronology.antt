@@ -17,7 +17,7 @@ use Rattle.croner_base.specs.Civil.{wall_second, day_of_date, seconds_of_time}
 use Rattle.croner_base.specs.Limits.{first_year, last_year, year_limit}
 use Rattle.croner_base.specs.Calm.{IsSearched, IsInReach, IsStart}
 use Rattle.croner_base.specs.Written.{tie, nat_tie}
-use Rattle.croner_base.proofs.calendar.ExamplesCalendar.{year_0, year_1, year_5001, year_5002, year_before_9996, year_9998}
+use Rattle.croner_base.proofs.calendar.ExamplesCalendar.{first_needed_year, first_searched_year, after_searched_years, after_needed_years, first_start_year, after_start_years}
 use Rattle.croner_base.proofs.calendar.DayNumbers.{day_number-parts, day_number-lt_year, day_number-lt_month}
 use Rattle.croner_base.proofs.calendar.JiffSeconds.{wall_second-parts}
 
@@ -178,10 +178,10 @@ years_between c y z a b first next =
     )
 
 pub searched_years : (c : CivilDateTime) → IsSearched (wall_second c) ↔ ((pos first_year ≤ℤ c.date.year) × (c.date.year ≤ℤ pos last_year))
-searched_years c = years_between c (pos first_year) (pos last_year) _ _ year_1 year_5001
+searched_years c = years_between c (pos first_year) (pos last_year) _ _ first_searched_year after_searched_years
 
 pub needed_years : (c : CivilDateTime) → IsInReach (wall_second c) ↔ ((pos (first_year - 1) ≤ℤ c.date.year) × (c.date.year ≤ℤ pos (last_year + 1)))
-needed_years c = years_between c (pos (first_year - 1)) (pos (last_year + 1)) _ _ year_0 year_5002
+needed_years c = years_between c (pos (first_year - 1)) (pos (last_year + 1)) _ _ first_needed_year after_needed_years
 
 pub start_years : (c : CivilDateTime) → IsStart (wall_second c) ↔ ((neg_ℤ (pos (year_limit - 1)) ≤ℤ c.date.year) × (c.date.year ≤ℤ pos (year_limit - 1)))
-start_years c = years_between c (neg_ℤ (pos (year_limit - 1))) (pos (year_limit - 1)) _ _ year_before_9996 year_9998
+start_years c = years_between c (neg_ℤ (pos (year_limit - 1))) (pos (year_limit - 1)) _ _ first_start_year after_start_years

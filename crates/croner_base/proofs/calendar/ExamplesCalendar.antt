@@ -1,11 +1,11 @@
 -- Day numbers, weekdays and wall seconds of dates that are known from elsewhere, and the years of the limits, all
 -- computed from the definitions.
-use Rattle.std.proofs.Common.{◌≡◌, refl, pos, neg_ℤ, ◌+◌, ◌*◌, ◌+ℤ◌, ◌*ℤ◌, codes}
+use Rattle.std.proofs.Common.{◌≡◌, refl, pos, neg_ℤ, ◌+◌, ◌-◌, ◌*◌, ◌+ℤ◌, ◌*ℤ◌, codes}
 use Rattle.jiff_core.specs.Calendar.{days_of_months, day_of_year}
 use Rattle.croner_base.specs.Calendar.{day_number, weekday_of_day, year_start, days_since_zero, days_until_zero, day_seconds}
 use Rattle.croner_base.specs.CivilText.{date_text, datetime_text}
 use Rattle.std.specs.Fmt.{digits}
-use Rattle.croner_base.specs.Limits.{first_searched, last_searched, first_needed, last_needed, first_start, last_start}
+use Rattle.croner_base.specs.Limits.{first_year, last_year, year_limit, first_searched, last_searched, first_needed, last_needed, first_start, last_start}
 
 -- around the epoch
 epoch : day_number (pos 1970) 1 1 ≡ pos 0
@@ -59,32 +59,32 @@ unfolding weekday_of_day
 weekday_before_epoch = refl
 
 -- the years of the limits begin with their first seconds, and end a second before the next year's
-pub year_0 : day_number (pos 0) 1 1 *ℤ pos day_seconds ≡ first_needed
+pub first_needed_year : day_number (pos (first_year - 1)) 1 1 *ℤ pos day_seconds ≡ first_needed
 unfolding day_number year_start days_since_zero days_of_months
-year_0 = refl
+first_needed_year = refl
 
-pub year_1 : day_number (pos 1) 1 1 *ℤ pos day_seconds ≡ first_searched
+pub first_searched_year : day_number (pos first_year) 1 1 *ℤ pos day_seconds ≡ first_searched
 unfolding day_number year_start days_since_zero days_of_months
-year_1 = refl
+first_searched_year = refl
 
-pub year_5001 : day_number (pos 5001) 1 1 *ℤ pos day_seconds ≡ last_searched +ℤ pos 1
+pub after_searched_years : day_number (pos (last_year + 1)) 1 1 *ℤ pos day_seconds ≡ last_searched +ℤ pos 1
 unfolding day_number year_start days_since_zero days_of_months
-year_5001 = refl
+after_searched_years = refl
 
-pub year_5002 : day_number (pos 5002) 1 1 *ℤ pos day_seconds ≡ last_needed +ℤ pos 1
+pub after_needed_years : day_number (pos (last_year + 2)) 1 1 *ℤ pos day_seconds ≡ last_needed +ℤ pos 1
 unfolding day_number year_start days_since_zero days_of_months
-year_5002 = refl
+after_needed_years = refl
 
-pub year_before_9996 : day_number (neg_ℤ (pos 9_997)) 1 1 *ℤ pos day_seconds ≡ first_start
+pub first_start_year : day_number (neg_ℤ (pos (year_limit - 1))) 1 1 *ℤ pos day_seconds ≡ first_start
 unfolding day_number year_start days_since_zero days_until_zero days_of_months
-year_before_9996 = refl
+first_start_year = refl
 
-pub year_9998 : day_number (pos 9_998) 1 1 *ℤ pos day_seconds ≡ last_start +ℤ pos 1
+pub after_start_years : day_number (pos year_limit) 1 1 *ℤ pos day_seconds ≡ last_start +ℤ pos 1
 unfolding day_number year_start days_since_zero days_of_months
-year_9998 = refl
+after_start_years = refl
 
--- 5000-12-31T23:59:59
-last_second : day_number (pos 5000) 12 31 *ℤ pos day_seconds +ℤ pos (23 * 3600 + 59 * 60 + 59) ≡ last_searched
+-- 23:59:59 of 31 December of the last year
+last_second : day_number (pos last_year) 12 31 *ℤ pos day_seconds +ℤ pos (23 * 3600 + 59 * 60 + 59) ≡ last_searched
 unfolding day_number year_start days_since_zero days_of_months
 last_second = refl
 

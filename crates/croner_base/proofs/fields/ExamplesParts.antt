@@ -3,6 +3,7 @@ use Rattle.std.specs.Prelude.{◌≡◌, ℕ, Bool, true, false, List, [], ◌�
 use Rattle.std.specs.List.{list_any}
 use Rattle.std.specs.Str.{trim_start, trim_end, chars}
 use Rattle.croner_base.specs.Field.{Shape, Field, new_shape, empty_field, default_field, with_sloppy, marked_values}
+use Rattle.croner_base.specs.Limits.{first_year, last_year}
 use Rattle.croner_base.specs.Part.{field_of, stepping}
 use Rattle.croner_base.specs.Reading.{Reading, applied, marks, steps, stars}
 
@@ -20,7 +21,7 @@ abbrev weekdays_from_one : Shape
 weekdays_from_one = new_shape 0 7 62 1
 
 abbrev years : Shape
-years = new_shape 1 5000 0 0
+years = new_shape first_year last_year 0 0
 
 abbrev sloppy_minutes : Shape
 sloppy_minutes = (with_sloppy (empty_field (new_shape 0 59 0 0)) true).shape

@@ -1,6 +1,6 @@
 //! The calendar's laws: day numbers count the real dates, weekdays follow them, and civil date-times go in the order
 //! of their wall seconds.
-ghost use Rattle.std.specs.Prelude.{◌≡◌, ◌↔◌, ℕ, ◌+◌, ◌%◌, ◌≤◌, ℤ, pos, ◌+ℤ◌, ◌*ℤ◌, ◌≤ℤ◌};
+ghost use Rattle.std.specs.Prelude.{◌≡◌, ◌↔◌, ℕ, ◌+◌, ◌-◌, ◌%◌, ◌≤◌, ℤ, pos, ◌+ℤ◌, ◌*ℤ◌, ◌≤ℤ◌};
 ghost use Rattle.std.specs.Ordering.{int_cmp, nat_cmp};
 ghost use Rattle.jiff_core.specs.Calendar.{days_in_month, IsBetween, IsWithin};
 ghost use Rattle.croner_base.specs.Calendar.{day_number, weekday_of_day, day_seconds};
@@ -83,6 +83,6 @@ pub fn year_begins_on_its_first_day(civil: CivilDateTime)
 /// are those of the years -9997 to 9997.
 pub fn years_of_the_limits(civil: CivilDateTime)
     ensures searched { IsSearched (wall_second civil) ↔ IsBetween (pos first_year) (pos last_year) civil.date.year }
-    ensures needed { IsInReach (wall_second civil) ↔ IsBetween (pos 0) (pos 5001) civil.date.year }
+    ensures needed { IsInReach (wall_second civil) ↔ IsBetween (pos (first_year - 1)) (pos (last_year + 1)) civil.date.year }
     ensures start { IsStart (wall_second civil) ↔ IsWithin 9997 civil.date.year }
 {}

@@ -1,20 +1,21 @@
 -- Worked values of the definitions of the search over the wall clock.
-use Rattle.std.proofs.Common.{◌≡◌, ◌-◌, true, false, refl, arith, pos, negsuc, neg_ℤ}
+use Rattle.std.proofs.Common.{◌≡◌, ◌+◌, ◌-◌, true, false, refl, arith, pos, negsuc, neg_ℤ}
 use Rattle.std.specs.Int.{bit_at}
 use Rattle.croner_base.specs.declared.time.Direction.TheVariants.{Forward, Backward}
+use Rattle.croner_base.specs.Limits.{first_year, last_year}
 use Rattle.croner_pattern.specs.Private.Cursor.{one_on, has_room, month_kind, kind_of, HasDay}
 
-year_4999 : has_room Forward (pos 4999) ≡ true
-year_4999 = refl
+before_last_year : has_room Forward (pos (last_year - 1)) ≡ true
+before_last_year = refl
 
-year_5000 : has_room Forward (pos 5000) ≡ false
-year_5000 = refl
+at_last_year : has_room Forward (pos last_year) ≡ false
+at_last_year = refl
 
-year_2 : has_room Backward (pos 2) ≡ true
-year_2 = refl
+after_first_year : has_room Backward (pos (first_year + 1)) ≡ true
+after_first_year = refl
 
-year_1 : has_room Backward (pos 1) ≡ false
-year_1 = refl
+at_first_year : has_room Backward (pos first_year) ≡ false
+at_first_year = refl
 
 far_past : has_room Forward (neg_ℤ (pos 9999)) ≡ true
 far_past = refl

@@ -3,7 +3,7 @@ ghost use Rattle.std.specs.Prelude.{◌≡◌, ◌↔◌, ◌≤◌, IsTrue, IsS
 ghost use Rattle.croner_base.specs.Table as Spec;
 ghost use Rattle.croner_base.specs.Limits.{gap_limit, most_changes, most_gap_seconds};
 
-use crate::limits::GAP_LIMIT_SECONDS;
+use crate::limits::{FIRST_SEARCHED_SECOND, GAP_LIMIT_SECONDS, LAST_SEARCHED_SECOND};
 
 /// -9999-01-01T00:00:00 UTC, in seconds since 1970-01-01T00:00:00 UTC.
 const FIRST_INSTANT: i64 = -377_705_116_800;
@@ -25,12 +25,6 @@ const MOST_CHANGES: u32 = 20_000;
 
 /// The most seconds that the clock skips at these changes together.
 const MOST_GAP_SECONDS: u32 = 20_000_000;
-
-/// The first wall second that a pattern can name: 0001-01-01T00:00:00.
-const FIRST_SEARCHED: i64 = -62_135_596_800;
-
-/// The last one: 5000-12-31T23:59:59.
-const LAST_SEARCHED: i64 = 95_649_119_999;
 
 // Whether a first offset and changes make a calm clock.
 pub(crate) fn is_calm(first_offset: i32, changes: &[(i64, i32)]) -> bool
@@ -155,7 +149,7 @@ fn is_met(before: i32, second: i64, after: i32) -> bool
 fn is_searched(wall: i64) -> bool
     ensures { result ≡ Spec.is_searched wall }
 {
-    FIRST_SEARCHED <= wall && wall <= LAST_SEARCHED
+    FIRST_SEARCHED_SECOND <= wall && wall <= LAST_SEARCHED_SECOND
 }
 
 // Whether an instant lies in the UTC years -9999 to 9999.
