@@ -78,10 +78,10 @@ module _ (reads : ℤ → ℤ) (calm : Calm reads) where
 
 -- ---- in every zone
 
-pub not_one_each : (zone : Zone) (held : CivilDateTime) → zone.resolves held ≡ Some Gap → HasOneInstantEach zone → ⊥
-not_one_each zone held named each =
-    let some : IsSome (zone.resolves held) = rw named refl in
-    let (i, single) = each held some in
+pub not_one_each : (zone : Zone) (skipped : CivilDateTime) → zone.resolves skipped ≡ Some Gap → HasOneInstantEach zone → ⊥
+not_one_each zone skipped named each =
+    let some : IsSome (zone.resolves skipped) = rw named refl in
+    let (i, single) = each skipped some in
     let never : Some Gap ≡ Some (Single i) = sym named ∙ single in
     cc
 
@@ -122,30 +122,30 @@ module _ (reads : ℤ → ℤ) (calm : Calm reads) where
       ]
 
   -- so between a second in a gap and the first in the direction that is read, nothing is
-  side_unread : (direction : Direction) (held : ℤ) (inside : ℕ) → Exactly reads held Gap → Exactly reads (offset_from direction held inside) Gap → inside < gap_limit → UnreadTo direction reads held (offset_from direction held (inside + 1))
-  side_unread Forward held inside none none2 near =
-      λ u from to x e. one_gap held (held +ℤ pos inside) none none2 (omega (arith, ints)) (omega (arith, ints)) u from (omega (arith, ints)) x e
-  side_unread Backward held inside none none2 near =
-      λ u from to x e. one_gap (held -ℤ pos inside) held none2 none (omega (arith, ints)) (omega (arith, ints)) u (omega (arith, ints)) (omega (arith, ints)) x e
+  side_unread : (direction : Direction) (skipped : ℤ) (inside : ℕ) → Exactly reads skipped Gap → Exactly reads (offset_from direction skipped inside) Gap → inside < gap_limit → UnreadTo direction reads skipped (offset_from direction skipped (inside + 1))
+  side_unread Forward skipped inside none none2 near =
+      λ u from to x e. one_gap skipped (skipped +ℤ pos inside) none none2 (omega (arith, ints)) (omega (arith, ints)) u from (omega (arith, ints)) x e
+  side_unread Backward skipped inside none none2 near =
+      λ u from to x e. one_gap (skipped -ℤ pos inside) skipped none2 none (omega (arith, ints)) (omega (arith, ints)) u (omega (arith, ints)) (omega (arith, ints)) x e
 
   -- and the second at the limit of the search lies in the gap no more
-  side_ends : (direction : Direction) (held : ℤ) → Exactly reads held Gap → Exactly reads (offset_from direction held gap_limit) Gap → ⊥
-  side_ends Forward held none none2 =
-      let (p, below, above) = unread_is_in_gap reads calm held none in
+  side_ends : (direction : Direction) (skipped : ℤ) → Exactly reads skipped Gap → Exactly reads (offset_from direction skipped gap_limit) Gap → ⊥
+  side_ends Forward skipped none none2 =
+      let (p, below, above) = unread_is_in_gap reads calm skipped none in
       let small = calm.forth p in
-      one_gap held (held +ℤ pos gap_limit) none none2 (omega (arith, ints)) (omega (arith, ints)) (reads (p +ℤ pos 1)) (omega (arith, ints)) (omega (arith, ints)) (p +ℤ pos 1) refl
-  side_ends Backward held none none2 =
-      let (p, below, above) = unread_is_in_gap reads calm held none in
+      one_gap skipped (skipped +ℤ pos gap_limit) none none2 (omega (arith, ints)) (omega (arith, ints)) (reads (p +ℤ pos 1)) (omega (arith, ints)) (omega (arith, ints)) (p +ℤ pos 1) refl
+  side_ends Backward skipped none none2 =
+      let (p, below, above) = unread_is_in_gap reads calm skipped none in
       let small = calm.forth p in
-      one_gap (held -ℤ pos gap_limit) held none2 none (omega (arith, ints)) (omega (arith, ints)) (reads p) (omega (arith, ints)) (omega (arith, ints)) p refl
+      one_gap (skipped -ℤ pos gap_limit) skipped none2 none (omega (arith, ints)) (omega (arith, ints)) (reads p) (omega (arith, ints)) (omega (arith, ints)) p refl
 
 -- ---- what the backend answers
 
 pub zero_on : (direction : Direction) (w : ℤ) → offset_from direction w 0 ≡ w
 zero_on direction w = grind (arith, ints)
 
-pub held_skipped : (direction : Direction) (z : Zone) (held : CivilDateTime) → z.resolves held ≡ Some Gap → IsSkipped z (offset_from direction (wall_second held) 0)
-held_skipped direction z held named = λ calm x e. exact_of z calm held Gap named x (e ∙ zero_on direction (wall_second held))
+pub own_skipped : (direction : Direction) (z : Zone) (skipped : CivilDateTime) → z.resolves skipped ≡ Some Gap → IsSkipped z (offset_from direction (wall_second skipped) 0)
+own_skipped direction z skipped named = λ calm x e. exact_of z calm skipped Gap named x (e ∙ zero_on direction (wall_second skipped))
 
 pub next_skipped : (z : Zone) (w : ℤ) (c : CivilDateTime) → wall_second c ≡ w → z.resolves c ≡ Some Gap → IsSkipped z w
 next_skipped z w c at named = λ calm x e. exact_of z calm c Gap named x (e ∙ sym at)
@@ -169,49 +169,49 @@ module _ {T : Type 0} (moment : T → Moment) (z : Zone) (c : CivilDateTime) whe
 
 -- ---- the side of the gap
 
-on_past : (direction : Direction) (held w : ℤ) (n : ℕ) → 0 < n → w ≡ offset_from direction held n → Precedes direction held w
-on_past direction held w n some at = omega (arith, ints, ap (along direction) at, along-offset direction held n)
+on_past : (direction : Direction) (skipped w : ℤ) (n : ℕ) → 0 < n → w ≡ offset_from direction skipped n → Precedes direction skipped w
+on_past direction skipped w n some at = omega (arith, ints, ap (along direction) at, along-offset direction skipped n)
 
-module _ {T : Type 0} (moment : T → Moment) (lack : Bool) (direction : Direction) (z : Zone) (held : CivilDateTime) (named : z.resolves held ≡ Some Gap) where
-  pub side_found : (limit : ℕ) (around : Around T) (found : CivilDateTime × T) → IsAround moment lack direction z (wall_second held) around → around.outside ≤ around.inside + 1 → around.answer ≡ Ok found → HasGapSide moment direction limit z (wall_second held) (Some found)
+module _ {T : Type 0} (moment : T → Moment) (lack : Bool) (direction : Direction) (z : Zone) (skipped : CivilDateTime) (named : z.resolves skipped ≡ Some Gap) where
+  pub side_found : (limit : ℕ) (around : Around T) (found : CivilDateTime × T) → IsAround moment lack direction z (wall_second skipped) around → around.outside ≤ around.inside + 1 → around.answer ≡ Ok found → HasGapSide moment direction limit z (wall_second skipped) (Some found)
   side_found limit around found is tight answered =
       let ordered = is.ordered in
       let near = is.near in
       let outside : around.outside ≡ around.inside + 1 = omega arith in
-      let (at, shown) = subst (IsBeyond moment lack z (offset_from direction (wall_second held) around.outside)) answered is.beyond in
-      let next : offset_from direction (wall_second held) (around.inside + 1) ≡ wall_second found.0 = sym (at ∙ ap (offset_from direction (wall_second held)) outside) in (
-        on_past direction (wall_second held) (wall_second found.0) around.outside (omega arith) at,
+      let (at, shown) = subst (IsBeyond moment lack z (offset_from direction (wall_second skipped) around.outside)) answered is.beyond in
+      let next : offset_from direction (wall_second skipped) (around.inside + 1) ≡ wall_second found.0 = sym (at ∙ ap (offset_from direction (wall_second skipped)) outside) in (
+        on_past direction (wall_second skipped) (wall_second found.0) around.outside (omega arith) at,
         shown,
-        λ calm. subst (UnreadTo direction z.reads (wall_second held)) next (side_unread z.reads (calm_of z calm) direction (wall_second held) around.inside (exact_of z calm held Gap named) (is.skipped calm) (omega arith)),
+        λ calm. subst (UnreadTo direction z.reads (wall_second skipped)) next (side_unread z.reads (calm_of z calm) direction (wall_second skipped) around.inside (exact_of z calm skipped Gap named) (is.skipped calm) (omega arith)),
       )
 
-  pub side_refused : (around : Around T) (e : CronError) → IsAround moment lack direction z (wall_second held) around → around.answer ≡ Err e → IsBackendError lack (HoldsYears z → ⊥) e
-  side_refused around e is answered = subst (IsBeyond moment lack z (offset_from direction (wall_second held) around.outside)) answered is.beyond
+  pub side_refused : (around : Around T) (e : CronError) → IsAround moment lack direction z (wall_second skipped) around → around.answer ≡ Err e → IsBackendError lack (HoldsYears z → ⊥) e
+  side_refused around e is answered = subst (IsBeyond moment lack z (offset_from direction (wall_second skipped) around.outside)) answered is.beyond
 
-  pub side_out : IsSkipped z (offset_from direction (wall_second held) gap_limit) → IsCalm z → ⊥
-  side_out skipped calm = side_ends z.reads (calm_of z calm) direction (wall_second held) (exact_of z calm held Gap named) (skipped calm)
+  pub side_out : IsSkipped z (offset_from direction (wall_second skipped) gap_limit) → IsCalm z → ⊥
+  side_out out calm = side_ends z.reads (calm_of z calm) direction (wall_second skipped) (exact_of z calm skipped Gap named) (out calm)
 
-  pub gap_end_of : (found : CivilDateTime × T) → HasGapSide moment Forward gap_limit z (wall_second held) (Some found) → HasGapEnd moment z (wall_second held) (Some found)
+  pub gap_end_of : (found : CivilDateTime × T) → HasGapSide moment Forward gap_limit z (wall_second skipped) (Some found) → HasGapEnd moment z (wall_second skipped) (Some found)
   gap_end_of found (past, shown, unread) = (
     past,
     shown.zone_is,
     shown.whole,
-    not_one_each z held named,
+    not_one_each z skipped named,
     λ calm. record { past = past; unread = unread calm; first = shown.first calm; at = shown.at calm },
   )
 
-  pub gap_front_of : (found : CivilDateTime × T) → HasGapSide moment Backward gap_limit z (wall_second held) (Some found) → HasGapFront z (wall_second held) (Some found.0)
+  pub gap_front_of : (found : CivilDateTime × T) → HasGapSide moment Backward gap_limit z (wall_second skipped) (Some found) → HasGapFront z (wall_second skipped) (Some found.0)
   gap_front_of found (before, shown, unread) = (
     before,
     λ calm. (unread calm, ((moment found.1).instant, shown.at calm)),
   )
 
--- from the held second to the side that is found, where both lie in the years that are searched whole
-pub crosses_gap : {T : Type 0} (moment : T → Moment) (direction : Direction) (limit : ℕ) (z : Zone) (held : ℤ) (found : CivilDateTime × T) → HasGapSide moment direction limit z held (Some found) → IsWithin direction held → IsWithin direction (wall_second found.0) → CrossesGap direction z held (wall_second found.0)
-crosses_gap moment direction limit z held found (past, shown, unread) from to =
+-- from the skipped second to the side that is found, where both lie in the years that are searched whole
+pub crosses_gap : {T : Type 0} (moment : T → Moment) (direction : Direction) (limit : ℕ) (z : Zone) (skipped : ℤ) (found : CivilDateTime × T) → HasGapSide moment direction limit z skipped (Some found) → IsWithin direction skipped → IsWithin direction (wall_second found.0) → CrossesGap direction z skipped (wall_second found.0)
+crosses_gap moment direction limit z skipped found (past, shown, unread) from to =
     record { on = past; from = from; to = to; unread = unread; reached = λ calm. ((moment found.1).instant, shown.at calm) }
 
 -- what is found forward is the gap's end
-pub gap_end_or_none : {T : Type 0} (moment : T → Moment) (lack : Bool) (z : Zone) (held : CivilDateTime) → z.resolves held ≡ Some Gap → (found : Option (CivilDateTime × T)) → HasGapSide moment Forward gap_limit z (wall_second held) found → HasGapEnd moment z (wall_second held) found
-gap_end_or_none moment lack z held named (Some found) side = gap_end_of moment lack Forward z held named found side
-gap_end_or_none moment lack z held named None out = side_out moment lack Forward z held named out
+pub gap_end_or_none : {T : Type 0} (moment : T → Moment) (lack : Bool) (z : Zone) (skipped : CivilDateTime) → z.resolves skipped ≡ Some Gap → (found : Option (CivilDateTime × T)) → HasGapSide moment Forward gap_limit z (wall_second skipped) found → HasGapEnd moment z (wall_second skipped) found
+gap_end_or_none moment lack z skipped named (Some found) side = gap_end_of moment lack Forward z skipped named found side
+gap_end_or_none moment lack z skipped named None out = side_out moment lack Forward z skipped named out

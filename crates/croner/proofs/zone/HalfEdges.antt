@@ -115,12 +115,12 @@ not_of_true true h t = absurd (cc)
 not_of_true false h t = absurd (cc)
 
 -- a whole second lies behind another one where a second on it is not past it
-pub behind_test : (direction : Direction) (origin instant next : Moment) (b : Bool) → origin.fraction ≡ 0 → instant.fraction ≡ 0 → next ≡ moment_from direction instant 1
-    → (IsTrue b ↔ Precedes direction (nanos_of origin) (nanos_of next)) → IsTrue (not b) ↔ Precedes direction instant.instant origin.instant
-behind_test direction origin instant next b whole whole2 at test =
-    let less = precedes_whole direction origin next b whole (ap (λ (m : Moment). m.fraction) at ∙ whole2) test in
+pub behind_test : (direction : Direction) (start instant next : Moment) (b : Bool) → start.fraction ≡ 0 → instant.fraction ≡ 0 → next ≡ moment_from direction instant 1
+    → (IsTrue b ↔ Precedes direction (nanos_of start) (nanos_of next)) → IsTrue (not b) ↔ Precedes direction instant.instant start.instant
+behind_test direction start instant next b whole whole2 at test =
+    let less = precedes_whole direction start next b whole (ap (λ (m : Moment). m.fraction) at ∙ whole2) test in
     let on : along direction next.instant ≡ along direction instant.instant +ℤ pos 1 = ap (λ (m : Moment). along direction m.instant) at ∙ along-offset direction instant.instant 1 in (
-      λ t. elim (either direction instant.instant origin.instant) [ inl lt ↦ lt | inr le ↦ absurd (not_of_true b t (less.1 (omega (arith, ints)))) ],
+      λ t. elim (either direction instant.instant start.instant) [ inl lt ↦ lt | inr le ↦ absurd (not_of_true b t (less.1 (omega (arith, ints)))) ],
       λ h. true_of_not b (λ yes. let k = less.0 yes in omega (arith, ints)),
     )
 

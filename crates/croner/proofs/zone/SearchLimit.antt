@@ -17,7 +17,7 @@ use Rattle.croner.specs.search.Premises.{IsSearchable, IsCalmStart, StartsCalm}
 use Rattle.croner.specs.search.Refusal.{IsRefusal}
 use Rattle.croner.specs.Private.search.Walk.{RunOf, NoneOf, WalkedFrom, walk_start, one_on, OutFrom, IsWalked, IsWalkRefused}
 use Rattle.croner.specs.search.Searches.{IsFound, IsRefused}
-use Rattle.croner.specs.Private.search.Halves.{edge_limit, EdgeOf, HasTwin, CountsBoth, IsEdge, HasOtherHalf, opposite_way, offset_from}
+use Rattle.croner.specs.Private.search.Halves.{edge_limit, EdgeOf, HasTwin, CountsBoth, HasOtherHalf, IsHalfRefused, moment_from, opposite_way, offset_from}
 use Rattle.croner.proofs.zone.ZoneOrder.{Calm}
 use Rattle.croner.proofs.zone.CalmZone.{calm_of}
 use Rattle.croner.proofs.zone.Edges.{edge_line}
@@ -168,63 +168,50 @@ module _ {T : Type 0} (moment : T → Moment) (direction : Direction) (inclusive
       found_by left t walked
       (λ h w. found_alone direction inclusive (job_in start.zone timetable) (calm_of start.zone h.calm) start.instant (moment t).instant (inl one_half) w)
 
-  pub first_alone : (IsPast direction inclusive timetable.scheduled (reading start) → ⊥) → (t : T) (b : Bool) → b ≡ false → (StartsCalm start → IsTrue b ↔ HasTwin direction start.zone.reads start.instant) → IsWalked moment direction inclusive (job_in start.zone timetable) start t → IsFound direction inclusive timetable start (moment t)
-  first_alone left t b e test walked =
+  pub first_alone : (IsPast direction inclusive timetable.scheduled (reading start) → ⊥) → (t : T) → (StartsCalm start → HasTwin direction start.zone.reads start.instant → ⊥) → IsWalked moment direction inclusive (job_in start.zone timetable) start t → IsFound direction inclusive timetable start (moment t)
+  first_alone left t single walked =
+      found_by left t walked
+      (λ h w. found_alone direction inclusive (job_in start.zone timetable) (calm_of start.zone h.calm) start.instant (moment t).instant (inr (single h)) w)
+
+  edge_whole : (edge : T) → (moment edge).fraction ≡ start.fraction → StartsCalm start → (moment edge).fraction ≡ 0
+  edge_whole edge same h = same ∙ h.whole
+
+  edge_calm : (edge : T) → (moment edge).fraction ≡ start.fraction → StartsCalm start → IsCalmStart start.zone (moment edge).fraction
+  edge_calm edge same h = record { calm = h.calm; whole = edge_whole edge same h }
+
+  pub first_before : (IsPast direction inclusive timetable.scheduled (reading start) → ⊥) → (t edge : T) (b : Bool) → CountsBoth direction timetable.fixed_time → HasOtherHalf moment direction start (Some edge) → b ≡ true → (IsTrue b ↔ Precedes direction (nanos_of (moment t)) (nanos_of (moment edge))) → IsWalked moment direction inclusive (job_in start.zone timetable) start t → IsFound direction inclusive timetable start (moment t)
+  first_before left t edge b both (zone_is, fraction_is, edge_of, near) e test walked =
       found_by left t walked
       (λ h w.
-      found_alone direction inclusive (job_in start.zone timetable) (calm_of start.zone h.calm) start.instant (moment t).instant
-      (inr (λ twin. never_true (sym e ∙ (test h).1 twin))) w)
+      found_before_edge direction inclusive (job_in start.zone timetable) (calm_of start.zone h.calm) start.instant (moment t).instant (moment edge).instant both (edge_of h) w
+      (precedes_so direction (moment t) (moment edge) b e walked.whole (edge_whole edge fraction_is h) test))
 
-  -- what the code knows once it stands at the edge
-  pub record AtEdge (edge : T) : Type 0 where
-    pub both : CountsBoth direction timetable.fixed_time
-    pub zone_is : (moment edge).zone ≡ start.zone
-    pub fraction_is : (moment edge).fraction ≡ start.fraction
-    pub edge_of : StartsCalm start → EdgeOf direction start.zone.reads start.instant (moment edge).instant
-
-  pub at_edge : (edge : T) (twin : Bool) → CountsBoth direction timetable.fixed_time → twin ≡ true → (StartsCalm start → IsTrue twin ↔ HasTwin direction start.zone.reads start.instant) → IsEdge moment direction start (Some edge) → AtEdge edge
-  at_edge edge twin both is_twin twin_test (zone_is, fraction_is, edge_of, far) =
-      record { both = both; zone_is = zone_is; fraction_is = fraction_is; edge_of = λ h. edge_of h ((twin_test h).0 is_twin) }
-
-  edge_whole : (edge : T) → AtEdge edge → StartsCalm start → (moment edge).fraction ≡ 0
-  edge_whole edge at h = at.fraction_is ∙ h.whole
-
-  edge_calm : (edge : T) → AtEdge edge → StartsCalm start → IsCalmStart start.zone (moment edge).fraction
-  edge_calm edge at h = record { calm = h.calm; whole = edge_whole edge at h }
-
-  pub first_before : (IsPast direction inclusive timetable.scheduled (reading start) → ⊥) → (t edge : T) (b : Bool) → AtEdge edge → b ≡ true → (IsTrue b ↔ Precedes direction (nanos_of (moment t)) (nanos_of (moment edge))) → IsWalked moment direction inclusive (job_in start.zone timetable) start t → IsFound direction inclusive timetable start (moment t)
-  first_before left t edge b at e test walked =
-      found_by left t walked
-      (λ h w.
-      found_before_edge direction inclusive (job_in start.zone timetable) (calm_of start.zone h.calm) start.instant (moment t).instant (moment edge).instant at.both (at.edge_of h) w
-      (precedes_so direction (moment t) (moment edge) b e walked.whole (edge_whole edge at h) test))
-
-  pub second_nearer : (IsPast direction inclusive timetable.scheduled (reading start) → ⊥) → (t u edge : T) (b : Bool) → AtEdge edge → b ≡ true → (IsTrue b ↔ Precedes direction (nanos_of (moment u)) (nanos_of (moment t))) → IsWalked moment direction inclusive (job_in start.zone timetable) start t → IsWalked moment direction true (job_in (moment edge).zone timetable) (moment edge) u → IsFound direction inclusive timetable start (moment u)
-  second_nearer left t u edge b at e test walked there =
-      let second = walked_there moment direction start (moment edge) timetable u at.zone_is there in
+  pub second_nearer : (IsPast direction inclusive timetable.scheduled (reading start) → ⊥) → (t u edge : T) (b : Bool) → CountsBoth direction timetable.fixed_time → HasOtherHalf moment direction start (Some edge) → b ≡ true → (IsTrue b ↔ Precedes direction (nanos_of (moment u)) (nanos_of (moment t))) → IsWalked moment direction inclusive (job_in start.zone timetable) start t → IsWalked moment direction true (job_in (moment edge).zone timetable) (moment edge) u → IsFound direction inclusive timetable start (moment u)
+  second_nearer left t u edge b both (zone_is, fraction_is, edge_of, near) e test walked there =
+      let second = walked_there moment direction start (moment edge) timetable u zone_is there in
       record {
         zone = second.zone_is;
         whole = second.whole;
         shows = second.shows;
         left = left;
         nearest = λ h.
-            found_second direction inclusive (job_in start.zone timetable) (calm_of start.zone h.calm) start.instant (moment t).instant (moment edge).instant (moment u).instant at.both (at.edge_of h) (walked.walked h)
-            (second.walked (edge_calm edge at h)) (precedes_so direction (moment u) (moment t) b e second.whole walked.whole test);
+            found_second direction inclusive (job_in start.zone timetable) (calm_of start.zone h.calm) start.instant (moment t).instant (moment edge).instant (moment u).instant both (edge_of h) (walked.walked h)
+            (second.walked (edge_calm edge fraction_is h)) (precedes_so direction (moment u) (moment t) b e second.whole walked.whole test);
       }
 
-  pub first_nearer : (IsPast direction inclusive timetable.scheduled (reading start) → ⊥) → (t u edge : T) (b : Bool) → AtEdge edge → b ≡ false → (IsTrue b ↔ Precedes direction (nanos_of (moment u)) (nanos_of (moment t))) → IsWalked moment direction inclusive (job_in start.zone timetable) start t → IsWalked moment direction true (job_in (moment edge).zone timetable) (moment edge) u → IsFound direction inclusive timetable start (moment t)
-  first_nearer left t u edge b at e test walked there =
-      let second = walked_there moment direction start (moment edge) timetable u at.zone_is there in
+  pub first_nearer : (IsPast direction inclusive timetable.scheduled (reading start) → ⊥) → (t u edge : T) (b : Bool) → CountsBoth direction timetable.fixed_time → HasOtherHalf moment direction start (Some edge) → b ≡ false → (IsTrue b ↔ Precedes direction (nanos_of (moment u)) (nanos_of (moment t))) → IsWalked moment direction inclusive (job_in start.zone timetable) start t → IsWalked moment direction true (job_in (moment edge).zone timetable) (moment edge) u → IsFound direction inclusive timetable start (moment t)
+  first_nearer left t u edge b both (zone_is, fraction_is, edge_of, near) e test walked there =
+      let second = walked_there moment direction start (moment edge) timetable u zone_is there in
       found_by left t walked
       (λ h w.
-      found_first direction inclusive (job_in start.zone timetable) (calm_of start.zone h.calm) start.instant (moment t).instant (moment edge).instant (moment u).instant at.both (at.edge_of h) w
-      (second.walked (edge_calm edge at h)) (precedes_not direction (moment u) (moment t) b e second.whole walked.whole test))
+      found_first direction inclusive (job_in start.zone timetable) (calm_of start.zone h.calm) start.instant (moment t).instant (moment edge).instant (moment u).instant both (edge_of h) w
+      (second.walked (edge_calm edge fraction_is h)) (precedes_not direction (moment u) (moment t) b e second.whole walked.whole test))
 
-  pub second_none : (t edge : T) (b : Bool) → AtEdge edge → b ≡ false → (IsTrue b ↔ Precedes direction (nanos_of (moment t)) (nanos_of (moment edge))) → IsWalked moment direction inclusive (job_in start.zone timetable) start t → (IsCalmStart (moment edge).zone (moment edge).fraction → OutFrom direction true (job_in (moment edge).zone timetable) (moment edge).instant) → StartsCalm start → NoneInSpan direction inclusive (job_in start.zone timetable) start.instant
-  second_none t edge b at e test walked out h =
-      second_out direction inclusive (job_in start.zone timetable) (calm_of start.zone h.calm) start.instant (moment edge).instant (moment t).instant at.both (at.edge_of h) (walked.walked h)
-      (precedes_not direction (moment t) (moment edge) b e walked.whole (edge_whole edge at h) test)
-      (out_there moment direction start (moment edge) timetable at.zone_is out (edge_calm edge at h))
+  pub second_none : (t edge : T) (b : Bool) → CountsBoth direction timetable.fixed_time → HasOtherHalf moment direction start (Some edge) → b ≡ false → (IsTrue b ↔ Precedes direction (nanos_of (moment t)) (nanos_of (moment edge))) → IsWalked moment direction inclusive (job_in start.zone timetable) start t → (IsCalmStart (moment edge).zone (moment edge).fraction → OutFrom direction true (job_in (moment edge).zone timetable) (moment edge).instant) → StartsCalm start → NoneInSpan direction inclusive (job_in start.zone timetable) start.instant
+  second_none t edge b both (zone_is, fraction_is, edge_of, near) e test walked out h =
+      second_out direction inclusive (job_in start.zone timetable) (calm_of start.zone h.calm) start.instant (moment edge).instant (moment t).instant both (edge_of h) (walked.walked h)
+      (precedes_not direction (moment t) (moment edge) b e walked.whole (edge_whole edge fraction_is h) test)
+      (out_there moment direction start (moment edge) timetable zone_is out (edge_calm edge fraction_is h))
 
   -- ---- after the first walk's limit
 
@@ -236,37 +223,44 @@ module _ {T : Type 0} (moment : T → Moment) (direction : Direction) (inclusive
   limit_alone single out h =
       out_alone direction inclusive (job_in start.zone timetable) (calm_of start.zone h.calm) start.instant (inr (single h)) (out h)
 
-  pub limit_late : (edge own : T) (b : Bool) (shown : ℤ) → CountsBoth direction timetable.fixed_time → HasOtherHalf moment direction start (Some (edge, own)) → b ≡ false → shown ≡ reading (moment own) → (IsTrue b ↔ IsWithin direction shown) → (StartsCalm start → OutFrom direction inclusive (job_in start.zone timetable) start.instant) → StartsCalm start → NoneInSpan direction inclusive (job_in start.zone timetable) start.instant
-  limit_late edge own b shown both (zone_is, fraction_is, own_zone, own_is, edge_of) e at test out h =
-      let here : shown ≡ start.zone.reads (moment own).instant = at ∙ ap (λ (z : Zone). z.reads (moment own).instant) own_zone in
-      out_late direction inclusive (job_in start.zone timetable) (calm_of start.zone h.calm) start.instant (moment edge).instant (moment own).instant both (edge_of h) own_is
+  -- the last instant of the half that the start is on, and what it shows
+  own_is : (edge own : T) (back : Direction) → back ≡ opposite_way direction → moment own ≡ moment_from back (moment edge) 1 → (moment own).instant ≡ one_on (opposite_way direction) (moment edge).instant
+  own_is edge own back way moved = ap (λ (m : Moment). m.instant) moved ∙ ap (λ (d : Direction). one_on d (moment edge).instant) way
+
+  shown_there : (edge own : T) (back : Direction) (shown : ℤ) → (moment edge).zone ≡ start.zone → moment own ≡ moment_from back (moment edge) 1 → shown ≡ reading (moment own) → shown ≡ start.zone.reads (moment own).instant
+  shown_there edge own back shown zone_is moved at = at ∙ ap (λ (z : Zone). z.reads (moment own).instant) (ap (λ (m : Moment). m.zone) moved ∙ zone_is)
+
+  pub limit_late : (edge own : T) (back : Direction) (b : Bool) (shown : ℤ) → CountsBoth direction timetable.fixed_time → HasOtherHalf moment direction start (Some edge) → back ≡ opposite_way direction → moment own ≡ moment_from back (moment edge) 1 → b ≡ false → shown ≡ reading (moment own) → (IsTrue b ↔ IsWithin direction shown) → (StartsCalm start → OutFrom direction inclusive (job_in start.zone timetable) start.instant) → StartsCalm start → NoneInSpan direction inclusive (job_in start.zone timetable) start.instant
+  limit_late edge own back b shown both (zone_is, fraction_is, edge_of, near) way moved e at test out h =
+      let here = shown_there edge own back shown zone_is moved at in
+      out_late direction inclusive (job_in start.zone timetable) (calm_of start.zone h.calm) start.instant (moment edge).instant (moment own).instant both (edge_of h) (own_is edge own back way moved)
       (λ within. never_true (sym e ∙ test.1 (subst (IsWithin direction) (sym here) within))) (out h)
 
-  pub second_found : (IsPast direction inclusive timetable.scheduled (reading start) → ⊥) → (edge own u : T) (b : Bool) (shown : ℤ) → CountsBoth direction timetable.fixed_time → HasOtherHalf moment direction start (Some (edge, own)) → b ≡ true → shown ≡ reading (moment own) → (IsTrue b ↔ IsWithin direction shown) → (StartsCalm start → OutFrom direction inclusive (job_in start.zone timetable) start.instant) → IsWalked moment direction true (job_in (moment edge).zone timetable) (moment edge) u → IsFound direction inclusive timetable start (moment u)
-  second_found left edge own u b shown both (zone_is, fraction_is, own_zone, own_is, edge_of) e at test out there =
+  pub second_found : (IsPast direction inclusive timetable.scheduled (reading start) → ⊥) → (edge own u : T) (back : Direction) (b : Bool) (shown : ℤ) → CountsBoth direction timetable.fixed_time → HasOtherHalf moment direction start (Some edge) → back ≡ opposite_way direction → moment own ≡ moment_from back (moment edge) 1 → b ≡ true → shown ≡ reading (moment own) → (IsTrue b ↔ IsWithin direction shown) → (StartsCalm start → OutFrom direction inclusive (job_in start.zone timetable) start.instant) → IsWalked moment direction true (job_in (moment edge).zone timetable) (moment edge) u → IsFound direction inclusive timetable start (moment u)
+  second_found left edge own u back b shown both (zone_is, fraction_is, edge_of, near) way moved e at test out there =
       let second = walked_there moment direction start (moment edge) timetable u zone_is there in
-      let here : shown ≡ start.zone.reads (moment own).instant = at ∙ ap (λ (z : Zone). z.reads (moment own).instant) own_zone in
+      let here = shown_there edge own back shown zone_is moved at in
       record {
         zone = second.zone_is;
         whole = second.whole;
         shows = second.shows;
         left = left;
         nearest = λ h.
-            second_alone direction inclusive (job_in start.zone timetable) (calm_of start.zone h.calm) start.instant (moment edge).instant (moment own).instant (moment u).instant both (edge_of h) own_is
-            (subst (IsWithin direction) here (test.0 e)) (out h) (second.walked (record { calm = h.calm; whole = fraction_is ∙ h.whole }));
+            second_alone direction inclusive (job_in start.zone timetable) (calm_of start.zone h.calm) start.instant (moment edge).instant (moment own).instant (moment u).instant both (edge_of h) (own_is edge own back way moved)
+            (subst (IsWithin direction) here (test.0 e)) (out h) (second.walked (edge_calm edge fraction_is h));
       }
 
-  pub limit_twice : (edge own : T) → CountsBoth direction timetable.fixed_time → HasOtherHalf moment direction start (Some (edge, own)) → (StartsCalm start → OutFrom direction inclusive (job_in start.zone timetable) start.instant) → (IsCalmStart (moment edge).zone (moment edge).fraction → OutFrom direction true (job_in (moment edge).zone timetable) (moment edge).instant) → StartsCalm start → NoneInSpan direction inclusive (job_in start.zone timetable) start.instant
-  limit_twice edge own both (zone_is, fraction_is, own_zone, own_is, edge_of) out second h =
+  pub limit_twice : (edge : T) → CountsBoth direction timetable.fixed_time → HasOtherHalf moment direction start (Some edge) → (StartsCalm start → OutFrom direction inclusive (job_in start.zone timetable) start.instant) → (IsCalmStart (moment edge).zone (moment edge).fraction → OutFrom direction true (job_in (moment edge).zone timetable) (moment edge).instant) → StartsCalm start → NoneInSpan direction inclusive (job_in start.zone timetable) start.instant
+  limit_twice edge both (zone_is, fraction_is, edge_of, near) out second h =
       out_twice direction inclusive (job_in start.zone timetable) (calm_of start.zone h.calm) start.instant (moment edge).instant both (edge_of h) (out h)
-      (out_there moment direction start (moment edge) timetable zone_is second (record { calm = h.calm; whole = fraction_is ∙ h.whole }))
+      (out_there moment direction start (moment edge) timetable zone_is second (edge_calm edge fraction_is h))
 
 -- the instant before the edge lies near the start
 one_back_near : (direction : Direction) (s e : ℤ) (n : ℕ) → n ≤ edge_limit → e ≡ offset_from direction s n → IsNear s (offset_from (opposite_way direction) e 1)
 one_back_near Forward s e n h at = (omega (arith, ints), omega (arith, ints))
 one_back_near Backward s e n h at = (omega (arith, ints), omega (arith, ints))
 
-pub own_held : {T : Type 0} (moment : T → Moment) (direction : Direction) (start : Moment) (edge : T) → IsEdge moment direction start (Some edge) → (moment edge).zone.holds (offset_from (opposite_way direction) (moment edge).instant 1) ≡ false → IsSearchable start → ⊥
+pub own_held : {T : Type 0} (moment : T → Moment) (direction : Direction) (start : Moment) (edge : T) → HasOtherHalf moment direction start (Some edge) → (moment edge).zone.holds (offset_from (opposite_way direction) (moment edge).instant 1) ≡ false → IsSearchable start → ⊥
 own_held moment direction start edge (zone_is, fraction_is, edge_of, (n, le, at)) stuck h =
     let there = h.held.near_instants (offset_from (opposite_way direction) (moment edge).instant 1) (one_back_near direction start.instant (moment edge).instant n le at) in
     let here : start.zone.holds (offset_from (opposite_way direction) (moment edge).instant 1) ≡ false = subst (λ (z : Zone). z.holds (offset_from (opposite_way direction) (moment edge).instant 1) ≡ false) zone_is stuck in
@@ -315,12 +309,20 @@ module _ (lack : Bool) (direction : Direction) (inclusive : Bool) (timetable : T
     past = λ p. absurd (left p);
   }
 
+  -- the refusal of the other half
+  pub refused_half : (e : CronError) → (IsPast direction inclusive timetable.scheduled (reading start) → ⊥) → IsHalfRefused lack start e → IsRefused lack direction inclusive timetable start e
+  refused_half e left error =
+      elim error [
+        | inl (limit, out) ↦ subst (λ (x : CronError). IsRefused lack direction inclusive timetable start x) (sym limit) (refused_limit (λ h. absurd (out h)))
+        | inr backend ↦ refused_backend e left backend
+      ]
+
 -- the refusal of the first walk
 pub refused_walk : (lack : Bool) (direction : Direction) (inclusive : Bool) (timetable : Timetable) (start : Moment) (e : CronError) → IsWalkRefused lack direction inclusive timetable start e → IsRefused lack direction inclusive timetable start e
 refused_walk lack direction inclusive timetable start e walk =
     refused_backend lack direction inclusive timetable start e (λ p. walk.ahead p.1) (second_error lack start start.zone e refl walk.error)
 
-pub own_error : {T : Type 0} (moment : T → Moment) (direction way : Direction) (start : Moment) (edge : T) (lack : Bool) (e : CronError) → way ≡ opposite_way direction → IsEdge moment direction start (Some edge) → IsBackendError lack ((moment edge).zone.holds (offset_from way (moment edge).instant 1) ≡ false) e → IsBackendError lack (IsSearchable start → ⊥) e
+pub own_error : {T : Type 0} (moment : T → Moment) (direction way : Direction) (start : Moment) (edge : T) (lack : Bool) (e : CronError) → way ≡ opposite_way direction → HasOtherHalf moment direction start (Some edge) → IsBackendError lack ((moment edge).zone.holds (offset_from way (moment edge).instant 1) ≡ false) e → IsBackendError lack (IsSearchable start → ⊥) e
 own_error moment direction way start edge lack e same at error =
     backend_error lack _ _ e
     (λ stuck. own_held moment direction start edge at (subst (λ (w : Direction). (moment edge).zone.holds (offset_from w (moment edge).instant 1) ≡ false) same stuck))

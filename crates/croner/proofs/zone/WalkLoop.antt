@@ -101,48 +101,48 @@ module _ (direction : Direction) (inclusive : Bool) (job : Job) (s : ℤ) (f : �
       (λ is_calm none whole. gap_each_past job (calm_of job.zone is_calm) inclusive direction s (walk_start direction inclusive (job.zone.reads s)) (wall_second c) each (exact_of job.zone is_calm c Gap named) none)
 
   -- no run of an interval job is passed over between the two sides of a gap
-  pub walking_across : (held side : ℤ) → job.timetable.fixed_time ≡ false → Walking direction inclusive job s f held → CrossesGap direction job.zone held side → Walking direction inclusive job s f side
-  walking_across held side each there crosses =
+  pub walking_across : (skipped side : ℤ) → job.timetable.fixed_time ≡ false → Walking direction inclusive job s f skipped → CrossesGap direction job.zone skipped side → Walking direction inclusive job s f side
+  walking_across skipped side each there crosses =
       record {
         reaches = omega (arith, ints, there.reaches, crosses.on);
         none = λ start w i a b own of ahead.
-            elim (either direction w held) [
+            elim (either direction w skipped) [
               | inl before ↦ there.none start w i a before own of ahead
               | inr from ↦ crosses.unread start.calm w from b i (each_reads job w i each of)
             ];
       }
 
-  pub walked_gap : (held end t : ℤ) → job.timetable.fixed_time ≡ true → Walking direction inclusive job s f held → job.timetable.scheduled held → GapEnd job.zone.reads held end t → job.timetable.date_matches end → Ahead direction inclusive s t → IsCalmStart job.zone f → WalkedFrom direction inclusive job s t
-  walked_gap held end t fixed walking own gap_end date ahead start =
-      gap_answer job (calm_of job.zone start.calm) inclusive direction s held end t fixed (le_of_lt held end gap_end.past) gap_end.unread gap_end.first walking.reaches own (walking.none start) (subst job.timetable.date_matches (sym gap_end.at) date) ahead
+  pub walked_gap : (skipped end t : ℤ) → job.timetable.fixed_time ≡ true → Walking direction inclusive job s f skipped → job.timetable.scheduled skipped → GapEnd job.zone.reads skipped end t → job.timetable.date_matches end → Ahead direction inclusive s t → IsCalmStart job.zone f → WalkedFrom direction inclusive job s t
+  walked_gap skipped end t fixed walking own gap_end date ahead start =
+      gap_answer job (calm_of job.zone start.calm) inclusive direction s skipped end t fixed (le_of_lt skipped end gap_end.past) gap_end.unread gap_end.first walking.reaches own (walking.none start) (subst job.timetable.date_matches (sym gap_end.at) date) ahead
 
--- what lies from a held second up to the far side of its gap, which forward is where it ends, is of the gap
-of_gap : (direction : Direction) (reads : ℤ → ℤ) (held end side t : ℤ) → (direction ≡ Forward → side ≡ end) → UnreadTo direction reads held side → GapEnd reads held end t
-    → (u : ℤ) → Reaches direction held u → Precedes direction u side → (u <ℤ end) × UnreadTo Forward reads u end
-of_gap Forward reads held end side t ends unread gap u on before = let at = ends refl in (omega (arith, ints), λ x from to. gap.unread x (omega (arith, ints)) to)
-of_gap Backward reads held end side t ends unread gap u on before =
+-- what lies from a skipped second up to the far side of its gap, which forward is where it ends, is of the gap
+of_gap : (direction : Direction) (reads : ℤ → ℤ) (skipped end side t : ℤ) → (direction ≡ Forward → side ≡ end) → UnreadTo direction reads skipped side → GapEnd reads skipped end t
+    → (u : ℤ) → Reaches direction skipped u → Precedes direction u side → (u <ℤ end) × UnreadTo Forward reads u end
+of_gap Forward reads skipped end side t ends unread gap u on before = let at = ends refl in (omega (arith, ints), λ x from to. gap.unread x (omega (arith, ints)) to)
+of_gap Backward reads skipped end side t ends unread gap u on before =
     let past = gap.past in (
       omega (arith, ints),
-      λ x from to. elim (cases_lt_z held x) [ inl lt ↦ gap.unread x (omega (arith, ints)) to | inr le ↦ unread x (omega (arith, ints)) (omega (arith, ints)) ],
+      λ x from to. elim (cases_lt_z skipped x) [ inl lt ↦ gap.unread x (omega (arith, ints)) to | inr le ↦ unread x (omega (arith, ints)) (omega (arith, ints)) ],
     )
 
-pub walking_past_gap_side : (direction : Direction) (inclusive : Bool) (job : Job) (s : ℤ) (f : ℕ) (held end side t : ℤ) → job.timetable.fixed_time ≡ true → Walking direction inclusive job s f held → Precedes direction held side → (direction ≡ Forward → side ≡ end) → (IsCalm job.zone → UnreadTo direction job.zone.reads held side) → (IsCalm job.zone → GapEnd job.zone.reads held end t)
+pub walking_past_gap_side : (direction : Direction) (inclusive : Bool) (job : Job) (s : ℤ) (f : ℕ) (skipped end side t : ℤ) → job.timetable.fixed_time ≡ true → Walking direction inclusive job s f skipped → Precedes direction skipped side → (direction ≡ Forward → side ≡ end) → (IsCalm job.zone → UnreadTo direction job.zone.reads skipped side) → (IsCalm job.zone → GapEnd job.zone.reads skipped end t)
     → (f ≡ 0 → job.timetable.date_matches end → Ahead direction inclusive s t → ⊥) → Walking direction inclusive job s f side
-walking_past_gap_side direction inclusive job s f held end side t fixed walking past ends unread gap_end refused =
+walking_past_gap_side direction inclusive job s f skipped end side t fixed walking past ends unread gap_end refused =
     record {
       reaches = omega (arith, ints, walking.reaches);
       none = λ start.
           let found = gap_end start.calm in
-          gap_fixed_past direction inclusive job s (walk_start direction inclusive (job.zone.reads s)) held side end t fixed
-          (of_gap direction job.zone.reads held end side t ends (unread start.calm) found) found.first found.at (walking.none start)
+          gap_fixed_past direction inclusive job s (walk_start direction inclusive (job.zone.reads s)) skipped side end t fixed
+          (of_gap direction job.zone.reads skipped end side t ends (unread start.calm) found) found.first found.at (walking.none start)
           (λ date ahead. refused start.whole (subst job.timetable.date_matches found.at date) ahead);
     }
 
 -- ---- how far a pass goes
 
 -- past a second that is not read, and past no second that is
-pub onward_across : (direction : Direction) (reads : ℤ → ℤ) (held side : ℤ) → Precedes direction held side → UnreadTo direction reads held side → Onward direction reads held side
-onward_across Forward reads held side on unread =
+pub onward_across : (direction : Direction) (reads : ℤ → ℤ) (skipped side : ℤ) → Precedes direction skipped side → UnreadTo direction reads skipped side → Onward direction reads skipped side
+onward_across Forward reads skipped side on unread =
     record {
       on = on;
       within = λ p below above. (
@@ -150,7 +150,7 @@ onward_across Forward reads held side on unread =
         elim (cases_lt_z (reads (p +ℤ pos 1)) side) [ inr le ↦ le | inl lt ↦ absurd (unread (reads (p +ℤ pos 1)) (omega (arith, ints)) lt (p +ℤ pos 1) refl) ],
       );
     }
-onward_across Backward reads held side on unread =
+onward_across Backward reads skipped side on unread =
     record {
       on = on;
       within = λ p below above. (
@@ -159,10 +159,10 @@ onward_across Backward reads held side on unread =
       );
     }
 
-pub onward_one : (direction : Direction) (reads : ℤ → ℤ) (held wall : ℤ) → wall ≡ one_on direction held → Exactly reads held Gap → Onward direction reads held wall
-onward_one direction reads held wall e unread =
-    onward_across direction reads held wall (omega (arith, ints, ap (along direction) e, along-offset direction held 1))
-    (λ u on before x at. unread x (at ∙ both_ways direction u held (omega (arith, ints, ap (along direction) e, along-offset direction held 1)) on))
+pub onward_one : (direction : Direction) (reads : ℤ → ℤ) (skipped wall : ℤ) → wall ≡ one_on direction skipped → Exactly reads skipped Gap → Onward direction reads skipped wall
+onward_one direction reads skipped wall e unread =
+    onward_across direction reads skipped wall (omega (arith, ints, ap (along direction) e, along-offset direction skipped 1))
+    (λ u on before x at. unread x (at ∙ both_ways direction u skipped (omega (arith, ints, ap (along direction) e, along-offset direction skipped 1)) on))
 
 -- a walk that comes to a scheduled second has something scheduled ahead
 pub something_ahead : (direction : Direction) (inclusive : Bool) (job : Job) (s : ℤ) (f : ℕ) (wall : ℤ) → Walking direction inclusive job s f wall → job.timetable.scheduled wall → NoneAhead direction inclusive job.timetable.scheduled (job.zone.reads s) → ⊥
@@ -177,78 +177,75 @@ pub shows_carried : (job : Job) (i : ℤ) → job.timetable.fixed_time ≡ true 
 shows_carried job i fixed many =
     λ premise. elim premise [ inl each ↦ let never : true ≡ false = sym fixed ∙ each in absurd (cc) | inr single ↦ absurd (many single) ]
 
-module _ {T : Type 0} (moment : T → Moment) (direction : Direction) (inclusive : Bool) (job : Job) (origin : Moment) where
-  pub single_walked : (c : CivilDateTime) (t : T) → Names moment job.zone (wall_second c) t → job.zone.resolves c ≡ Some (Single (moment t).instant) → job.timetable.scheduled (wall_second c) → Walking direction inclusive job origin.instant origin.fraction (wall_second c) → IsWalked moment direction inclusive job origin t
+module _ {T : Type 0} (moment : T → Moment) (direction : Direction) (inclusive : Bool) (job : Job) (start : Moment) where
+  pub single_walked : (c : CivilDateTime) (t : T) → Names moment job.zone (wall_second c) t → job.zone.resolves c ≡ Some (Single (moment t).instant) → job.timetable.scheduled (wall_second c) → Walking direction inclusive job start.instant start.fraction (wall_second c) → IsWalked moment direction inclusive job start t
   single_walked c t named is own there =
       record {
         zone_is = named.zone_is;
         whole = named.whole;
         shows = shows_read job (wall_second c) (moment t).instant own named.reads_it;
-        ahead = something_ahead direction inclusive job origin.instant origin.fraction (wall_second c) there own;
-        walked = walked_single direction inclusive job origin.instant origin.fraction c (moment t).instant there own is;
+        ahead = something_ahead direction inclusive job start.instant start.fraction (wall_second c) there own;
+        walked = walked_single direction inclusive job start.instant start.fraction c (moment t).instant there own is;
       }
 
-  pub chosen_walked : (c : CivilDateTime) (e l t : T) (b : Bool) → b ≡ job.timetable.fixed_time → Names moment job.zone (wall_second c) e → Names moment job.zone (wall_second c) l → job.zone.resolves c ≡ Some (Ambiguous (moment e).instant (moment l).instant) → job.timetable.scheduled (wall_second c) → Walking direction inclusive job origin.instant origin.fraction (wall_second c) → IsOneOf e l (Some t) → (origin.fraction ≡ 0 → (moment e).fraction ≡ 0 → (moment l).fraction ≡ 0 → ChosenOf moment b direction origin.instant e l (Some t)) → IsWalked moment direction inclusive job origin t
-  chosen_walked c e l t b same named_e named_l is own there one chosen =
+  pub chosen_walked : (c : CivilDateTime) (e l t : T) → Names moment job.zone (wall_second c) e → Names moment job.zone (wall_second c) l → job.zone.resolves c ≡ Some (Ambiguous (moment e).instant (moment l).instant) → job.timetable.scheduled (wall_second c) → Walking direction inclusive job start.instant start.fraction (wall_second c) → IsOneOf e l (Some t) → (start.fraction ≡ 0 → (moment e).fraction ≡ 0 → (moment l).fraction ≡ 0 → ChosenOf moment job.timetable.fixed_time direction start.instant e l (Some t)) → IsWalked moment direction inclusive job start t
+  chosen_walked c e l t named_e named_l is own there one chosen =
       let named : Names moment job.zone (wall_second c) t = elim one [ inl e_is ↦ subst (Names moment job.zone (wall_second c)) (sym e_is) named_e | inr l_is ↦ subst (Names moment job.zone (wall_second c)) (sym l_is) named_l ] in
       record {
         zone_is = named.zone_is;
         whole = named.whole;
         shows = shows_read job (wall_second c) (moment t).instant own named.reads_it;
-        ahead = something_ahead direction inclusive job origin.instant origin.fraction (wall_second c) there own;
-        walked = λ start.
-            walked_chosen direction inclusive job origin.instant origin.fraction moment c e l t there own is start
-            (subst (λ (x : Bool). ChosenOf moment x direction origin.instant e l (Some t)) same (chosen start.whole named_e.whole named_l.whole));
+        ahead = something_ahead direction inclusive job start.instant start.fraction (wall_second c) there own;
+        walked = λ begins. walked_chosen direction inclusive job start.instant start.fraction moment c e l t there own is begins (chosen begins.whole named_e.whole named_l.whole);
       }
 
-  pub past_two : (c : CivilDateTime) (e l : T) (b : Bool) (moved : ℤ) → b ≡ job.timetable.fixed_time → Names moment job.zone (wall_second c) e → Names moment job.zone (wall_second c) l → job.zone.resolves c ≡ Some (Ambiguous (moment e).instant (moment l).instant) → Walking direction inclusive job origin.instant origin.fraction (wall_second c) → (origin.fraction ≡ 0 → (moment e).fraction ≡ 0 → (moment l).fraction ≡ 0 → ChosenOf moment b direction origin.instant e l None) → moved ≡ one_on direction (wall_second c) → Walking direction inclusive job origin.instant origin.fraction moved × (IsCalmStart job.zone origin.fraction → Paces direction job.zone.reads origin.instant (wall_second c) moved)
-  past_two c e l b moved same named_e named_l is there chosen moves = (
-    walking_past_two direction inclusive job origin.instant origin.fraction moment c moved e l there is
-        (λ whole. subst (λ (x : Bool). ChosenOf moment x direction origin.instant e l None) same (chosen whole named_e.whole named_l.whole)) moves,
-    λ start. inr (moves, ((moment e).instant, named_e.reads_it, one_behind moment b direction origin.instant e l (chosen start.whole named_e.whole named_l.whole))),
+  pub past_two : (c : CivilDateTime) (e l : T) (moved : ℤ) → Names moment job.zone (wall_second c) e → Names moment job.zone (wall_second c) l → job.zone.resolves c ≡ Some (Ambiguous (moment e).instant (moment l).instant) → Walking direction inclusive job start.instant start.fraction (wall_second c) → (start.fraction ≡ 0 → (moment e).fraction ≡ 0 → (moment l).fraction ≡ 0 → ChosenOf moment job.timetable.fixed_time direction start.instant e l None) → moved ≡ one_on direction (wall_second c) → Walking direction inclusive job start.instant start.fraction moved × (IsCalmStart job.zone start.fraction → Paces direction job.zone.reads start.instant (wall_second c) moved)
+  past_two c e l moved named_e named_l is there chosen moves = (
+    walking_past_two direction inclusive job start.instant start.fraction moment c moved e l there is (λ whole. chosen whole named_e.whole named_l.whole) moves,
+    λ begins. inr (moves, ((moment e).instant, named_e.reads_it, one_behind moment job.timetable.fixed_time direction start.instant e l (chosen begins.whole named_e.whole named_l.whole))),
   )
 
-  past_gap_each : (c : CivilDateTime) (moved : ℤ) → job.timetable.fixed_time ≡ false → job.zone.resolves c ≡ Some Gap → Walking direction inclusive job origin.instant origin.fraction (wall_second c) → moved ≡ one_on direction (wall_second c) → Walking direction inclusive job origin.instant origin.fraction moved × (IsCalmStart job.zone origin.fraction → Paces direction job.zone.reads origin.instant (wall_second c) moved)
+  past_gap_each : (c : CivilDateTime) (moved : ℤ) → job.timetable.fixed_time ≡ false → job.zone.resolves c ≡ Some Gap → Walking direction inclusive job start.instant start.fraction (wall_second c) → moved ≡ one_on direction (wall_second c) → Walking direction inclusive job start.instant start.fraction moved × (IsCalmStart job.zone start.fraction → Paces direction job.zone.reads start.instant (wall_second c) moved)
   past_gap_each c moved each is there moves = (
-    walking_past_gap direction inclusive job origin.instant origin.fraction c moved each there is moves,
-    λ start. let unread = exact_of job.zone start.calm c Gap is in inl (unread, onward_one direction job.zone.reads (wall_second c) moved moves unread),
+    walking_past_gap direction inclusive job start.instant start.fraction c moved each there is moves,
+    λ begins. let unread = exact_of job.zone begins.calm c Gap is in inl (unread, onward_one direction job.zone.reads (wall_second c) moved moves unread),
   )
 
-  pub past_gap_on : (c : CivilDateTime) (wall : ℤ) → job.timetable.fixed_time ≡ false → job.zone.resolves c ≡ Some Gap → Walking direction inclusive job origin.instant origin.fraction (wall_second c) → GoesPast direction job.zone (wall_second c) wall → Walking direction inclusive job origin.instant origin.fraction wall × (IsCalmStart job.zone origin.fraction → Paces direction job.zone.reads origin.instant (wall_second c) wall)
+  pub past_gap_on : (c : CivilDateTime) (wall : ℤ) → job.timetable.fixed_time ≡ false → job.zone.resolves c ≡ Some Gap → Walking direction inclusive job start.instant start.fraction (wall_second c) → GoesPast direction job.zone (wall_second c) wall → Walking direction inclusive job start.instant start.fraction wall × (IsCalmStart job.zone start.fraction → Paces direction job.zone.reads start.instant (wall_second c) wall)
   past_gap_on c wall each is there goes =
       elim goes [
         | inl next ↦ past_gap_each c wall each is there next
         | inr crosses ↦ (
-          walking_across direction inclusive job origin.instant origin.fraction (wall_second c) wall each there crosses,
-          λ start. inl (exact_of job.zone start.calm c Gap is, onward_across direction job.zone.reads (wall_second c) wall crosses.on (crosses.unread start.calm)),
+          walking_across direction inclusive job start.instant start.fraction (wall_second c) wall each there crosses,
+          λ begins. inl (exact_of job.zone begins.calm c Gap is, onward_across direction job.zone.reads (wall_second c) wall crosses.on (crosses.unread begins.calm)),
         )
       ]
 
-  pub carried_walked : (c end : CivilDateTime) (t : T) → job.timetable.fixed_time ≡ true → job.timetable.scheduled (wall_second c) → Walking direction inclusive job origin.instant origin.fraction (wall_second c) → HasGapEnd moment job.zone (wall_second c) (Some (end, t)) → job.timetable.date_matches (wall_second end) → (origin.fraction ≡ 0 → (moment t).fraction ≡ 0 → Ahead direction inclusive origin.instant (moment t).instant) → IsWalked moment direction inclusive job origin t
+  pub carried_walked : (c end : CivilDateTime) (t : T) → job.timetable.fixed_time ≡ true → job.timetable.scheduled (wall_second c) → Walking direction inclusive job start.instant start.fraction (wall_second c) → HasGapEnd moment job.zone (wall_second c) (Some (end, t)) → job.timetable.date_matches (wall_second end) → (start.fraction ≡ 0 → (moment t).fraction ≡ 0 → Ahead direction inclusive start.instant (moment t).instant) → IsWalked moment direction inclusive job start t
   carried_walked c end t fixed own there (past, zone_is, whole, many, gap_end) date ahead =
       record {
         zone_is = zone_is;
         whole = whole;
         shows = shows_carried job (moment t).instant fixed many;
-        ahead = something_ahead direction inclusive job origin.instant origin.fraction (wall_second c) there own;
-        walked = λ start. walked_gap direction inclusive job origin.instant origin.fraction (wall_second c) (wall_second end) (moment t).instant fixed there own (gap_end start.calm) date (ahead start.whole whole) start;
+        ahead = something_ahead direction inclusive job start.instant start.fraction (wall_second c) there own;
+        walked = λ begins. walked_gap direction inclusive job start.instant start.fraction (wall_second c) (wall_second end) (moment t).instant fixed there own (gap_end begins.calm) date (ahead begins.whole whole) begins;
       }
 
   -- past a gap of a fixed-time job to its far side
   abbrev pub GoesOn : CivilDateTime → CivilDateTime → Type 0
   GoesOn c side =
-      Walking direction inclusive job origin.instant origin.fraction (wall_second side)
-      × (IsCalmStart job.zone origin.fraction → Paces direction job.zone.reads origin.instant (wall_second c) (wall_second side))
+      Walking direction inclusive job start.instant start.fraction (wall_second side)
+      × (IsCalmStart job.zone start.fraction → Paces direction job.zone.reads start.instant (wall_second c) (wall_second side))
 
   abbrev pub NotCarried : CivilDateTime → T → Type 0
-  NotCarried end t = origin.fraction ≡ 0 → (moment t).fraction ≡ 0 → job.timetable.date_matches (wall_second end) → Ahead direction inclusive origin.instant (moment t).instant → ⊥
+  NotCarried end t = start.fraction ≡ 0 → (moment t).fraction ≡ 0 → job.timetable.date_matches (wall_second end) → Ahead direction inclusive start.instant (moment t).instant → ⊥
 
-  module _ (c end : CivilDateTime) (t : T) (fixed : job.timetable.fixed_time ≡ true) (is : job.zone.resolves c ≡ Some Gap) (there : Walking direction inclusive job origin.instant origin.fraction (wall_second c)) (found : HasGapEnd moment job.zone (wall_second c) (Some (end, t))) (refused : NotCarried end t) where
+  module _ (c end : CivilDateTime) (t : T) (fixed : job.timetable.fixed_time ≡ true) (is : job.zone.resolves c ≡ Some Gap) (there : Walking direction inclusive job start.instant start.fraction (wall_second c)) (found : HasGapEnd moment job.zone (wall_second c) (Some (end, t))) (refused : NotCarried end t) where
     past_gap_side : (side : CivilDateTime) → Precedes direction (wall_second c) (wall_second side) → (direction ≡ Forward → wall_second side ≡ wall_second end) → (IsCalm job.zone → UnreadTo direction job.zone.reads (wall_second c) (wall_second side)) → GoesOn c side
     past_gap_side side on ends unread =
         let (past, zone_is, whole, many, gap_end) = found in (
-          walking_past_gap_side direction inclusive job origin.instant origin.fraction (wall_second c) (wall_second end) (wall_second side) (moment t).instant fixed there on ends unread gap_end (λ w. refused w whole),
-          λ start. inl (exact_of job.zone start.calm c Gap is, onward_across direction job.zone.reads (wall_second c) (wall_second side) on (unread start.calm)),
+          walking_past_gap_side direction inclusive job start.instant start.fraction (wall_second c) (wall_second end) (wall_second side) (moment t).instant fixed there on ends unread gap_end (λ w. refused w whole),
+          λ begins. inl (exact_of job.zone begins.calm c Gap is, onward_across direction job.zone.reads (wall_second c) (wall_second side) on (unread begins.calm)),
         )
 
     pub past_gap_forward : direction ≡ Forward → GoesOn c end

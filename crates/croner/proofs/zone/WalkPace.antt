@@ -76,7 +76,7 @@ pub record Paced (direction : Direction) (reads : ℤ → ℤ) (s wall : ℤ) (k
   pub slack : ℕ
   pub margin : slack ≤ fold_limit
   pub below : slack ≤ come direction (reads s) wall
-  pub met : Counted direction reads gaps wall k slack
+  pub counted : Counted direction reads gaps wall k slack
 
 up_less : (a b : ℤ) → a ≤ℤ b → up a ≤ up b
 up_less (pos a) (pos b) h = omega (arith, ints)
@@ -137,16 +137,16 @@ in_gap direction reads q w next below above onward =
 
 -- a pass in a gap, which moves on by a second or more and not past the gap's far side
 gap_pass : (direction : Direction) (reads : ℤ → ℤ) → Calm reads → (ps : List ℤ) (wall w next q : ℤ) (k slack : ℕ) → LastFirst direction reads ps → Touching reads ps → Counted direction reads ps wall k slack → Reaches direction wall w → reads q <ℤ w → w <ℤ reads (q +ℤ pos 1) → Onward direction reads w next → Touches reads q → (qs : List ℤ) × LastFirst direction reads qs × Touching reads qs × Counted direction reads qs next (k + 1) slack
-gap_pass direction reads calm [] wall w next q k slack sorted touching met on below above onward touch =
+gap_pass direction reads calm [] wall w next q k slack sorted touching counted on below above onward touch =
     let breaks : Break reads q = λ (e : reads (q +ℤ pos 1) ≡ reads q +ℤ pos 1). omega (arith, ints) in
     let here = in_gap direction reads q w next below above onward in
     let less = up_more (way direction next (far_side direction reads q)) (reads (q +ℤ pos 1) -ℤ reads q -ℤ pos 1) here.some here.skips in
     (q ∷ [], (breaks, tt, tt), (touch, tt), (here.entered, omega arith))
-gap_pass direction reads calm (p ∷ ps) wall w next q k slack sorted touching met on below above onward touch =
+gap_pass direction reads calm (p ∷ ps) wall w next q k slack sorted touching counted on below above onward touch =
     let breaks : Break reads q = λ (e : reads (q +ℤ pos 1) ≡ reads q +ℤ pos 1). omega (arith, ints) in
     let here = in_gap direction reads q w next below above onward in
-    let room = met.1 in
-    elim (gaps_ordered direction reads calm p q wall w (is_in direction reads q w below above) met.0 on) [
+    let room = counted.1 in
+    elim (gaps_ordered direction reads calm p q wall w (is_in direction reads q w below above) counted.0 on) [
       | inl later ↦
           let less = up_more (way direction next (far_side direction reads q)) (reads (q +ℤ pos 1) -ℤ reads q -ℤ pos 1) here.some here.skips in
           (q ∷ (p ∷ ps), (breaks, later, sorted), (touch, touching), (here.entered, omega arith))
@@ -159,16 +159,16 @@ gap_pass direction reads calm (p ∷ ps) wall w next q k slack sorted touching m
 
 -- a pass outside gaps, which uses up one of the slack
 other_pass : (direction : Direction) (reads : ℤ → ℤ) (ps : List ℤ) (wall next : ℤ) (k slack : ℕ) → Counted direction reads ps wall k slack → Reaches direction wall next → Counted direction reads ps next (k + 1) (slack + 1)
-other_pass direction reads [] wall next k slack met on = omega arith
-other_pass direction reads (p ∷ ps) wall next k slack met on =
+other_pass direction reads [] wall next k slack counted on = omega arith
+other_pass direction reads (p ∷ ps) wall next k slack counted on =
     let less = up_less (way direction next (far_side direction reads p)) (way direction wall (far_side direction reads p)) (omega (arith, ints)) in
-    let room = met.1 in
-    let entered = met.0 in
+    let room = counted.1 in
+    let entered = counted.0 in
     (omega (arith, ints), omega arith)
 
 bounded : (direction : Direction) (reads : ℤ → ℤ) (ps : List ℤ) (wall : ℤ) (k slack : ℕ) → Counted direction reads ps wall k slack → k ≤ all_skipped reads ps + slack
-bounded direction reads [] wall k slack met = omega arith
-bounded direction reads (p ∷ ps) wall k slack met = let room = met.1 in omega arith
+bounded direction reads [] wall k slack counted = omega arith
+bounded direction reads (p ∷ ps) wall k slack counted = let room = counted.1 in omega arith
 
 touches : (reads : ℤ → ℤ) → Calm reads → (q w : ℤ) → reads q <ℤ w → w <ℤ reads (q +ℤ pos 1) → IsSearched w → Touches reads q
 touches reads calm q w below above years =
@@ -184,15 +184,15 @@ touches reads calm q w below above years =
 
 pub paced_start : (direction : Direction) (reads : ℤ → ℤ) (s wall : ℤ) → Paced direction reads s wall 0
 paced_start direction reads s wall =
-    record { gaps = []; sorted = tt; touching = tt; slack = 0; margin = omega arith; below = omega arith; met = omega arith }
+    record { gaps = []; sorted = tt; touching = tt; slack = 0; margin = omega arith; below = omega arith; counted = omega arith }
 
 paced_gap : (direction : Direction) (reads : ℤ → ℤ) → Calm reads → (s wall w next : ℤ) (k : ℕ) → Paced direction reads s wall k → Reaches direction wall w → Exactly reads w Gap → IsSearched w → Onward direction reads w next → Paced direction reads s next (k + 1)
 paced_gap direction reads calm s wall w next k paced on unread years onward =
     let (q, below, above) = unread_is_in_gap reads calm w unread in
-    let (qs, sorted, touching, met) = gap_pass direction reads calm paced.gaps wall w next q k paced.slack paced.sorted paced.touching paced.met on below above onward (touches reads calm q w below above years) in
+    let (qs, sorted, touching, counted) = gap_pass direction reads calm paced.gaps wall w next q k paced.slack paced.sorted paced.touching paced.counted on below above onward (touches reads calm q w below above years) in
     let more = up_less (way direction (reads s) wall) (way direction (reads s) next) (omega (arith, ints, onward.on)) in
     let under = paced.below in
-    record { gaps = qs; sorted = sorted; touching = touching; slack = paced.slack; margin = paced.margin; below = omega arith; met = met }
+    record { gaps = qs; sorted = sorted; touching = touching; slack = paced.slack; margin = paced.margin; below = omega arith; counted = counted }
 
 -- the clock is put back by the longest step back at most
 turned_little : (reads : ℤ → ℤ) → Calm reads → (i j : ℤ) → i <ℤ j → reads j ≤ℤ reads i → reads i <ℤ (reads j +ℤ pos fold_limit)
@@ -226,7 +226,7 @@ paced_behind direction reads calm s wall w next e k paced on from behind at move
       slack = paced.slack + 1;
       margin = omega (arith, ints);
       below = omega (arith, ints);
-      met = other_pass direction reads paced.gaps wall next k paced.slack paced.met (omega (arith, ints));
+      counted = other_pass direction reads paced.gaps wall next k paced.slack paced.counted (omega (arith, ints));
     }
 
 pub paced_on : (direction : Direction) (reads : ℤ → ℤ) → Calm reads → (s wall w next : ℤ) (k : ℕ) → Paced direction reads s wall k → Reaches direction wall w → Reaches direction (reads s) w → IsSearched w → Paces direction reads s w next → Paced direction reads s next (k + 1)
@@ -276,13 +276,13 @@ rises_of : (reads : ℤ → ℤ) (ps : List ℤ) → LastFirst Backward reads ps
 rises_of reads [] sorted = tt
 rises_of reads (p ∷ ps) (breaks, heads, sorted) = (all_after reads p ps heads sorted, rises_of reads ps sorted)
 
-met_of : (z : Zone) (ps : List ℤ) → LastFirst Backward z.reads ps → Touching z.reads ps → All (IsMet z) (ends ps)
-met_of z [] sorted touching = All-nil (IsMet z)
-met_of z (p ∷ ps) (breaks, heads, sorted) (touch, touching) =
+are_met : (z : Zone) (ps : List ℤ) → LastFirst Backward z.reads ps → Touching z.reads ps → All (IsMet z) (ends ps)
+are_met z [] sorted touching = All-nil (IsMet z)
+are_met z (p ∷ ps) (breaks, heads, sorted) (touch, touching) =
     let back : z.reads p ≡ z.reads (p +ℤ pos 1 -ℤ pos 1) = ap z.reads (omega (arith, ints)) in
     let here : IsSearched (z.reads (p +ℤ pos 1)) ⊎ IsSearched (z.reads (p +ℤ pos 1 -ℤ pos 1)) =
     elim touch [ inl before ↦ inr (subst IsSearched back before) | inr after ↦ inl after ] in
-    All-cons (IsMet z) (p +ℤ pos 1) (ends ps) (change_of_break z p breaks, here) (met_of z ps sorted touching)
+    All-cons (IsMet z) (p +ℤ pos 1) (ends ps) (change_of_break z p breaks, here) (are_met z ps sorted touching)
 
 gap_of : (j : ℤ) → up j ≤ (if int_lt (pos 0) j then unsigned_abs j else 0)
 gap_of (pos zero) = omega arith
@@ -301,13 +301,13 @@ seconds_of z (p ∷ ps) =
 
 skip_few : (z : Zone) → IsCalm z → (direction : Direction) (ps : List ℤ) → LastFirst direction z.reads ps → Touching z.reads ps → all_skipped z.reads ps ≤ most_gap_seconds
 skip_few z calm Backward ps sorted touching =
-    let few = (calm.few (ends ps) (rises_of z.reads ps sorted) (met_of z ps sorted touching)).1 in
+    let few = (calm.few (ends ps) (rises_of z.reads ps sorted) (are_met z ps sorted touching)).1 in
     let less = seconds_of z ps in
     omega arith
 skip_few z calm Forward [] sorted touching = omega arith
 skip_few z calm Forward (p ∷ ps) sorted touching =
     let turned = sorted_reversed z.reads (p ∷ ps) [] sorted tt tt in
-    let few = (calm.few (ends (reversed (p ∷ ps) [])) (rises_of z.reads (reversed (p ∷ ps) []) turned) (met_of z (reversed (p ∷ ps) []) turned (touching_reversed z.reads (p ∷ ps) [] touching tt))).1 in
+    let few = (calm.few (ends (reversed (p ∷ ps) [])) (rises_of z.reads (reversed (p ∷ ps) []) turned) (are_met z (reversed (p ∷ ps) []) turned (touching_reversed z.reads (p ∷ ps) [] touching tt))).1 in
     let less = seconds_of z (reversed (p ∷ ps) []) in
     let same = skipped_reversed z.reads (p ∷ ps) [] in
     omega arith
@@ -315,7 +315,7 @@ skip_few z calm Forward (p ∷ ps) sorted touching =
 -- a walk in a calm zone ends before its limit of passes
 pub paced_ends : (direction : Direction) (z : Zone) → IsCalm z → (s wall : ℤ) (k : ℕ) → Paced direction z.reads s wall k → k < pass_limit
 paced_ends direction z calm s wall k paced =
-    let a = bounded direction z.reads paced.gaps wall k paced.slack paced.met in
+    let a = bounded direction z.reads paced.gaps wall k paced.slack paced.counted in
     let b = skip_few z calm direction paced.gaps paced.sorted paced.touching in
     let c = paced.margin in
     omega arith

@@ -34,7 +34,7 @@ none_past direction inclusive job s from w none here =
 
 -- ---- the start of a walk
 
--- what a walk visits lies ahead of where its origin reads, or there
+-- what a walk visits lies ahead of where its start reads, or there
 pub start_reaches : (direction : Direction) (inclusive : Bool) (r w : ℤ) → Reaches direction (walk_start direction inclusive r) w → Reaches direction r w
 start_reaches direction true r w h = h
 start_reaches direction false r w h = omega (arith, ints, along-offset direction r 1)
@@ -43,7 +43,7 @@ pub start_ahead : (direction : Direction) (inclusive : Bool) (r w : ℤ) → Rea
 start_ahead direction true r w h = elim (same_or_ahead direction r w h) [ inl e ↦ inr (refl, sym e) | inr lt ↦ inl lt ]
 start_ahead direction false r w h = inl (omega (arith, ints, along-offset direction r 1))
 
--- and it visits what lies ahead, and where its origin reads if that counts
+-- and it visits what lies ahead, and where its start reads if that counts
 pub start_past : (direction : Direction) (inclusive : Bool) (r w : ℤ) → Precedes direction r w → Reaches direction (walk_start direction inclusive r) w
 start_past direction true r w h = omega (arith, ints)
 start_past direction false r w h = omega (arith, ints, along-offset direction r 1)

@@ -5,3 +5,4 @@ pub mod Walk
 pub mod Halves
 pub mod Gaps
 pub mod Held
+pub mod Sought

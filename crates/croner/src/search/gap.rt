@@ -8,7 +8,9 @@ ghost use Rattle.croner.specs.Private.search.Held.{HoldsYears, IsBackendError};
 ghost use Rattle.croner.specs.Private.search.Gaps.{CrossesGap, HasGapSide, IsAround, IsBeyond, IsSkipped};
 ghost use Rattle.croner.specs.Private.search.Halves.{offset_from};
 ghost use Rattle.croner.specs.Private.search.Walk.{HasGapEnd, HasGapFront};
+ghost use Rattle.croner.specs.Private.search.Sought.{start_of};
 
+use super::{Schedule, Search};
 use crate::search::distance::seconds_on;
 use crate::search::wall::is_within;
 use croner_base::errors::CronError;
@@ -23,7 +25,7 @@ const GAP_SEARCH_SECONDS: u32 = GAP_LIMIT_SECONDS;
 /// does not resolve it.
 type Beyond<T> = Result<(CivilDateTime, T), CronError>;
 
-/// A second in the gap and one outside it, by how far they lie from the held one, and what is answered for the latter.
+/// A second in the gap and one outside it, by how far they lie from the skipped one, and what is answered for the latter.
 #[derive(Drop)]
 struct Around<T> {
     inside: u32,
@@ -31,124 +33,182 @@ struct Around<T> {
     answer: Beyond<T>,
 }
 
-/// The first instant after the gap that holds a second, with what it shows; `None` where the gap reaches further than
-/// the search.
-pub(crate) fn gap_end<T: CronDateTime>(
+/// A search for a side of a gap.
+#[derive(Drop)]
+struct SideSearch<'s, T> {
     alloc: Global,
-    origin: &T,
-    held: CivilDateTime,
-) -> Result<Option<(CivilDateTime, T)>, CronError>
-    requires in_gap { (T.moment origin.now).zone.resolves held ≡ Some Gap }
-    requires searched { IsSearched (wall_second held) }
-    ensures value { IfOk result (HasGapEnd T.moment (T.moment origin.now).zone (wall_second held)) }
-    ensures err { IfErr result (IsBackendError T.can_lack_memory (¬ (HoldsYears (T.moment origin.now).zone))) }
-{
-    gap_side(alloc, origin, held, Direction::Forward, GAP_SEARCH_SECONDS)
-}
-
-/// The last second before the gap that holds a second; `None` where the gap reaches further than the search.
-pub(crate) fn gap_front<T: CronDateTime>(
-    alloc: Global,
-    origin: &T,
-    held: CivilDateTime,
-) -> Result<Option<CivilDateTime>, CronError>
-    requires in_gap { (T.moment origin.now).zone.resolves held ≡ Some Gap }
-    requires searched { IsSearched (wall_second held) }
-    ensures value { IfOk result (HasGapFront (T.moment origin.now).zone (wall_second held)) }
-    ensures err { IfErr result (IsBackendError T.can_lack_memory (¬ (HoldsYears (T.moment origin.now).zone))) }
-{
-    let side = gap_side(alloc, origin, held, Direction::Backward, GAP_SEARCH_SECONDS)?;
-    let Some((front, _)) = side else {
-        return Ok(None);
-    };
-    Ok(Some(front))
-}
-
-/// The nearest second outside the gap that holds one, in the direction, where both lie in the years that are searched whole:
-/// before year 5000 forward, after year 1 backward. `None` where they don't, where the gap reaches further than the search, and
-/// where the backend refuses what has to be asked: whoever asks then goes on as without it.
-pub(crate) fn across_gap<T: CronDateTime>(
-    alloc: Global,
-    origin: &T,
-    held: CivilDateTime,
+    /// A time of the zone.
+    time: &'s T,
+    /// The second in the gap that it starts at.
+    skipped: CivilDateTime,
     direction: Direction,
-) -> Option<CivilDateTime>
-    requires in_gap { (T.moment origin.now).zone.resolves held ≡ Some Gap }
-    requires searched { IsSearched (wall_second held) }
-    ensures { IfSome result (λ side. CrossesGap direction (T.moment origin.now).zone (wall_second held) (wall_second side)) }
-{
-    if !is_within(held, direction) {
-        return None;
+}
+
+impl<'s, T: CronDateTime, S: Schedule> Search<'s, T, S> {
+    /// The first instant after the gap that a second lies in, with what it shows; `None` where the gap reaches further than
+    /// the search.
+    pub(super) fn gap_end(
+        &self,
+        skipped: CivilDateTime,
+    ) -> Result<Option<(CivilDateTime, T)>, CronError>
+        requires in_gap { (start_of T.moment self.now).zone.resolves skipped ≡ Some Gap }
+        requires searched { IsSearched (wall_second skipped) }
+        ensures value { IfOk result (HasGapEnd T.moment (start_of T.moment self.now).zone (wall_second skipped)) }
+        ensures err { IfErr result (IsBackendError T.can_lack_memory (¬ (HoldsYears (start_of T.moment self.now).zone))) }
+    {
+        self.gap_side(skipped, Direction::Forward)
     }
-    match gap_side(alloc, origin, held, direction, GAP_SEARCH_SECONDS) {
-        Ok(Some((side, _))) => {
-            if is_within(side, direction) {
-                Some(side)
-            } else {
-                None
-            }
+
+    /// The last second before the gap that a second lies in; `None` where the gap reaches further than the search.
+    pub(super) fn gap_front(
+        &self,
+        skipped: CivilDateTime,
+    ) -> Result<Option<CivilDateTime>, CronError>
+        requires in_gap { (start_of T.moment self.now).zone.resolves skipped ≡ Some Gap }
+        requires searched { IsSearched (wall_second skipped) }
+        ensures value { IfOk result (HasGapFront (start_of T.moment self.now).zone (wall_second skipped)) }
+        ensures err { IfErr result (IsBackendError T.can_lack_memory (¬ (HoldsYears (start_of T.moment self.now).zone))) }
+    {
+        let side = self.gap_side(skipped, Direction::Backward)?;
+        let Some((front, _)) = side else {
+            return Ok(None);
+        };
+        Ok(Some(front))
+    }
+
+    /// The nearest second outside the gap that a second lies in, where both lie in the years that are searched whole: before year
+    /// 5000 forward, after year 1 backward. `None` where they don't, where the gap reaches further than the search, and where the
+    /// backend refuses what has to be asked: whoever asks then goes on as without it.
+    pub(super) fn across_gap(&self, skipped: CivilDateTime) -> Option<CivilDateTime>
+        requires in_gap { (start_of T.moment self.now).zone.resolves skipped ≡ Some Gap }
+        requires searched { IsSearched (wall_second skipped) }
+        ensures { IfSome result (λ side. CrossesGap self.now.direction (start_of T.moment self.now).zone (wall_second skipped) (wall_second side)) }
+    {
+        if !is_within(skipped, self.direction) {
+            return None;
         }
-        Ok(None) => None,
-        Err(_) => None,
-    }
-}
-
-// The nearest second outside the gap in the direction, with the first instant that shows it: by bisection between the
-// last second of the doubling that lies in the gap and the first that does not. `None` where the second at the limit does.
-fn gap_side<T: CronDateTime>(
-    alloc: Global,
-    origin: &T,
-    held: CivilDateTime,
-    direction: Direction,
-    limit: u32,
-) -> Result<Option<(CivilDateTime, T)>, CronError>
-    requires in_gap { (T.moment origin.now).zone.resolves held ≡ Some Gap }
-    requires searched { IsSearched (wall_second held) }
-    requires near { limit ≤ gap_limit }
-    ensures value { IfOk result (HasGapSide T.moment direction limit (T.moment origin.now).zone (wall_second held)) }
-    ensures err { IfErr result (IsBackendError T.can_lack_memory (¬ (HoldsYears (T.moment origin.now).zone))) }
-{
-    let Some(mut around) = first_beyond(alloc, origin, held, direction, limit) else {
-        return Ok(None);
-    };
-    while around.outside - around.inside > 1 {
-        around = narrowed(alloc, origin, held, direction, around);
-    }
-    let side = around.answer?;
-    Ok(Some(side))
-}
-
-// By doubling the distance from the held second: the last that lies in the gap and the first that does not; `None` where
-// the second at the limit does.
-fn first_beyond<T: CronDateTime>(
-    alloc: Global,
-    origin: &T,
-    held: CivilDateTime,
-    direction: Direction,
-    limit: u32,
-) -> Option<Around<T>>
-    requires in_gap { (T.moment origin.now).zone.resolves held ≡ Some Gap }
-    requires searched { IsSearched (wall_second held) }
-    requires near { limit ≤ gap_limit }
-    ensures { MatchOption result
-        (IsSkipped (T.moment origin.now).zone (offset_from direction (wall_second held) limit))
-        (IsAround T.moment T.can_lack_memory direction (T.moment origin.now).zone (wall_second held)) }
-{
-    let mut inside: u32 = 0;
-    while inside < limit {
-        let outside = doubled(inside, limit);
-        match beyond(alloc, origin, held, outside, direction) {
-            Some(answer) => {
-                return Some(Around {
-                    inside,
-                    outside,
-                    answer,
-                });
+        match self.gap_side(skipped, self.direction) {
+            Ok(Some((side, _))) => {
+                if is_within(side, self.direction) {
+                    Some(side)
+                } else {
+                    None
+                }
             }
-            None => inside = outside,
+            Ok(None) => None,
+            Err(_) => None,
         }
     }
-    None
+
+    // The nearest second outside the gap in a direction, with the first instant that shows it; `None` where the gap reaches further
+    // than the search.
+    fn gap_side(
+        &self,
+        skipped: CivilDateTime,
+        direction: Direction,
+    ) -> Result<Option<(CivilDateTime, T)>, CronError>
+        requires in_gap { (start_of T.moment self.now).zone.resolves skipped ≡ Some Gap }
+        requires searched { IsSearched (wall_second skipped) }
+        ensures value { IfOk result (HasGapSide T.moment direction gap_limit (start_of T.moment self.now).zone (wall_second skipped)) }
+        ensures err { IfErr result (IsBackendError T.can_lack_memory (¬ (HoldsYears (start_of T.moment self.now).zone))) }
+    {
+        let search = SideSearch {
+            alloc: self.alloc,
+            time: self.start,
+            skipped,
+            direction,
+        };
+        search.side(GAP_SEARCH_SECONDS)
+    }
+}
+
+impl<'s, T: CronDateTime> SideSearch<'s, T> {
+    // The nearest second outside the gap in the direction, with the first instant that shows it: by bisection between the
+    // last second of the doubling that lies in the gap and the first that does not. `None` where the second at the limit does.
+    fn side(&self, limit: u32) -> Result<Option<(CivilDateTime, T)>, CronError>
+        requires in_gap { (T.moment self.now.time.now).zone.resolves self.now.skipped ≡ Some Gap }
+        requires searched { IsSearched (wall_second self.now.skipped) }
+        requires near { limit ≤ gap_limit }
+        ensures value { IfOk result (HasGapSide T.moment self.now.direction limit (T.moment self.now.time.now).zone (wall_second self.now.skipped)) }
+        ensures err { IfErr result (IsBackendError T.can_lack_memory (¬ (HoldsYears (T.moment self.now.time.now).zone))) }
+    {
+        let Some(mut around) = self.first_beyond(limit) else {
+            return Ok(None);
+        };
+        while around.outside - around.inside > 1 {
+            around = self.narrowed(around);
+        }
+        let side = around.answer?;
+        Ok(Some(side))
+    }
+
+    // By doubling the distance from the skipped second: the last that lies in the gap and the first that does not; `None` where
+    // the second at the limit does.
+    fn first_beyond(&self, limit: u32) -> Option<Around<T>>
+        requires in_gap { (T.moment self.now.time.now).zone.resolves self.now.skipped ≡ Some Gap }
+        requires searched { IsSearched (wall_second self.now.skipped) }
+        requires near { limit ≤ gap_limit }
+        ensures { MatchOption result
+            (IsSkipped (T.moment self.now.time.now).zone (offset_from self.now.direction (wall_second self.now.skipped) limit))
+            (IsAround T.moment T.can_lack_memory self.now.direction (T.moment self.now.time.now).zone (wall_second self.now.skipped)) }
+    {
+        let mut inside: u32 = 0;
+        while inside < limit {
+            let outside = doubled(inside, limit);
+            match self.beyond(outside) {
+                Some(answer) => {
+                    return Some(Around {
+                        inside,
+                        outside,
+                        answer,
+                    });
+                }
+                None => inside = outside,
+            }
+        }
+        None
+    }
+
+    // The same with half the seconds between the two.
+    fn narrowed(&self, around: Around<T>) -> Around<T>
+        requires searched { IsSearched (wall_second self.now.skipped) }
+        requires wide { around.inside + 1 < around.outside }
+        requires around { IsAround T.moment T.can_lack_memory self.now.direction (T.moment self.now.time.now).zone (wall_second self.now.skipped) around }
+        ensures around { IsAround T.moment T.can_lack_memory self.now.direction (T.moment self.now.time.now).zone (wall_second self.now.skipped) result }
+        ensures nearer { result.outside - result.inside < around.outside - around.inside }
+    {
+        let middle = around.inside + (around.outside - around.inside) / 2;
+        match self.beyond(middle) {
+            Some(answer) => Around {
+                inside: around.inside,
+                outside: middle,
+                answer,
+            },
+            None => Around {
+                inside: middle,
+                ..around
+            },
+        }
+    }
+
+    // What the backend answers for the second so many seconds on; `None` where that lies in a gap too.
+    fn beyond(&self, seconds: u32) -> Option<Beyond<T>>
+        requires searched { IsSearched (wall_second self.now.skipped) }
+        requires near { seconds ≤ gap_limit }
+        ensures { MatchOption result
+            (IsSkipped (T.moment self.now.time.now).zone (offset_from self.now.direction (wall_second self.now.skipped) seconds))
+            (IsBeyond T.moment T.can_lack_memory (T.moment self.now.time.now).zone (offset_from self.now.direction (wall_second self.now.skipped) seconds)) }
+    {
+        let Some(wall) = seconds_on(self.skipped, seconds, self.direction) else {
+            unreachable!()
+        };
+        match self.time.resolve_civil(self.alloc, wall) {
+            Ok(Resolution::Single(only)) => Some(Ok((wall, only))),
+            Ok(Resolution::Ambiguous(earlier, _)) => Some(Ok((wall, earlier))),
+            Ok(Resolution::Gap) => None,
+            Err(error) => Some(Err(error)),
+        }
+    }
 }
 
 // Twice as far and a second, at most at the limit.
@@ -162,58 +222,5 @@ fn doubled(seconds: u32, limit: u32) -> u32
         2 * seconds + 1
     } else {
         limit
-    }
-}
-
-// The same with half the seconds between the two.
-fn narrowed<T: CronDateTime>(
-    alloc: Global,
-    origin: &T,
-    held: CivilDateTime,
-    direction: Direction,
-    around: Around<T>,
-) -> Around<T>
-    requires searched { IsSearched (wall_second held) }
-    requires wide { around.inside + 1 < around.outside }
-    requires around { IsAround T.moment T.can_lack_memory direction (T.moment origin.now).zone (wall_second held) around }
-    ensures around { IsAround T.moment T.can_lack_memory direction (T.moment origin.now).zone (wall_second held) result }
-    ensures nearer { result.outside - result.inside < around.outside - around.inside }
-{
-    let middle = around.inside + (around.outside - around.inside) / 2;
-    match beyond(alloc, origin, held, middle, direction) {
-        Some(answer) => Around {
-            inside: around.inside,
-            outside: middle,
-            answer,
-        },
-        None => Around {
-            inside: middle,
-            ..around
-        },
-    }
-}
-
-// What the backend answers for the second so many seconds on from a held one; `None` where that lies in a gap too.
-fn beyond<T: CronDateTime>(
-    alloc: Global,
-    origin: &T,
-    held: CivilDateTime,
-    seconds: u32,
-    direction: Direction,
-) -> Option<Beyond<T>>
-    requires searched { IsSearched (wall_second held) }
-    requires near { seconds ≤ gap_limit }
-    ensures { MatchOption result
-        (IsSkipped (T.moment origin.now).zone (offset_from direction (wall_second held) seconds))
-        (IsBeyond T.moment T.can_lack_memory (T.moment origin.now).zone (offset_from direction (wall_second held) seconds)) }
-{
-    let Some(wall) = seconds_on(held, seconds, direction) else {
-        unreachable!()
-    };
-    match origin.resolve_civil(alloc, wall) {
-        Ok(Resolution::Single(only)) => Some(Ok((wall, only))),
-        Ok(Resolution::Ambiguous(earlier, _)) => Some(Ok((wall, earlier))),
-        Ok(Resolution::Gap) => None,
-        Err(error) => Some(Err(error)),
     }
 }

@@ -1,9 +1,8 @@
 //! Comparing and moving the values of a backend.
 ghost use Rattle.std.specs.Prelude.{◌≡◌, ◌↔◌, IsTrue, IfOk, IfErr, false};
 ghost use Rattle.croner_base.specs.Zone.{nanos_of};
-ghost use Rattle.croner.specs.search.Runs.{Precedes, Ahead};
+ghost use Rattle.croner.specs.search.Runs.{Precedes};
 ghost use Rattle.croner.specs.Private.search.Halves.{moment_from, offset_from, opposite_way};
-ghost use Rattle.croner.specs.Private.search.Walk.{CannotMove};
 ghost use Rattle.croner.specs.Private.search.Held.{IsBackendError};
 
 use croner_base::errors::CronError;
@@ -52,40 +51,5 @@ pub(crate) fn moved<T: CronDateTime>(
     match from.checked_add_seconds(alloc, signed)? {
         Some(there) => Ok(there),
         None => Err(CronError::InvalidTime),
-    }
-}
-
-/// Whether an instant lies behind the origin by a second or more: an origin with a fraction keeps its own second in play.
-pub(crate) fn is_behind<T: CronDateTime>(
-    alloc: Global,
-    origin: &T,
-    instant: &T,
-    direction: Direction,
-) -> Result<bool, CronError>
-    ensures value { (T.moment origin.now).fraction ≡ 0 → (T.moment instant.now).fraction ≡ 0
-        → IfOk result (λ b. IsTrue b
-        ↔ Precedes direction (T.moment instant.now).instant (T.moment origin.now).instant) }
-    ensures err { IfErr result (IsBackendError T.can_lack_memory
-        (CannotMove direction (T.moment instant.now))) }
-{
-    let second_on = moved(alloc, instant, 1, direction)?;
-    Ok(!precedes(origin, &second_on, direction))
-}
-
-/// Whether an instant lies ahead of the origin, or is it in an inclusive search.
-pub(crate) fn lies_ahead<T: CronDateTime>(
-    origin: &T,
-    instant: &T,
-    inclusive: bool,
-    direction: Direction,
-) -> bool
-    ensures { (T.moment origin.now).fraction ≡ 0 → (T.moment instant.now).fraction ≡ 0
-        → IsTrue result
-        ↔ Ahead direction inclusive (T.moment origin.now).instant (T.moment instant.now).instant }
-{
-    match origin.cmp_instant(instant) {
-        Ordering::Less => direction == Direction::Forward,
-        Ordering::Equal => inclusive,
-        Ordering::Greater => direction == Direction::Backward,
     }
 }

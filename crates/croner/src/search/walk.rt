@@ -1,22 +1,22 @@
 //! One walk along the wall clock.
-ghost use Rattle.std.specs.Prelude.{◌≡◌, ◌⊎◌, IfOk, IfErr, MatchOption, Some};
+ghost use Rattle.std.specs.Prelude.{◌≡◌, ◌⊎◌, ◌↔◌, IsTrue, IfOk, IfErr, MatchOption, Some};
 ghost use Rattle.croner_base.specs.declared.time.value.Resolution.TheVariants.{Ambiguous, Gap};
 ghost use Rattle.croner_base.specs.Zone.{IsResolved, reading};
 ghost use Rattle.croner.specs.Private.search.Wall.{IsLastYear};
 ghost use Rattle.croner_base.specs.Calm.{IsCalm, IsSearched};
 ghost use Rattle.croner_base.specs.Civil.{wall_second};
-ghost use Rattle.croner.specs.search.Runs.{job_in};
+ghost use Rattle.croner.specs.search.Runs.{Precedes, Ahead};
 ghost use Rattle.croner.specs.Private.search.Gaps.{GoesPast};
 ghost use Rattle.croner.specs.Private.search.Held.{HoldsYears, IsBackendError};
-ghost use Rattle.croner.specs.Private.search.Walk.{CannotMove, HasPassed, HasWalked, IsWalkRefused, Walking, walk_start, NearerOf, ChosenOf, IsOneOf};
+ghost use Rattle.croner.specs.Private.search.Walk.{CannotMove, HasWalked, IsWalkRefused, walk_start, NearerOf, ChosenOf, IsOneOf};
+ghost use Rattle.croner.specs.Private.search.Sought.{start_of, sought, HasComeTo, PassesTo};
 
-use super::Schedule;
-use super::gap::{across_gap, gap_end, gap_front};
-use crate::search::instant::{is_behind, lies_ahead};
+use super::{Schedule, Search};
+use crate::search::instant::{moved, precedes};
 use crate::search::wall::one_second_on;
 use croner_base::errors::CronError;
 use croner_base::time::{CivilDateTime, CronDateTime, Direction, Resolution};
-use std::alloc::Global;
+use std::cmp::Ordering;
 
 /// The most scheduled seconds that a walk looks at: the seconds of a leap year.
 const PASS_LIMIT: u32 = 31_622_400;
@@ -24,16 +24,6 @@ const PASS_LIMIT: u32 = 31_622_400;
 /// At every so many passes the walk of an interval job that is in a gap goes across it in one step. A job that has fewer
 /// seconds in a gap of an hour passes them one by one, which is quicker.
 const PASSES_TO_CROSSING: u32 = 16;
-
-/// From where a walk goes, and which way.
-#[derive(Drop)]
-pub(crate) struct Origin<'a, T> {
-    /// The time that it starts at.
-    pub(crate) time: &'a T,
-    /// Whether that time counts itself.
-    pub(crate) inclusive: bool,
-    pub(crate) direction: Direction,
-}
 
 /// What one pass of a walk comes to.
 #[derive(Drop)]
@@ -43,228 +33,184 @@ pub(crate) enum Passed<T> {
     Limit,
 }
 
-// The nearer of two that is not behind the origin, or else the other.
-fn nearer<T: CronDateTime>(
-    alloc: Global,
-    origin: &T,
-    near: T,
-    far: T,
-    direction: Direction,
-) -> Result<Option<T>, CronError>
-    ensures value { (T.moment origin.now).fraction ≡ 0 → (T.moment near).fraction ≡ 0 → (T.moment far).fraction ≡ 0
-        → IfOk result (NearerOf T.moment direction (T.moment origin.now).instant near far) }
-    ensures one { IfOk result (IsOneOf near far) }
-    ensures err { IfErr result (IsBackendError T.can_lack_memory (CannotMove direction (T.moment near) ⊎ CannotMove direction (T.moment far))) }
-{
-    if !is_behind(alloc, origin, &near, direction)? {
-        return Ok(Some(near));
-    }
-    if !is_behind(alloc, origin, &far, direction)? {
-        return Ok(Some(far));
-    }
-    Ok(None)
-}
-
-// The one of a second's two instants that a job takes, where it is not behind the origin.
-fn chosen<T: CronDateTime>(
-    alloc: Global,
-    origin: &T,
-    earlier: T,
-    later: T,
-    fixed_time: bool,
-    direction: Direction,
-) -> Result<Option<T>, CronError>
-    ensures value { (T.moment origin.now).fraction ≡ 0 → (T.moment earlier).fraction ≡ 0 → (T.moment later).fraction ≡ 0
-        → IfOk result (ChosenOf T.moment fixed_time direction (T.moment origin.now).instant earlier later) }
-    ensures one { IfOk result (IsOneOf earlier later) }
-    ensures err { IfErr result (IsBackendError T.can_lack_memory
-        (CannotMove direction (T.moment earlier) ⊎ CannotMove direction (T.moment later))) }
-{
-    if fixed_time {
-        if is_behind(alloc, origin, &earlier, direction)? {
-            return Ok(None);
-        }
-        return Ok(Some(earlier));
-    }
-    match direction {
-        Direction::Forward => nearer(alloc, origin, earlier, later, direction),
-        Direction::Backward => nearer(alloc, origin, later, earlier, direction),
-    }
-}
-
-// The pass at a scheduled second that two instants show.
-fn pass_two<T: CronDateTime, S: Schedule>(
-    alloc: Global,
-    schedule: &S,
-    origin: &Origin<'_, T>,
-    found: CivilDateTime,
-    earlier: T,
-    later: T,
-) -> Result<Passed<T>, CronError>
-    requires shaped { S.shaped schedule.now }
-    requires resolved { IsResolved T.moment (T.moment origin.now.time.now).zone found (Ambiguous earlier later) }
-    requires scheduled { (S.timetable schedule.now).scheduled (wall_second found) }
-    requires walking { Walking origin.now.direction origin.now.inclusive
-        (job_in (T.moment origin.now.time.now).zone (S.timetable schedule.now))
-        (T.moment origin.now.time.now).instant (T.moment origin.now.time.now).fraction (wall_second found) }
-    ensures value { IfOk result (HasPassed T.moment origin.now.direction origin.now.inclusive
-        (job_in (T.moment origin.now.time.now).zone (S.timetable schedule.now))
-        (T.moment origin.now.time.now) (wall_second found)) }
-    ensures err { IfErr result (IsBackendError T.can_lack_memory
-        (IsCalm (T.moment origin.now.time.now).zone → ¬ (HoldsYears (T.moment origin.now.time.now).zone))) }
-{
-    let fixed_time = schedule.is_fixed_time();
-    match chosen(
-        alloc,
-        origin.time,
-        earlier,
-        later,
-        fixed_time,
-        origin.direction,
-    )? {
-        Some(answer) => Ok(Passed::Answer(answer)),
-        None => match one_second_on(found, origin.direction) {
-            Some(next) => Ok(Passed::GoOn(next)),
-            None => unreachable!(),
-        },
-    }
-}
-
-// Where the walk of an interval job goes on from a second in a gap, at which it does not run: at the next second, and at
-// every so many passes across the gap, where that can be told.
-fn past_gap<T: CronDateTime>(
-    alloc: Global,
-    origin: &Origin<'_, T>,
-    found: CivilDateTime,
-    passed: u32,
-) -> CivilDateTime
-    requires in_gap { (T.moment origin.now.time.now).zone.resolves found ≡ Some Gap }
-    requires searched { IsSearched (wall_second found) }
-    ensures { GoesPast origin.now.direction (T.moment origin.now.time.now).zone (wall_second found) (wall_second result) }
-{
-    if passed % PASSES_TO_CROSSING == PASSES_TO_CROSSING - 1 {
-        if let Some(side) = across_gap(alloc, origin.time, found, origin.direction) {
-            return side;
-        }
-    }
-    match one_second_on(found, origin.direction) {
-        Some(next) => next,
-        None => unreachable!(),
-    }
-}
-
-// The pass at a scheduled second that lies in a gap, after so many other passes.
-fn pass_gap<T: CronDateTime, S: Schedule>(
-    alloc: Global,
-    schedule: &S,
-    origin: &Origin<'_, T>,
-    found: CivilDateTime,
-    passed: u32,
-) -> Result<Passed<T>, CronError>
-    requires shaped { S.shaped schedule.now }
-    requires in_gap { (T.moment origin.now.time.now).zone.resolves found ≡ Some Gap }
-    requires scheduled { (S.timetable schedule.now).scheduled (wall_second found) }
-    requires walking { Walking origin.now.direction origin.now.inclusive
-        (job_in (T.moment origin.now.time.now).zone (S.timetable schedule.now))
-        (T.moment origin.now.time.now).instant (T.moment origin.now.time.now).fraction (wall_second found) }
-    ensures value { IfOk result (HasPassed T.moment origin.now.direction origin.now.inclusive
-        (job_in (T.moment origin.now.time.now).zone (S.timetable schedule.now))
-        (T.moment origin.now.time.now) (wall_second found)) }
-    ensures err { IfErr result (IsBackendError T.can_lack_memory
-        (IsCalm (T.moment origin.now.time.now).zone → ¬ (HoldsYears (T.moment origin.now.time.now).zone))) }
-{
-    if !schedule.is_fixed_time() {
-        return Ok(Passed::GoOn(past_gap(alloc, origin, found, passed)));
-    }
-    let Some((end, carried)) = gap_end(alloc, origin.time, found)? else {
-        return Ok(Passed::Limit);
-    };
-    if schedule.matches_date(end)
-        && lies_ahead(origin.time, &carried, origin.inclusive, origin.direction)
+impl<'s, T: CronDateTime, S: Schedule> Search<'s, T, S> {
+    // Whether an instant lies behind the start by a second or more: a start with a fraction keeps its own second in play.
+    fn is_behind(&self, instant: &T) -> Result<bool, CronError>
+        ensures value { (start_of T.moment self.now).fraction ≡ 0 → (T.moment instant.now).fraction ≡ 0
+            → IfOk result (λ b. IsTrue b
+            ↔ Precedes self.now.direction (T.moment instant.now).instant (start_of T.moment self.now).instant) }
+        ensures err { IfErr result (IsBackendError T.can_lack_memory (CannotMove self.now.direction (T.moment instant.now))) }
     {
-        return Ok(Passed::Answer(carried));
+        let second_on = moved(self.alloc, instant, 1, self.direction)?;
+        Ok(!precedes(self.start, &second_on, self.direction))
     }
-    match origin.direction {
-        Direction::Forward => Ok(Passed::GoOn(end)),
-        Direction::Backward => match gap_front(alloc, origin.time, found)? {
-            Some(front) => Ok(Passed::GoOn(front)),
-            None => Ok(Passed::Limit),
-        },
-    }
-}
 
-// One pass of the walk, at a scheduled second that it has come to after so many other passes.
-fn pass<T: CronDateTime, S: Schedule>(
-    alloc: Global,
-    schedule: &S,
-    origin: &Origin<'_, T>,
-    found: CivilDateTime,
-    passed: u32,
-) -> Result<Passed<T>, CronError>
-    requires shaped { S.shaped schedule.now }
-    requires scheduled { (S.timetable schedule.now).scheduled (wall_second found) }
-    requires walking { Walking origin.now.direction origin.now.inclusive
-        (job_in (T.moment origin.now.time.now).zone (S.timetable schedule.now))
-        (T.moment origin.now.time.now).instant (T.moment origin.now.time.now).fraction (wall_second found) }
-    ensures value { IfOk result (HasPassed T.moment origin.now.direction origin.now.inclusive
-        (job_in (T.moment origin.now.time.now).zone (S.timetable schedule.now))
-        (T.moment origin.now.time.now) (wall_second found)) }
-    ensures err { IfErr result (IsBackendError T.can_lack_memory
-        (IsCalm (T.moment origin.now.time.now).zone → ¬ (HoldsYears (T.moment origin.now.time.now).zone))) }
-{
-    match origin.time.resolve_civil(alloc, found)? {
-        Resolution::Single(only) => Ok(Passed::Answer(only)),
-        Resolution::Ambiguous(earlier, later) => {
-            pass_two(alloc, schedule, origin, found, earlier, later)
+    // Whether an instant lies ahead of the start, or is it in an inclusive search.
+    fn lies_ahead(&self, instant: &T) -> bool
+        ensures { (start_of T.moment self.now).fraction ≡ 0 → (T.moment instant.now).fraction ≡ 0
+            → IsTrue result
+            ↔ Ahead self.now.direction self.now.inclusive (start_of T.moment self.now).instant (T.moment instant.now).instant }
+    {
+        match self.start.cmp_instant(instant) {
+            Ordering::Less => self.direction == Direction::Forward,
+            Ordering::Equal => self.inclusive,
+            Ordering::Greater => self.direction == Direction::Backward,
         }
-        Resolution::Gap => pass_gap(alloc, schedule, origin, found, passed),
     }
-}
 
-// Where a walk begins, from what the origin shows.
-#[inline(always)]
-fn first_second(
-    shown: CivilDateTime,
-    inclusive: bool,
-    direction: Direction,
-) -> Option<CivilDateTime>
-    ensures { MatchOption result (IsLastYear direction shown.date.year)
-        (λ wall. wall_second wall ≡ walk_start direction inclusive (wall_second shown)) }
-{
-    if inclusive {
-        Some(shown)
-    } else {
-        one_second_on(shown, direction)
+    // The nearer of two that is not behind the start, or else the other.
+    fn nearer(&self, near: T, far: T) -> Result<Option<T>, CronError>
+        ensures value { (start_of T.moment self.now).fraction ≡ 0 → (T.moment near).fraction ≡ 0 → (T.moment far).fraction ≡ 0
+            → IfOk result (NearerOf T.moment self.now.direction (start_of T.moment self.now).instant near far) }
+        ensures one { IfOk result (IsOneOf near far) }
+        ensures err { IfErr result (IsBackendError T.can_lack_memory
+            (CannotMove self.now.direction (T.moment near) ⊎ CannotMove self.now.direction (T.moment far))) }
+    {
+        if !self.is_behind(&near)? {
+            return Ok(Some(near));
+        }
+        if !self.is_behind(&far)? {
+            return Ok(Some(far));
+        }
+        Ok(None)
     }
-}
 
-/// The nearest run that a walk along the wall clock from the origin, which reads `shown`, meets, over one half of each repeated
-/// range; `None` where it meets none in the years that are searched, and without a question where nothing is scheduled ahead.
-pub(crate) fn walk<T: CronDateTime, S: Schedule>(
-    alloc: Global,
-    schedule: &S,
-    origin: &Origin<'_, T>,
-    shown: CivilDateTime,
-) -> Result<Option<T>, CronError>
-    requires shaped { S.shaped schedule.now }
-    requires shown { wall_second shown ≡ reading (T.moment origin.now.time.now) }
-    ensures value { IfOk result (HasWalked T.moment origin.now.direction origin.now.inclusive
-        (job_in (T.moment origin.now.time.now).zone (S.timetable schedule.now))
-        (T.moment origin.now.time.now)) }
-    ensures err { IfErr result (IsWalkRefused T.can_lack_memory origin.now.direction origin.now.inclusive (S.timetable schedule.now) (T.moment origin.now.time.now)) }
-{
-    let Some(mut wall) = first_second(shown, origin.inclusive, origin.direction) else {
-        return Ok(None);
-    };
-    for passed in 0..PASS_LIMIT {
-        let Some(found) = schedule.next_scheduled(wall, origin.direction) else {
+    // The one of a second's two instants that the job takes, where it is not behind the start.
+    fn chosen(&self, earlier: T, later: T) -> Result<Option<T>, CronError>
+        requires { S.shaped self.now.schedule.now }
+        ensures value { (start_of T.moment self.now).fraction ≡ 0 → (T.moment earlier).fraction ≡ 0 → (T.moment later).fraction ≡ 0
+            → IfOk result (ChosenOf T.moment (S.timetable self.now.schedule.now).fixed_time self.now.direction (start_of T.moment self.now).instant earlier later) }
+        ensures one { IfOk result (IsOneOf earlier later) }
+        ensures err { IfErr result (IsBackendError T.can_lack_memory
+            (CannotMove self.now.direction (T.moment earlier) ⊎ CannotMove self.now.direction (T.moment later))) }
+    {
+        if self.schedule.is_fixed_time() {
+            if self.is_behind(&earlier)? {
+                return Ok(None);
+            }
+            return Ok(Some(earlier));
+        }
+        match self.direction {
+            Direction::Forward => self.nearer(earlier, later),
+            Direction::Backward => self.nearer(later, earlier),
+        }
+    }
+
+    // The pass at a scheduled second that two instants show.
+    fn pass_two(&self, found: CivilDateTime, earlier: T, later: T) -> Result<Passed<T>, CronError>
+        requires shaped { S.shaped self.now.schedule.now }
+        requires resolved { IsResolved T.moment (start_of T.moment self.now).zone found (Ambiguous earlier later) }
+        requires scheduled { (S.timetable self.now.schedule.now).scheduled (wall_second found) }
+        requires walking { HasComeTo T.moment S.timetable self.now (wall_second found) }
+        ensures value { IfOk result (PassesTo T.moment S.timetable self.now (wall_second found)) }
+        ensures err { IfErr result (IsBackendError T.can_lack_memory
+            (IsCalm (start_of T.moment self.now).zone → ¬ (HoldsYears (start_of T.moment self.now).zone))) }
+    {
+        match self.chosen(earlier, later)? {
+            Some(answer) => Ok(Passed::Answer(answer)),
+            None => match one_second_on(found, self.direction) {
+                Some(next) => Ok(Passed::GoOn(next)),
+                None => unreachable!(),
+            },
+        }
+    }
+
+    // Where the walk of an interval job goes on from a second in a gap, at which it does not run: at the next second, and at
+    // every so many passes across the gap, where that can be told.
+    fn past_gap(&self, skipped: CivilDateTime, passed: u32) -> CivilDateTime
+        requires in_gap { (start_of T.moment self.now).zone.resolves skipped ≡ Some Gap }
+        requires searched { IsSearched (wall_second skipped) }
+        ensures { GoesPast self.now.direction (start_of T.moment self.now).zone (wall_second skipped) (wall_second result) }
+    {
+        if passed % PASSES_TO_CROSSING == PASSES_TO_CROSSING - 1 {
+            if let Some(side) = self.across_gap(skipped) {
+                return side;
+            }
+        }
+        match one_second_on(skipped, self.direction) {
+            Some(next) => next,
+            None => unreachable!(),
+        }
+    }
+
+    // The pass at a scheduled second that lies in a gap, after so many other passes.
+    fn pass_gap(&self, skipped: CivilDateTime, passed: u32) -> Result<Passed<T>, CronError>
+        requires shaped { S.shaped self.now.schedule.now }
+        requires in_gap { (start_of T.moment self.now).zone.resolves skipped ≡ Some Gap }
+        requires scheduled { (S.timetable self.now.schedule.now).scheduled (wall_second skipped) }
+        requires walking { HasComeTo T.moment S.timetable self.now (wall_second skipped) }
+        ensures value { IfOk result (PassesTo T.moment S.timetable self.now (wall_second skipped)) }
+        ensures err { IfErr result (IsBackendError T.can_lack_memory
+            (IsCalm (start_of T.moment self.now).zone → ¬ (HoldsYears (start_of T.moment self.now).zone))) }
+    {
+        if !self.schedule.is_fixed_time() {
+            return Ok(Passed::GoOn(self.past_gap(skipped, passed)));
+        }
+        let Some((end, carried)) = self.gap_end(skipped)? else {
+            return Ok(Passed::Limit);
+        };
+        if self.schedule.matches_date(end) && self.lies_ahead(&carried) {
+            return Ok(Passed::Answer(carried));
+        }
+        match self.direction {
+            Direction::Forward => Ok(Passed::GoOn(end)),
+            Direction::Backward => match self.gap_front(skipped)? {
+                Some(front) => Ok(Passed::GoOn(front)),
+                None => Ok(Passed::Limit),
+            },
+        }
+    }
+
+    // One pass of the walk, at a scheduled second that it has come to after so many other passes.
+    fn pass(&self, found: CivilDateTime, passed: u32) -> Result<Passed<T>, CronError>
+        requires shaped { S.shaped self.now.schedule.now }
+        requires scheduled { (S.timetable self.now.schedule.now).scheduled (wall_second found) }
+        requires walking { HasComeTo T.moment S.timetable self.now (wall_second found) }
+        ensures value { IfOk result (PassesTo T.moment S.timetable self.now (wall_second found)) }
+        ensures err { IfErr result (IsBackendError T.can_lack_memory
+            (IsCalm (start_of T.moment self.now).zone → ¬ (HoldsYears (start_of T.moment self.now).zone))) }
+    {
+        match self.start.resolve_civil(self.alloc, found)? {
+            Resolution::Single(only) => Ok(Passed::Answer(only)),
+            Resolution::Ambiguous(earlier, later) => self.pass_two(found, earlier, later),
+            Resolution::Gap => self.pass_gap(found, passed),
+        }
+    }
+
+    // Where the walk begins, from what the start shows.
+    #[inline(always)]
+    fn first_second(&self) -> Option<CivilDateTime>
+        ensures { MatchOption result (IsLastYear self.now.direction self.now.shown.date.year)
+            (λ wall. wall_second wall ≡ walk_start self.now.direction self.now.inclusive (wall_second self.now.shown)) }
+    {
+        if self.inclusive {
+            Some(self.shown)
+        } else {
+            one_second_on(self.shown, self.direction)
+        }
+    }
+
+    /// The nearest run that a walk along the wall clock from the start meets, over one half of each repeated range; `None` where it
+    /// meets none in the years that are searched, and without a question where nothing is scheduled ahead.
+    pub(super) fn walk(&self) -> Result<Option<T>, CronError>
+        requires shaped { S.shaped self.now.schedule.now }
+        requires shown { wall_second self.now.shown ≡ reading (start_of T.moment self.now) }
+        ensures value { IfOk result (HasWalked T.moment self.now.direction self.now.inclusive (sought T.moment S.timetable self.now) (start_of T.moment self.now)) }
+        ensures err { IfErr result (IsWalkRefused T.can_lack_memory self.now.direction self.now.inclusive (S.timetable self.now.schedule.now) (start_of T.moment self.now)) }
+    {
+        let Some(mut wall) = self.first_second() else {
             return Ok(None);
         };
-        match pass(alloc, schedule, origin, found, passed)? {
-            Passed::Answer(answer) => return Ok(Some(answer)),
-            Passed::GoOn(next) => wall = next,
-            Passed::Limit => return Ok(None),
+        for passed in 0..PASS_LIMIT {
+            let Some(found) = self.schedule.next_scheduled(wall, self.direction) else {
+                return Ok(None);
+            };
+            match self.pass(found, passed)? {
+                Passed::Answer(answer) => return Ok(Some(answer)),
+                Passed::GoOn(next) => wall = next,
+                Passed::Limit => return Ok(None),
+            }
         }
+        Ok(None)
     }
-    Ok(None)
 }

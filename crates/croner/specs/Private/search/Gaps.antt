@@ -32,28 +32,28 @@ IsBeyond moment lack z w (Ok found) = (wall_second found.0 ≡ w) × IsFirstShow
 IsBeyond moment lack z w (Err e) = IsBackendError lack (¬ (HoldsYears z)) e
 
 -- a second that is skipped and one that is not, within the limit of the search
-pub record IsAround {T : Type 0} (moment : T → Moment) (lack : Bool) (direction : Direction) (z : Zone) (held : ℤ) (around : Around T) : Type 0 where
+pub record IsAround {T : Type 0} (moment : T → Moment) (lack : Bool) (direction : Direction) (z : Zone) (w : ℤ) (around : Around T) : Type 0 where
   pub ordered : around.inside < around.outside
   pub near : around.outside ≤ gap_limit
-  pub skipped : IsSkipped z (offset_from direction held around.inside)
-  pub beyond : IsBeyond moment lack z (offset_from direction held around.outside) around.answer
+  pub skipped : IsSkipped z (offset_from direction w around.inside)
+  pub beyond : IsBeyond moment lack z (offset_from direction w around.outside) around.answer
 
 -- the nearest second outside the gap that holds one, or the second at the limit is skipped too
 abbrev pub HasGapSide : {T : Type 0} → (T → Moment) → Direction → ℕ → Zone → ℤ → Option (CivilDateTime × T) → Type 0
-HasGapSide moment direction limit z held (Some found) =
-    Precedes direction held (wall_second found.0) × IsFirstShown moment z found
-    × (IsCalm z → UnreadTo direction z.reads held (wall_second found.0))
-HasGapSide moment direction limit z held None = IsSkipped z (offset_from direction held limit)
+HasGapSide moment direction limit z w (Some found) =
+    Precedes direction w (wall_second found.0) × IsFirstShown moment z found
+    × (IsCalm z → UnreadTo direction z.reads w (wall_second found.0))
+HasGapSide moment direction limit z w None = IsSkipped z (offset_from direction w limit)
 
 -- from a second in a gap in one step to the nearest second outside it: none on the way there is read, and both lie in the years
 -- that are searched whole
-pub record CrossesGap (direction : Direction) (z : Zone) (held side : ℤ) : Type 0 where
-  pub on : Precedes direction held side
-  pub from : IsWithin direction held
+pub record CrossesGap (direction : Direction) (z : Zone) (w side : ℤ) : Type 0 where
+  pub on : Precedes direction w side
+  pub from : IsWithin direction w
   pub to : IsWithin direction side
-  pub unread : IsCalm z → UnreadTo direction z.reads held side
+  pub unread : IsCalm z → UnreadTo direction z.reads w side
   pub reached : IsCalm z → (x : ℤ) × (z.reads x ≡ side)
 
 -- where the walk of an interval job goes on from a second in a gap: at the next second, or across the gap
 abbrev pub GoesPast : Direction → Zone → ℤ → ℤ → Type 0
-GoesPast direction z held wall = (wall ≡ one_on direction held) ⊎ CrossesGap direction z held wall
+GoesPast direction z w wall = (wall ≡ one_on direction w) ⊎ CrossesGap direction z w wall

@@ -1,13 +1,15 @@
 -- The two halves of a repeated range of the wall clock.
 -- Private contracts alone cite these definitions.
-use Rattle.std.specs.Prelude.{◌≡◌, ⊤, ℕ, ◌+◌, ◌≤◌, ℤ, pos, ◌+ℤ◌, ◌-ℤ◌, Bool, false, Option, Some, None}
+use Rattle.std.specs.Prelude.{◌≡◌, ◌⊎◌, ⊤, ℕ, ◌+◌, ◌≤◌, ℤ, pos, ◌+ℤ◌, ◌-ℤ◌, Bool, false, Option, Some, None}
+use Rattle.croner_base.specs.declared.errors.CronError.{CronError}
+use Rattle.croner_base.specs.declared.errors.CronError.TheVariants.{TimeSearchLimitExceeded}
 use Rattle.croner_base.specs.declared.time.Direction.{Direction}
 use Rattle.croner_base.specs.declared.time.Direction.TheVariants.{Forward, Backward}
 use Rattle.croner_base.specs.Zone.{Moment}
 use Rattle.croner_base.specs.Limits.{apart_limit}
 use Rattle.croner.specs.search.Runs.{Precedes, Reaches}
-use Rattle.croner.specs.Private.search.Walk.{one_on}
-use Rattle.croner.specs.search.Premises.{IsCalmStart, StartsCalm}
+use Rattle.croner.specs.Private.search.Held.{IsBackendError}
+use Rattle.croner.specs.search.Premises.{IsCalmStart, StartsCalm, IsSearchable}
 pub use Rattle.croner_pattern.specs.Directions.{offset_from}
 
 -- how many seconds on the edge of the other half is sought
@@ -55,10 +57,14 @@ abbrev pub opposite_way : Direction → Direction
 opposite_way Forward = Backward
 opposite_way Backward = Forward
 
--- the edge of the other half and the last instant of the half that m is on; none where m is on no first half
-abbrev pub HasOtherHalf : {T : Type 0} → (T → Moment) → Direction → Moment → Option (T × T) → Type 0
-HasOtherHalf moment direction m (Some halves) =
-    ((moment halves.0).zone ≡ m.zone) × ((moment halves.0).fraction ≡ m.fraction) × ((moment halves.1).zone ≡ m.zone)
-    × ((moment halves.1).instant ≡ one_on (opposite_way direction) (moment halves.0).instant)
-    × (StartsCalm m → EdgeOf direction m.zone.reads m.instant (moment halves.0).instant)
+-- the value stands at the edge of the other half of the range on whose first half m is; none where m is on no first half
+abbrev pub HasOtherHalf : {T : Type 0} → (T → Moment) → Direction → Moment → Option T → Type 0
+HasOtherHalf moment direction m (Some t) =
+    ((moment t).zone ≡ m.zone) × ((moment t).fraction ≡ m.fraction)
+    × (StartsCalm m → EdgeOf direction m.zone.reads m.instant (moment t).instant)
+    × ((n : ℕ) × (n ≤ edge_limit) × ((moment t).instant ≡ offset_from direction m.instant n))
 HasOtherHalf moment direction m None = StartsCalm m → ¬ (HasTwin direction m.zone.reads m.instant)
+
+-- why the other half is not told: the limit, which no calm zone gives, or the backend's error
+abbrev pub IsHalfRefused : Bool → Moment → CronError → Type 0
+IsHalfRefused lack m e = ((e ≡ TimeSearchLimitExceeded) × ¬ (StartsCalm m)) ⊎ IsBackendError lack (¬ (IsSearchable m)) e

@@ -104,54 +104,54 @@ pub record GapEnd (reads : ℤ → ℤ) (w v t : ℤ) : Type 0 where
   pub at : reads t ≡ v
 
 -- from a second in a gap the walk goes on, and not past the gap's far side
-pub record Onward (direction : Direction) (reads : ℤ → ℤ) (held wall : ℤ) : Type 0 where
-  pub on : Precedes direction held wall
-  pub within : (p : ℤ) → reads p <ℤ held → held <ℤ reads (p +ℤ pos 1) → (reads p ≤ℤ wall) × (wall ≤ℤ reads (p +ℤ pos 1))
+pub record Onward (direction : Direction) (reads : ℤ → ℤ) (w wall : ℤ) : Type 0 where
+  pub on : Precedes direction w wall
+  pub within : (p : ℤ) → reads p <ℤ w → w <ℤ reads (p +ℤ pos 1) → (reads p ≤ℤ wall) × (wall ≤ℤ reads (p +ℤ pos 1))
 
 -- the walk goes on from a second in a gap, or from one whose nearer instant is behind s
 abbrev pub Paces : Direction → (ℤ → ℤ) → ℤ → ℤ → ℤ → Type 0
-Paces direction reads s held wall =
-    (((x : ℤ) → ¬ (reads x ≡ held)) × Onward direction reads held wall)
-    ⊎ ((wall ≡ one_on direction held) × ((e : ℤ) × (reads e ≡ held) × Precedes direction e s))
+Paces direction reads s w wall =
+    (((x : ℤ) → ¬ (reads x ≡ w)) × Onward direction reads w wall)
+    ⊎ ((wall ≡ one_on direction w) × ((e : ℤ) × (reads e ≡ w) × Precedes direction e s))
 
 -- the value is an answer of a walk
-pub record IsWalked {T : Type 0} (moment : T → Moment) (direction : Direction) (inclusive : Bool) (job : Job) (origin : Moment) (t : T) : Type 0 where
+pub record IsWalked {T : Type 0} (moment : T → Moment) (direction : Direction) (inclusive : Bool) (job : Job) (start : Moment) (t : T) : Type 0 where
   pub zone_is : (moment t).zone ≡ job.zone
   pub whole : (moment t).fraction ≡ 0
   pub shows : Shows job (moment t).instant
-  pub ahead : ¬ (NoneAhead direction inclusive job.timetable.scheduled (job.zone.reads origin.instant))
-  pub walked : IsCalmStart job.zone origin.fraction → WalkedFrom direction inclusive job origin.instant (moment t).instant
+  pub ahead : ¬ (NoneAhead direction inclusive job.timetable.scheduled (job.zone.reads start.instant))
+  pub walked : IsCalmStart job.zone start.fraction → WalkedFrom direction inclusive job start.instant (moment t).instant
 
 -- what one pass of a walk comes to
 abbrev pub HasPassed : {T : Type 0} → (T → Moment) → Direction → Bool → Job → Moment → ℤ → Passed T → Type 0
-HasPassed moment direction inclusive job origin held (Answer t) = IsWalked moment direction inclusive job origin t
-HasPassed moment direction inclusive job origin held (GoOn wall) =
-    Walking direction inclusive job origin.instant origin.fraction (wall_second wall)
-    × (IsCalmStart job.zone origin.fraction → Paces direction job.zone.reads origin.instant held (wall_second wall))
-HasPassed moment direction inclusive job origin held Limit = ¬ (IsCalm job.zone)
+HasPassed moment direction inclusive job start w (Answer t) = IsWalked moment direction inclusive job start t
+HasPassed moment direction inclusive job start w (GoOn wall) =
+    Walking direction inclusive job start.instant start.fraction (wall_second wall)
+    × (IsCalmStart job.zone start.fraction → Paces direction job.zone.reads start.instant w (wall_second wall))
+HasPassed moment direction inclusive job start w Limit = ¬ (IsCalm job.zone)
 
 -- a walk that meets no run is out
 abbrev pub HasWalked : {T : Type 0} → (T → Moment) → Direction → Bool → Job → Moment → Option T → Type 0
-HasWalked moment direction inclusive job origin (Some t) = IsWalked moment direction inclusive job origin t
-HasWalked moment direction inclusive job origin None =
-    IsCalmStart job.zone origin.fraction → OutFrom direction inclusive job origin.instant
+HasWalked moment direction inclusive job start (Some t) = IsWalked moment direction inclusive job start t
+HasWalked moment direction inclusive job start None =
+    IsCalmStart job.zone start.fraction → OutFrom direction inclusive job start.instant
 
 -- why a walk is refused: the backend's error, and there was something to ask for
-pub record IsWalkRefused (lack : Bool) (direction : Direction) (inclusive : Bool) (timetable : Timetable) (origin : Moment) (e : CronError) : Type 0 where
-  pub error : IsBackendError lack (IsCalm origin.zone → ¬ (HoldsYears origin.zone)) e
-  pub ahead : ¬ (NoneAhead direction inclusive timetable.scheduled (reading origin))
+pub record IsWalkRefused (lack : Bool) (direction : Direction) (inclusive : Bool) (timetable : Timetable) (start : Moment) (e : CronError) : Type 0 where
+  pub error : IsBackendError lack (IsCalm start.zone → ¬ (HoldsYears start.zone)) e
+  pub ahead : ¬ (NoneAhead direction inclusive timetable.scheduled (reading start))
 
 -- past the gap that holds a second: where it ends, or further than the search reaches
 abbrev pub HasGapEnd : {T : Type 0} → (T → Moment) → Zone → ℤ → Option (CivilDateTime × T) → Type 0
-HasGapEnd moment z held (Some found) =
-    (held <ℤ wall_second found.0) × ((moment found.1).zone ≡ z) × ((moment found.1).fraction ≡ 0)
+HasGapEnd moment z w (Some found) =
+    (w <ℤ wall_second found.0) × ((moment found.1).zone ≡ z) × ((moment found.1).fraction ≡ 0)
     × ¬ (HasOneInstantEach z)
-    × (IsCalm z → GapEnd z.reads held (wall_second found.0) (moment found.1).instant)
-HasGapEnd moment z held None = ¬ (IsCalm z)
+    × (IsCalm z → GapEnd z.reads w (wall_second found.0) (moment found.1).instant)
+HasGapEnd moment z w None = ¬ (IsCalm z)
 
 -- before the gap that holds a second: its front, or further than the search reaches
 abbrev pub HasGapFront : Zone → ℤ → Option CivilDateTime → Type 0
-HasGapFront z held (Some front) =
-    Precedes Backward held (wall_second front)
-    × (IsCalm z → UnreadTo Backward z.reads held (wall_second front) × ((t : ℤ) × (z.reads t ≡ wall_second front)))
-HasGapFront z held None = ¬ (IsCalm z)
+HasGapFront z w (Some front) =
+    Precedes Backward w (wall_second front)
+    × (IsCalm z → UnreadTo Backward z.reads w (wall_second front) × ((t : ℤ) × (z.reads t ≡ wall_second front)))
+HasGapFront z w None = ¬ (IsCalm z)
