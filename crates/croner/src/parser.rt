@@ -1,6 +1,6 @@
 //! Reading a cron pattern: the settings of a parser, and its one call `parse`.
 
-ghost use Rattle.std.specs.Prelude.{◌≡◌, ◌||◌, true, false, Some, None, IfOk, MatchOption, map, string_bytes};
+ghost use Rattle.std.specs.Prelude.{◌≡◌};
 
 mod at_fault;
 mod escapes;
@@ -10,20 +10,18 @@ mod fields;
 mod messages;
 mod part;
 mod place;
+mod prepare;
 mod read;
 mod refusals;
 mod second_reading;
-mod text;
+mod settle;
+mod split;
 
 use crate::job::Cron;
 use croner_base::errors::CronError;
 pub use fault::{Expected, FaultKind, Hint, PatternFault, PatternField, Suggestion, ValueNames};
-use fields::{FieldTexts, are_legal, has_byte, has_plus, seven, starred, text_or, without_plus};
-use read::{Mode, read_pattern};
-use refusals::{illegal_character, wrong_count};
-use std::alloc::{AllocError, Global};
+use std::alloc::Global;
 use std::marker::Model;
-use text::{nicknamed, replaced, words};
 
 /// Whether a pattern has a field for seconds.
 #[derive(Debug, Clone, Copy, Default, PartialEq, Eq, PartialOrd, Ord)]
@@ -138,11 +136,10 @@ impl Model for CronParser {
 }
 
 impl CronParser {
-    ghost use Rattle.croner.specs.parser.Settings.{default_settings, accepts_count};
-    ghost use Rattle.croner.specs.parser.Cut.{replaced};
+    ghost use Rattle.croner.specs.parser.Settings.{default_settings};
     ghost use Rattle.croner.specs.parser.Gives.{Gives};
-    ghost use Rattle.croner.specs.parser.Grammar.{outcome, of_trimmed, nicknamed, of_replaced, of_fields, fields_of, of_settled, has_plus};
-    ghost use Rattle.croner.specs.Views.{job_of, texts_of};
+    ghost use Rattle.croner.specs.parser.Grammar.{outcome};
+    ghost use Rattle.croner.specs.Views.{job_of};
 
     /// A parser with the default settings: seconds and year optional, and the three switches off.
     ///
@@ -178,146 +175,15 @@ impl CronParser {
         }
     }
 
-    /// Raises and trims a text, and reads it.
-    fn parse_text(&self, alloc: Global, pattern: &str) -> Result<Cron, CronError>
-        ensures { Gives job_of result (outcome self.now pattern.now) }
+    /// Reads a text: it is prepared and split into fields, and these are settled and read.
+    fn parse_text(&self, alloc: Global, given: &str) -> Result<Cron, CronError>
+        ensures { Gives job_of result (outcome self.now given.now) }
     {
-        let raised = pattern.to_ascii_uppercase(alloc)?;
-        let text = raised.as_str().trim();
-        if text.is_empty() {
-            return Err(CronError::EmptyPattern);
-        }
-        self.parse_trimmed(alloc, text)
-    }
-
-    /// Reads a text that is raised and trimmed.
-    fn parse_trimmed(&self, alloc: Global, text: &str) -> Result<Cron, CronError>
-        ensures { Gives job_of result (of_trimmed self.now text.now) }
-    {
-        let nickname = self.nickname(alloc, text)?;
-        let full = text_or(&nickname, text);
-        self.parse_full(alloc, full)
-    }
-
-    /// The text in which a nickname is replaced, where there is an `@`.
-    fn nickname(&self, alloc: Global, text: &str) -> Result<Option<String>, AllocError>
-        ensures { IfOk result (λ t. MatchOption t (nicknamed self.now text.now ≡ text.now) (λ t. string_bytes t ≡ nicknamed self.now text.now)) }
-    {
-        if !has_byte(text, b'@') {
-            return Ok(None);
-        }
-        let seconds = self.seconds.is_required();
-        let year = self.year.is_required();
-        let full = nicknamed(alloc, text, seconds, year)?;
-        Ok(Some(full))
-    }
-
-    /// Reads a text whose nickname is replaced.
-    fn parse_full(&self, alloc: Global, full: &str) -> Result<Cron, CronError>
-        ensures { Gives job_of result (of_replaced self.now full.now (replaced self.now.quartz false full.now)) }
-    {
-        match replaced(alloc, full, self.alternative_weekdays)? {
-            Some(text) => {
-                let text = text.as_str();
-                let words = words(alloc, text)?;
-                self.parse_words(alloc, text, words.as_slice())
-            }
-            None => self.refuse_lost(alloc, full),
-        }
-    }
-
-    /// Refuses a text in which a letter stands for nothing: for its count of fields, or for the letter.
-    fn refuse_lost(&self, alloc: Global, full: &str) -> Result<Cron, CronError>
-        ensures { Gives job_of result (of_replaced self.now full.now None) }
-    {
-        let count = words(alloc, full)?.len();
-        if self.accepts_count(count) {
-            Err(illegal_character(alloc))
-        } else {
-            Err(wrong_count(alloc))
-        }
-    }
-
-    /// Whether a text may have so many fields.
-    fn accepts_count(&self, count: usize) -> bool
-        ensures { result ≡ accepts_count self.now.seconds_field self.now.year_field count }
-    {
-        match (self.seconds, self.year) {
-            (Seconds::Optional, Year::Optional) => count == 5 || count == 6 || count == 7,
-            (Seconds::Optional, Year::Required) => count == 7,
-            (Seconds::Optional, Year::Disallowed) => count == 5 || count == 6,
-            (Seconds::Required, Year::Optional) => count == 6 || count == 7,
-            (Seconds::Required, Year::Required) => count == 7,
-            (Seconds::Required, Year::Disallowed) => count == 6,
-            (Seconds::Disallowed, Year::Required) => false,
-            (Seconds::Disallowed, Year::Optional | Year::Disallowed) => count == 5,
-        }
-    }
-
-    /// Reads the words of a text whose names are replaced.
-    fn parse_words(&self, alloc: Global, text: &str, words: &[&str]) -> Result<Cron, CronError>
-        ensures { Gives job_of result (of_fields self.now text.now (fields_of self.now (map (λ w. w.now) words.now))) }
-    {
-        let count = words.len();
-        if self.accepts_count(count) {
-            if let Some(given) = seven(words) {
-                return self.parse_fields(alloc, text, given);
-            }
-        }
-        Err(wrong_count(alloc))
-    }
-
-    /// Reads a text of seven fields.
-    fn parse_fields(
-        &self,
-        alloc: Global,
-        text: &str,
-        given: FieldTexts<'_>,
-    ) -> Result<Cron, CronError>
-        ensures { Gives job_of result (of_fields self.now text.now (Some (texts_of given.entry))) }
-    {
-        let and = self.joins(given.days_of_week);
-        let weekdays = without_plus(given.days_of_week);
-        let starred_days = starred(alloc, given.days)?;
-        let starred_weekdays = starred(alloc, weekdays)?;
-        let fields = FieldTexts {
-            seconds: given.seconds,
-            minutes: given.minutes,
-            hours: given.hours,
-            days: text_or(&starred_days, given.days),
-            months: given.months,
-            days_of_week: text_or(&starred_weekdays, weekdays),
-            years: given.years,
-        };
-        self.parse_settled(alloc, text, fields, and)
-    }
-
-    /// Whether both day fields have to fit: by the settings, or by the `+` of the weekday field.
-    fn joins(&self, weekdays: &str) -> bool
-        ensures { result ≡ (self.now.both_days || has_plus weekdays.now) }
-    {
-        self.dom_and_dow || has_plus(weekdays)
-    }
-
-    /// Reads fields that are settled.
-    fn parse_settled(
-        &self,
-        alloc: Global,
-        text: &str,
-        fields: FieldTexts<'_>,
-        and: bool,
-    ) -> Result<Cron, CronError>
-        ensures { Gives job_of result (of_settled self.now text.now (texts_of fields.entry) and) }
-    {
-        if !are_legal(fields) {
-            return Err(illegal_character(alloc));
-        }
-        let mode = Mode {
-            quartz: self.alternative_weekdays,
-            sloppy: self.sloppy_ranges,
-            and,
-        };
-        let pattern = read_pattern(alloc, text, fields, mode)?;
+        let prepared = self.prepare(alloc, given)?;
+        let text = prepared.as_str();
+        let written = self.split(alloc, text)?;
+        let settled = self.settle(alloc, written)?;
+        let pattern = self.read(alloc, text, settled.fields(written), settled.and)?;
         Ok(Cron { pattern })
     }
 

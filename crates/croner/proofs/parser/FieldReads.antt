@@ -1,5 +1,5 @@
 -- The fields of a pattern, read one after another.
-use Rattle.std.proofs.Common.{◌≡◌, ℕ, Bool, true, false, cond, eqb, ◌&&◌, List, [], ◌++◌, length, Result, Ok, Err, refl, ap, sym, ◌∙◌, subst}
+use Rattle.std.proofs.Common.{◌≡◌, ℕ, Bool, true, false, cond, eqb, ◌&&◌, List, [], ◌++◌, length, Option, Result, Ok, Err, refl, ap, sym, ◌∙◌, subst}
 use Rattle.std.specs.Prelude.{codes}
 use Rattle.std.specs.Str.{trim, str_to_ascii_uppercase}
 use Rattle.std.proofs.lemmas.Bool.{and_left, and_right, and_from, cond-true, cond-false}
@@ -12,9 +12,10 @@ use Rattle.croner_base.specs.Reading.{Reads}
 use Rattle.croner_base.proofs.fields.ReadingsInTurn.{shape-applied}
 use Rattle.croner_pattern.specs.Meaning.{Meaning}
 use Rattle.croner_pattern.specs.Shapes.{sixty_shape, hour_shape, day_shape, month_shape, weekday_shape, year_shape, new_meaning}
+use Rattle.croner.specs.parser.Cut.{replaced}
 use Rattle.croner.specs.parser.Settings.{Settings, seconds_required, year_required}
 use Rattle.croner.specs.parser.Gives.{Fails}
-use Rattle.croner.specs.parser.Grammar.{Texts, Empty, Component, outcome, of_trimmed, nicknamed, nickname_of, reading_of, value_of, start_of, weekdays_of, are_read, settled_weekdays, is_star, meaning, of_legal}
+use Rattle.croner.specs.parser.Grammar.{Texts, Empty, Component, outcome, of_trimmed, of_replaced, nicknamed, nickname_of, reading_of, value_of, start_of, weekdays_of, are_read, settled_weekdays, is_star, meaning, of_legal}
 use Rattle.croner.specs.Private.parser.Steps.{read_meaning, TakesSunday}
 
 -- what a call did to a field that was empty
@@ -126,3 +127,7 @@ empty_outcome s given text e h = cond-true (eqb (length (trim (str_to_ascii_uppe
 pub trimmed_outcome : (s : Settings) (given text : List ℕ) → text ≡ trim (str_to_ascii_uppercase given) → eqb (length text) 0 ≡ false → of_trimmed s text ≡ outcome s given
 trimmed_outcome s given text e h =
     ap (of_trimmed s) e ∙ sym (cond-false (eqb (length (trim (str_to_ascii_uppercase given))) 0) (Err Empty) _ (ap (λ t. eqb (length t) 0) (sym e) ∙ h))
+
+pub replaced_outcome : (s : Settings) (given text full : List ℕ) (quartz : Bool) (found : Option (List ℕ)) → text ≡ trim (str_to_ascii_uppercase given) → eqb (length text) 0 ≡ false → full ≡ nicknamed s text → quartz ≡ s.quartz → found ≡ replaced quartz false full → of_replaced s full found ≡ outcome s given
+replaced_outcome s given text full quartz found e h f q r =
+    ap (of_replaced s full) (r ∙ ap (λ b. replaced b false full) q) ∙ ap (λ t. of_replaced s t (replaced s.quartz false t)) f ∙ trimmed_outcome s given text e h

@@ -1,6 +1,6 @@
 -- The names and characters at the front of a text, and what stands for them.
 use Rattle.std.proofs.Common.{◌≡◌, ℕ, suc, zero, ◌+◌, ◌<◌, ◌≤◌, Bool, true, false, cond, eqb, ltb, leb, ◌&&◌, List, [], ◌∷◌, ◌++◌, length, take, drop, get_or, Option, Some, None, option_map, refl, ap, sym, ◌∙◌, subst, arith, inl, inr}
-use Rattle.std.proofs.lemmas.Bool.{ne_eqb, and_parts, eqb-true, cases_lt, ltb-true, leb-true}
+use Rattle.std.proofs.lemmas.Bool.{false≢true, ne_eqb, and_parts, eqb-true, cases_lt, ltb-true, leb-true}
 use Rattle.std.proofs.lemmas.Bool.Decides.{nat_tests}
 use Rattle.std.proofs.lemmas.List.{append_assoc, append-nil, length-append, length-take, length-drop, get_or-take}
 use Rattle.std.proofs.lemmas.Option.{none-some}
@@ -61,6 +61,16 @@ good_first name p None None e f g = let none : name_of name ≡ None = rw (e, f)
 
 pub good_names : (name : List ℕ) (p : Piece) → name_of name ≡ Some p → is_good name ≡ true
 good_names name p e = good_first name p (place_of name 0 months) (place_of name 0 weekdays) refl refl e
+
+-- no name begins with a byte in front of the letters
+pub no_low_name : (name : List ℕ) → leb 65 (get_or name 0 0) ≡ false → name_of name ≡ None
+no_low_name name h = elim (names_of name) [
+  | inl none ↦ none
+  | inr some ↦
+      let parts = and_parts (eqb (length name) 3) _ (good_names name some.0 some.1) in
+      let letter = (and_parts (leb 65 (get_or name 0 0)) _ (and_parts (ltb (get_or name 0 0) 128) _ parts.1).1).0 in
+      absurd (false≢true (sym h ∙ letter))
+]
 
 -- a text has a name at its front only where it may be cut behind it
 pub no_name_between : (text : List ℕ) → IsUtf8 text → (IsCharBoundary text 3 → ⊥) → HasNoName text

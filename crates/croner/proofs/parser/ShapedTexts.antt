@@ -5,7 +5,7 @@ use Rattle.croner_base.specs.Field.{Shape, Field, empty_field, with_sloppy, with
 use Rattle.croner_base.proofs.fields.ReadingsInTurn.{shape-applied}
 use Rattle.croner_pattern.specs.Meaning.{Meaning}
 use Rattle.croner_pattern.specs.Shapes.{sixty_shape, hour_shape, day_shape, month_shape, weekday_shape, year_shape, is_like, has_field_shapes}
-use Rattle.croner.specs.parser.Grammar.{Texts, Refusal, Component, of_legal, are_read, meaning, value_of, reading_of, start_of, weekdays_of, settled_weekdays, sunday_moved, weekday_modifiers}
+use Rattle.croner.specs.parser.Grammar.{Texts, Refusal, Component, Illegal, of_settled, of_legal, are_legal, are_read, meaning, value_of, reading_of, start_of, weekdays_of, settled_weekdays, sunday_moved, weekday_modifiers}
 use Rattle.croner.specs.parser.Settings.{Settings}
 
 abbrev IsShaped : Result Meaning Refusal → Type 0
@@ -51,6 +51,10 @@ meaning_shaped s text t and =
 
 -- ---- the whole
 
-pub legal_shaped : (s : Settings) (text : List ℕ) (t : Texts) (and : Bool) → IsShaped (of_legal s text t and)
+legal_shaped : (s : Settings) (text : List ℕ) (t : Texts) (and : Bool) → IsShaped (of_legal s text t and)
 legal_shaped s text t and =
     cond_both (are_read s t) (Ok (meaning s text t and)) (Err Component) IsShaped (λ _. ok_shaped (meaning s text t and) (meaning_shaped s text t and)) (λ _. err_shaped Component)
+
+pub settled_shaped : (s : Settings) (text : List ℕ) (t : Texts) (and : Bool) → IsShaped (of_settled s text t and)
+settled_shaped s text t and =
+    cond_both (are_legal t) (of_legal s text t and) (Err Illegal) IsShaped (λ _. legal_shaped s text t and) (λ _. err_shaped Illegal)

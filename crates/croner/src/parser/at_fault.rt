@@ -9,8 +9,9 @@ ghost use Rattle.croner.specs.parser.Words.{words};
 ghost use Rattle.croner.specs.Views.{texts_of};
 
 use super::fault::{FaultKind, PatternField};
-use super::fields::{FieldTexts, has_byte, seven};
-use super::text::words;
+use super::fields::FieldTexts;
+use super::prepare::has_byte;
+use super::split::{seven, words};
 use super::{CronParser, Seconds, Year};
 use croner_base::errors::CronError;
 use std::alloc::{AllocError, Global};

@@ -7,8 +7,8 @@ ghost use Rattle.croner.specs.parser.Words.{words};
 
 use super::CronParser;
 use super::fault::{Expected, FaultKind, PatternFault, PatternField};
-use super::fields::has_byte;
-use super::text::words;
+use super::prepare::has_byte;
+use super::split::words;
 use std::alloc::{AllocError, Global};
 
 /// What the second reading of a refused text found: the bytes from `start` to `end`, and what was expected there.

@@ -1,35 +1,51 @@
-//! Reading the seven fields into a pattern.
+//! The last step: the texts of the seven fields are read into a pattern.
 
-ghost use Rattle.std.specs.Prelude.{◌≡◌, ℕ, List, true, false, fold, IsOk, if◌then◌else◌};
-ghost use Rattle.croner_base.specs.Field.{with_sloppy, has_all};
+ghost use Rattle.std.specs.Prelude.{◌≡◌, ℕ, List, if◌then◌else◌};
+ghost use Rattle.std.specs.List.{list_all};
+ghost use Rattle.croner_base.specs.Field.{with_sloppy};
 ghost use Rattle.croner_base.specs.Part.{field_of};
 ghost use Rattle.croner_base.specs.Reading.{Reads};
 ghost use Rattle.croner_pattern.specs.Meaning.{meaning_of};
 ghost use Rattle.croner.specs.parser.Gives.{Gives};
-ghost use Rattle.croner.specs.parser.Grammar.{sunday_moved, weekday_modifiers, of_legal, is_star};
-ghost use Rattle.croner.specs.Private.parser.Steps.{Starts, ReadsAll, TakesSunday, start_meaning};
+ghost use Rattle.croner.specs.parser.Grammar.{is_list_character, is_for_days, is_for_weekdays, are_legal};
+ghost use Rattle.croner.specs.Private.parser.Steps.{Starts, ReadsAll, start_meaning};
 ghost use Rattle.croner.specs.parser.Settings.{Settings};
 ghost use Rattle.croner.specs.Views.{texts_of};
 
+use super::CronParser;
+use super::fault::PatternField;
 use super::fields::FieldTexts;
-use croner_base::component::{
-    ALL_BIT, CronComponent, LAST_BIT, NTH_1ST_BIT, NTH_2ND_BIT, NTH_3RD_BIT, NTH_4TH_BIT,
-    NTH_5TH_BIT, NTH_ALL,
-};
+use super::refusals::illegal_character;
+use super::settle::{is_star, settle_weekdays};
+use croner_base::component::{CronComponent, LAST_BIT, NTH_ALL};
 use croner_base::errors::CronError;
 use croner_pattern::pattern::CronPattern;
 use std::alloc::Global;
 
-/// How fields are read: what the settings say of it, and whether both day fields have to fit.
-#[derive(Clone, Copy)]
-pub struct Mode {
-    pub quartz: bool,
-    pub sloppy: bool,
-    pub and: bool,
-}
+impl CronParser {
+    ghost use Rattle.croner.specs.parser.Grammar.{of_settled};
 
-/// The place that Sunday has as 7.
-const SUNDAY_AS_SEVEN: u16 = 7;
+    /// The pattern of fields that are settled. The only refusals are `IllegalCharacters`, `ComponentError`, where a
+    /// field can't be read, and `OutOfMemory`.
+    pub(super) fn read(
+        &self,
+        alloc: Global,
+        text: &str,
+        fields: FieldTexts<'_>,
+        and: bool,
+    ) -> Result<CronPattern, CronError>
+        ensures { Gives meaning_of result (of_settled self.now text.now (texts_of fields.entry) and) }
+    {
+        if !are_legal(fields) {
+            return Err(illegal_character(alloc));
+        }
+        let mut pattern = start_pattern(alloc, text, self.alternative_weekdays)?;
+        read_fields(&mut pattern, fields, self.sloppy_ranges)?;
+        settle_weekdays(&mut pattern.days_of_week, self.alternative_weekdays)?;
+        pattern.set_flags(is_star(fields.days), is_star(fields.days_of_week), and);
+        Ok(pattern)
+    }
+}
 
 /// What reads each field alike: whether a step may begin at a number or at nothing.
 #[derive(Clone, Copy)]
@@ -45,38 +61,6 @@ impl FieldReader {
         field.set_sloppy_ranges(self.sloppy);
         field.parse(text)
     }
-}
-
-/// Stores weekday 7 as 0, for every modifier; in Quartz mode it stays.
-pub fn settle_weekdays(weekdays: &mut CronComponent, quartz: bool) -> Result<(), CronError>
-    requires { quartz ≡ false → (bit : ℕ) → has_all 127 bit ≡ true → TakesSunday weekdays.old.shape bit }
-    ensures ok { IsOk result }
-    ensures moved { weekdays.new ≡ (if quartz then weekdays.old else fold sunday_moved weekdays.old weekday_modifiers) }
-{
-    if quartz {
-        return Ok(());
-    }
-    move_sunday(weekdays, ALL_BIT)?;
-    move_sunday(weekdays, NTH_1ST_BIT)?;
-    move_sunday(weekdays, NTH_2ND_BIT)?;
-    move_sunday(weekdays, NTH_3RD_BIT)?;
-    move_sunday(weekdays, NTH_4TH_BIT)?;
-    move_sunday(weekdays, NTH_5TH_BIT)?;
-    move_sunday(weekdays, LAST_BIT)
-}
-
-/// Stores weekday 7 with one modifier as 0.
-fn move_sunday(weekdays: &mut CronComponent, bit: u8) -> Result<(), CronError>
-    requires { TakesSunday weekdays.old.shape bit }
-    ensures ok { IsOk result }
-    ensures moved { weekdays.new ≡ sunday_moved weekdays.old bit }
-    ensures shape { weekdays.new.shape ≡ weekdays.old.shape }
-{
-    if weekdays.is_bit_set(SUNDAY_AS_SEVEN, bit)? {
-        weekdays.unset_bit(SUNDAY_AS_SEVEN, bit)?;
-        weekdays.set_bit(0, bit)?;
-    }
-    Ok(())
 }
 
 /// A pattern that keeps the text, with fields to be read by the settings.
@@ -110,27 +94,62 @@ pub fn read_fields(
     Ok(())
 }
 
-/// The pattern of fields of legal characters. The only refusals are `ComponentError`, where a field can't be read, and
-/// `OutOfMemory`.
-pub fn read_pattern(
-    alloc: Global,
-    text: &str,
-    fields: FieldTexts<'_>,
-    mode: Mode,
-) -> Result<CronPattern, CronError>
-    ensures { (s : Settings) → s.quartz ≡ mode.quartz → s.sloppy ≡ mode.sloppy
-        → Gives meaning_of result (of_legal s text.now (texts_of fields.entry) mode.and) }
+fn is_list_character(b: u8) -> bool
+    ensures { result ≡ is_list_character b }
 {
-    let mut pattern = start_pattern(alloc, text, mode.quartz)?;
-    read_fields(&mut pattern, fields, mode.sloppy)?;
-    settle_weekdays(&mut pattern.days_of_week, mode.quartz)?;
-    pattern.set_flags(is_star(fields.days), is_star(fields.days_of_week), mode.and);
-    Ok(pattern)
+    b.is_ascii_digit() || b == b'*' || b == b'/' || b == b',' || b == b'-'
 }
 
-/// Whether a field is written as a star.
-fn is_star(text: &str) -> bool
-    ensures { result ≡ is_star text.now }
+fn is_for_days(b: u8) -> bool
+    ensures { result ≡ is_for_days b }
 {
-    text == "*"
+    is_list_character(b) || b == b'L' || b == b'W'
+}
+
+fn is_for_weekdays(b: u8) -> bool
+    ensures { result ≡ is_for_weekdays b }
+{
+    is_list_character(b) || b == b'#' || b == b'L'
+}
+
+fn all_plain(text: &str) -> bool
+    ensures { result ≡ list_all is_list_character text.now }
+{
+    text.as_bytes().iter().all(|b| is_list_character(*b))
+}
+
+fn all_for_days(text: &str) -> bool
+    ensures { result ≡ list_all is_for_days text.now }
+{
+    text.as_bytes().iter().all(|b| is_for_days(*b))
+}
+
+fn all_for_weekdays(text: &str) -> bool
+    ensures { result ≡ list_all is_for_weekdays text.now }
+{
+    text.as_bytes().iter().all(|b| is_for_weekdays(*b))
+}
+
+/// Whether each character of each field is legal there.
+pub fn are_legal(texts: FieldTexts<'_>) -> bool
+    ensures { result ≡ are_legal (texts_of texts.entry) }
+{
+    all_plain(texts.seconds)
+        && all_plain(texts.minutes)
+        && all_plain(texts.hours)
+        && all_for_days(texts.days)
+        && all_plain(texts.months)
+        && all_for_weekdays(texts.days_of_week)
+        && all_plain(texts.years)
+}
+
+/// Whether a character is legal in a field, where it is no letter of a name.
+pub fn is_legal_in(c: char, is_first: bool, field: PatternField) -> bool {
+    let signs = match field {
+        PatternField::DayOfMonth => "*/,-?LW",
+        PatternField::Weekday if is_first => "*/,-?#L+",
+        PatternField::Weekday => "*/,-?#L",
+        _ => "*/,-",
+    };
+    c.is_ascii_digit() || signs.contains(c)
 }

@@ -2,11 +2,11 @@
 //! handed in, with its own letters and names.
 
 use super::fault::{Expected, FaultKind, Hint, PatternField};
-use super::fields::is_legal_in;
 use super::part::{Part, Rules, fault_of_part};
 use super::place::Finding;
-use super::read::start_pattern;
-use super::text::{name_at, replaced};
+use super::prepare::{name_at, replaced};
+use super::read::{is_legal_in, start_pattern};
+use super::settle::starred;
 use super::{CronParser, Seconds, Year};
 use croner_base::component::CronComponent;
 use croner_base::errors::CronError;
@@ -741,7 +741,7 @@ fn as_read(alloc: Global, part: &str, quartz: bool) -> Result<String, AllocError
     let Some(numbers) = numbers else {
         return Ok(raised);
     };
-    match super::fields::starred(alloc, numbers.as_str())? {
+    match starred(alloc, numbers.as_str())? {
         Some(starred) => Ok(starred),
         None => Ok(numbers),
     }

@@ -1,5 +1,7 @@
 -- The steps in which a text is cut and its fields are read. Private contracts alone cite these definitions.
-use Rattle.std.specs.Prelude.{◌≡◌, ℕ, ◌<◌, ◌++◌, ◌==◌, Bool, true, false, List, Option, Some, None, option_map, Result, Ok, Err, slice_index, length, take}
+use Rattle.std.specs.Prelude.{◌≡◌, ℕ, ◌<◌, ◌++◌, ◌==◌, Bool, true, false, List, Option, Some, None, MatchOption, option_map, Result, Ok, Err, slice_index, length, take, string_bytes}
+use Rattle.std.specs.declared.alloc.Global.{Global}
+use Rattle.std.specs.declared.string.String.{String}
 use denote.Ref.{Bor}
 use Rattle.std.specs.Str.{IsUtf8}
 use Rattle.croner_base.specs.declared.errors.CronError.{CronError}
@@ -9,9 +11,31 @@ use Rattle.croner_base.specs.Field.{Shape, empty_field, can_ask, can_mark}
 use Rattle.croner_pattern.specs.declared.pattern.CronPattern.{CronPattern}
 use Rattle.croner_pattern.specs.Meaning.{Meaning, meaning_of}
 use Rattle.croner_pattern.specs.Shapes.{sixty_shape, hour_shape, day_shape, month_shape, weekday_shape, year_shape, new_meaning}
+use Rattle.croner.specs.declared.parser.settle.Settled.{Settled}
+use Rattle.croner.specs.declared.parser.fields.FieldTexts.{FieldTexts}
 use Rattle.croner.specs.parser.Cut.{Piece, name_of, shown, is_dash, decimal_of, replaced}
-use Rattle.croner.specs.parser.Grammar.{Texts, are_read, value_of, weekdays_of}
+use Rattle.croner.specs.parser.Gives.{Fails}
+use Rattle.croner.specs.parser.Grammar.{Texts, outcome, of_fields, fields_of, starred, without_plus, are_read, value_of, weekdays_of}
 use Rattle.croner.specs.parser.Settings.{Settings}
+use Rattle.croner.specs.parser.Words.{words}
+use Rattle.croner.specs.Views.{texts_of}
+
+-- ---- the way of a text
+
+-- the text in which names are numbers means by its fields what the given one means, or the given one is refused
+abbrev pub Prepares : Settings → List ℕ → Result (String Global) CronError → Type 0
+Prepares s given (Ok text) = outcome s given ≡ of_fields s (string_bytes text) (fields_of s (words (string_bytes text)))
+Prepares s given (Err e) = Fails {Y = Meaning} e (outcome s given)
+
+-- the fields of the text, or the text is refused
+abbrev pub Splits : Settings → List ℕ → Result FieldTexts CronError → Type 0
+Splits s text (Ok t) = fields_of s (words text) ≡ Some (texts_of t)
+Splits s text (Err e) = Fails {Y = Meaning} e (of_fields s text (fields_of s (words text)))
+
+-- a day field stays, or its copy is the field without its signs
+pub record IsSettled (written : Texts) (s : Settled) : Type 0 where
+  pub days : MatchOption s.days (starred written.days ≡ written.days) (λ t. string_bytes t ≡ starred written.days)
+  pub days_of_week : MatchOption s.days_of_week (starred (without_plus written.days_of_week) ≡ without_plus written.days_of_week) (λ t. string_bytes t ≡ starred (without_plus written.days_of_week))
 
 -- ---- the cut
 
