@@ -9,8 +9,8 @@ const FACTOR: u64 = 1_000_003;
 /// a negative answer is added as its two's complement. So the sum depends on each answer and on their order.
 #[derive(Debug, Clone, Copy, Default, PartialEq, Eq)]
 pub struct Answers {
-    count: u32,
-    sum: u64,
+    pub count: u32,
+    pub sum: u64,
 }
 
 impl Answers {
@@ -26,15 +26,5 @@ impl Answers {
             self.sum = self.sum.wrapping_mul(FACTOR).wrapping_add(u64::from(*byte));
         }
         self.count = self.count.saturating_add(1);
-    }
-
-    /// How many answers there were.
-    pub fn count(&self) -> u32 {
-        self.count
-    }
-
-    /// The sum of the answers.
-    pub fn sum(&self) -> u64 {
-        self.sum
     }
 }

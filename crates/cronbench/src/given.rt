@@ -19,11 +19,7 @@ pub fn words(rt: &HostRuntime) -> io::Result<Vec<String>> {
 pub fn rounds(words: &[String]) -> Option<u32> {
     match words {
         [] => Some(ROUNDS),
-        [rounds] => rounds
-            .as_str()
-            .parse::<u32>()
-            .ok()
-            .filter(|rounds| *rounds > 0),
+        [rounds] => rounds.as_str().parse().ok().filter(|rounds| *rounds > 0),
         _ => None,
     }
 }

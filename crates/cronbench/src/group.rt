@@ -2,6 +2,7 @@
 
 use crate::answers::Answers;
 use crate::many;
+use crate::many::{ITEMS, LONG_ITEMS};
 use crate::passes::{
     compare, copy, describe, iterate, limit, matching, next, parse, previous, read_hostile,
 };
@@ -11,10 +12,10 @@ use croner::describe::lang::english::English;
 use croner::describe::lang::swedish::Swedish;
 use croner::errors::CronError;
 use std::alloc::Global;
-use std::fmt;
+use std::slice::from_ref;
 
 /// A group of calls of one kind.
-#[derive(Debug, Clone, Copy)]
+#[derive(Clone, Copy)]
 pub enum Group {
     Parse,
     MatchCivil,
@@ -51,44 +52,68 @@ pub enum Group {
     OftenOverAnHour,
 }
 
-impl Group {
-    /// Every group, in the order in which they are shown.
-    pub const ALL: [Group; 33] = [
-        Group::Parse,
-        Group::MatchCivil,
-        Group::NextCivil,
-        Group::PreviousCivil,
-        Group::NextTable,
-        Group::NextZoned,
-        Group::IterateCivil,
-        Group::IterateTable,
-        Group::DescribeEnglish,
-        Group::DescribeSwedish,
-        Group::Compare,
-        Group::Copy,
-        Group::LeapMonday,
-        Group::NoDate,
-        Group::NoDateInOddYears,
-        Group::NoMinute,
-        Group::NextLongTable,
-        Group::NextFarOnLongTable,
-        Group::HostileShort,
-        Group::HostileMiddle,
-        Group::HostileLong,
+/// Every group and its name, in the order in which they are shown.
+pub const GROUPS: [(Group, &str); 33] = [
+    (Group::Parse, "parse"),
+    (Group::MatchCivil, "match, civil time"),
+    (Group::NextCivil, "next run, civil time"),
+    (Group::PreviousCivil, "previous run, civil time"),
+    (Group::NextTable, "next run, table"),
+    (Group::NextZoned, "next run, time zone"),
+    (Group::IterateCivil, "1,000 runs, civil time"),
+    (Group::IterateTable, "1,000 runs, table"),
+    (Group::DescribeEnglish, "describe, English"),
+    (Group::DescribeSwedish, "describe, Swedish"),
+    (Group::Compare, "clone and compare"),
+    (Group::Copy, "clone"),
+    (Group::LeapMonday, "next run of 0 0 29 2 +MON"),
+    (Group::NoDate, "next run of 0 0 31 2 *"),
+    (Group::NoDateInOddYears, "next run of 0 0 0 31 2 * */2"),
+    (Group::NoMinute, "next run of , * * * *"),
+    (Group::NextLongTable, "next run, table of 20,000 changes"),
+    (Group::NextFarOnLongTable, "next run, far on that table"),
+    (Group::HostileShort, "hostile texts of 10,000 bytes"),
+    (Group::HostileMiddle, "hostile texts of 100,000 bytes"),
+    (Group::HostileLong, "hostile texts of 1,000,000 bytes"),
+    (
         Group::NextOfEach,
-        Group::NextOfMany,
-        Group::IterateMany,
+        "next run of 1,000 patterns, each by itself",
+    ),
+    (Group::NextOfMany, "next run of a table of 1,000 patterns"),
+    (Group::IterateMany, "64 runs of a table of 1,000 patterns"),
+    (
         Group::IterateManyLater,
+        "runs 3 to 64 of a table of 1,000 patterns",
+    ),
+    (
         Group::FirstOfMany,
+        "first run of an iterator over that table",
+    ),
+    (
         Group::IterateDaily,
-        Group::IterateDailyLong,
-        Group::IterateMore,
+        "64 runs of a table of 1,000 patterns, one at a time",
+    ),
+    (Group::IterateDailyLong, "10,000 runs of that table"),
+    (Group::IterateMore, "64 runs of a table of 100,000 patterns"),
+    (
         Group::OverAnHour,
+        "next run of * * * * * *, over a gap of an hour",
+    ),
+    (
         Group::OverADay,
+        "next run of * * * * * *, over a gap of a day",
+    ),
+    (
         Group::HourlyOverAnHour,
+        "next run of 0 * * * *, over a gap of an hour",
+    ),
+    (
         Group::OftenOverAnHour,
-    ];
+        "next run of */5 * * * *, over a gap of an hour",
+    ),
+];
 
+impl Group {
     /// Makes each call of the group once. What comes before a restart of the watch is not measured.
     pub fn pass(
         self,
@@ -122,7 +147,7 @@ impl Group {
             Group::NextZoned => next(jobs, times.zoned.as_slice()),
             Group::IterateCivil => iterate(jobs, times.civil.as_slice()),
             Group::IterateTable => iterate(jobs, times.table.as_slice()),
-            Group::LeapMonday => next(subjects.rare.as_slice(), times.civil.as_slice()),
+            Group::LeapMonday => next(from_ref(&subjects.rare), times.civil.as_slice()),
             Group::NoDate => limit(&never.no_date, &never.first),
             Group::NoDateInOddYears => limit(&never.no_date_in_odd_years, &never.first),
             Group::NoMinute => limit(&never.no_minute, &never.first),
@@ -142,12 +167,12 @@ impl Group {
         match self {
             Group::NextOfEach => many::next_each(subjects.jobs.as_slice(), starts),
             Group::NextOfMany => many::next(&subjects.table, starts),
-            Group::IterateMany => many::iterate(&subjects.table, starts),
+            Group::IterateMany => many::iterate(&subjects.table, starts, ITEMS),
             Group::IterateManyLater => many::iterate_later(&subjects.table, starts, watch),
             Group::FirstOfMany => many::first(&subjects.table, starts),
-            Group::IterateDaily => many::iterate(&subjects.daily_table, starts),
-            Group::IterateDailyLong => many::iterate_long(&subjects.daily_table, starts),
-            Group::IterateMore => many::iterate(&subjects.larger_table, starts),
+            Group::IterateDaily => many::iterate(&subjects.daily_table, starts, ITEMS),
+            Group::IterateDailyLong => many::iterate(&subjects.daily_table, starts, LONG_ITEMS),
+            Group::IterateMore => many::iterate(&subjects.larger_table, starts, ITEMS),
             _ => self.search_over_gap(subjects),
         }
     }
@@ -155,56 +180,13 @@ impl Group {
     // The searches from a second before a gap: those of every second where no other job is named, and over an hour where no
     // day is.
     fn search_over_gap(self, subjects: &Subjects<'_>) -> Result<Answers, CronError> {
-        let jobs = match self {
-            Group::HourlyOverAnHour => subjects.hourly.as_slice(),
-            Group::OftenOverAnHour => subjects.often.as_slice(),
-            _ => subjects.each_second.as_slice(),
-        };
-        let starts = match self {
-            Group::OverADay => subjects.times.before_a_day.as_slice(),
-            _ => subjects.times.before_an_hour.as_slice(),
-        };
-        next(jobs, starts)
-    }
-}
-
-impl fmt::Display for Group {
-    fn fmt<W: fmt::Write>(&self, f: &mut fmt::Formatter<W>) -> fmt::Result {
-        let name = match self {
-            Group::Parse => "parse",
-            Group::MatchCivil => "match, civil time",
-            Group::NextCivil => "next run, civil time",
-            Group::PreviousCivil => "previous run, civil time",
-            Group::NextTable => "next run, table",
-            Group::NextZoned => "next run, time zone",
-            Group::IterateCivil => "1,000 runs, civil time",
-            Group::IterateTable => "1,000 runs, table",
-            Group::DescribeEnglish => "describe, English",
-            Group::DescribeSwedish => "describe, Swedish",
-            Group::Compare => "clone and compare",
-            Group::Copy => "clone",
-            Group::LeapMonday => "next run of 0 0 29 2 +MON",
-            Group::NoDate => "next run of 0 0 31 2 *",
-            Group::NoDateInOddYears => "next run of 0 0 0 31 2 * */2",
-            Group::NoMinute => "next run of , * * * *",
-            Group::NextLongTable => "next run, table of 20,000 changes",
-            Group::NextFarOnLongTable => "next run, far on that table",
-            Group::HostileShort => "hostile texts of 10,000 bytes",
-            Group::HostileMiddle => "hostile texts of 100,000 bytes",
-            Group::HostileLong => "hostile texts of 1,000,000 bytes",
-            Group::NextOfEach => "next run of 1,000 patterns, each by itself",
-            Group::NextOfMany => "next run of a table of 1,000 patterns",
-            Group::IterateMany => "64 runs of a table of 1,000 patterns",
-            Group::IterateManyLater => "runs 3 to 64 of a table of 1,000 patterns",
-            Group::FirstOfMany => "first run of an iterator over that table",
-            Group::IterateDaily => "64 runs of a table of 1,000 patterns, one at a time",
-            Group::IterateDailyLong => "10,000 runs of that table",
-            Group::IterateMore => "64 runs of a table of 100,000 patterns",
-            Group::OverAnHour => "next run of * * * * * *, over a gap of an hour",
-            Group::OverADay => "next run of * * * * * *, over a gap of a day",
-            Group::HourlyOverAnHour => "next run of 0 * * * *, over a gap of an hour",
-            Group::OftenOverAnHour => "next run of */5 * * * *, over a gap of an hour",
-        };
-        write!(f, "{name}")
+        let (each_second, times) = (from_ref(&subjects.each_second), &subjects.times);
+        let before_an_hour = times.before_an_hour.as_slice();
+        match self {
+            Group::HourlyOverAnHour => next(from_ref(&subjects.hourly), before_an_hour),
+            Group::OftenOverAnHour => next(from_ref(&subjects.often), before_an_hour),
+            Group::OverADay => next(each_second, times.before_a_day.as_slice()),
+            _ => next(each_second, before_an_hour),
+        }
     }
 }

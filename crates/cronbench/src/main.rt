@@ -9,24 +9,21 @@ mod answers;
 mod given;
 mod group;
 mod hostile;
-mod job;
 mod many;
 mod measure;
-mod moment;
 mod paris;
 mod passes;
 mod starts;
-mod stop;
 mod subjects;
 mod watch;
 
-use group::Group;
+use croner_rows::{Result, status};
+use group::GROUPS;
 use measure::{Measured, measure};
 use paris::Clocks;
 use std::io;
 use std::io::ErrorKind;
 use std::process::ExitCode;
-use stop::Stop;
 use subjects::Subjects;
 
 /// The status where the words are not of their form.
@@ -34,8 +31,8 @@ const MISUSED: u8 = 2;
 
 const USAGE: &str = "usage: cronbench [ROUNDS] < PATTERNS";
 
-fn show(rt: &HostRuntime, group: Group, measured: Measured) -> io::Result<()> {
-    let (count, sum) = (measured.answers.count(), measured.answers.sum());
+fn show(rt: &HostRuntime, group: &str, measured: Measured) -> io::Result<()> {
+    let (count, sum) = (measured.answers.count, measured.answers.sum);
     println!(rt; "{group}: {count} answers, sum {sum}")?;
     match measured.per_call() {
         Some(time) => {
@@ -47,22 +44,22 @@ fn show(rt: &HostRuntime, group: Group, measured: Measured) -> io::Result<()> {
 }
 
 // Measures each group, and shows what it answered and took.
-fn bench(rt: &HostRuntime, rounds: u32) -> Result<(), Stop> {
+fn bench(rt: &HostRuntime, rounds: u32) -> Result<bool> {
     let clocks = Clocks::new(rt.alloc())?;
     bench_by(rt, &clocks, rounds)
 }
 
-fn bench_by(rt: &HostRuntime, clocks: &Clocks, rounds: u32) -> Result<(), Stop> {
+fn bench_by(rt: &HostRuntime, clocks: &Clocks, rounds: u32) -> Result<bool> {
     let subjects = Subjects::new(rt.alloc(), given::patterns(rt)?, clocks)?;
     bench_on(rt, &subjects, rounds)
 }
 
-fn bench_on(rt: &HostRuntime, subjects: &Subjects<'_>, rounds: u32) -> Result<(), Stop> {
-    for group in Group::ALL {
-        let measured = measure(rt, group, subjects, rounds)?;
-        show(rt, group, measured)?;
+fn bench_on(rt: &HostRuntime, subjects: &Subjects<'_>, rounds: u32) -> Result<bool> {
+    for (group, name) in GROUPS {
+        let measured = measure(rt, group, name, subjects, rounds)?;
+        show(rt, name, measured)?;
     }
-    Ok(())
+    Ok(true)
 }
 
 // The rounds that the words ask for. None where they are not of their form.
@@ -79,11 +76,5 @@ fn main(rt: HostRuntime) -> io::Result<ExitCode> {
         eprintln!(rt; "{USAGE}")?;
         return Ok(ExitCode::from(MISUSED));
     };
-    match bench(&rt, rounds) {
-        Ok(()) => Ok(ExitCode::SUCCESS),
-        Err(stop) => {
-            eprintln!(rt; "{stop}")?;
-            Ok(ExitCode::FAILURE)
-        }
-    }
+    status(&rt, bench(&rt, rounds))
 }

@@ -1,25 +1,24 @@
 //! Many patterns: each searched by itself, and all as a table.
 
 use crate::answers::Answers;
-use crate::job::Job;
-use crate::moment::Moment;
 use crate::watch::Watch;
 use croner::Cron;
 use croner::crontable::{CronTable, CronTableIterator};
 use croner::errors::CronError;
+use croner_rows::{Job, Moment};
 use jiff::civil::DateTime;
 use std::alloc::Global;
 
 /// How often the table has each pattern, so that forty are a thousand.
-const TIMES: u32 = 25;
+pub const TIMES: u32 = 25;
 
 /// How often the larger table has each pattern, so that forty are a hundred thousand.
-const LARGER_TIMES: u32 = 2_500;
+pub const LARGER_TIMES: u32 = 2_500;
 
 /// How many items a table's iterator is asked for: of a short list, and of a long one, in which the first two count little.
-const ITEMS: u32 = 64;
+pub const ITEMS: u32 = 64;
 
-const LONG_ITEMS: u32 = 10_000;
+pub const LONG_ITEMS: u32 = 10_000;
 
 /// How many items at the head of a list search all jobs: those behind them search the jobs that ran.
 const SEARCHING_ITEMS: u32 = 2;
@@ -28,16 +27,6 @@ const SEARCHING_ITEMS: u32 = 2;
 const DAILY_JOBS: u32 = 1_000;
 
 const SECONDS_APART: u32 = 86;
-
-/// The table of a thousand patterns.
-pub fn table(alloc: Global, patterns: &[String]) -> Result<CronTable, CronError> {
-    table_of(alloc, patterns, TIMES)
-}
-
-/// The table of a hundred thousand patterns.
-pub fn larger_table(alloc: Global, patterns: &[String]) -> Result<CronTable, CronError> {
-    table_of(alloc, patterns, LARGER_TIMES)
-}
 
 /// The table of which one job runs at a time.
 pub fn daily_table(alloc: Global) -> Result<CronTable, CronError> {
@@ -55,8 +44,8 @@ fn daily(alloc: Global, second: u32) -> Result<Cron, CronError> {
     Cron::from_str(alloc, text.as_str())
 }
 
-// The table that has each pattern so often.
-fn table_of(alloc: Global, patterns: &[String], times: u32) -> Result<CronTable, CronError> {
+/// The table that has each pattern so often.
+pub fn table_of(alloc: Global, patterns: &[String], times: u32) -> Result<CronTable, CronError> {
     let mut table = CronTable::new(alloc);
     for _ in 0..times {
         for pattern in patterns {
@@ -97,17 +86,8 @@ pub fn next(table: &CronTable, starts: &[DateTime]) -> Result<Answers, CronError
     Ok(answers)
 }
 
-/// Goes over the table's first runs behind the first start. An answer is a run.
-pub fn iterate(table: &CronTable, starts: &[DateTime]) -> Result<Answers, CronError> {
-    iterate_over(table, starts, ITEMS)
-}
-
-/// The same, over many more of them.
-pub fn iterate_long(table: &CronTable, starts: &[DateTime]) -> Result<Answers, CronError> {
-    iterate_over(table, starts, LONG_ITEMS)
-}
-
-fn iterate_over(table: &CronTable, starts: &[DateTime], items: u32) -> Result<Answers, CronError> {
+/// Goes over so many of the table's runs behind the first start. An answer is a run.
+pub fn iterate(table: &CronTable, starts: &[DateTime], items: u32) -> Result<Answers, CronError> {
     let mut answers = Answers::default();
     if let Some(start) = starts.first() {
         let mut runs = table.iter_after(*start);

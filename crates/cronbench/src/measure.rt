@@ -2,9 +2,9 @@
 
 use crate::answers::Answers;
 use crate::group::Group;
-use crate::stop::Stop;
 use crate::subjects::Subjects;
 use crate::watch::Watch;
+use croner_rows::{Fault, Result};
 use std::time::Duration;
 
 /// The answers of a group's calls, and the processor time that they took together.
@@ -17,12 +17,7 @@ pub struct Measured {
 impl Measured {
     /// The processor time of one call. None where there was no call.
     pub fn per_call(&self) -> Option<Duration> {
-        let count = self.answers.count();
-        if count == 0 {
-            None
-        } else {
-            Some(self.time / count)
-        }
+        self.time.checked_div(self.answers.count)
     }
 }
 
@@ -30,21 +25,22 @@ impl Measured {
 pub fn measure(
     rt: &HostRuntime,
     group: Group,
+    name: &'static str,
     subjects: &Subjects<'_>,
     passes: u32,
-) -> Result<Measured, Stop> {
+) -> Result<Measured> {
     let mut least = measure_pass(rt, group, subjects)?;
     for _ in 1..passes {
         let measured = measure_pass(rt, group, subjects)?;
         if measured.answers != least.answers {
-            return Err(Stop::Differing(group));
+            return Err(Fault::Differing(name));
         }
         least.time = least.time.min(measured.time);
     }
     Ok(least)
 }
 
-fn measure_pass(rt: &HostRuntime, group: Group, subjects: &Subjects<'_>) -> Result<Measured, Stop> {
+fn measure_pass(rt: &HostRuntime, group: Group, subjects: &Subjects<'_>) -> Result<Measured> {
     let mut watch = Watch::start(rt);
     let answers = group.pass(rt.alloc(), subjects, &mut watch)?;
     let time = watch.time()?;

@@ -1,12 +1,12 @@
 //! The clocks: that of Paris, as a table of its changes and as a rule, and two with one gap.
 
 use crate::starts::FIRST_SECOND;
-use crate::stop::Stop;
 use croner::time::table::ClockTable;
+use croner_rows::{Result, add_series};
 use jiff::Error;
 use jiff::civil::{DateTime, Weekday};
 use jiff::tz::TimeZone;
-use std::alloc::{AllocError, Global};
+use std::alloc::Global;
 
 /// Summer time from the last Sunday of March to the last Sunday of October, at 1:00 UTC.
 const RULE: &str = "CET-1CEST,M3.5.0,M10.5.0/3";
@@ -45,7 +45,7 @@ pub struct Clocks {
 
 impl Clocks {
     /// Makes the tables, and reads the rule.
-    pub fn new(alloc: Global) -> Result<Clocks, Stop> {
+    pub fn new(alloc: Global) -> Result<Clocks> {
         let zone = TimeZone::posix(RULE)?;
         let table = table(alloc)?;
         let long_table = long_table(alloc)?;
@@ -61,19 +61,19 @@ impl Clocks {
     }
 }
 
-fn table(alloc: Global) -> Result<ClockTable, Stop> {
+fn table(alloc: Global) -> Result<ClockTable> {
     let mut changes = Vec::new(alloc);
     add_changes(&mut changes)?;
     Ok(ClockTable::new(WINTER_OFFSET, changes)?)
 }
 
-fn gap_of(alloc: Global, seconds: i32) -> Result<ClockTable, Stop> {
+fn gap_of(alloc: Global, seconds: i32) -> Result<ClockTable> {
     let mut changes = Vec::new(alloc);
     changes.push((FIRST_SECOND, seconds))?;
     Ok(ClockTable::new(0, changes)?)
 }
 
-fn add_changes(changes: &mut Vec<(i64, i32)>) -> Result<(), Stop> {
+fn add_changes(changes: &mut Vec<(i64, i32)>) -> Result<()> {
     for year in FIRST_YEAR..=LAST_YEAR {
         changes.push((change_in(year, MARCH)?, SUMMER_OFFSET))?;
         changes.push((change_in(year, OCTOBER)?, WINTER_OFFSET))?;
@@ -94,34 +94,22 @@ const BESIDE: u32 = 9_960;
 /// How many seconds lie from one of these to the next.
 const APART_SECONDS: i64 = 3_000_000;
 
+/// The offsets at them, in turn.
+const OFFSETS_BESIDE: (i32, i32) = (WINTER_OFFSET + 1, WINTER_OFFSET);
+
 /// How many seconds lie from the first of them to the first of 2020.
 const SECONDS_BEFORE: i64 = 29_880_000_000;
 
 // The changes of the table among 20,000, the most that one may have in the years 1 to 5000. At the others, 3,000,000 seconds
 // apart, the clock is put forward by a second and back by turns.
-fn long_table(alloc: Global) -> Result<ClockTable, Stop> {
+fn long_table(alloc: Global) -> Result<ClockTable> {
     let mut changes = Vec::new(alloc);
     let first = change_in(FIRST_YEAR, MARCH)?;
-    add_small_changes(&mut changes, first.saturating_sub(SECONDS_BEFORE))?;
+    let before = first.saturating_sub(SECONDS_BEFORE);
+    add_series(&mut changes, BESIDE, before, APART_SECONDS, OFFSETS_BESIDE)?;
     add_changes(&mut changes)?;
     let last = change_in(LAST_YEAR, OCTOBER)?;
-    add_small_changes(&mut changes, last.saturating_add(APART_SECONDS))?;
+    let behind = last.saturating_add(APART_SECONDS);
+    add_series(&mut changes, BESIDE, behind, APART_SECONDS, OFFSETS_BESIDE)?;
     Ok(ClockTable::new(WINTER_OFFSET, changes)?)
-}
-
-fn add_small_changes(changes: &mut Vec<(i64, i32)>, first: i64) -> Result<(), AllocError> {
-    let mut instant = first;
-    for place in 0..BESIDE {
-        changes.push((instant, offset_beside(place)))?;
-        instant = instant.saturating_add(APART_SECONDS);
-    }
-    Ok(())
-}
-
-fn offset_beside(place: u32) -> i32 {
-    if place % 2 == 0 {
-        WINTER_OFFSET + 1
-    } else {
-        WINTER_OFFSET
-    }
 }

@@ -1,12 +1,11 @@
 //! One pass of each kind of call: over all patterns, and where it has a start, from all starts.
 
 use crate::answers::Answers;
-use crate::job::Job;
-use crate::moment::Moment;
-use croner::CronIterator;
 use croner::describe::Language;
 use croner::errors::CronError;
 use croner::time::Direction;
+use croner::{Cron, CronIterator};
+use croner_rows::{Job, Moment};
 use std::alloc::Global;
 
 /// How many runs an iterator is asked for.
@@ -16,7 +15,7 @@ const RUNS: u32 = 1000;
 pub fn parse(alloc: Global, patterns: &[String]) -> Result<Answers, CronError> {
     let mut answers = Answers::default();
     for pattern in patterns {
-        let job = Job::read(alloc, pattern.as_str())?;
+        let job = Job::new(Cron::from_str(alloc, pattern.as_str())?);
         answers.add_text(job.cron.as_str());
     }
     Ok(answers)
@@ -103,7 +102,7 @@ pub fn describe<L: Language + Copy + Drop>(
 pub fn compare(jobs: &[Job]) -> Result<Answers, CronError> {
     let mut answers = Answers::default();
     for job in jobs {
-        let copy = job.copied()?;
+        let copy = Job::new(job.cron.clone()?);
         answers.add(i64::from(job.cron.cmp(&copy.cron).is_eq()));
     }
     Ok(answers)
@@ -113,7 +112,8 @@ pub fn compare(jobs: &[Job]) -> Result<Answers, CronError> {
 pub fn copy(jobs: &[Job]) -> Result<Answers, CronError> {
     let mut answers = Answers::default();
     for job in jobs {
-        answers.add_text(job.copied()?.cron.as_str());
+        let copy = Job::new(job.cron.clone()?);
+        answers.add_text(copy.cron.as_str());
     }
     Ok(answers)
 }
@@ -150,6 +150,6 @@ fn outcome(alloc: Global, text: &str) -> Result<i64, CronError> {
 }
 
 fn kept_bytes(alloc: Global, text: &str) -> Result<usize, CronError> {
-    let job = Job::read(alloc, text)?;
+    let job = Job::new(Cron::from_str(alloc, text)?);
     Ok(job.cron.as_str().len())
 }

@@ -1,10 +1,8 @@
 //! The times that searches start from.
 
-use croner::errors::CronError;
-use croner::time::table::{ClockTable, TableTime};
 use jiff::civil::DateTime;
-use jiff::tz::{Offset, TimeZone};
-use jiff::{Error, Timestamp, Zoned};
+use jiff::tz::Offset;
+use jiff::{Error, Timestamp};
 use std::alloc::{AllocError, Global};
 
 /// How many times there are to start from.
@@ -61,14 +59,4 @@ pub fn far_seconds(alloc: Global) -> Result<Vec<i64>, AllocError> {
 /// What a wall clock shows at a second.
 pub fn civil_at(second: i64) -> Result<DateTime, Error> {
     Ok(Offset::UTC.to_datetime(Timestamp::from_second(second)?))
-}
-
-/// An instant in the zone of a table.
-pub fn table_at(table: &ClockTable, second: i64) -> Result<TableTime<'_>, CronError> {
-    TableTime::new(table, second)
-}
-
-/// An instant in a time zone.
-pub fn zoned_at(zone: &TimeZone<'static>, second: i64) -> Result<Zoned<'static>, Error> {
-    Ok(Timestamp::from_second(second)?.to_zoned(*zone))
 }

@@ -1,17 +1,17 @@
 //! What is measured on: the jobs, and the times that searches start from.
 
 use crate::hostile::texts;
-use crate::job::Job;
-use crate::many;
+use crate::many::{LARGER_TIMES, TIMES, daily_table, table_of};
 use crate::paris::Clocks;
-use crate::starts::{FIRST_SECOND, civil_at, far_seconds, seconds, table_at, zoned_at};
-use crate::stop::Stop;
+use crate::starts::{FIRST_SECOND, civil_at, far_seconds, seconds};
+use croner::Cron;
 use croner::crontable::CronTable;
 use croner::errors::CronError;
 use croner::time::table::{ClockTable, TableTime};
-use jiff::Zoned;
+use croner_rows::{Job, Result};
 use jiff::civil::DateTime;
 use jiff::tz::TimeZone;
+use jiff::{Timestamp, Zoned};
 use std::alloc::Global;
 
 /// A pattern whose date is in 15 of 400 years.
@@ -56,13 +56,13 @@ pub struct Subjects<'t> {
     /// The table of which one job runs at a time.
     pub daily_table: CronTable,
     /// A job that runs in each second.
-    pub each_second: Vec<Job>,
+    pub each_second: Job,
     /// A job that runs at each hour.
-    pub hourly: Vec<Job>,
+    pub hourly: Job,
     /// A job that runs twelve times an hour.
-    pub often: Vec<Job>,
+    pub often: Job,
     /// A job that runs in few years.
-    pub rare: Vec<Job>,
+    pub rare: Job,
     /// The jobs that never run.
     pub never: Never,
     /// The times that searches start from.
@@ -73,19 +73,15 @@ pub struct Subjects<'t> {
 
 impl<'t> Subjects<'t> {
     /// Reads the patterns, and places the times on the clocks.
-    pub fn new(
-        alloc: Global,
-        patterns: Vec<String>,
-        clocks: &'t Clocks,
-    ) -> Result<Subjects<'t>, Stop> {
+    pub fn new(alloc: Global, patterns: Vec<String>, clocks: &'t Clocks) -> Result<Subjects<'t>> {
         let jobs = jobs(alloc, patterns.as_slice())?;
-        let table = many::table(alloc, patterns.as_slice())?;
-        let larger_table = many::larger_table(alloc, patterns.as_slice())?;
-        let daily_table = many::daily_table(alloc)?;
-        let each_second = one(alloc, EACH_SECOND)?;
-        let hourly = one(alloc, HOURLY)?;
-        let often = one(alloc, OFTEN)?;
-        let rare = one(alloc, LEAP_MONDAY)?;
+        let table = table_of(alloc, patterns.as_slice(), TIMES)?;
+        let larger_table = table_of(alloc, patterns.as_slice(), LARGER_TIMES)?;
+        let daily_table = daily_table(alloc)?;
+        let each_second = read(alloc, EACH_SECOND)?;
+        let hourly = read(alloc, HOURLY)?;
+        let often = read(alloc, OFTEN)?;
+        let rare = read(alloc, LEAP_MONDAY)?;
         let never = Never::new(alloc)?;
         let hostile = Hostile::new(alloc)?;
         let times = Times::new(alloc, clocks)?;
@@ -121,11 +117,11 @@ pub struct Never {
 
 impl Never {
     /// Reads the three patterns.
-    fn new(alloc: Global) -> Result<Never, Stop> {
+    fn new(alloc: Global) -> Result<Never> {
         let first = civil_at(FIRST_SECOND)?;
-        let no_date = Job::read(alloc, NO_DATE)?;
-        let no_date_in_odd_years = Job::read(alloc, NO_DATE_IN_ODD_YEARS)?;
-        let no_minute = Job::read(alloc, NO_MINUTE)?;
+        let no_date = read(alloc, NO_DATE)?;
+        let no_date_in_odd_years = read(alloc, NO_DATE_IN_ODD_YEARS)?;
+        let no_minute = read(alloc, NO_MINUTE)?;
         Ok(Never {
             no_date,
             no_date_in_odd_years,
@@ -144,7 +140,7 @@ pub struct Hostile {
 }
 
 impl Hostile {
-    fn new(alloc: Global) -> Result<Hostile, Stop> {
+    fn new(alloc: Global) -> Result<Hostile> {
         let short = texts(alloc, SHORT_BYTES)?;
         let middle = texts(alloc, MIDDLE_BYTES)?;
         let long = texts(alloc, LONG_BYTES)?;
@@ -177,13 +173,14 @@ pub struct Times<'t> {
 
 impl<'t> Times<'t> {
     /// Places the times on the clocks.
-    fn new(alloc: Global, clocks: &'t Clocks) -> Result<Times<'t>, Stop> {
+    fn new(alloc: Global, clocks: &'t Clocks) -> Result<Times<'t>> {
         let seconds = seconds(alloc)?;
         let civil = civil_times(alloc, seconds.as_slice())?;
         let table = table_times(alloc, &clocks.table, seconds.as_slice())?;
         let zoned = zoned_times(alloc, &clocks.zone, seconds.as_slice())?;
         let long_table = table_times(alloc, &clocks.long_table, seconds.as_slice())?;
-        let far_on_long_table = far_times(alloc, &clocks.long_table)?;
+        let far = far_seconds(alloc)?;
+        let far_on_long_table = table_times(alloc, &clocks.long_table, far.as_slice())?;
         let before_an_hour = table_times(alloc, &clocks.gap_of_an_hour, &[FIRST_SECOND - 1])?;
         let before_a_day = table_times(alloc, &clocks.gap_of_a_day, &[FIRST_SECOND - 1])?;
         Ok(Times {
@@ -198,7 +195,7 @@ impl<'t> Times<'t> {
     }
 }
 
-fn civil_times(alloc: Global, seconds: &[i64]) -> Result<Vec<DateTime>, Stop> {
+fn civil_times(alloc: Global, seconds: &[i64]) -> Result<Vec<DateTime>> {
     let mut times = Vec::new(alloc);
     for second in seconds {
         times.push(civil_at(*second)?)?;
@@ -210,41 +207,34 @@ fn table_times<'t>(
     alloc: Global,
     table: &'t ClockTable,
     seconds: &[i64],
-) -> Result<Vec<TableTime<'t>>, Stop> {
+) -> Result<Vec<TableTime<'t>>> {
     let mut times = Vec::new(alloc);
     for second in seconds {
-        times.push(table_at(table, *second)?)?;
+        times.push(TableTime::new(table, *second)?)?;
     }
     Ok(times)
-}
-
-fn far_times<'t>(alloc: Global, table: &'t ClockTable) -> Result<Vec<TableTime<'t>>, Stop> {
-    let seconds = far_seconds(alloc)?;
-    table_times(alloc, table, seconds.as_slice())
 }
 
 fn zoned_times(
     alloc: Global,
     zone: &TimeZone<'static>,
     seconds: &[i64],
-) -> Result<Vec<Zoned<'static>>, Stop> {
+) -> Result<Vec<Zoned<'static>>> {
     let mut times = Vec::new(alloc);
     for second in seconds {
-        times.push(zoned_at(zone, *second)?)?;
+        times.push(Timestamp::from_second(*second)?.to_zoned(*zone))?;
     }
     Ok(times)
+}
+
+fn read(alloc: Global, pattern: &str) -> Result<Job, CronError> {
+    Ok(Job::new(Cron::from_str(alloc, pattern)?))
 }
 
 fn jobs(alloc: Global, patterns: &[String]) -> Result<Vec<Job>, CronError> {
     let mut jobs = Vec::new(alloc);
     for pattern in patterns {
-        jobs.push(Job::read(alloc, pattern.as_str())?)?;
+        jobs.push(read(alloc, pattern.as_str())?)?;
     }
-    Ok(jobs)
-}
-
-fn one(alloc: Global, pattern: &str) -> Result<Vec<Job>, CronError> {
-    let mut jobs = Vec::new(alloc);
-    jobs.push(Job::read(alloc, pattern)?)?;
     Ok(jobs)
 }

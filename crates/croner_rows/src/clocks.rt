@@ -1,7 +1,8 @@
 //! Clocks: civil time, tables and rules, and calls that are made over a time of any of them.
 
 use crate::{
-    Caller, Fault, Moment, Outcome, civil_value, items, list, number, number_at, switch, word,
+    Caller, Fault, Moment, Outcome, Result, civil_value, list, member, number, number_at, parts,
+    switch, word,
 };
 use croner::time::table::{ClockTable, TableTime};
 use croner_backends::{BoxedTime, NarrowTime};
@@ -9,22 +10,18 @@ use jiff::civil::DateTime;
 use jiff::tz::TimeZone;
 use jiff::{Timestamp, Zoned};
 use serde_json::Value;
-use std::alloc::Global;
+use std::alloc::{AllocError, Global};
 
 /// Calls that are made over a time of any clock.
 pub trait OverTime {
     /// Makes the calls, and gives what they gave.
-    fn outcome<T: Moment>(&self, caller: Caller<'_>, time: T) -> Result<Outcome, Fault>;
+    fn outcome<T: Moment>(&self, caller: Caller<'_>, time: T) -> Result<Outcome>;
 }
 
 /// Makes calls over the start of a question, on the clock of its member `zone`: civil time where there is none, a rule, or a
 /// table, which may be `boxed`, over the backend that takes memory for each answer, or `held`, over the one that holds what lies
 /// between two instants.
-pub fn over_time<C: OverTime>(
-    caller: Caller<'_>,
-    question: &Value,
-    calls: &C,
-) -> Result<Outcome, Fault> {
+pub fn over_time<C: OverTime>(caller: Caller<'_>, question: &Value, calls: &C) -> Result<Outcome> {
     match question.get("zone") {
         None | Some(Value::Null) => calls.outcome(caller, civil_start(question)?),
         Some(zone) => match zone.get("rule") {
@@ -39,7 +36,7 @@ fn over_table<C: OverTime>(
     question: &Value,
     zone: &Value,
     calls: &C,
-) -> Result<Outcome, Fault> {
+) -> Result<Outcome> {
     let table = clock_table(caller.alloc, zone)?;
     let start = TableTime::new(&table, start_second(question)?)?;
     if switch(zone, "boxed")? {
@@ -52,34 +49,32 @@ fn over_table<C: OverTime>(
 }
 
 /// A time over the backend that holds what lies between two instants.
-pub fn narrow_time<'t>(time: TableTime<'t>, held: &Value) -> Result<NarrowTime<'t>, Fault> {
-    let [low, high] = items(held)? else {
-        return Err(Fault::Malformed);
-    };
+pub fn narrow_time<'t>(time: TableTime<'t>, held: &Value) -> Result<NarrowTime<'t>> {
+    let [low, high] = parts::<2>(held)?;
     Ok(NarrowTime::new(time, number(low)?, number(high)?)?)
 }
 
 // The start in civil time. Where there is none, any value of the clock will do.
-fn civil_start(question: &Value) -> Result<DateTime, Fault> {
+fn civil_start(question: &Value) -> Result<DateTime> {
     match question.get("start") {
         None => Ok(DateTime::MIN),
         Some(_) => civil_value(question, "start"),
     }
 }
 
-fn start_second(question: &Value) -> Result<i64, Fault> {
+fn start_second(question: &Value) -> Result<i64> {
     match question.get("start") {
         None => Ok(0),
         Some(start) => number(start),
     }
 }
 
-fn zoned(rule: &Value, question: &Value) -> Result<Zoned<'static>, Fault> {
+fn zoned(rule: &Value, question: &Value) -> Result<Zoned<'static>> {
     Ok(Zoned::new(start_instant(question)?, read_rule(rule)?))
 }
 
 // The start as a second, or as a second and a nanosecond of it.
-fn start_instant(question: &Value) -> Result<Timestamp, Fault> {
+fn start_instant(question: &Value) -> Result<Timestamp> {
     let start = question.get("start").and_then(Value::as_array);
     let (second, nanosecond) = match start.map(Vec::as_slice) {
         None => (start_second(question)?, 0),
@@ -90,40 +85,47 @@ fn start_instant(question: &Value) -> Result<Timestamp, Fault> {
 }
 
 /// The zone of a rule.
-pub fn read_rule(rule: &Value) -> Result<TimeZone<'static>, Fault> {
+pub fn read_rule(rule: &Value) -> Result<TimeZone<'static>> {
     Ok(TimeZone::posix(word(rule)?)?)
 }
 
 /// The table of the members `first` and `changes`, or its refusal.
-pub fn clock_table(alloc: Global, zone: &Value) -> Result<ClockTable, Fault> {
+pub fn clock_table(alloc: Global, zone: &Value) -> Result<ClockTable> {
     let changes = clock_changes(alloc, zone)?;
     Ok(ClockTable::new(number_at(zone, "first")?, changes)?)
 }
 
 /// The changes of a table, each its instant and its offset, or a series of them.
-pub fn clock_changes(alloc: Global, zone: &Value) -> Result<Vec<(i64, i32)>, Fault> {
+pub fn clock_changes(alloc: Global, zone: &Value) -> Result<Vec<(i64, i32)>> {
     let mut changes = Vec::new(alloc);
     for change in list(zone, "changes")? {
         if change.is_object() {
-            add_series(change, &mut changes)?;
+            read_series(change, &mut changes)?;
         } else {
-            let [instant, offset] = items(change)? else {
-                return Err(Fault::Malformed);
-            };
+            let [instant, offset] = parts::<2>(change)?;
             changes.push((number(instant)?, number(offset)?))?;
         }
     }
     Ok(changes)
 }
 
-// So many changes, each so many seconds after the one before, whose offsets are the two that are given in turn.
-fn add_series(series: &Value, changes: &mut Vec<(i64, i32)>) -> Result<(), Fault> {
-    let [even, odd] = list(series, "offsets")? else {
-        return Err(Fault::Malformed);
-    };
-    let (even, odd): (i32, i32) = (number(even)?, number(odd)?);
-    let (count, apart): (u32, i64) = (number_at(series, "count")?, number_at(series, "apart")?);
-    let mut instant: i64 = number_at(series, "from")?;
+fn read_series(series: &Value, changes: &mut Vec<(i64, i32)>) -> Result<()> {
+    let [even, odd] = parts::<2>(member(series, "offsets")?)?;
+    let (from, apart) = (number_at(series, "from")?, number_at(series, "apart")?);
+    let (count, offsets) = (number_at(series, "count")?, (number(even)?, number(odd)?));
+    Ok(add_series(changes, count, from, apart, offsets)?)
+}
+
+/// Adds so many changes from an instant on, each so many seconds after the one before, whose offsets are the two that are given
+/// in turn.
+pub fn add_series(
+    changes: &mut Vec<(i64, i32)>,
+    count: u32,
+    from: i64,
+    apart: i64,
+    (even, odd): (i32, i32),
+) -> Result<(), AllocError> {
+    let mut instant = from;
     for place in 0..count {
         let offset = if place % 2 == 0 { even } else { odd };
         changes.push((instant, offset))?;

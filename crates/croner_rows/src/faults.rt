@@ -16,6 +16,8 @@ pub enum Fault {
     Unsupported,
     /// Reading or writing failed.
     Failed(io::Error),
+    /// Two passes over the same calls gave different answers.
+    Differing(&'static str),
     OutOfMemory,
 }
 
@@ -29,6 +31,7 @@ impl fmt::Display for Fault {
             Fault::Malformed => write!(f, "a question of another form"),
             Fault::Unsupported => write!(f, "an operation that is not known"),
             Fault::Failed(error) => write!(f, "{error}"),
+            Fault::Differing(calls) => write!(f, "two answers of {calls}"),
             Fault::OutOfMemory => write!(f, "Out of memory."),
         }
     }

@@ -1,6 +1,8 @@
 //! Calls of one field.
 
-use crate::{Answer, Caller, Fault, Outcome, items, list, member, number, shown, word};
+use crate::{
+    Answer, Caller, Fault, Outcome, Result, items, list, member, number, parts, shown, word,
+};
 use croner::CronComponent;
 use croner::component::{ALL_BIT, LAST_BIT};
 use croner::errors::CronError;
@@ -12,15 +14,13 @@ use std::hash::{DefaultHasher, Hash, Hasher};
 #[derive(Drop)]
 pub enum Given {
     Done,
-    Truth(bool),
-    Count(usize),
-    Value(Option<u16>),
+    Value(Value),
     Values(Vec<u16>),
     Readers([i64; 8], u64),
 }
 
 /// Makes a call of a field: a list of its name and what it is given.
-pub fn make(alloc: Global, field: &mut CronComponent, call: &Value) -> Result<Given, Fault> {
+pub fn make(alloc: Global, field: &mut CronComponent, call: &Value) -> Result<Given> {
     match items(call)? {
         [name] => ask(alloc, field, word(name)?),
         [name, given] => call_with(field, word(name)?, given),
@@ -29,18 +29,22 @@ pub fn make(alloc: Global, field: &mut CronComponent, call: &Value) -> Result<Gi
     }
 }
 
-fn ask(alloc: Global, field: &CronComponent, name: &str) -> Result<Given, Fault> {
+fn ask(alloc: Global, field: &CronComponent, name: &str) -> Result<Given> {
     match name {
         "values" => Ok(Given::Values(field.values()?)),
-        "has_modifiers" => Ok(Given::Truth(field.has_modifiers())),
+        "has_modifiers" => Ok(value(field.has_modifiers())),
         "readers" => Ok(readers(field)),
-        "compare" => Ok(Given::Truth(are_alike(field, field))),
+        "compare" => Ok(value(are_alike(field, field))),
         "default" => {
             let empty = CronComponent::default(alloc);
-            Ok(Given::Truth(empty == *field))
+            Ok(value(empty == *field))
         }
         _ => Err(Fault::Malformed),
     }
+}
+
+fn value<V: Into<Value>>(value: V) -> Given {
+    Given::Value(value.into())
 }
 
 // What the reading functions and the questions on modifiers answer.
@@ -58,7 +62,7 @@ fn readers(field: &CronComponent) -> Given {
     Given::Readers(answers, field.low_word(ALL_BIT))
 }
 
-fn call_with(field: &mut CronComponent, name: &str, given: &Value) -> Result<Given, Fault> {
+fn call_with(field: &mut CronComponent, name: &str, given: &Value) -> Result<Given> {
     match name {
         "parse" => done(field.parse(word(given)?)),
         "handle_stepping" => done(field.handle_stepping(word(given)?)),
@@ -66,33 +70,33 @@ fn call_with(field: &mut CronComponent, name: &str, given: &Value) -> Result<Giv
             field.set_sloppy_ranges(given.as_bool().ok_or(Fault::Malformed)?);
             Ok(Given::Done)
         }
-        "least_from" => Ok(Given::Value(field.least_from(number(given)?))),
-        "greatest_to" => Ok(Given::Value(field.greatest_to(number(given)?))),
+        "least_from" => Ok(value(field.least_from(number(given)?))),
+        "greatest_to" => Ok(value(field.greatest_to(number(given)?))),
         _ => call_with_bit(field, name, number(given)?),
     }
 }
 
-fn done(outcome: Result<(), CronError>) -> Result<Given, Fault> {
+fn done(outcome: Result<(), CronError>) -> Result<Given> {
     outcome?;
     Ok(Given::Done)
 }
 
-fn call_with_bit(field: &mut CronComponent, name: &str, bit: u8) -> Result<Given, Fault> {
+fn call_with_bit(field: &mut CronComponent, name: &str, bit: u8) -> Result<Given> {
     match name {
         "enable_feature" => done(field.enable_feature(bit)),
-        "is_feature_allowed" => Ok(Given::Truth(field.is_feature_allowed(bit))),
-        "is_feature_enabled" => Ok(Given::Truth(field.is_feature_enabled(bit))),
-        "count_set_values" => Ok(Given::Count(field.count_set_values(bit))),
+        "is_feature_allowed" => Ok(value(field.is_feature_allowed(bit))),
+        "is_feature_enabled" => Ok(value(field.is_feature_enabled(bit))),
+        "count_set_values" => Ok(value(field.count_set_values(bit))),
         "get_set_values" => Ok(Given::Values(field.get_set_values(bit)?)),
         _ => Err(Fault::Malformed),
     }
 }
 
-fn mark(field: &mut CronComponent, name: &str, value: u16, bit: u8) -> Result<Given, Fault> {
+fn mark(field: &mut CronComponent, name: &str, number: u16, bit: u8) -> Result<Given> {
     match name {
-        "set_bit" => done(field.set_bit(value, bit)),
-        "unset_bit" => done(field.unset_bit(value, bit)),
-        "is_bit_set" => Ok(Given::Truth(field.is_bit_set(value, bit)?)),
+        "set_bit" => done(field.set_bit(number, bit)),
+        "unset_bit" => done(field.unset_bit(number, bit)),
+        "is_bit_set" => Ok(value(field.is_bit_set(number, bit)?)),
         _ => Err(Fault::Malformed),
     }
 }
@@ -111,30 +115,26 @@ pub fn are_alike<T: Ord + Hash>(one: &T, other: &T) -> bool {
 }
 
 // What a call answers, as a JSON value.
-fn shown(alloc: Global, given: Given) -> Result<Value, Fault> {
-    match given {
+fn shown(alloc: Global, given: Result<Given>) -> Result<Value> {
+    match given? {
         Given::Done => shown::text(alloc, "ok"),
-        Given::Truth(truth) => Ok(Value::Bool(truth)),
-        Given::Count(count) => Ok(Value::from(count)),
-        Given::Value(value) => Ok(Value::from(value)),
+        Given::Value(value) => Ok(value),
         Given::Values(values) => shown::numbers(alloc, values.as_slice()),
         Given::Readers(answers, word) => shown_readers(alloc, &answers, word),
     }
 }
 
-fn shown_readers(alloc: Global, answers: &[i64], word: u64) -> Result<Value, Fault> {
+fn shown_readers(alloc: Global, answers: &[i64], word: u64) -> Result<Value> {
     let answers = shown::numbers(alloc, answers)?;
     Ok(Value::String(format!(in alloc; "{answers} {word}")?))
 }
 
 /// A new field of `[min, max, features, offset]`, or the empty one.
-pub fn new_component(alloc: Global, new: &Value) -> Result<CronComponent, Fault> {
+pub fn new_component(alloc: Global, new: &Value) -> Result<CronComponent> {
     if new.as_str() == Some("default") {
         return Ok(CronComponent::default(alloc));
     }
-    let [min, max, features, offset] = items(new)? else {
-        return Err(Fault::Malformed);
-    };
+    let [min, max, features, offset] = parts::<4>(new)?;
     let (min, max): (u16, u16) = (number(min)?, number(max)?);
     let (features, offset): (u8, u16) = (number(features)?, number(offset)?);
     if min > max || max > u16::MAX - offset {
@@ -144,7 +144,7 @@ pub fn new_component(alloc: Global, new: &Value) -> Result<CronComponent, Fault>
 }
 
 /// A new field that has read the text of a question, where there is one; what a refused text leaves is kept.
-pub fn read_field(alloc: Global, question: &Value) -> Result<CronComponent, Fault> {
+pub fn read_field(alloc: Global, question: &Value) -> Result<CronComponent> {
     let mut field = new_component(alloc, member(question, "new")?)?;
     if let Some(text) = question.get("text") {
         let _ = field.parse(word(text)?);
@@ -153,35 +153,24 @@ pub fn read_field(alloc: Global, question: &Value) -> Result<CronComponent, Faul
 }
 
 /// The answer of one call of a new field, and what it holds afterwards.
-pub fn call_of_field(caller: Caller<'_>, question: &Value) -> Result<Outcome, Fault> {
+pub fn call_of_field(caller: Caller<'_>, question: &Value) -> Result<Outcome> {
     let call = member(question, "call")?;
     let mut field = read_field(caller.alloc, question)?;
     caller.begin();
     let given = make(caller.alloc, &mut field, call);
     caller.end();
-    let answer = answer(caller.alloc, given);
-    let outcome = Outcome::new(
-        answer.map(Answer::Value),
-        shown::field(caller.alloc, &field),
-    );
+    let answer = shown(caller.alloc, given).map(Answer::Value);
+    let outcome = Outcome::new(answer, shown::field(caller.alloc, &field));
     drop(field);
     outcome
 }
 
-fn answer(alloc: Global, given: Result<Given, Fault>) -> Result<Value, Fault> {
-    shown(alloc, given?)
-}
-
 /// The answers of calls of a field, one after another, as a list; where one is refused, the refusal.
-pub fn calls_in_turn(
-    alloc: Global,
-    field: &mut CronComponent,
-    question: &Value,
-) -> Result<Value, Fault> {
+pub fn calls_in_turn(alloc: Global, field: &mut CronComponent, question: &Value) -> Result<Value> {
     let mut answers = Vec::new(alloc);
     for call in list(question, "calls")? {
         let given = make(alloc, field, call);
-        answers.push(shown::or_refusal(alloc, answer(alloc, given))?)?;
+        answers.push(shown::or_refusal(alloc, shown(alloc, given))?)?;
     }
     Ok(Value::Array(answers))
 }

@@ -1,10 +1,14 @@
 //! Jobs: the pattern of a question, read by the parser of its settings.
 
-use crate::{Fault, items, member, number, switch, word};
+use crate::{Fault, Result, items, member, number, parts, switch, word};
 use croner::Cron;
 use croner::parser::{CronParser, Seconds, Year};
 use serde_json::Value;
 use std::alloc::Global;
+
+const SECONDS: [Seconds; 3] = [Seconds::Optional, Seconds::Required, Seconds::Disallowed];
+
+const YEAR: [Year; 3] = [Year::Optional, Year::Required, Year::Disallowed];
 
 /// A job that was read from a text.
 pub struct Job {
@@ -25,22 +29,14 @@ impl Job {
     }
 
     /// The job of a question: its text, read by the parser of its settings.
-    pub fn read(alloc: Global, question: &Value) -> Result<Job, Fault> {
+    pub fn read(alloc: Global, question: &Value) -> Result<Job> {
         let text = whole_text(alloc, question)?;
         Job::of_text(alloc, question, text.as_str())
     }
 
     /// The job of a text, read by the parser of a question's settings.
-    pub fn of_text(alloc: Global, question: &Value, text: &str) -> Result<Job, Fault> {
-        let parser = read_parser(question)?;
-        let cron = parser.parse(alloc, text)?;
-        Ok(Job { cron })
-    }
-
-    /// The job of a JSON value.
-    pub fn from_json(alloc: Global, value: &Value) -> Result<Job, Fault> {
-        let cron = Cron::from_json(alloc, value)?;
-        Ok(Job { cron })
+    pub fn of_text(alloc: Global, question: &Value, text: &str) -> Result<Job> {
+        Ok(Job::new(read_parser(question)?.parse(alloc, text)?))
     }
 
     /// The job itself.
@@ -51,7 +47,7 @@ impl Job {
 }
 
 /// The text of a question. One that is a list has pieces, each with how often it stands there.
-pub fn whole_text(alloc: Global, question: &Value) -> Result<String, Fault> {
+pub fn whole_text(alloc: Global, question: &Value) -> Result<String> {
     let given = member(question, "text")?;
     match given.as_str() {
         Some(text) => Ok(String::from_str(alloc, text)?),
@@ -59,18 +55,16 @@ pub fn whole_text(alloc: Global, question: &Value) -> Result<String, Fault> {
     }
 }
 
-fn put_together(alloc: Global, pieces: &[Value]) -> Result<String, Fault> {
+fn put_together(alloc: Global, pieces: &[Value]) -> Result<String> {
     let mut text = String::new(alloc);
     for piece in pieces {
-        let [piece, count] = items(piece)? else {
-            return Err(Fault::Malformed);
-        };
+        let [piece, count] = parts::<2>(piece)?;
         add_piece(&mut text, word(piece)?, number(count)?)?;
     }
     Ok(text)
 }
 
-fn add_piece(text: &mut String, piece: &str, count: u32) -> Result<(), Fault> {
+fn add_piece(text: &mut String, piece: &str, count: u32) -> Result<()> {
     for _ in 0..count {
         text.push_str(piece)?;
     }
@@ -78,7 +72,7 @@ fn add_piece(text: &mut String, piece: &str, count: u32) -> Result<(), Fault> {
 }
 
 /// The parser of the settings; those that a question leaves out are the parser's own.
-pub fn read_parser(question: &Value) -> Result<CronParser, Fault> {
+pub fn read_parser(question: &Value) -> Result<CronParser> {
     let Some(settings) = question.get("settings") else {
         return Ok(CronParser::new());
     };
@@ -86,35 +80,21 @@ pub fn read_parser(question: &Value) -> Result<CronParser, Fault> {
         return Err(Fault::Malformed);
     }
     let builder = CronParser::builder()
-        .seconds(seconds(settings)?)
-        .year(year(settings)?)
+        .seconds(presence(settings, "seconds", SECONDS)?)
+        .year(presence(settings, "year", YEAR)?)
         .dom_and_dow(switch(settings, "dom_and_dow")?)
         .alternative_weekdays(switch(settings, "alternative_weekdays")?)
         .sloppy_ranges(switch(settings, "sloppy_ranges")?);
     Ok(builder.build())
 }
 
-fn seconds(settings: &Value) -> Result<Seconds, Fault> {
-    match presence(settings, "seconds")? {
-        "optional" => Ok(Seconds::Optional),
-        "required" => Ok(Seconds::Required),
-        "disallowed" => Ok(Seconds::Disallowed),
-        _ => Err(Fault::Malformed),
-    }
-}
-
-fn year(settings: &Value) -> Result<Year, Fault> {
-    match presence(settings, "year")? {
-        "optional" => Ok(Year::Optional),
-        "required" => Ok(Year::Required),
-        "disallowed" => Ok(Year::Disallowed),
-        _ => Err(Fault::Malformed),
-    }
-}
-
-fn presence<'v>(settings: &'v Value, field: &str) -> Result<&'v str, Fault> {
-    match settings.get(field) {
-        None => Ok("optional"),
-        Some(presence) => word(presence),
+// Which of three a field's presence is: `"optional"`, also where it is left out, `"required"` or `"disallowed"`.
+fn presence<P: Copy>(settings: &Value, field: &str, of: [P; 3]) -> Result<P> {
+    let [optional, required, disallowed] = of;
+    match settings.get(field).map(Value::as_str) {
+        None | Some(Some("optional")) => Ok(optional),
+        Some(Some("required")) => Ok(required),
+        Some(Some("disallowed")) => Ok(disallowed),
+        Some(_) => Err(Fault::Malformed),
     }
 }

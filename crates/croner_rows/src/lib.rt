@@ -3,6 +3,7 @@
 
 mod asked;
 mod clocks;
+mod comparisons;
 mod faults;
 mod field_calls;
 mod jobs;
@@ -18,19 +19,24 @@ mod texts;
 mod times;
 
 pub use asked::ask;
-pub use clocks::{OverTime, clock_changes, clock_table, narrow_time, over_time, read_rule};
+pub use clocks::{
+    OverTime, add_series, clock_changes, clock_table, narrow_time, over_time, read_rule,
+};
 pub use faults::Fault;
 pub use field_calls::{are_alike, calls_in_turn, hash_of, new_component, read_field};
 pub use jobs::{Job, read_parser, whole_text};
 pub use lines::{Summary, Tool, answer_lines, status};
 pub use marks::Caller;
 pub use members::{
-    civil, civil_value, direction, flag, items, list, member, number, number_at, switch, text,
-    weekday, word,
+    civil, civil_value, direction, flag, items, list, member, number, number_at, parts, switch,
+    text, three, weekday, word,
 };
 pub use moments::Moment;
 pub use outcomes::{Answer, Outcome};
-pub use pattern_calls::time_component;
-pub use subjects::{How, Run, Runs, Subject, Table, asked_runs};
+pub use pattern_calls::{field_at, time_component};
+pub use subjects::{How, Run, Runs, Subject, Table};
 pub use texts::printed;
 pub use times::{bare, instants, time_and_job};
+
+/// What is asked, or why there is none.
+pub type Result<T, E = Fault> = std::result::Result<T, E>;

@@ -1,6 +1,7 @@
 //! Lines of questions one after another: what each answers, and how many differ from what is wanted.
 
-use crate::Fault;
+use crate::shown::json;
+use crate::{Fault, Result};
 use serde_json::Value;
 use std::alloc::Global;
 use std::io;
@@ -10,7 +11,7 @@ use std::process::ExitCode;
 /// A tool that answers questions.
 pub trait Tool {
     /// The answer of a question; one that the library refuses has the refusal as its answer.
-    fn answer(&self, question: &Value) -> Result<Value, Fault>;
+    fn answer(&self, question: &Value) -> Result<Value>;
 
     /// Whether an answer is what is wanted.
     fn is_wanted(&self, got: &Value, want: &Value) -> bool;
@@ -55,11 +56,7 @@ enum Judged {
 }
 
 /// Answers each line of standard input, and prints those that differ and those that want nothing.
-pub fn answer_lines<T: Tool, W: Write>(
-    rt: &HostRuntime,
-    tool: &T,
-    out: &mut W,
-) -> Result<Summary, Fault> {
+pub fn answer_lines<T: Tool, W: Write>(rt: &HostRuntime, tool: &T, out: &mut W) -> Result<Summary> {
     let mut input = BufReader::new(rt.alloc(), rt.stdin())?;
     let mut summary = Summary::default();
     let mut line = Vec::new(rt.alloc());
@@ -83,7 +80,7 @@ fn print<W: Write>(out: &mut W, number: u64, judged: &Judged) -> io::Result<()> 
     }
 }
 
-fn judge<T: Tool>(alloc: Global, tool: &T, line: &[u8]) -> Result<Judged, Fault> {
+fn judge<T: Tool>(alloc: Global, tool: &T, line: &[u8]) -> Result<Judged> {
     match judge_line(alloc, tool, line) {
         Err(Fault::Malformed) => Ok(Judged::Malformed),
         Err(Fault::Unsupported) => Ok(Judged::Unsupported),
@@ -91,8 +88,8 @@ fn judge<T: Tool>(alloc: Global, tool: &T, line: &[u8]) -> Result<Judged, Fault>
     }
 }
 
-fn judge_line<T: Tool>(alloc: Global, tool: &T, line: &[u8]) -> Result<Judged, Fault> {
-    let question = read_line(alloc, line)?;
+fn judge_line<T: Tool>(alloc: Global, tool: &T, line: &[u8]) -> Result<Judged> {
+    let question = json(alloc, line)?;
     let got = tool.answer(&question)?;
     match question.get("want") {
         None => Ok(Judged::Unjudged(got.to_string(alloc)?)),
@@ -101,21 +98,13 @@ fn judge_line<T: Tool>(alloc: Global, tool: &T, line: &[u8]) -> Result<Judged, F
     }
 }
 
-fn read_line(alloc: Global, line: &[u8]) -> Result<Value, Fault> {
-    match Value::from_slice(alloc, line) {
-        Ok(question) => Ok(question),
-        Err(error) if error.is_memory() => Err(Fault::OutOfMemory),
-        Err(_) => Err(Fault::Malformed),
-    }
-}
-
-fn differing(alloc: Global, got: &Value, want: &Value) -> Result<Judged, Fault> {
+fn differing(alloc: Global, got: &Value, want: &Value) -> Result<Judged> {
     let (got, want) = (got.to_string(alloc)?, want.to_string(alloc)?);
     Ok(Judged::Differs(format!(in alloc; "got {got}, want {want}")?))
 }
 
 /// The status of a tool: success where it came to its end and all was well. What ended it before is told on standard error.
-pub fn status(rt: &HostRuntime, ended: Result<bool, Fault>) -> io::Result<ExitCode> {
+pub fn status(rt: &HostRuntime, ended: Result<bool>) -> io::Result<ExitCode> {
     match ended {
         Ok(true) => Ok(ExitCode::SUCCESS),
         Ok(false) => Ok(ExitCode::FAILURE),

@@ -3,10 +3,6 @@
 use std::alloc::Global;
 use std::io::Write;
 
-const BEGIN: &str = "begin\n";
-
-const END: &str = "end\n";
-
 /// Who makes the calls of a question: the allocator that they are given, and whether they stand between two marks on standard
 /// error, for a program that refuses their requests for memory.
 #[derive(Clone, Copy)]
@@ -18,28 +14,24 @@ pub struct Caller<'r> {
 impl<'r> Caller<'r> {
     /// A caller that makes no marks.
     pub fn unmarked(alloc: Global) -> Caller<'r> {
-        Caller {
-            alloc,
-            marking: None,
-        }
+        let marking = None;
+        Caller { alloc, marking }
     }
 
     /// A caller that makes marks.
     pub fn marked(rt: &'r HostRuntime) -> Caller<'r> {
-        Caller {
-            alloc: rt.alloc(),
-            marking: Some(rt),
-        }
+        let (alloc, marking) = (rt.alloc(), Some(rt));
+        Caller { alloc, marking }
     }
 
     /// From here on requests are counted, and one may be refused.
     pub fn begin(self) {
-        self.mark(BEGIN);
+        self.mark("begin\n");
     }
 
     /// From here on none is.
     pub fn end(self) {
-        self.mark(END);
+        self.mark("end\n");
     }
 
     // A mark that can't be written is missed by whoever counts.

@@ -1,6 +1,6 @@
 //! Kinds of time.
 
-use crate::Fault;
+use crate::Result;
 use crate::shown::pair;
 use croner::time::CronDateTime;
 use croner::time::table::TableTime;
@@ -12,38 +12,51 @@ use std::alloc::Global;
 
 /// A kind of time whose values are shown.
 pub trait Moment: CronDateTime {
-    /// A text in civil time, and else the second since 1970-01-01T00:00:00 UTC.
-    fn shown(&self, alloc: Global) -> Result<Value, Fault>;
+    /// The seconds since 1970-01-01T00:00:00: on the wall clock for civil time, and else in UTC.
+    fn second(&self) -> i64;
+
+    /// A text in civil time, and else the second.
+    fn shown(&self, _alloc: Global) -> Result<Value> {
+        Ok(Value::from(self.second()))
+    }
 }
 
 impl Moment for DateTime {
-    fn shown(&self, alloc: Global) -> Result<Value, Fault> {
+    fn second(&self) -> i64 {
+        self.to_plain().to_second()
+    }
+
+    fn shown(&self, alloc: Global) -> Result<Value> {
         Ok(Value::String(self.to_civil().to_string(alloc)?))
     }
 }
 
 impl<'t> Moment for TableTime<'t> {
-    fn shown(&self, _alloc: Global) -> Result<Value, Fault> {
-        Ok(Value::from(self.second()))
+    fn second(&self) -> i64 {
+        TableTime::second(self)
     }
 }
 
 impl<'t> Moment for BoxedTime<'t> {
-    fn shown(&self, _alloc: Global) -> Result<Value, Fault> {
-        Ok(Value::from(self.time().second()))
+    fn second(&self) -> i64 {
+        self.time().second()
     }
 }
 
 impl<'t> Moment for NarrowTime<'t> {
-    fn shown(&self, _alloc: Global) -> Result<Value, Fault> {
-        Ok(Value::from(self.time().second()))
+    fn second(&self) -> i64 {
+        self.time().second()
     }
 }
 
 // With the nanosecond of the second where it isn't the first.
 impl<'z> Moment for Zoned<'z> {
-    fn shown(&self, alloc: Global) -> Result<Value, Fault> {
-        let second = Value::from(self.timestamp().as_second());
+    fn second(&self) -> i64 {
+        self.timestamp().as_second()
+    }
+
+    fn shown(&self, alloc: Global) -> Result<Value> {
+        let second = Value::from(Moment::second(self));
         match self.timestamp().subsec_nanosecond() {
             0 => Ok(second),
             nanosecond => pair(alloc, second, Value::from(nanosecond)),

@@ -1,7 +1,7 @@
 //! What the calls of a question gave.
 
-use crate::Fault;
 use crate::shown::{json, refusal};
+use crate::{Fault, Result};
 use croner::errors::CronError;
 use serde_json::Value;
 use std::alloc::{AllocError, Global};
@@ -16,15 +16,15 @@ pub enum Answer {
 
 impl Answer {
     /// The answer as a JSON value.
-    pub fn into_value(self, alloc: Global) -> Result<Value, Fault> {
+    pub fn into_value(self, alloc: Global) -> Result<Value> {
         match self {
             Answer::Value(value) => Ok(value),
-            Answer::Text(text) => json(alloc, text.as_str()),
+            Answer::Text(text) => json(alloc, text.as_bytes()),
         }
     }
 
     /// The answer as a text; one that is a text is itself, without quotes.
-    pub fn into_text(self, alloc: Global) -> Result<String, Fault> {
+    pub fn into_text(self, alloc: Global) -> Result<String> {
         match self {
             Answer::Value(Value::String(text)) | Answer::Text(text) => Ok(text),
             Answer::Value(value) => Ok(value.to_string(alloc)?),
@@ -35,7 +35,7 @@ impl Answer {
 /// What the calls of a question gave.
 pub struct Outcome {
     /// What they answered, or why they were refused.
-    answer: Result<Answer, Fault>,
+    answer: Result<Answer>,
     /// What they were lent, afterwards, or what comes after them.
     after: String,
 }
@@ -52,16 +52,13 @@ impl Drop for Outcome {
 
 impl Outcome {
     /// An answer, and what was lent, as its text.
-    pub fn new(
-        answer: Result<Answer, Fault>,
-        after: Result<String, Fault>,
-    ) -> Result<Outcome, Fault> {
+    pub fn new(answer: Result<Answer>, after: Result<String>) -> Result<Outcome> {
         let after = after?;
         Ok(Outcome { answer, after })
     }
 
     /// An answer, where nothing was lent.
-    pub fn of(alloc: Global, answer: Result<Answer, Fault>) -> Outcome {
+    pub fn of(alloc: Global, answer: Result<Answer>) -> Outcome {
         let after = String::new(alloc);
         Outcome { answer, after }
     }
@@ -72,25 +69,25 @@ impl Outcome {
     }
 
     /// An answer that is a text, where nothing was lent.
-    pub fn of_text(alloc: Global, answer: Result<String, AllocError>) -> Result<Outcome, Fault> {
+    pub fn of_text(alloc: Global, answer: Result<String, AllocError>) -> Result<Outcome> {
         let answer = answer?;
         Ok(Outcome::of(alloc, Ok(Answer::Text(answer))))
     }
 
     /// The answer as a JSON value.
-    pub fn into_value(self, alloc: Global) -> Result<Value, Fault> {
+    pub fn into_value(self, alloc: Global) -> Result<Value> {
         let Outcome { answer, after: _ } = self;
         answer?.into_value(alloc)
     }
 
     /// The answer as a text, which is its name where it is a refusal, and what was lent.
-    pub fn into_texts(self, alloc: Global) -> Result<(String, String), Fault> {
+    pub fn into_texts(self, alloc: Global) -> Result<(String, String)> {
         let Outcome { answer, after } = self;
         Ok((told(alloc, answer)?, after))
     }
 }
 
-fn told(alloc: Global, answer: Result<Answer, Fault>) -> Result<String, Fault> {
+fn told(alloc: Global, answer: Result<Answer>) -> Result<String> {
     match answer {
         Ok(answer) => answer.into_text(alloc),
         Err(Fault::Refused(error)) => Ok(String::from_str(alloc, refusal(&error))?),

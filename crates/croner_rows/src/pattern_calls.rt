@@ -1,7 +1,7 @@
 //! Calls of one pattern: what its fields match.
 
 use crate::{
-    Answer, Caller, Fault, Job, Outcome, direction, list, number, number_at, shown, text, weekday,
+    Answer, Caller, Fault, Job, Outcome, Result, direction, number_at, shown, text, three, weekday,
     word,
 };
 use croner::time::TimeComponent;
@@ -9,7 +9,7 @@ use croner::{Cron, CronComponent, CronPattern};
 use serde_json::Value;
 
 /// A part of a date and time by its name.
-pub fn time_component(question: &Value) -> Result<TimeComponent, Fault> {
+pub fn time_component(question: &Value) -> Result<TimeComponent> {
     match text(question, "component")? {
         "second" => Ok(TimeComponent::Second),
         "minute" => Ok(TimeComponent::Minute),
@@ -22,7 +22,7 @@ pub fn time_component(question: &Value) -> Result<TimeComponent, Fault> {
 }
 
 // The answer of a call, which is given members of the question; one that is given what no month has is malformed.
-fn made(pattern: &CronPattern, question: &Value, op: &str) -> Result<Value, Fault> {
+fn made(pattern: &CronPattern, question: &Value, op: &str) -> Result<Value> {
     match op {
         "find" => found(pattern, question),
         "closest_weekday" => Ok(Value::Bool(is_closest(pattern, question)?)),
@@ -32,13 +32,13 @@ fn made(pattern: &CronPattern, question: &Value, op: &str) -> Result<Value, Faul
     }
 }
 
-fn found(pattern: &CronPattern, question: &Value) -> Result<Value, Fault> {
+fn found(pattern: &CronPattern, question: &Value) -> Result<Value> {
     let (value, part) = (number_at(question, "value")?, time_component(question)?);
     let found = pattern.find_match_in_component(value, part, direction(question)?)?;
     Ok(Value::from(found))
 }
 
-fn is_closest(pattern: &CronPattern, question: &Value) -> Result<bool, Fault> {
+fn is_closest(pattern: &CronPattern, question: &Value) -> Result<bool> {
     let (length, day): (u32, u32) = (number_at(question, "length")?, number_at(question, "day")?);
     let weekday = weekday(question, "weekday")?;
     if length < 28 || length > 31 || day < 1 || day > length {
@@ -47,7 +47,7 @@ fn is_closest(pattern: &CronPattern, question: &Value) -> Result<bool, Fault> {
     Ok(pattern.closest_weekday(length, day, weekday)?)
 }
 
-fn mask(pattern: &CronPattern, question: &Value) -> Result<u32, Fault> {
+fn mask(pattern: &CronPattern, question: &Value) -> Result<u32> {
     let (length, first): (u32, _) = (number_at(question, "length")?, weekday(question, "first")?);
     if length < 28 || length > 31 {
         return Err(Fault::Malformed);
@@ -55,15 +55,12 @@ fn mask(pattern: &CronPattern, question: &Value) -> Result<u32, Fault> {
     Ok(pattern.day_mask(length, first)?)
 }
 
-fn is_day(pattern: &CronPattern, question: &Value) -> Result<bool, Fault> {
-    let [year, month, day] = list(question, "date")? else {
-        return Err(Fault::Malformed);
-    };
-    let (year, month, day) = (number(year)?, number(month)?, number(day)?);
+fn is_day(pattern: &CronPattern, question: &Value) -> Result<bool> {
+    let (year, month, day) = three(question, "date")?;
     Ok(pattern.day_match(year, month, day, weekday(question, "weekday")?)?)
 }
 
-fn is_matched(pattern: &CronPattern, question: &Value, op: &str) -> Result<bool, Fault> {
+fn is_matched(pattern: &CronPattern, question: &Value, op: &str) -> Result<bool> {
     match op {
         "year_match" => Ok(pattern.year_match(number_at(question, "value")?)?),
         "month_match" => Ok(pattern.month_match(number_at(question, "value")?)?),
@@ -74,7 +71,8 @@ fn is_matched(pattern: &CronPattern, question: &Value, op: &str) -> Result<bool,
     }
 }
 
-fn field_at<'p>(pattern: &'p mut CronPattern, name: &str) -> Result<&'p mut CronComponent, Fault> {
+/// The field of a pattern by its name.
+pub fn field_at<'p>(pattern: &'p mut CronPattern, name: &str) -> Result<&'p mut CronComponent> {
     match name {
         "seconds" => Ok(&mut pattern.seconds),
         "minutes" => Ok(&mut pattern.minutes),
@@ -88,7 +86,7 @@ fn field_at<'p>(pattern: &'p mut CronPattern, name: &str) -> Result<&'p mut Cron
 }
 
 /// A call of the pattern of a text, one of whose fields is emptied where the question names it; and what it holds afterwards.
-pub fn call_of_pattern(caller: Caller<'_>, question: &Value, op: &str) -> Result<Outcome, Fault> {
+pub fn call_of_pattern(caller: Caller<'_>, question: &Value, op: &str) -> Result<Outcome> {
     let Cron { mut pattern } = Job::read(caller.alloc, question)?.into_cron();
     let outcome = called(caller, &mut pattern, question, op);
     drop(pattern);
@@ -100,15 +98,13 @@ fn called(
     pattern: &mut CronPattern,
     question: &Value,
     op: &str,
-) -> Result<Outcome, Fault> {
+) -> Result<Outcome> {
     if let Some(name) = question.get("emptied") {
         *field_at(pattern, word(name)?)? = CronComponent::default(caller.alloc);
     }
     caller.begin();
     let answer = made(pattern, question, op);
     caller.end();
-    Outcome::new(
-        answer.map(Answer::Value),
-        shown::pattern(caller.alloc, pattern),
-    )
+    let after = shown::pattern(caller.alloc, pattern);
+    Outcome::new(answer.map(Answer::Value), after)
 }

@@ -1,6 +1,6 @@
 //! What is shown: refusals, orders and lists as JSON values, and what fields, patterns and jobs hold as JSON texts.
 
-use crate::{Fault, Moment};
+use crate::{Fault, Moment, Result};
 use croner::component::{
     ALL_BIT, CLOSEST_WEEKDAY_BIT, CronComponent, LAST_BIT, NTH_1ST_BIT, NTH_2ND_BIT, NTH_3RD_BIT,
     NTH_4TH_BIT, NTH_5TH_BIT,
@@ -22,16 +22,6 @@ const MODIFIERS: [(&str, u8); 8] = [
     ("nearest", CLOSEST_WEEKDAY_BIT),
 ];
 
-const FIELDS: [&str; 7] = [
-    "seconds",
-    "minutes",
-    "hours",
-    "days",
-    "months",
-    "days_of_week",
-    "years",
-];
-
 /// A refusal: the name of its variant.
 pub fn refusal(error: &CronError) -> &'static str {
     match error {
@@ -47,7 +37,7 @@ pub fn refusal(error: &CronError) -> &'static str {
 }
 
 /// A refusal as a JSON value. Want of memory is none, but a fault.
-pub fn refused(alloc: Global, error: &CronError) -> Result<Value, Fault> {
+pub fn refused(alloc: Global, error: &CronError) -> Result<Value> {
     match error {
         CronError::OutOfMemory => Err(Fault::OutOfMemory),
         error => text(alloc, refusal(error)),
@@ -55,7 +45,7 @@ pub fn refused(alloc: Global, error: &CronError) -> Result<Value, Fault> {
 }
 
 /// An answer, or its refusal.
-pub fn or_refusal(alloc: Global, answer: Result<Value, Fault>) -> Result<Value, Fault> {
+pub fn or_refusal(alloc: Global, answer: Result<Value>) -> Result<Value> {
     match answer {
         Err(Fault::Refused(error)) => refused(alloc, &error),
         answer => answer,
@@ -72,13 +62,13 @@ pub fn ordering(order: Ordering) -> &'static str {
 }
 
 /// A text.
-pub fn text(alloc: Global, text: &str) -> Result<Value, Fault> {
+pub fn text(alloc: Global, text: &str) -> Result<Value> {
     Ok(Value::try_from_str(alloc, text)?)
 }
 
-/// The JSON value of a text.
-pub fn json(alloc: Global, text: &str) -> Result<Value, Fault> {
-    match Value::from_str(alloc, text) {
+/// The JSON value of a text's bytes.
+pub fn json(alloc: Global, text: &[u8]) -> Result<Value> {
+    match Value::from_slice(alloc, text) {
         Ok(value) => Ok(value),
         Err(error) if error.is_memory() => Err(Fault::OutOfMemory),
         Err(_) => Err(Fault::Malformed),
@@ -86,13 +76,13 @@ pub fn json(alloc: Global, text: &str) -> Result<Value, Fault> {
 }
 
 /// The JSON value of a text that was put together.
-pub fn object(alloc: Global, text: Result<String, AllocError>) -> Result<Value, Fault> {
+pub fn object(alloc: Global, text: Result<String, AllocError>) -> Result<Value> {
     let text = text?;
-    json(alloc, text.as_str())
+    json(alloc, text.as_bytes())
 }
 
 /// Two values as a list.
-pub fn pair(alloc: Global, one: Value, other: Value) -> Result<Value, Fault> {
+pub fn pair(alloc: Global, one: Value, other: Value) -> Result<Value> {
     let mut both = Vec::new(alloc);
     both.push(one)?;
     both.push(other)?;
@@ -100,7 +90,7 @@ pub fn pair(alloc: Global, one: Value, other: Value) -> Result<Value, Fault> {
 }
 
 /// Numbers as a list.
-pub fn numbers<N: Copy + Into<Value>>(alloc: Global, numbers: &[N]) -> Result<Value, Fault> {
+pub fn numbers<N: Copy + Into<Value>>(alloc: Global, numbers: &[N]) -> Result<Value> {
     let mut list = Vec::new(alloc);
     for number in numbers {
         list.push((*number).into())?;
@@ -109,7 +99,7 @@ pub fn numbers<N: Copy + Into<Value>>(alloc: Global, numbers: &[N]) -> Result<Va
 }
 
 /// Times as a list.
-pub fn times<T: Moment>(alloc: Global, times: &[T]) -> Result<Value, Fault> {
+pub fn times<T: Moment>(alloc: Global, times: &[T]) -> Result<Value> {
     let mut list = Vec::new(alloc);
     for time in times {
         list.push(time.shown(alloc)?)?;
@@ -126,18 +116,18 @@ pub fn add_item(list: &mut String, item: &str) -> Result<(), AllocError> {
 }
 
 // Puts a member behind the others: its name and its value.
-fn add_member(alloc: Global, members: &mut String, name: &str, value: &str) -> Result<(), Fault> {
+fn add_member(alloc: Global, members: &mut String, name: &str, value: &str) -> Result<()> {
     let member = format!(in alloc; "\"{name}\":{value}")?;
     Ok(add_item(members, member.as_str())?)
 }
 
 // Ascending values as the list of their longest runs, each its first and its last value.
-fn spans(alloc: Global, values: &[u16]) -> Result<String, Fault> {
+fn spans(alloc: Global, values: &[u16]) -> Result<String> {
     let mut list = String::new(alloc);
-    let mut open = None;
+    let mut open: Option<(u16, u16)> = None;
     for value in values {
         open = match open {
-            Some((first, last)) if continues(last, *value) => Some((first, *value)),
+            Some((first, last)) if last.checked_add(1) == Some(*value) => Some((first, *value)),
             Some((first, last)) => {
                 add_span(alloc, &mut list, first, last)?;
                 Some((*value, *value))
@@ -151,23 +141,19 @@ fn spans(alloc: Global, values: &[u16]) -> Result<String, Fault> {
     Ok(format!(in alloc; "[{list}]")?)
 }
 
-fn continues(last: u16, value: u16) -> bool {
-    last.checked_add(1) == Some(value)
-}
-
 fn add_span(alloc: Global, list: &mut String, first: u16, last: u16) -> Result<(), AllocError> {
     let span = format!(in alloc; "[{first},{last}]")?;
     add_item(list, span.as_str())
 }
 
 /// Ascending values as the list of their longest runs.
-pub fn runs(alloc: Global, values: &[u16]) -> Result<Value, Fault> {
+pub fn runs(alloc: Global, values: &[u16]) -> Result<Value> {
     let spans = spans(alloc, values)?;
-    json(alloc, spans.as_str())
+    json(alloc, spans.as_bytes())
 }
 
 // The values of each modifier that has any.
-fn marks(alloc: Global, component: &CronComponent) -> Result<String, Fault> {
+fn marks(alloc: Global, component: &CronComponent) -> Result<String> {
     let mut marks = String::new(alloc);
     for (name, bit) in MODIFIERS {
         let values = component.get_set_values(bit)?;
@@ -191,7 +177,7 @@ fn enabled(component: &CronComponent) -> u8 {
 }
 
 /// What a field holds.
-pub fn field(alloc: Global, component: &CronComponent) -> Result<String, Fault> {
+pub fn field(alloc: Global, component: &CronComponent) -> Result<String> {
     let marks = marks(alloc, component)?;
     let (enabled, step) = (enabled(component), component.step());
     let wildcard = component.from_wildcard();
@@ -200,31 +186,29 @@ pub fn field(alloc: Global, component: &CronComponent) -> Result<String, Fault> 
     )?)
 }
 
-/// The field of a pattern by its name.
-pub fn field_of<'p>(pattern: &'p CronPattern, name: &str) -> Result<&'p CronComponent, Fault> {
-    match name {
-        "seconds" => Ok(&pattern.seconds),
-        "minutes" => Ok(&pattern.minutes),
-        "hours" => Ok(&pattern.hours),
-        "days" => Ok(&pattern.days),
-        "months" => Ok(&pattern.months),
-        "days_of_week" => Ok(&pattern.days_of_week),
-        "years" => Ok(&pattern.years),
-        _ => Err(Fault::Malformed),
-    }
+fn fields_of(pattern: &CronPattern) -> [(&'static str, &CronComponent); 7] {
+    [
+        ("seconds", &pattern.seconds),
+        ("minutes", &pattern.minutes),
+        ("hours", &pattern.hours),
+        ("days", &pattern.days),
+        ("months", &pattern.months),
+        ("days_of_week", &pattern.days_of_week),
+        ("years", &pattern.years),
+    ]
 }
 
-fn fields(alloc: Global, pattern: &CronPattern) -> Result<String, Fault> {
+fn fields(alloc: Global, pattern: &CronPattern) -> Result<String> {
     let mut fields = String::new(alloc);
-    for name in FIELDS {
-        let field = field(alloc, field_of(pattern, name)?)?;
+    for (name, of) in fields_of(pattern) {
+        let field = field(alloc, of)?;
         add_member(alloc, &mut fields, name, field.as_str())?;
     }
     Ok(fields)
 }
 
 // The text and the flags of a pattern.
-fn head(alloc: Global, pattern: &CronPattern) -> Result<String, Fault> {
+fn head(alloc: Global, pattern: &CronPattern) -> Result<String> {
     let (text, and) = (
         text(alloc, pattern.as_str())?,
         pattern.matches_dom_and_dow(),
@@ -236,11 +220,11 @@ fn head(alloc: Global, pattern: &CronPattern) -> Result<String, Fault> {
 }
 
 /// What a pattern holds.
-pub fn pattern(alloc: Global, pattern: &CronPattern) -> Result<String, Fault> {
+pub fn pattern(alloc: Global, pattern: &CronPattern) -> Result<String> {
     held(alloc, pattern, "")
 }
 
-fn held(alloc: Global, pattern: &CronPattern, kind: &str) -> Result<String, Fault> {
+fn held(alloc: Global, pattern: &CronPattern, kind: &str) -> Result<String> {
     let (head, fields) = (head(alloc, pattern)?, fields(alloc, pattern)?);
     Ok(format!(in alloc; "{{{head}{kind},\"fields\":{{{fields}}}}}")?)
 }
@@ -254,7 +238,7 @@ pub fn job_type(kind: JobType) -> &'static str {
 }
 
 /// What a job holds: its pattern, and its kind.
-pub fn job(alloc: Global, cron: &Cron) -> Result<String, Fault> {
+pub fn job(alloc: Global, cron: &Cron) -> Result<String> {
     let kind = job_type(cron.determine_job_type());
     let kind = format!(in alloc; ",\"job_type\":\"{kind}\"")?;
     held(alloc, &cron.pattern, kind.as_str())

@@ -1,13 +1,10 @@
 //! Whose runs are asked for, those of a job or of a table of jobs: searches and iterators over them.
 
-use crate::{
-    Caller, Fault, Job, Moment, civil_value, list, member, number_at, shown, switch, text,
-};
+use crate::{Caller, Fault, Job, Moment, Result, list, number_at, shown, text};
 use croner::crontable::{CronTable, CronTableIterator};
 use croner::errors::CronError;
 use croner::time::Direction;
 use croner::{Cron, CronIterator};
-use jiff::civil::DateTime;
 use serde_json::Value;
 use std::alloc::Global;
 
@@ -26,23 +23,18 @@ pub struct Run<T> {
 }
 
 impl<T: Moment> Run<T> {
-    fn of_job(instant: T) -> Run<T> {
-        Run {
-            instant,
-            places: None,
-        }
+    fn new(instant: T, places: Option<Vec<usize>>) -> Run<T> {
+        Run { instant, places }
     }
 
-    fn of_table(run: (T, Vec<usize>)) -> Run<T> {
+    /// The run of a table.
+    pub fn of_table(run: (T, Vec<usize>)) -> Run<T> {
         let (instant, places) = run;
-        Run {
-            instant,
-            places: Some(places),
-        }
+        Run::new(instant, Some(places))
     }
 
     /// The instant, and behind it the places where there are any, as a list.
-    pub fn shown(&self, alloc: Global) -> Result<Value, Fault> {
+    pub fn shown(&self, alloc: Global) -> Result<Value> {
         let instant = self.instant.shown(alloc)?;
         match &self.places {
             None => Ok(instant),
@@ -65,11 +57,11 @@ impl<'j> Subject<'j> {
         match (self, direction) {
             (Subject::Job(job), Direction::Forward) => {
                 let run = job.cron.find_next_occurrence(position, inclusive)?;
-                Ok(Run::of_job(run))
+                Ok(Run::new(run, None))
             }
             (Subject::Job(job), Direction::Backward) => {
                 let run = job.cron.find_previous_occurrence(position, inclusive)?;
-                Ok(Run::of_job(run))
+                Ok(Run::new(run, None))
             }
             (Subject::Table(table), Direction::Forward) => {
                 let run = table.find_next_occurrence(position, inclusive)?;
@@ -93,7 +85,7 @@ pub enum How {
 
 impl How {
     /// How the iterator of a question is made.
-    pub fn read(question: &Value) -> Result<How, Fault> {
+    pub fn read(question: &Value) -> Result<How> {
         match text(question, "how")? {
             "from_forward" => Ok(How::From(Direction::Forward)),
             "from_backward" => Ok(How::From(Direction::Backward)),
@@ -147,7 +139,7 @@ impl<'j, T: Moment> Runs<'j, T> {
     }
 
     /// A copy of the iterator.
-    pub fn copied(&self) -> Result<Runs<'j, T>, Fault> {
+    pub fn copied(&self) -> Result<Runs<'j, T>> {
         match self {
             Runs::OfJob(runs) => Ok(Runs::OfJob(runs.clone()?)),
             Runs::OfTable(runs) => Ok(Runs::OfTable(runs.clone()?)),
@@ -157,7 +149,7 @@ impl<'j, T: Moment> Runs<'j, T> {
     /// What the next call gives.
     pub fn next(&mut self) -> Option<Run<T>> {
         match self {
-            Runs::OfJob(runs) => Some(Run::of_job(runs.next()?)),
+            Runs::OfJob(runs) => Some(Run::new(runs.next()?, None)),
             Runs::OfTable(runs) => Some(Run::of_table(runs.next()?)),
         }
     }
@@ -185,7 +177,7 @@ impl<'j, T: Moment> Runs<'j, T> {
 
     /// The answer of one call: where a fault is kept behind it, the name of the fault, and else the item, or null for None. Want
     /// of memory is a fault.
-    pub fn item(&mut self, alloc: Global) -> Result<Value, Fault> {
+    pub fn item(&mut self, alloc: Global) -> Result<Value> {
         let run = self.next();
         if let Some(fault) = self.fault() {
             return shown::refused(alloc, fault);
@@ -195,21 +187,6 @@ impl<'j, T: Moment> Runs<'j, T> {
             None => Ok(Value::Null),
         }
     }
-}
-
-/// An iterator over the runs of a job from a civil start, made as a member of the question says, and asked for one run where that
-/// says so.
-pub fn asked_runs<'j>(
-    job: &'j Job,
-    question: &Value,
-    name: &str,
-) -> Result<Runs<'j, DateTime>, Fault> {
-    let (start, side) = (civil_value(question, "start")?, member(question, name)?);
-    let mut runs = Runs::new(Subject::Job(job), start, How::read(side)?)?;
-    if switch(side, "asked")? {
-        let _ = runs.next();
-    }
-    Ok(runs)
 }
 
 /// A table of jobs.
@@ -226,7 +203,7 @@ impl Drop for Table {
 
 impl Table {
     /// The table of the patterns of a question.
-    pub fn read(alloc: Global, question: &Value) -> Result<Table, Fault> {
+    pub fn read(alloc: Global, question: &Value) -> Result<Table> {
         let mut jobs = CronTable::new(alloc);
         for pattern in list(question, "patterns")? {
             jobs.push(Job::read(alloc, pattern)?.into_cron())?;
@@ -235,7 +212,7 @@ impl Table {
     }
 
     /// The change of a question, and the job that comes out.
-    pub fn change(&mut self, caller: Caller<'_>, question: &Value) -> Result<Option<Job>, Fault> {
+    pub fn change(&mut self, caller: Caller<'_>, question: &Value) -> Result<Option<Job>> {
         let (change, place) = (text(question, "change")?, number_at(question, "place")?);
         let by = match question.get("by") {
             Some(by) => Some(Job::read(caller.alloc, by)?.into_cron()),
@@ -253,7 +230,7 @@ fn changed(
     change: &str,
     place: usize,
     by: Option<Cron>,
-) -> Result<Option<Cron>, Fault> {
+) -> Result<Option<Cron>> {
     match (change, by) {
         ("replace", Some(by)) => Ok(jobs.replace(place, by)),
         ("remove", None) => Ok(jobs.remove(place)),

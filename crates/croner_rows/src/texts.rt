@@ -1,7 +1,8 @@
 //! Texts and JSON values that are read, and descriptions.
 
-use crate::{Answer, Caller, Fault, Job, Outcome, member, read_parser, shown, text, whole_text};
-use croner::describe::lang::english::English;
+use crate::{
+    Answer, Caller, Fault, Job, Outcome, Result, member, read_parser, shown, text, whole_text,
+};
 use croner::describe::lang::swedish::Swedish;
 use croner::errors::CronError;
 use croner::{Cron, CronPattern};
@@ -10,7 +11,7 @@ use serde_json::Value;
 use std::alloc::Global;
 
 /// What the text of a question is read as.
-pub fn parse(caller: Caller<'_>, question: &Value) -> Result<Outcome, Fault> {
+pub fn parse(caller: Caller<'_>, question: &Value) -> Result<Outcome> {
     let (parser, text) = (read_parser(question)?, whole_text(caller.alloc, question)?);
     caller.begin();
     let read = parser.parse(caller.alloc, text.as_str());
@@ -19,13 +20,13 @@ pub fn parse(caller: Caller<'_>, question: &Value) -> Result<Outcome, Fault> {
 }
 
 /// What a job that was read holds.
-pub fn held(alloc: Global, read: Result<Cron, CronError>) -> Result<Answer, Fault> {
+pub fn held(alloc: Global, read: Result<Cron, CronError>) -> Result<Answer> {
     let job = Job::new(read?);
     Ok(Answer::Text(shown::job(alloc, &job.cron)?))
 }
 
 /// What the JSON value of a question is read as, and the value afterwards.
-pub fn from_json(caller: Caller<'_>, question: &Value) -> Result<Outcome, Fault> {
+pub fn from_json(caller: Caller<'_>, question: &Value) -> Result<Outcome> {
     let value = member(question, "value")?;
     caller.begin();
     let read = Cron::from_json(caller.alloc, value);
@@ -34,12 +35,12 @@ pub fn from_json(caller: Caller<'_>, question: &Value) -> Result<Outcome, Fault>
 }
 
 /// A JSON value as its text.
-pub fn printed(alloc: Global, value: &Value) -> Result<String, Fault> {
+pub fn printed(alloc: Global, value: &Value) -> Result<String> {
     Ok(value.to_string(alloc)?)
 }
 
 /// The text of a pattern that is made of it, and not parsed.
-pub fn unparsed(caller: Caller<'_>, question: &Value) -> Result<Outcome, Fault> {
+pub fn unparsed(caller: Caller<'_>, question: &Value) -> Result<Outcome> {
     let text = text(question, "text")?;
     caller.begin();
     let made = CronPattern::new(caller.alloc, text);
@@ -47,44 +48,26 @@ pub fn unparsed(caller: Caller<'_>, question: &Value) -> Result<Outcome, Fault> 
     Ok(Outcome::of(caller.alloc, kept_text(caller.alloc, made)))
 }
 
-fn kept_text(alloc: Global, made: Result<CronPattern, CronError>) -> Result<Answer, Fault> {
+fn kept_text(alloc: Global, made: Result<CronPattern, CronError>) -> Result<Answer> {
     let pattern = made?;
     let kept = shown::text(alloc, pattern.as_str());
     drop(pattern);
     Ok(Answer::Value(kept?))
 }
 
-// A language of questions.
-#[derive(Clone, Copy)]
-enum Tongue {
-    English,
-    Swedish,
-    TwelveHours,
-    OwnYears,
-}
-
-fn read_tongue(question: &Value) -> Result<Tongue, Fault> {
-    match text(question, "language")? {
-        "english" => Ok(Tongue::English),
-        "swedish" => Ok(Tongue::Swedish),
-        "twelve_hours" => Ok(Tongue::TwelveHours),
-        "own_years" => Ok(Tongue::OwnYears),
+fn described(cron: &Cron, language: &str) -> Result<String> {
+    match language {
+        "english" => Ok(cron.describe()?),
+        "swedish" => Ok(cron.describe_lang(Swedish)?),
+        "twelve_hours" => Ok(cron.describe_lang(TwelveHours)?),
+        "own_years" => Ok(cron.describe_lang(OwnYears)?),
         _ => Err(Fault::Malformed),
     }
 }
 
-fn described(cron: &Cron, language: Tongue) -> Result<String, CronError> {
-    match language {
-        Tongue::English => cron.describe(),
-        Tongue::Swedish => cron.describe_lang(Swedish),
-        Tongue::TwelveHours => cron.describe_lang(TwelveHours),
-        Tongue::OwnYears => cron.describe_lang(OwnYears),
-    }
-}
-
 /// The description of a job in a language, and the job afterwards.
-pub fn describe(caller: Caller<'_>, question: &Value) -> Result<Outcome, Fault> {
-    let language = read_tongue(question)?;
+pub fn describe(caller: Caller<'_>, question: &Value) -> Result<Outcome> {
+    let language = text(question, "language")?;
     let job = Job::read(caller.alloc, question)?;
     caller.begin();
     let text = described(&job.cron, language);
@@ -92,6 +75,6 @@ pub fn describe(caller: Caller<'_>, question: &Value) -> Result<Outcome, Fault> 
     Outcome::new(text_answer(text), shown::job(caller.alloc, &job.cron))
 }
 
-fn text_answer(text: Result<String, CronError>) -> Result<Answer, Fault> {
+fn text_answer(text: Result<String>) -> Result<Answer> {
     Ok(Answer::Value(Value::String(text?)))
 }

@@ -1,7 +1,7 @@
 //! Calls of a time: whether a job names it, which instants show a second, and the instant so many seconds on.
 
 use crate::{
-    Answer, Caller, Fault, Job, Moment, Outcome, OverTime, civil, civil_value, number_at,
+    Answer, Caller, Job, Moment, Outcome, OverTime, Result, civil, civil_value, number_at,
     over_time, shown,
 };
 use croner::errors::CronError;
@@ -11,71 +11,65 @@ use std::alloc::Global;
 
 // Whether a job names a time.
 #[derive(Clone, Copy)]
-struct Naming<'j> {
-    job: &'j Job,
-}
+struct Naming<'j>(&'j Job);
 
 impl<'j> OverTime for Naming<'j> {
-    fn outcome<T: Moment>(&self, caller: Caller<'_>, time: T) -> Result<Outcome, Fault> {
+    fn outcome<T: Moment>(&self, caller: Caller<'_>, time: T) -> Result<Outcome> {
         caller.begin();
-        let answer = self.job.cron.is_time_matching(&time);
+        let answer = self.0.cron.is_time_matching(&time);
         caller.end();
-        Outcome::new(truth(answer), time_and_job(caller.alloc, &time, self.job))
+        Outcome::new(truth(answer), time_and_job(caller.alloc, &time, self.0))
     }
 }
 
-fn truth(answer: Result<bool, CronError>) -> Result<Answer, Fault> {
+fn truth(answer: Result<bool, CronError>) -> Result<Answer> {
     Ok(Answer::Value(Value::Bool(answer?)))
 }
 
 /// A time and a job as texts.
-pub fn time_and_job<T: Moment>(alloc: Global, time: &T, job: &Job) -> Result<String, Fault> {
+pub fn time_and_job<T: Moment>(alloc: Global, time: &T, job: &Job) -> Result<String> {
     let (time, job) = (bare(alloc, time)?, shown::job(alloc, &job.cron)?);
     Ok(format!(in alloc; "{time} {job}")?)
 }
 
 /// A time as a text without quotes.
-pub fn bare<T: Moment>(alloc: Global, time: &T) -> Result<String, Fault> {
+pub fn bare<T: Moment>(alloc: Global, time: &T) -> Result<String> {
     Answer::Value(time.shown(alloc)?).into_text(alloc)
 }
 
 /// Whether a job names the start of a question, or where there is none, its date and time `at` in civil time.
-pub fn matching(caller: Caller<'_>, question: &Value) -> Result<Outcome, Fault> {
+pub fn matching(caller: Caller<'_>, question: &Value) -> Result<Outcome> {
     let job = Job::read(caller.alloc, question)?;
     match question.get("at") {
-        None => over_time(caller, question, &Naming { job: &job }),
-        Some(_) => Naming { job: &job }.outcome(caller, civil_value(question, "at")?),
+        None => over_time(caller, question, &Naming(&job)),
+        Some(_) => Naming(&job).outcome(caller, civil_value(question, "at")?),
     }
 }
 
 // A date and time that is resolved on the clock of a time.
 #[derive(Clone, Copy)]
-struct Resolving {
-    at: CivilDateTime,
-}
+struct Resolving(CivilDateTime);
 
 impl OverTime for Resolving {
-    fn outcome<T: Moment>(&self, caller: Caller<'_>, time: T) -> Result<Outcome, Fault> {
+    fn outcome<T: Moment>(&self, caller: Caller<'_>, time: T) -> Result<Outcome> {
         caller.begin();
-        let found = time.resolve_civil(caller.alloc, self.at);
+        let found = time.resolve_civil(caller.alloc, self.0);
         caller.end();
-        Outcome::new(
-            found_instants(caller.alloc, found),
-            bare(caller.alloc, &time),
-        )
+        let found = found_instants(caller.alloc, found);
+        Outcome::new(found, bare(caller.alloc, &time))
     }
 }
 
 fn found_instants<T: Moment>(
     alloc: Global,
     found: Result<Resolution<T>, CronError>,
-) -> Result<Answer, Fault> {
+) -> Result<Answer> {
     let found = found?;
     Ok(Answer::Value(instants(alloc, &found)?))
 }
 
 /// The instants that a date and time names, ascending.
-pub fn instants<T: Moment>(alloc: Global, found: &Resolution<T>) -> Result<Value, Fault> {
+pub fn instants<T: Moment>(alloc: Global, found: &Resolution<T>) -> Result<Value> {
     let mut instants = Vec::new(alloc);
     match found {
         Resolution::Gap => {}
@@ -89,27 +83,25 @@ pub fn instants<T: Moment>(alloc: Global, found: &Resolution<T>) -> Result<Value
 }
 
 /// The instants of a date and time, and the start of the question afterwards.
-pub fn resolve(caller: Caller<'_>, question: &Value) -> Result<Outcome, Fault> {
+pub fn resolve(caller: Caller<'_>, question: &Value) -> Result<Outcome> {
     let at = civil(question, "at")?;
-    over_time(caller, question, &Resolving { at })
+    over_time(caller, question, &Resolving(at))
 }
 
 // A time so many seconds on.
 #[derive(Clone, Copy)]
-struct Adding {
-    seconds: i64,
-}
+struct Adding(i64);
 
 impl OverTime for Adding {
-    fn outcome<T: Moment>(&self, caller: Caller<'_>, time: T) -> Result<Outcome, Fault> {
+    fn outcome<T: Moment>(&self, caller: Caller<'_>, time: T) -> Result<Outcome> {
         caller.begin();
-        let sum = time.checked_add_seconds(caller.alloc, self.seconds);
+        let sum = time.checked_add_seconds(caller.alloc, self.0);
         caller.end();
         Outcome::new(sum_found(caller.alloc, sum), bare(caller.alloc, &time))
     }
 }
 
-fn sum_found<T: Moment>(alloc: Global, sum: Result<Option<T>, CronError>) -> Result<Answer, Fault> {
+fn sum_found<T: Moment>(alloc: Global, sum: Result<Option<T>, CronError>) -> Result<Answer> {
     match sum? {
         Some(time) => Ok(Answer::Value(time.shown(alloc)?)),
         None => Ok(Answer::Value(Value::Null)),
@@ -117,7 +109,7 @@ fn sum_found<T: Moment>(alloc: Global, sum: Result<Option<T>, CronError>) -> Res
 }
 
 /// The instant so many seconds on, or null, and the start of the question afterwards.
-pub fn add(caller: Caller<'_>, question: &Value) -> Result<Outcome, Fault> {
+pub fn add(caller: Caller<'_>, question: &Value) -> Result<Outcome> {
     let seconds = number_at(question, "seconds")?;
-    over_time(caller, question, &Adding { seconds })
+    over_time(caller, question, &Adding(seconds))
 }

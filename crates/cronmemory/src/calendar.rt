@@ -6,9 +6,9 @@ use croner::time::{
     CivilDate, CivilDateTime, CivilTime, CronDateTime, Resolution, Weekday, day_of_year,
     days_in_month, days_in_year, is_leap_year,
 };
-use croner_rows::shown::{numbers, text};
+use croner_rows::shown::text;
 use croner_rows::{
-    Caller, Fault, Outcome, are_alike, clock_changes, list, member, number, number_at, read_rule,
+    Caller, Fault, Outcome, Result, are_alike, clock_changes, member, number_at, read_rule, three,
 };
 use serde_json::Value;
 use std::alloc::Global;
@@ -18,21 +18,9 @@ const SECONDS_PER_DAY: i64 = 86_400;
 // Room for the text of a date and time.
 const TEXT_BYTES: usize = 64;
 
-// The three numbers of a member.
-fn three<N: TryFrom<i64>>(question: &Value, name: &str) -> Result<(N, u32, u32), Fault>
-where
-    N::Error: Drop,
-{
-    let [first, second, third] = list(question, name)? else {
-        return Err(Fault::Malformed);
-    };
-    let (second, third) = (number(second)?, number(third)?);
-    Ok((number(first)?, second, third))
-}
-
 /// Questions of the calendar about a date: whether its year is a leap year, the year's days, the month's days, the day of the
 /// year, and whether all ways to the date give it; or that there is no such date.
-pub fn calendar(caller: Caller<'_>, question: &Value) -> Result<Outcome, Fault> {
+pub fn calendar(caller: Caller<'_>, question: &Value) -> Result<Outcome> {
     let (year, month, day) = three(question, "date")?;
     caller.begin();
     let date = CivilDate::from_ymd(year, month, day);
@@ -51,7 +39,7 @@ fn shown_date(
     date: CivilDate,
     found: Option<CivilDate>,
     year: (bool, u32),
-) -> Result<Outcome, Fault> {
+) -> Result<Outcome> {
     caller.begin();
     let (length, place) = (date.days_in_month(), date.day_of_year());
     let same = found == Some(date) && is_same_date(date);
@@ -72,7 +60,7 @@ fn is_same_date(date: CivilDate) -> bool {
 }
 
 /// A weekday by a number of days from Sunday, and the one a day later.
-pub fn weekday(caller: Caller<'_>, question: &Value) -> Result<Outcome, Fault> {
+pub fn weekday(caller: Caller<'_>, question: &Value) -> Result<Outcome> {
     let days = number_at(question, "days")?;
     caller.begin();
     let weekday = Weekday::from_days_from_sunday(days);
@@ -85,7 +73,7 @@ pub fn weekday(caller: Caller<'_>, question: &Value) -> Result<Outcome, Fault> {
 }
 
 /// A time of day by its hour, minute and second, or that there is none.
-pub fn clock_face(caller: Caller<'_>, question: &Value) -> Result<Outcome, Fault> {
+pub fn clock_face(caller: Caller<'_>, question: &Value) -> Result<Outcome> {
     let (hour, minute, second) = three(question, "time")?;
     caller.begin();
     let time = CivilTime::from_hms_opt(hour, minute, second);
@@ -96,7 +84,7 @@ pub fn clock_face(caller: Caller<'_>, question: &Value) -> Result<Outcome, Fault
     }
 }
 
-fn shown_time(caller: Caller<'_>, time: CivilTime) -> Result<Outcome, Fault> {
+fn shown_time(caller: Caller<'_>, time: CivilTime) -> Result<Outcome> {
     caller.begin();
     let (hour, minute, second) = (time.hour(), time.minute(), time.second());
     let same = is_same_time(time);
@@ -113,7 +101,7 @@ fn is_same_time(time: CivilTime) -> bool {
 }
 
 /// A date and time by its six numbers: its text, written into room that was taken before, and its numbers; or its refusal.
-pub fn date_and_time(caller: Caller<'_>, question: &Value) -> Result<Outcome, Fault> {
+pub fn date_and_time(caller: Caller<'_>, question: &Value) -> Result<Outcome> {
     let (year, month, day) = three(question, "date")?;
     let (hour, minute, second) = three(question, "time")?;
     caller.begin();
@@ -130,32 +118,19 @@ fn shown_civil(
     caller: Caller<'_>,
     civil: CivilDateTime,
     found: Option<CivilDateTime>,
-) -> Result<Outcome, Fault> {
+) -> Result<Outcome> {
     let mut text = String::with_capacity(caller.alloc, TEXT_BYTES)?;
     caller.begin();
     let written = write!(text, "{civil}");
-    let parts = parts_of(civil);
+    let (year, month, day) = (civil.year(), civil.month(), civil.day());
+    let (hour, minute, second) = (civil.hour(), civil.minute(), civil.second());
     let same = found == Some(civil) && is_same_civil(civil);
     caller.end();
     written?;
-    told_of_civil(caller.alloc, text.as_str(), &parts, same)
-}
-
-fn told_of_civil(alloc: Global, text: &str, parts: &[i64], same: bool) -> Result<Outcome, Fault> {
-    let parts = numbers(alloc, parts)?;
-    let text = format!(in alloc; "{text} {parts} {same}");
-    Outcome::of_text(alloc, text)
-}
-
-fn parts_of(civil: CivilDateTime) -> [i64; 6] {
-    [
-        i64::from(civil.year()),
-        i64::from(civil.month()),
-        i64::from(civil.day()),
-        i64::from(civil.hour()),
-        i64::from(civil.minute()),
-        i64::from(civil.second()),
-    ]
+    let text = format!(in caller.alloc;
+        "{text} [{year},{month},{day},{hour},{minute},{second}] {same}"
+    );
+    Outcome::of_text(caller.alloc, text)
 }
 
 // Whether the date and the time of day give the date and time again.
@@ -166,11 +141,9 @@ fn is_same_civil(civil: CivilDateTime) -> bool {
 
 /// A table of offsets of a first offset and changes, and calls of a second on its clock: how many instants show what it shows, and
 /// the second a day on.
-pub fn clock_table(caller: Caller<'_>, question: &Value) -> Result<Outcome, Fault> {
-    let (first, second) = (
-        number_at(question, "first")?,
-        number_at(question, "second")?,
-    );
+pub fn clock_table(caller: Caller<'_>, question: &Value) -> Result<Outcome> {
+    let first = number_at(question, "first")?;
+    let second = number_at(question, "second")?;
     let changes = clock_changes(caller.alloc, question)?;
     caller.begin();
     let table = ClockTable::new(first, changes);
@@ -179,7 +152,7 @@ pub fn clock_table(caller: Caller<'_>, question: &Value) -> Result<Outcome, Faul
 }
 
 /// The table of a zone of a rule in a window, and calls of a second on its clock, as those of a table of offsets.
-pub fn zone_table(caller: Caller<'_>, question: &Value) -> Result<Outcome, Fault> {
+pub fn zone_table(caller: Caller<'_>, question: &Value) -> Result<Outcome> {
     let (first, last) = (number_at(question, "first")?, number_at(question, "last")?);
     let second = number_at(question, "second")?;
     let zone = read_rule(member(question, "rule")?)?;
@@ -193,14 +166,14 @@ fn told_of_table(
     caller: Caller<'_>,
     table: Result<ClockTable, CronError>,
     second: i64,
-) -> Result<Outcome, Fault> {
+) -> Result<Outcome> {
     match table {
         Ok(table) => second_on(caller, &table, second),
         Err(error) => Ok(Outcome::of(caller.alloc, Err(Fault::from(error)))),
     }
 }
 
-fn second_on(caller: Caller<'_>, table: &ClockTable, second: i64) -> Result<Outcome, Fault> {
+fn second_on(caller: Caller<'_>, table: &ClockTable, second: i64) -> Result<Outcome> {
     caller.begin();
     let time = TableTime::new(table, second);
     caller.end();
@@ -213,7 +186,7 @@ fn second_on(caller: Caller<'_>, table: &ClockTable, second: i64) -> Result<Outc
     }
 }
 
-fn calls_of_time(caller: Caller<'_>, time: &TableTime<'_>) -> Result<Outcome, Fault> {
+fn calls_of_time(caller: Caller<'_>, time: &TableTime<'_>) -> Result<Outcome> {
     caller.begin();
     let copy = *time;
     let shown = time.to_civil();
@@ -221,13 +194,8 @@ fn calls_of_time(caller: Caller<'_>, time: &TableTime<'_>) -> Result<Outcome, Fa
     let later = time.checked_add_seconds(caller.alloc, SECONDS_PER_DAY);
     let same = time.cmp_instant(&copy).is_eq() && time.civil_weekday() == copy.civil_weekday();
     caller.end();
-    told_of_time(
-        caller.alloc,
-        shown,
-        count_of(&found),
-        second_of(&later),
-        same,
-    )
+    let (count, second) = (count_of(&found), second_of(&later));
+    told_of_time(caller.alloc, shown, count, second, same)
 }
 
 fn told_of_time(
@@ -236,7 +204,7 @@ fn told_of_time(
     count: u32,
     second: i64,
     same: bool,
-) -> Result<Outcome, Fault> {
+) -> Result<Outcome> {
     let text = format!(in alloc; "[\"{shown}\",{count},{second},{same}]");
     Outcome::of_text(alloc, text)
 }

@@ -4,13 +4,13 @@ use crate::calendar::{calendar, clock_face, clock_table, date_and_time, weekday,
 use crate::clones::clone_of;
 use crate::iterators::{handed, listing};
 use crate::searches::{reading, search};
+use crate::tables;
 use crate::texts::{explanation, new_field, parser, questions, to_json, words_of_language};
-use crate::{comparisons, tables};
-use croner_rows::{Caller, Fault, Outcome, ask, text};
+use croner_rows::{Caller, Outcome, Result, ask, text};
 use serde_json::Value;
 
 /// Makes the calls of a case.
-pub fn make_calls(caller: Caller<'_>, question: &Value) -> Result<Outcome, Fault> {
+pub fn make_calls(caller: Caller<'_>, question: &Value) -> Result<Outcome> {
     match text(question, "op")? {
         "new field" => new_field(caller, question),
         "explain" => explanation(caller, question),
@@ -25,17 +25,15 @@ pub fn make_calls(caller: Caller<'_>, question: &Value) -> Result<Outcome, Fault
         "clock table" => clock_table(caller, question),
         "table of a zone" => zone_table(caller, question),
         "reading" => reading(caller, question),
-        "comparison of jobs" => comparisons::of_jobs(caller, question),
         op => calls_of_runs(caller, question, op),
     }
 }
 
-fn calls_of_runs(caller: Caller<'_>, question: &Value, op: &str) -> Result<Outcome, Fault> {
+fn calls_of_runs(caller: Caller<'_>, question: &Value, op: &str) -> Result<Outcome> {
     match op {
         "search" => search(caller, question),
         "list" => listing(caller, question),
         "list of a job handed over" => handed(caller, question),
-        "comparison of iterators" => comparisons::of_iterators(caller, question),
         "push to a table" => tables::pushed(caller, question),
         "change of a table" => tables::changed(caller, question),
         "jobs of a table" => tables::jobs(caller, question),

@@ -7,7 +7,7 @@ use croner::errors::CronError;
 use croner::time::Resolution;
 use croner::{Cron, CronComponent, CronPattern};
 use croner_rows::{
-    Answer, Caller, Fault, How, Job, Moment, Outcome, OverTime, Runs, Subject, Table, bare,
+    Answer, Caller, Fault, How, Job, Moment, Outcome, OverTime, Result, Runs, Subject, Table, bare,
     instants, over_time, read_field, shown, text,
 };
 use serde_json::Value;
@@ -15,55 +15,55 @@ use std::alloc::{AllocError, Global};
 
 // What is copied, and shown as a text.
 trait Shown: Clone + Drop {
-    fn text(&self, alloc: Global) -> Result<String, Fault>;
+    fn text(&self, alloc: Global) -> Result<String>;
 }
 
 impl Shown for CronComponent {
-    fn text(&self, alloc: Global) -> Result<String, Fault> {
+    fn text(&self, alloc: Global) -> Result<String> {
         shown::field(alloc, self)
     }
 }
 
 impl Shown for CronPattern {
-    fn text(&self, alloc: Global) -> Result<String, Fault> {
+    fn text(&self, alloc: Global) -> Result<String> {
         shown::pattern(alloc, self)
     }
 }
 
 impl Shown for Cron {
-    fn text(&self, alloc: Global) -> Result<String, Fault> {
+    fn text(&self, alloc: Global) -> Result<String> {
         shown::job(alloc, self)
     }
 }
 
 impl Shown for CronTable {
-    fn text(&self, alloc: Global) -> Result<String, Fault> {
+    fn text(&self, alloc: Global) -> Result<String> {
         texts_of(alloc, self, self.len())
     }
 }
 
 // Its message.
 impl Shown for CronError {
-    fn text(&self, alloc: Global) -> Result<String, Fault> {
+    fn text(&self, alloc: Global) -> Result<String> {
         Ok(self.to_string(alloc)?)
     }
 }
 
 impl<T: Moment> Shown for Resolution<T> {
-    fn text(&self, alloc: Global) -> Result<String, Fault> {
+    fn text(&self, alloc: Global) -> Result<String> {
         let instants = instants(alloc, self)?;
         Ok(instants.to_string(alloc)?)
     }
 }
 
-fn copied<S: Shown>(caller: Caller<'_>, original: &S) -> Result<Outcome, Fault> {
+fn copied<S: Shown>(caller: Caller<'_>, original: &S) -> Result<Outcome> {
     caller.begin();
     let copy: Result<S, AllocError> = original.clone();
     caller.end();
     Outcome::new(shown_copy(caller.alloc, copy), original.text(caller.alloc))
 }
 
-fn shown_copy<S: Shown>(alloc: Global, copy: Result<S, AllocError>) -> Result<Answer, Fault> {
+fn shown_copy<S: Shown>(alloc: Global, copy: Result<S, AllocError>) -> Result<Answer> {
     let copy = copy?;
     let text = copy.text(alloc);
     drop(copy);
@@ -71,7 +71,7 @@ fn shown_copy<S: Shown>(alloc: Global, copy: Result<S, AllocError>) -> Result<An
 }
 
 /// A copy, and afterwards what was copied: the kind of the operation `clone of a`.
-pub fn clone_of(caller: Caller<'_>, question: &Value, kind: &str) -> Result<Outcome, Fault> {
+pub fn clone_of(caller: Caller<'_>, question: &Value, kind: &str) -> Result<Outcome> {
     match kind {
         " field" => copied(caller, &read_field(caller.alloc, question)?),
         " pattern" => copied(caller, &Job::read(caller.alloc, question)?.cron.pattern),
@@ -86,7 +86,7 @@ pub fn clone_of(caller: Caller<'_>, question: &Value, kind: &str) -> Result<Outc
 }
 
 // A copy of the refusal of a text: its message.
-fn error_clone(caller: Caller<'_>, question: &Value) -> Result<Outcome, Fault> {
+fn error_clone(caller: Caller<'_>, question: &Value) -> Result<Outcome> {
     match Job::of_text(caller.alloc, question, text(question, "text")?) {
         Err(Fault::Refused(error)) => copied(caller, &error),
         Err(fault) => Err(fault),
@@ -99,7 +99,7 @@ fn error_clone(caller: Caller<'_>, question: &Value) -> Result<Outcome, Fault> {
 struct CopyOfTime;
 
 impl OverTime for CopyOfTime {
-    fn outcome<T: Moment>(&self, caller: Caller<'_>, time: T) -> Result<Outcome, Fault> {
+    fn outcome<T: Moment>(&self, caller: Caller<'_>, time: T) -> Result<Outcome> {
         caller.begin();
         let copy: Result<T, AllocError> = time.clone();
         caller.end();
@@ -107,7 +107,7 @@ impl OverTime for CopyOfTime {
     }
 }
 
-fn shown_time<T: Moment>(alloc: Global, time: Result<T, AllocError>) -> Result<Answer, Fault> {
+fn shown_time<T: Moment>(alloc: Global, time: Result<T, AllocError>) -> Result<Answer> {
     let time = time?;
     Ok(Answer::Value(time.shown(alloc)?))
 }
@@ -117,47 +117,40 @@ fn shown_time<T: Moment>(alloc: Global, time: Result<T, AllocError>) -> Result<A
 struct CopyOfResolution;
 
 impl OverTime for CopyOfResolution {
-    fn outcome<T: Moment>(&self, caller: Caller<'_>, time: T) -> Result<Outcome, Fault> {
+    fn outcome<T: Moment>(&self, caller: Caller<'_>, time: T) -> Result<Outcome> {
         copied(caller, &time.resolve_civil(caller.alloc, time.to_civil())?)
     }
 }
 
 // An iterator over a job's runs, which is copied after its first call: the fault and the next item of each.
 #[derive(Clone, Copy)]
-struct CopyOfIterator<'j> {
-    job: &'j Job,
-}
+struct CopyOfIterator<'j>(&'j Job);
 
 impl<'j> OverTime for CopyOfIterator<'j> {
-    fn outcome<T: Moment>(&self, caller: Caller<'_>, start: T) -> Result<Outcome, Fault> {
-        let mut runs = Runs::new(Subject::Job(self.job), start, How::After)?;
+    fn outcome<T: Moment>(&self, caller: Caller<'_>, start: T) -> Result<Outcome> {
+        let mut runs = Runs::new(Subject::Job(self.0), start, How::After)?;
         let _ = runs.next();
         caller.begin();
         let copy = runs.copied();
         caller.end();
-        Outcome::new(
-            copy_and_item(caller.alloc, copy),
-            fault_and_item(caller.alloc, &mut runs),
-        )
+        let copy = copy_and_item(caller.alloc, copy);
+        Outcome::new(copy, fault_and_item(caller.alloc, &mut runs))
     }
 }
 
-fn copy_and_item<T: Moment>(
-    alloc: Global,
-    copy: Result<Runs<'_, T>, Fault>,
-) -> Result<Answer, Fault> {
+fn copy_and_item<T: Moment>(alloc: Global, copy: Result<Runs<'_, T>>) -> Result<Answer> {
     let mut runs = copy?;
     Ok(Answer::Text(fault_and_item(alloc, &mut runs)?))
 }
 
 // The fault that an iterator keeps, and the item that it gives then.
-fn fault_and_item<T: Moment>(alloc: Global, runs: &mut Runs<'_, T>) -> Result<String, Fault> {
+fn fault_and_item<T: Moment>(alloc: Global, runs: &mut Runs<'_, T>) -> Result<String> {
     let fault = runs.fault_name();
     let item = item_text(alloc, runs.next())?;
     Ok(format!(in alloc; "{fault} {item}")?)
 }
 
-fn iterator_clone(caller: Caller<'_>, question: &Value) -> Result<Outcome, Fault> {
+fn iterator_clone(caller: Caller<'_>, question: &Value) -> Result<Outcome> {
     let job = Job::read(caller.alloc, question)?;
-    over_time(caller, question, &CopyOfIterator { job: &job })
+    over_time(caller, question, &CopyOfIterator(&job))
 }

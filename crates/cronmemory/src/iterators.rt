@@ -1,18 +1,17 @@
 //! Iterators: their makers and their items.
 
 use croner::CronIterator;
-use croner::errors::CronError;
 use croner::time::Direction;
 use croner_rows::shown::add_item;
 use croner_rows::{
-    Answer, Caller, Fault, How, Job, Moment, Outcome, OverTime, Run, Runs, Subject, bare,
+    Answer, Caller, Fault, How, Job, Moment, Outcome, OverTime, Result, Run, Runs, Subject, bare,
     civil_value, number_at, over_time,
 };
 use serde_json::Value;
 use std::alloc::Global;
 
 /// A run as a text, with its places where it has any, or null.
-pub fn item_text<T: Moment>(alloc: Global, item: Option<Run<T>>) -> Result<String, Fault> {
+pub fn item_text<T: Moment>(alloc: Global, item: Option<Run<T>>) -> Result<String> {
     match item {
         Some(run) => run_text(alloc, &run),
         None => Ok(String::from_str(alloc, "null")?),
@@ -20,7 +19,7 @@ pub fn item_text<T: Moment>(alloc: Global, item: Option<Run<T>>) -> Result<Strin
 }
 
 /// A run as a text.
-pub fn run_text<T: Moment>(alloc: Global, run: &Run<T>) -> Result<String, Fault> {
+pub fn run_text<T: Moment>(alloc: Global, run: &Run<T>) -> Result<String> {
     let instant = bare(alloc, &run.instant)?;
     match &run.places {
         None => Ok(instant),
@@ -33,7 +32,7 @@ fn next_item<T: Moment>(
     caller: Caller<'_>,
     runs: &mut Runs<'_, T>,
     lacked: &mut bool,
-) -> Result<String, Fault> {
+) -> Result<String> {
     caller.begin();
     let mut item = runs.next();
     let lacks = runs.lacks_memory();
@@ -52,7 +51,7 @@ fn items<T: Moment>(
     runs: &mut Runs<'_, T>,
     count: u32,
     is_refused: bool,
-) -> Result<Outcome, Fault> {
+) -> Result<Outcome> {
     let (mut items, mut lacked) = (String::new(caller.alloc), is_refused);
     for _ in 0..count {
         let item = next_item(caller, runs, &mut lacked)?;
@@ -62,14 +61,14 @@ fn items<T: Moment>(
     Outcome::new(or_lacking(items, lacked), after)
 }
 
-fn with_fault(alloc: Global, items: &str, fault: &str) -> Result<String, Fault> {
+fn with_fault(alloc: Global, items: &str, fault: &str) -> Result<String> {
     Ok(format!(in alloc; "{items} {fault}")?)
 }
 
 /// A text, or want of memory where a call lacked it.
-pub fn or_lacking(text: String, lacked: bool) -> Result<Answer, Fault> {
+pub fn or_lacking(text: String, lacked: bool) -> Result<Answer> {
     if lacked {
-        return Err(Fault::from(CronError::OutOfMemory));
+        return Err(Fault::OutOfMemory);
     }
     Ok(Answer::Text(text))
 }
@@ -83,7 +82,7 @@ struct Listed<'j> {
 }
 
 impl<'j> OverTime for Listed<'j> {
-    fn outcome<T: Moment>(&self, caller: Caller<'_>, start: T) -> Result<Outcome, Fault> {
+    fn outcome<T: Moment>(&self, caller: Caller<'_>, start: T) -> Result<Outcome> {
         let again = start.clone()?;
         caller.begin();
         let first = Runs::new(Subject::Job(self.job), start, self.how);
@@ -99,23 +98,16 @@ impl<'j> OverTime for Listed<'j> {
 }
 
 /// The items of an iterator over the runs of a job from the start of a question, at so many calls.
-pub fn listing(caller: Caller<'_>, question: &Value) -> Result<Outcome, Fault> {
-    let job = Job::read(caller.alloc, question)?;
-    let (how, count) = (How::read(question)?, number_at(question, "count")?);
-    let listed = Listed {
-        job: &job,
-        how,
-        count,
-    };
-    over_time(caller, question, &listed)
+pub fn listing(caller: Caller<'_>, question: &Value) -> Result<Outcome> {
+    let read = Job::read(caller.alloc, question)?;
+    let (job, how, count) = (&read, How::read(question)?, number_at(question, "count")?);
+    over_time(caller, question, &Listed { job, how, count })
 }
 
 /// The items of an iterator that is handed its job, which makes no request over civil time.
-pub fn handed(caller: Caller<'_>, question: &Value) -> Result<Outcome, Fault> {
-    let (start, count) = (
-        civil_value(question, "start")?,
-        number_at(question, "count")?,
-    );
+pub fn handed(caller: Caller<'_>, question: &Value) -> Result<Outcome> {
+    let start = civil_value(question, "start")?;
+    let count = number_at(question, "count")?;
     let cron = Job::read(caller.alloc, question)?.into_cron();
     caller.begin();
     let iterator = CronIterator::new(cron, start, false, Direction::Forward);

@@ -8,7 +8,6 @@
 mod calendar;
 mod case;
 mod clones;
-mod comparisons;
 mod iterators;
 mod searches;
 mod tables;
@@ -16,20 +15,20 @@ mod texts;
 
 use case::make_calls;
 use croner_rows::shown::json;
-use croner_rows::{Caller, Fault, status};
+use croner_rows::{Caller, Result, status};
 use std::io;
 use std::process::ExitCode;
 
 // Makes the calls of one line, and prints what they gave.
-fn run_case(rt: &HostRuntime, line: &str) -> Result<(), Fault> {
-    let question = json(rt.alloc(), line)?;
+fn run_case(rt: &HostRuntime, line: &str) -> Result<()> {
+    let question = json(rt.alloc(), line.as_bytes())?;
     let (answer, after) = make_calls(Caller::marked(rt), &question)?.into_texts(rt.alloc())?;
     println!(rt; "{answer}")?;
     println!(rt; "{after}")?;
     Ok(())
 }
 
-fn run_cases(rt: &HostRuntime) -> Result<bool, Fault> {
+fn run_cases(rt: &HostRuntime) -> Result<bool> {
     for line in rt.lines(rt.alloc()) {
         let line = line?;
         run_case(rt, line.as_str())?;

@@ -5,7 +5,7 @@ use crate::tables::texts_of;
 use croner::errors::CronError;
 use croner::time::Direction;
 use croner_rows::{
-    Answer, Caller, Fault, Job, Moment, Outcome, OverTime, Run, Subject, bare, direction, flag,
+    Answer, Caller, Job, Moment, Outcome, OverTime, Result, Run, Subject, bare, direction, flag,
     over_time, time_and_job,
 };
 use serde_json::Value;
@@ -20,7 +20,7 @@ struct Searching<'j> {
 }
 
 impl<'j> OverTime for Searching<'j> {
-    fn outcome<T: Moment>(&self, caller: Caller<'_>, start: T) -> Result<Outcome, Fault> {
+    fn outcome<T: Moment>(&self, caller: Caller<'_>, start: T) -> Result<Outcome> {
         caller.begin();
         let run = self
             .subject
@@ -31,16 +31,12 @@ impl<'j> OverTime for Searching<'j> {
     }
 }
 
-fn found<T: Moment>(alloc: Global, run: Result<Run<T>, CronError>) -> Result<Answer, Fault> {
+fn found<T: Moment>(alloc: Global, run: Result<Run<T>, CronError>) -> Result<Answer> {
     let run = run?;
     Ok(Answer::Text(run_text(alloc, &run)?))
 }
 
-fn start_and_subject<T: Moment>(
-    alloc: Global,
-    start: &T,
-    subject: Subject<'_>,
-) -> Result<String, Fault> {
+fn start_and_subject<T: Moment>(alloc: Global, start: &T, subject: Subject<'_>) -> Result<String> {
     match subject {
         Subject::Job(job) => time_and_job(alloc, start, job),
         Subject::Table(table) => {
@@ -51,11 +47,7 @@ fn start_and_subject<T: Moment>(
 }
 
 /// A search for a run of a subject from the start of a question, and afterwards the start and the subject.
-pub fn search_of(
-    caller: Caller<'_>,
-    question: &Value,
-    subject: Subject<'_>,
-) -> Result<Outcome, Fault> {
+pub fn search_of(caller: Caller<'_>, question: &Value, subject: Subject<'_>) -> Result<Outcome> {
     let searching = Searching {
         subject,
         inclusive: flag(question, "inclusive")?,
@@ -65,7 +57,7 @@ pub fn search_of(
 }
 
 /// A search for a run of a job.
-pub fn search(caller: Caller<'_>, question: &Value) -> Result<Outcome, Fault> {
+pub fn search(caller: Caller<'_>, question: &Value) -> Result<Outcome> {
     let job = Job::read(caller.alloc, question)?;
     search_of(caller, question, Subject::Job(&job))
 }
@@ -75,7 +67,7 @@ pub fn search(caller: Caller<'_>, question: &Value) -> Result<Outcome, Fault> {
 struct Showing;
 
 impl OverTime for Showing {
-    fn outcome<T: Moment>(&self, caller: Caller<'_>, time: T) -> Result<Outcome, Fault> {
+    fn outcome<T: Moment>(&self, caller: Caller<'_>, time: T) -> Result<Outcome> {
         caller.begin();
         let (civil, weekday) = (time.to_civil(), time.civil_weekday());
         let same = time.cmp_instant(&time).is_eq();
@@ -87,6 +79,6 @@ impl OverTime for Showing {
 }
 
 /// What the start of a question shows, its weekday from Sunday, and whether it is the same instant as itself.
-pub fn reading(caller: Caller<'_>, question: &Value) -> Result<Outcome, Fault> {
+pub fn reading(caller: Caller<'_>, question: &Value) -> Result<Outcome> {
     over_time(caller, question, &Showing)
 }

@@ -8,7 +8,7 @@ use croner::errors::CronError;
 use croner::time::Direction;
 use croner_rows::shown::add_item;
 use croner_rows::{
-    Answer, Caller, Fault, How, Job, Moment, Outcome, OverTime, Runs, Subject, Table, civil_value,
+    Answer, Caller, How, Job, Moment, Outcome, OverTime, Result, Runs, Subject, Table, civil_value,
     number_at, over_time,
 };
 use jiff::civil::DateTime;
@@ -16,7 +16,7 @@ use serde_json::Value;
 use std::alloc::Global;
 
 /// The texts of the jobs at the first places.
-pub fn texts_of(alloc: Global, table: &CronTable, count: usize) -> Result<String, Fault> {
+pub fn texts_of(alloc: Global, table: &CronTable, count: usize) -> Result<String> {
     let mut texts = String::new(alloc);
     for place in 0..count {
         let text = match table.get(place) {
@@ -30,50 +30,41 @@ pub fn texts_of(alloc: Global, table: &CronTable, count: usize) -> Result<String
 
 /// One more job in a table, that of `text`. Afterwards the texts that stood there before, and whether there are as many jobs as
 /// the answer says.
-pub fn pushed(caller: Caller<'_>, question: &Value) -> Result<Outcome, Fault> {
+pub fn pushed(caller: Caller<'_>, question: &Value) -> Result<Outcome> {
     let mut table = Table::read(caller.alloc, question)?;
     let job = Job::read(caller.alloc, question)?.into_cron();
     push_to(caller, &mut table.jobs, job)
 }
 
-fn push_to(caller: Caller<'_>, table: &mut CronTable, job: Cron) -> Result<Outcome, Fault> {
+fn push_to(caller: Caller<'_>, table: &mut CronTable, job: Cron) -> Result<Outcome> {
     let before = table.len();
     caller.begin();
     let place = table.push(job);
     caller.end();
     let more = table.len() - before.min(table.len());
-    let after = texts_and_truth(
-        caller.alloc,
-        table,
-        before,
-        more == usize::from(place.is_ok()),
-    );
+    let is_told = more == usize::from(place.is_ok());
+    let after = texts_and_truth(caller.alloc, table, before, is_told);
     Outcome::new(place_answer(place), after)
 }
 
-fn place_answer(place: Result<usize, CronError>) -> Result<Answer, Fault> {
+fn place_answer(place: Result<usize, CronError>) -> Result<Answer> {
     Ok(Answer::Value(Value::from(place?)))
 }
 
-fn texts_and_truth(
-    alloc: Global,
-    table: &CronTable,
-    count: usize,
-    truth: bool,
-) -> Result<String, Fault> {
+fn texts_and_truth(alloc: Global, table: &CronTable, count: usize, truth: bool) -> Result<String> {
     let texts = texts_of(alloc, table, count)?;
     Ok(format!(in alloc; "[{texts}] {truth}")?)
 }
 
 /// A change of a table. The answer is the text of the job that comes out, or none. Afterwards the texts of the jobs.
-pub fn changed(caller: Caller<'_>, question: &Value) -> Result<Outcome, Fault> {
+pub fn changed(caller: Caller<'_>, question: &Value) -> Result<Outcome> {
     let mut table = Table::read(caller.alloc, question)?;
     let out = table.change(caller, question)?;
     let after = texts_of(caller.alloc, &table.jobs, table.jobs.len());
     Outcome::new(text_or_none(caller.alloc, &out), after)
 }
 
-fn text_or_none(alloc: Global, job: &Option<Job>) -> Result<Answer, Fault> {
+fn text_or_none(alloc: Global, job: &Option<Job>) -> Result<Answer> {
     let text = match job {
         Some(job) => job.cron.as_str(),
         None => "none",
@@ -82,7 +73,7 @@ fn text_or_none(alloc: Global, job: &Option<Job>) -> Result<Answer, Fault> {
 }
 
 /// The jobs of a table in order. The answer is how many there are, and how many bytes their texts have together.
-pub fn jobs(caller: Caller<'_>, question: &Value) -> Result<Outcome, Fault> {
+pub fn jobs(caller: Caller<'_>, question: &Value) -> Result<Outcome> {
     let table = Table::read(caller.alloc, question)?;
     caller.begin();
     let (count, bytes) = count_and_bytes(&table.jobs);
@@ -101,11 +92,9 @@ fn count_and_bytes(table: &CronTable) -> (usize, usize) {
 }
 
 /// A new table, what is asked of a table, and the making of its iterators: a place and a civil start.
-pub fn asked(caller: Caller<'_>, question: &Value) -> Result<Outcome, Fault> {
-    let (place, start) = (
-        number_at(question, "place")?,
-        civil_value(question, "start")?,
-    );
+pub fn asked(caller: Caller<'_>, question: &Value) -> Result<Outcome> {
+    let place = number_at(question, "place")?;
+    let start = civil_value(question, "start")?;
     let table = Table::read(caller.alloc, question)?;
     questions_of(caller, &table.jobs, place, start)
 }
@@ -115,7 +104,7 @@ fn questions_of(
     table: &CronTable,
     place: usize,
     start: DateTime,
-) -> Result<Outcome, Fault> {
+) -> Result<Outcome> {
     caller.begin();
     let is_new_empty = CronTable::new(caller.alloc).is_empty();
     let (count, is_empty, is_there) = (table.len(), table.is_empty(), table.get(place).is_some());
@@ -133,7 +122,7 @@ fn has_fault<T: Moment>(runs: &CronTableIterator<'_, T>) -> bool {
 }
 
 /// A search for a run of a table.
-pub fn search(caller: Caller<'_>, question: &Value) -> Result<Outcome, Fault> {
+pub fn search(caller: Caller<'_>, question: &Value) -> Result<Outcome> {
     let table = Table::read(caller.alloc, question)?;
     search_of(caller, question, Subject::Table(&table.jobs))
 }
@@ -147,7 +136,7 @@ struct ItemAt<'t> {
 }
 
 impl<'t> OverTime for ItemAt<'t> {
-    fn outcome<T: Moment>(&self, caller: Caller<'_>, start: T) -> Result<Outcome, Fault> {
+    fn outcome<T: Moment>(&self, caller: Caller<'_>, start: T) -> Result<Outcome> {
         let mut runs = Runs::new(Subject::Table(self.table), start, self.how)?;
         for _ in 0..self.before {
             let _ = runs.next();
@@ -156,7 +145,7 @@ impl<'t> OverTime for ItemAt<'t> {
     }
 }
 
-fn two_items<T: Moment>(caller: Caller<'_>, runs: &mut Runs<'_, T>) -> Result<Outcome, Fault> {
+fn two_items<T: Moment>(caller: Caller<'_>, runs: &mut Runs<'_, T>) -> Result<Outcome> {
     caller.begin();
     let mut item = runs.next();
     caller.end();
@@ -169,23 +158,15 @@ fn two_items<T: Moment>(caller: Caller<'_>, runs: &mut Runs<'_, T>) -> Result<Ou
     Outcome::new(or_lacking(first, lacked), after)
 }
 
-fn with_next<T: Moment>(
-    alloc: Global,
-    first: &str,
-    runs: &mut Runs<'_, T>,
-) -> Result<String, Fault> {
+fn with_next<T: Moment>(alloc: Global, first: &str, runs: &mut Runs<'_, T>) -> Result<String> {
     let second = item_text(alloc, runs.next())?;
     Ok(format!(in alloc; "{first} {second}")?)
 }
 
 /// The item of an iterator over a table behind so many: from the third on runs are kept, and not each job is searched. Afterwards
 /// that item, asked for again with memory where it was refused, and the next.
-pub fn item_at(caller: Caller<'_>, question: &Value, before: u32) -> Result<Outcome, Fault> {
-    let (table, how) = (Table::read(caller.alloc, question)?, How::read(question)?);
-    let item = ItemAt {
-        table: &table.jobs,
-        how,
-        before,
-    };
-    over_time(caller, question, &item)
+pub fn item_at(caller: Caller<'_>, question: &Value, before: u32) -> Result<Outcome> {
+    let read = Table::read(caller.alloc, question)?;
+    let (table, how) = (&read.jobs, How::read(question)?);
+    over_time(caller, question, &ItemAt { table, how, before })
 }

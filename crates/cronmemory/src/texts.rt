@@ -7,15 +7,15 @@ use croner::errors::CronError;
 use croner::parser::{CronParser, PatternFault};
 use croner::{Cron, CronComponent};
 use croner_rows::{
-    Answer, Caller, Fault, Job, Outcome, are_alike, civil_value, member, new_component, printed,
-    read_parser, shown, text,
+    Answer, Caller, Fault, Job, Outcome, Result, are_alike, civil_value, member, new_component,
+    printed, read_parser, shown, text,
 };
 use jiff::civil::DateTime;
 use serde_json::Value;
 use std::alloc::Global;
 
 /// A field that is made new.
-pub fn new_field(caller: Caller<'_>, question: &Value) -> Result<Outcome, Fault> {
+pub fn new_field(caller: Caller<'_>, question: &Value) -> Result<Outcome> {
     let new = member(question, "new")?;
     caller.begin();
     let field = new_component(caller.alloc, new);
@@ -23,7 +23,7 @@ pub fn new_field(caller: Caller<'_>, question: &Value) -> Result<Outcome, Fault>
     Ok(Outcome::of(caller.alloc, shown_field(caller.alloc, field)))
 }
 
-fn shown_field(alloc: Global, field: Result<CronComponent, Fault>) -> Result<Answer, Fault> {
+fn shown_field(alloc: Global, field: Result<CronComponent>) -> Result<Answer> {
     let field = field?;
     let text = shown::field(alloc, &field);
     drop(field);
@@ -31,7 +31,7 @@ fn shown_field(alloc: Global, field: Result<CronComponent, Fault>) -> Result<Ans
 }
 
 /// Why a text is refused: the bytes of the fault, and its words.
-pub fn explanation(caller: Caller<'_>, question: &Value) -> Result<Outcome, Fault> {
+pub fn explanation(caller: Caller<'_>, question: &Value) -> Result<Outcome> {
     let (parser, text) = (read_parser(question)?, text(question, "text")?);
     caller.begin();
     let explained = parser.explain(caller.alloc, text);
@@ -42,20 +42,16 @@ pub fn explanation(caller: Caller<'_>, question: &Value) -> Result<Outcome, Faul
 fn shown_fault(
     alloc: Global,
     explained: Result<Option<PatternFault>, CronError>,
-) -> Result<Answer, Fault> {
-    match explained? {
-        Some(fault) => Ok(Answer::Text(fault_text(alloc, &fault)?)),
-        None => Ok(Answer::Value(shown::text(alloc, "accepted")?)),
-    }
-}
-
-fn fault_text(alloc: Global, fault: &PatternFault) -> Result<String, Fault> {
+) -> Result<Answer> {
+    let Some(fault) = explained? else {
+        return Ok(Answer::Value(shown::text(alloc, "accepted")?));
+    };
     let (start, end) = (fault.start, fault.end);
-    Ok(format!(in alloc; "{start}-{end} {fault}")?)
+    Ok(Answer::Text(format!(in alloc; "{start}-{end} {fault}")?))
 }
 
 /// A parser that is built from settings: its order beside a new one.
-pub fn parser(caller: Caller<'_>, question: &Value) -> Result<Outcome, Fault> {
+pub fn parser(caller: Caller<'_>, question: &Value) -> Result<Outcome> {
     caller.begin();
     let built = read_parser(question);
     let new = CronParser::new();
@@ -65,18 +61,16 @@ pub fn parser(caller: Caller<'_>, question: &Value) -> Result<Outcome, Fault> {
 }
 
 /// The JSON of a job, and the job afterwards.
-pub fn to_json(caller: Caller<'_>, question: &Value) -> Result<Outcome, Fault> {
+pub fn to_json(caller: Caller<'_>, question: &Value) -> Result<Outcome> {
     let job = Job::read(caller.alloc, question)?;
     caller.begin();
     let json = job.cron.to_json();
     caller.end();
-    Outcome::new(
-        printed_json(caller.alloc, json),
-        shown::job(caller.alloc, &job.cron),
-    )
+    let json = printed_json(caller.alloc, json);
+    Outcome::new(json, shown::job(caller.alloc, &job.cron))
 }
 
-fn printed_json(alloc: Global, json: Result<Value, CronError>) -> Result<Answer, Fault> {
+fn printed_json(alloc: Global, json: Result<Value, CronError>) -> Result<Answer> {
     let json = json?;
     Ok(Answer::Text(printed(alloc, &json)?))
 }
@@ -84,7 +78,7 @@ fn printed_json(alloc: Global, json: Result<Value, CronError>) -> Result<Answer,
 /// Questions of a job that make no request, about a date and time: whether it is named, the kind of job, whether the fields have
 /// their shapes, the three flags, and whether the pattern is equal to itself, hashes alike and has the job's text. Then both day
 /// fields must match.
-pub fn questions(caller: Caller<'_>, question: &Value) -> Result<Outcome, Fault> {
+pub fn questions(caller: Caller<'_>, question: &Value) -> Result<Outcome> {
     let at = civil_value(question, "at")?;
     let mut job = Job::read(caller.alloc, question)?;
     let answer = asked(caller, &job.cron, &at);
@@ -94,14 +88,12 @@ pub fn questions(caller: Caller<'_>, question: &Value) -> Result<Outcome, Fault>
     Outcome::new(answer, shown::job(caller.alloc, &job.cron))
 }
 
-fn asked(caller: Caller<'_>, cron: &Cron, at: &DateTime) -> Result<Answer, Fault> {
+fn asked(caller: Caller<'_>, cron: &Cron, at: &DateTime) -> Result<Answer> {
     let pattern = &cron.pattern;
     caller.begin();
     let matching = is_true(&cron.is_time_matching(at));
-    let (kind, shapes) = (
-        shown::job_type(cron.determine_job_type()),
-        pattern.has_field_shapes(),
-    );
+    let kind = shown::job_type(cron.determine_job_type());
+    let shapes = pattern.has_field_shapes();
     let (day, weekday) = (pattern.is_dom_wildcard(), pattern.is_dow_wildcard());
     let and = pattern.matches_dom_and_dow();
     let same = are_alike(pattern, pattern) && cron.as_str() == pattern.as_str();
@@ -117,7 +109,7 @@ fn is_true(answer: &Result<bool, CronError>) -> bool {
 }
 
 /// The texts of a language that are no sentences about a number.
-pub fn words_of_language(caller: Caller<'_>, question: &Value) -> Result<Outcome, Fault> {
+pub fn words_of_language(caller: Caller<'_>, question: &Value) -> Result<Outcome> {
     match text(question, "language")? {
         "english" => words_of(caller, &English),
         "swedish" => words_of(caller, &Swedish),
@@ -125,7 +117,7 @@ pub fn words_of_language(caller: Caller<'_>, question: &Value) -> Result<Outcome
     }
 }
 
-fn words_of<L: Language>(caller: Caller<'_>, language: &L) -> Result<Outcome, Fault> {
+fn words_of<L: Language>(caller: Caller<'_>, language: &L) -> Result<Outcome> {
     caller.begin();
     let (minute, second) = (language.every_minute(), language.every_second_phrase());
     let last = language.the_last_day_of_the_month();

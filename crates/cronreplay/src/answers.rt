@@ -2,7 +2,7 @@
 
 use croner::time::Direction;
 use croner_rows::{
-    Caller, Fault, How, Moment, Outcome, OverTime, Runs, Subject, flag, number_at, over_time,
+    Caller, How, Moment, Outcome, OverTime, Result, Runs, Subject, flag, number_at, over_time,
     shown, switch,
 };
 use serde_json::Value;
@@ -27,7 +27,7 @@ struct Asked<'j> {
 }
 
 impl<'j> OverTime for Asked<'j> {
-    fn outcome<T: Moment>(&self, caller: Caller<'_>, start: T) -> Result<Outcome, Fault> {
+    fn outcome<T: Moment>(&self, caller: Caller<'_>, start: T) -> Result<Outcome> {
         let (alloc, question) = (caller.alloc, self.question);
         let answer = match self.ask {
             Ask::Search(subject, direction) => runs(alloc, question, subject, start, direction),
@@ -39,11 +39,7 @@ impl<'j> OverTime for Asked<'j> {
 }
 
 /// Answers a question on the clock that it names.
-pub fn answer_from_start(
-    caller: Caller<'_>,
-    question: &Value,
-    ask: Ask<'_>,
-) -> Result<Outcome, Fault> {
+pub fn answer_from_start(caller: Caller<'_>, question: &Value, ask: Ask<'_>) -> Result<Outcome> {
     over_time(caller, question, &Asked { question, ask })
 }
 
@@ -54,11 +50,9 @@ fn runs<T: Moment>(
     subject: Subject<'_>,
     start: T,
     direction: Direction,
-) -> Result<Value, Fault> {
-    let (mut inclusive, count): (bool, u64) = (
-        flag(question, "inclusive")?,
-        number_at(question, "count")?,
-    );
+) -> Result<Value> {
+    let count: u64 = number_at(question, "count")?;
+    let mut inclusive = flag(question, "inclusive")?;
     let mut position = start;
     let mut runs = Vec::new(alloc);
     for _ in 0..count {
@@ -83,7 +77,7 @@ fn items<T: Moment>(
     question: &Value,
     subject: Subject<'_>,
     start: T,
-) -> Result<Value, Fault> {
+) -> Result<Value> {
     let (how, count) = (How::read(question)?, number_at(question, "count")?);
     let mut runs = Runs::new(subject, start, how)?;
     if switch(question, "copied")? {
@@ -92,7 +86,7 @@ fn items<T: Moment>(
     listed(alloc, &mut runs, count)
 }
 
-fn listed<T: Moment>(alloc: Global, runs: &mut Runs<'_, T>, count: u64) -> Result<Value, Fault> {
+fn listed<T: Moment>(alloc: Global, runs: &mut Runs<'_, T>, count: u64) -> Result<Value> {
     let mut items = Vec::new(alloc);
     for _ in 0..count {
         items.push(runs.item(alloc)?)?;
@@ -101,7 +95,7 @@ fn listed<T: Moment>(alloc: Global, runs: &mut Runs<'_, T>, count: u64) -> Resul
 }
 
 // What the clock shows, and the weekday from Sunday.
-fn reading<T: Moment>(alloc: Global, start: &T) -> Result<Value, Fault> {
+fn reading<T: Moment>(alloc: Global, start: &T) -> Result<Value> {
     let shown = Value::String(start.to_civil().to_string(alloc)?);
     let weekday = Value::from(start.civil_weekday().num_days_from_sunday());
     shown::pair(alloc, shown, weekday)

@@ -2,40 +2,34 @@
 
 use croner::component::CronComponent;
 use croner::errors::CronError;
-use croner_rows::{Fault, calls_in_turn, list, member, new_component, read_field, shown, word};
+use croner_rows::{
+    Fault, Result, calls_in_turn, member, new_component, parts, read_field, shown, word,
+};
 use serde_json::Value;
 use std::alloc::Global;
 
 /// The answers of calls of one field, and what it holds afterwards.
-pub fn component(alloc: Global, question: &Value) -> Result<Value, Fault> {
+pub fn component(alloc: Global, question: &Value) -> Result<Value> {
     let mut component = read_field(alloc, question)?;
     called_in_turn(alloc, question, &mut component)
 }
 
-fn called_in_turn(
-    alloc: Global,
-    question: &Value,
-    component: &mut CronComponent,
-) -> Result<Value, Fault> {
+fn called_in_turn(alloc: Global, question: &Value, component: &mut CronComponent) -> Result<Value> {
     let results = calls_in_turn(alloc, component, question)?;
     let after = shown::field(alloc, component)?;
-    shown::object(
-        alloc,
-        format!(in alloc; "{{\"results\":{results},\"after\":{after}}}"),
-    )
+    let answer = format!(in alloc; "{{\"results\":{results},\"after\":{after}}}");
+    shown::object(alloc, answer)
 }
 
 /// The order of two fields, each made new and parsed; a refused parse keeps its marks.
-pub fn component_compare(alloc: Global, question: &Value) -> Result<Value, Fault> {
-    let a = parsed(alloc, list(question, "a")?)?;
-    let b = parsed(alloc, list(question, "b")?)?;
+pub fn component_compare(alloc: Global, question: &Value) -> Result<Value> {
+    let a = parsed(alloc, member(question, "a")?)?;
+    let b = parsed(alloc, member(question, "b")?)?;
     shown::text(alloc, shown::ordering(a.cmp(&b)))
 }
 
-fn parsed(alloc: Global, side: &[Value]) -> Result<CronComponent, Fault> {
-    let [new, text] = side else {
-        return Err(Fault::Malformed);
-    };
+fn parsed(alloc: Global, side: &Value) -> Result<CronComponent> {
+    let [new, text] = parts::<2>(side)?;
     let mut component = new_component(alloc, new)?;
     match component.parse(word(text)?) {
         Err(CronError::OutOfMemory) => Err(Fault::OutOfMemory),

@@ -3,12 +3,12 @@
 use crate::values::values;
 use croner::errors::CronError;
 use croner::parser::{FaultKind, PatternFault};
-use croner_rows::{Fault, Job, read_parser, shown, text};
+use croner_rows::{Fault, Job, Result, read_parser, shown, text};
 use serde_json::Value;
 use std::alloc::Global;
 
 /// The bytes of the fault and the message of a refused text; `"accepted"` where neither `explain` nor `parse` refuses it.
-pub fn explain(alloc: Global, question: &Value) -> Result<Value, Fault> {
+pub fn explain(alloc: Global, question: &Value) -> Result<Value> {
     let (parser, text) = (read_parser(question)?, text(question, "text")?);
     match (
         parser.explain(alloc, text)?,
@@ -23,7 +23,7 @@ pub fn explain(alloc: Global, question: &Value) -> Result<Value, Fault> {
 }
 
 // The message of `parse` where it is of the fault's kind and has what the fault says.
-fn told(alloc: Global, fault: &PatternFault, error: &CronError) -> Result<Value, Fault> {
+fn told(alloc: Global, fault: &PatternFault, error: &CronError) -> Result<Value> {
     if !is_kind(error, fault.kind) {
         return shown::text(alloc, "of another kind");
     }
@@ -47,7 +47,7 @@ fn is_kind(error: &CronError, kind: FaultKind) -> bool {
 }
 
 /// What is suggested for a refused text, and the values of a field where it stands in the fault's place; null where nothing is.
-pub fn suggest(alloc: Global, question: &Value) -> Result<Value, Fault> {
+pub fn suggest(alloc: Global, question: &Value) -> Result<Value> {
     let text = text(question, "text")?;
     let Some(fault) = read_parser(question)?.explain(alloc, text)? else {
         return shown::text(alloc, "accepted");
@@ -74,18 +74,14 @@ fn followed(
     question: &Value,
     fault: &PatternFault,
     suggestion: &str,
-) -> Result<Value, Fault> {
+) -> Result<Value> {
     let text = text(question, "text")?;
     let front = text.get(..fault.start).ok_or(Fault::Malformed)?;
     let rest = text.get(fault.end..).ok_or(Fault::Malformed)?;
     let mended = format!(in alloc; "{front}{suggestion}{rest}")?;
-    let values = values_of(alloc, question, mended.as_str())?;
+    let job = Job::of_text(alloc, question, mended.as_str())?;
+    let values = values(alloc, question, job)?;
     let suggestion = shown::text(alloc, suggestion)?;
     let answer = format!(in alloc; "{{\"suggestion\":{suggestion},\"values\":{values}}}");
     shown::object(alloc, answer)
-}
-
-fn values_of(alloc: Global, question: &Value, mended: &str) -> Result<Value, Fault> {
-    let job = Job::of_text(alloc, question, mended)?;
-    values(alloc, question, &job)
 }

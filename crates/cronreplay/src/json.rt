@@ -1,29 +1,27 @@
 //! Jobs as JSON: what is printed of them, and texts that are read again.
 
 use croner::Cron;
-use croner_rows::{Fault, Job, member, printed, shown};
+use croner_rows::{Fault, Job, Result, member, printed, shown};
 use serde_json::Value;
 use std::alloc::Global;
 
 /// The JSON of the job that a JSON value reads as.
-pub fn json_again(alloc: Global, question: &Value) -> Result<Value, Fault> {
-    let job = Job::from_json(alloc, member(question, "value")?)?;
+pub fn json_again(alloc: Global, question: &Value) -> Result<Value> {
+    let job = Job::new(Cron::from_json(alloc, member(question, "value")?)?);
     Ok(job.cron.to_json()?)
 }
 
 /// What is printed of a job's JSON, and whether its text, read again by the parser of the question, gives an equal job with
 /// the same text.
-pub fn reread(alloc: Global, question: &Value, job: &Job) -> Result<Value, Fault> {
+pub fn reread(alloc: Global, question: &Value, job: &Job) -> Result<Value> {
     let again = is_read_again(alloc, question, &job.cron)?;
     let json = Value::String(printed(alloc, &job.cron.to_json()?)?);
-    shown::object(
-        alloc,
-        format!(in alloc; "{{\"json\":{json},\"again\":{again}}}"),
-    )
+    let answer = format!(in alloc; "{{\"json\":{json},\"again\":{again}}}");
+    shown::object(alloc, answer)
 }
 
 // A text that is refused is not read again.
-fn is_read_again(alloc: Global, question: &Value, cron: &Cron) -> Result<bool, Fault> {
+fn is_read_again(alloc: Global, question: &Value, cron: &Cron) -> Result<bool> {
     match Job::of_text(alloc, question, cron.as_str()) {
         Ok(again) => Ok(again.cron == *cron && again.cron.as_str() == cron.as_str()),
         Err(Fault::Refused(_)) => Ok(false),

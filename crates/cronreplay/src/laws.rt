@@ -12,7 +12,7 @@ use croner_backends::laws::searches::{nearest_boxed_run, nearest_narrow_run};
 use croner_backends::{BoxedTime, NarrowTime};
 use croner_rows::shown::times;
 use croner_rows::{
-    Fault, How, Job, Moment, Runs, Subject, civil_value, clock_table, member, narrow_time,
+    Fault, How, Job, Moment, Result, Runs, Subject, civil_value, clock_table, member, narrow_time,
     number_at, read_parser, shown, text,
 };
 use jiff::civil::DateTime;
@@ -23,7 +23,7 @@ use std::alloc::Global;
 const CALLS: u32 = 3;
 
 /// What the law of a question gives.
-pub fn law(alloc: Global, question: &Value) -> Result<Value, Fault> {
+pub fn law(alloc: Global, question: &Value) -> Result<Value> {
     match text(question, "law")? {
         "read_twice" => texts_read(alloc, question),
         "equal_and_described" => descriptions(alloc, question),
@@ -32,7 +32,7 @@ pub fn law(alloc: Global, question: &Value) -> Result<Value, Fault> {
 }
 
 // The text that a job keeps, and that of the job read from it.
-fn texts_read(alloc: Global, question: &Value) -> Result<Value, Fault> {
+fn texts_read(alloc: Global, question: &Value) -> Result<Value> {
     let (first, second) = read_twice(&read_parser(question)?, alloc, text(question, "text")?)?;
     let (first, second) = (Job::new(first), Job::new(second));
     let first = shown::text(alloc, first.cron.as_str())?;
@@ -41,18 +41,16 @@ fn texts_read(alloc: Global, question: &Value) -> Result<Value, Fault> {
 }
 
 // Whether two jobs are equal, and the description of each.
-fn descriptions(alloc: Global, question: &Value) -> Result<Value, Fault> {
+fn descriptions(alloc: Global, question: &Value) -> Result<Value> {
     let a = Job::read(alloc, member(question, "a")?)?;
     let b = Job::read(alloc, member(question, "b")?)?;
     let (equal, a, b) = equal_and_described(alloc, &a.cron, &b.cron, &English)?;
     let (a, b) = (Value::String(a), Value::String(b));
-    shown::object(
-        alloc,
-        format!(in alloc; "{{\"eq\":{equal},\"a\":{a},\"b\":{b}}}"),
-    )
+    let answer = format!(in alloc; "{{\"eq\":{equal},\"a\":{a},\"b\":{b}}}");
+    shown::object(alloc, answer)
 }
 
-fn law_of_job(alloc: Global, question: &Value, name: &str, job: &Job) -> Result<Value, Fault> {
+fn law_of_job(alloc: Global, question: &Value, name: &str, job: &Job) -> Result<Value> {
     match name {
         "next_runs" => runs(alloc, job, civil_value(question, "start")?),
         "items_in_order" => order(alloc, job, civil_value(question, "start")?),
@@ -62,7 +60,7 @@ fn law_of_job(alloc: Global, question: &Value, name: &str, job: &Job) -> Result<
 }
 
 // The runs after a start, and whether they are all.
-fn runs(alloc: Global, job: &Job, start: DateTime) -> Result<Value, Fault> {
+fn runs(alloc: Global, job: &Job, start: DateTime) -> Result<Value> {
     let mut runs = Runs::new(Subject::Job(job), start, How::After)?;
     let (runs, is_over) = next_runs(alloc, iterator(&mut runs)?, CALLS)?;
     let runs = times(alloc, runs.as_slice())?;
@@ -70,7 +68,7 @@ fn runs(alloc: Global, job: &Job, start: DateTime) -> Result<Value, Fault> {
 }
 
 // The runs before a start, and how each compares with the one before it.
-fn order(alloc: Global, job: &Job, start: DateTime) -> Result<Value, Fault> {
+fn order(alloc: Global, job: &Job, start: DateTime) -> Result<Value> {
     let mut runs = Runs::new(Subject::Job(job), start, How::Before)?;
     let (runs, orders) = items_in_order(alloc, iterator(&mut runs)?, CALLS)?;
     let runs = times(alloc, runs.as_slice())?;
@@ -82,12 +80,12 @@ fn order(alloc: Global, job: &Job, start: DateTime) -> Result<Value, Fault> {
 }
 
 // The next run after a run, and the one before that.
-fn back(alloc: Global, job: &Job, run: &DateTime) -> Result<Value, Fault> {
+fn back(alloc: Global, job: &Job, run: &DateTime) -> Result<Value> {
     let (there, back) = there_and_back(&job.cron, run)?;
     times(alloc, [there, back?].as_slice())
 }
 
-fn iterator<'r, T: Moment>(runs: &'r mut Runs<'_, T>) -> Result<&'r mut CronIterator<T>, Fault> {
+fn iterator<'r, T: Moment>(runs: &'r mut Runs<'_, T>) -> Result<&'r mut CronIterator<T>> {
     match runs {
         Runs::OfJob(runs) => Ok(runs),
         Runs::OfTable(_) => Err(Fault::Malformed),
@@ -95,7 +93,7 @@ fn iterator<'r, T: Moment>(runs: &'r mut Runs<'_, T>) -> Result<&'r mut CronIter
 }
 
 // The run before a start, and the runs after it, over a backend of the tests.
-fn over_backend(alloc: Global, question: &Value, name: &str, job: &Job) -> Result<Value, Fault> {
+fn over_backend(alloc: Global, question: &Value, name: &str, job: &Job) -> Result<Value> {
     let zone = member(question, "zone")?;
     let table = clock_table(alloc, zone)?;
     let start = TableTime::new(&table, number_at(question, "start")?)?;
@@ -106,7 +104,7 @@ fn over_backend(alloc: Global, question: &Value, name: &str, job: &Job) -> Resul
     }
 }
 
-fn boxed(alloc: Global, job: &Job, start: BoxedTime<'_>) -> Result<Value, Fault> {
+fn boxed(alloc: Global, job: &Job, start: BoxedTime<'_>) -> Result<Value> {
     let previous = nearest_boxed_run(&job.cron, &start, false, Direction::Backward)?;
     let previous = previous.shown(alloc)?;
     let mut runs = Runs::new(Subject::Job(job), start, How::After)?;
@@ -115,7 +113,7 @@ fn boxed(alloc: Global, job: &Job, start: BoxedTime<'_>) -> Result<Value, Fault>
     shown::pair(alloc, previous, runs)
 }
 
-fn narrow(alloc: Global, job: &Job, start: NarrowTime<'_>) -> Result<Value, Fault> {
+fn narrow(alloc: Global, job: &Job, start: NarrowTime<'_>) -> Result<Value> {
     let previous = nearest_narrow_run(&job.cron, &start, false, Direction::Backward)?;
     let previous = previous.shown(alloc)?;
     let mut runs = Runs::new(Subject::Job(job), start, How::After)?;

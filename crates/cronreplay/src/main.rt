@@ -16,24 +16,19 @@ mod question;
 mod replay;
 mod tables;
 mod values;
-mod wanted;
-mod words;
 mod writer;
 
-use croner_rows::{Fault, Summary, answer_lines, status};
+use croner_rows::{Result, answer_lines, status};
 use replay::Replay;
 use std::io;
 use std::io::{BufWriter, Write};
 use std::process::ExitCode;
 
-fn run(rt: &HostRuntime) -> Result<bool, Fault> {
-    let mut out = BufWriter::new(rt.alloc(), rt.stdout())?;
-    let summary = answer_lines(rt, &Replay::new(rt.alloc()), &mut out)?;
-    let Summary {
-        lines,
-        differing,
-        unsupported,
-    } = summary;
+fn run(rt: &HostRuntime) -> Result<bool> {
+    let alloc = rt.alloc();
+    let mut out = BufWriter::new(alloc, rt.stdout())?;
+    let summary = answer_lines(rt, &Replay { alloc }, &mut out)?;
+    let (lines, differing, unsupported) = (summary.lines, summary.differing, summary.unsupported);
     writeln!(
         out,
         "{lines} lines, {differing} differ, {unsupported} unsupported"

@@ -4,14 +4,14 @@ use croner::errors::CronError;
 use croner::time::table::TableTime;
 use croner_backends::NarrowTime;
 use croner_rows::{
-    Fault, How, Job, Run, Runs, Subject, clock_table, list, member, narrow_time, number_at, shown,
+    How, Job, Result, Run, Runs, Subject, clock_table, list, member, narrow_time, number_at, shown,
     switch,
 };
 use serde_json::Value;
 use std::alloc::Global;
 
 /// The answer between each two bounds; where the question says `once`, each answer once.
-pub fn as_bounds_move(alloc: Global, question: &Value, job: &Job) -> Result<Value, Fault> {
+pub fn as_bounds_move(alloc: Global, question: &Value, job: &Job) -> Result<Value> {
     let (how, once) = (How::read(question)?, switch(question, "once")?);
     let table = clock_table(alloc, member(question, "zone")?)?;
     let start = TableTime::new(&table, number_at(question, "start")?)?;
@@ -32,7 +32,7 @@ fn answer_between(
     subject: Subject<'_>,
     how: How,
     start: NarrowTime<'_>,
-) -> Result<Value, Fault> {
+) -> Result<Value> {
     let (direction, inclusive) = how.search();
     let found = found(alloc, subject.run_from(&start, inclusive, direction))?;
     let mut runs = Runs::new(subject, start, how)?;
@@ -44,7 +44,7 @@ fn answer_between(
     shown::pair(alloc, found, given)
 }
 
-fn found(alloc: Global, found: Result<Run<NarrowTime<'_>>, CronError>) -> Result<Value, Fault> {
+fn found(alloc: Global, found: Result<Run<NarrowTime<'_>>, CronError>) -> Result<Value> {
     match found {
         Ok(run) => run.shown(alloc),
         Err(error) => shown::refused(alloc, &error),
@@ -52,7 +52,7 @@ fn found(alloc: Global, found: Result<Run<NarrowTime<'_>>, CronError>) -> Result
 }
 
 // The answer of a call. No item without a fault is the limit.
-fn given(alloc: Global, runs: &mut Runs<'_, NarrowTime<'_>>) -> Result<Value, Fault> {
+fn given(alloc: Global, runs: &mut Runs<'_, NarrowTime<'_>>) -> Result<Value> {
     match runs.item(alloc)? {
         Value::Null => shown::refused(alloc, &CronError::TimeSearchLimitExceeded),
         answer => Ok(answer),

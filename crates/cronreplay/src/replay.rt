@@ -1,27 +1,19 @@
 //! The replay: what each question answers, and whether that is what is wanted.
 
 use crate::question::answer;
-use crate::wanted::is_wanted;
 use croner::errors::CronError;
-use croner_rows::{Fault, Tool, shown};
+use croner_rows::{Fault, Result, Tool, shown};
 use serde_json::Value;
 use std::alloc::Global;
 
 /// The replay.
 #[derive(Clone, Copy)]
 pub struct Replay {
-    alloc: Global,
-}
-
-impl Replay {
-    /// The replay.
-    pub fn new(alloc: Global) -> Replay {
-        Replay { alloc }
-    }
+    pub alloc: Global,
 }
 
 impl Tool for Replay {
-    fn answer(&self, question: &Value) -> Result<Value, Fault> {
+    fn answer(&self, question: &Value) -> Result<Value> {
         let got = match answer(self.alloc, question) {
             Err(Fault::Refused(error)) => refused(self.alloc, question, &error)?,
             answered => answered?,
@@ -32,26 +24,45 @@ impl Tool for Replay {
         }
     }
 
+    // A `stderr` that is wanted with a space at its end says only how it begins.
     fn is_wanted(&self, got: &Value, want: &Value) -> bool {
-        is_wanted(got, want)
+        match (stderr(got), stderr(want)) {
+            (Some(text), Some(start)) if start.ends_with(' ') => {
+                text.starts_with(start)
+                    && is_same(got, want, "status")
+                    && is_same(got, want, "stdout")
+            }
+            _ => *got == *want,
+        }
     }
 }
 
 // A refusal as a question wants it: the name of its variant; where its `message` is `"whole"`, the message; and where that is
 // a number of bytes, the name of a refusal whose message has no more of them, else how many it has.
-fn refused(alloc: Global, question: &Value, error: &CronError) -> Result<Value, Fault> {
+fn refused(alloc: Global, question: &Value, error: &CronError) -> Result<Value> {
     match question.get("message") {
         None => shown::refused(alloc, error),
         Some(form) => told(alloc, form.as_u64(), error),
     }
 }
 
-fn told(alloc: Global, most: Option<u64>, error: &CronError) -> Result<Value, Fault> {
+fn told(alloc: Global, most: Option<u64>, error: &CronError) -> Result<Value> {
     let message = error.to_string(alloc)?;
     let bytes = message.len() as u64;
     match most {
         None => Ok(Value::String(message)),
         Some(most) if bytes <= most => shown::refused(alloc, error),
         Some(_) => Ok(Value::from(bytes)),
+    }
+}
+
+fn stderr(answer: &Value) -> Option<&str> {
+    answer.get("stderr")?.as_str()
+}
+
+fn is_same(got: &Value, want: &Value, name: &str) -> bool {
+    match (got.get(name), want.get(name)) {
+        (Some(got), Some(want)) => *got == *want,
+        _ => false,
     }
 }

@@ -4,13 +4,12 @@ use croner::crontable::CronTable;
 use croner::errors::CronError;
 use croner::laws::crontable::{next_table_runs, resumed_table};
 use croner::time::Direction;
-use croner_rows::{Caller, Fault, Job, Moment, Runs, Table, civil_value, number_at, shown};
-use jiff::civil::DateTime;
+use croner_rows::{Caller, Fault, Job, Result, Run, Runs, Table, civil_value, number_at, shown};
 use serde_json::Value;
 use std::alloc::Global;
 
 /// How many jobs a table has, whether it is empty, and the text of the job at a place, or null.
-pub fn place(alloc: Global, question: &Value, table: &CronTable) -> Result<Value, Fault> {
+pub fn place(alloc: Global, question: &Value, table: &CronTable) -> Result<Value> {
     let text = match table.get(number_at(question, "place")?) {
         Some(job) => shown::text(alloc, job.as_str())?,
         None => Value::Null,
@@ -22,25 +21,23 @@ pub fn place(alloc: Global, question: &Value, table: &CronTable) -> Result<Value
 
 /// The text of the job that a change gives back, those of the jobs that stand then, in order, and the places of the next run
 /// after a start.
-pub fn change(alloc: Global, question: &Value) -> Result<Value, Fault> {
+pub fn change(alloc: Global, question: &Value) -> Result<Value> {
     let mut table = Table::read(alloc, question)?;
     let out = table.change(Caller::unmarked(alloc), question)?;
     let (out, jobs) = (text_of(alloc, &out)?, texts_of(alloc, &table.jobs)?);
     let next = next_places(alloc, question, &table.jobs)?;
-    shown::object(
-        alloc,
-        format!(in alloc; "{{\"out\":{out},\"jobs\":{jobs},\"next\":{next}}}"),
-    )
+    let answer = format!(in alloc; "{{\"out\":{out},\"jobs\":{jobs},\"next\":{next}}}");
+    shown::object(alloc, answer)
 }
 
-fn text_of(alloc: Global, job: &Option<Job>) -> Result<Value, Fault> {
+fn text_of(alloc: Global, job: &Option<Job>) -> Result<Value> {
     match job {
         None => Ok(Value::Null),
         Some(job) => shown::text(alloc, job.cron.as_str()),
     }
 }
 
-fn texts_of(alloc: Global, table: &CronTable) -> Result<Value, Fault> {
+fn texts_of(alloc: Global, table: &CronTable) -> Result<Value> {
     let mut texts = Vec::new(alloc);
     for job in table.iter() {
         texts.push(shown::text(alloc, job.as_str())?)?;
@@ -48,7 +45,7 @@ fn texts_of(alloc: Global, table: &CronTable) -> Result<Value, Fault> {
     Ok(Value::Array(texts))
 }
 
-fn next_places(alloc: Global, question: &Value, table: &CronTable) -> Result<Value, Fault> {
+fn next_places(alloc: Global, question: &Value, table: &CronTable) -> Result<Value> {
     let start = civil_value(question, "start")?;
     match table.find_next_occurrence(&start, false) {
         Ok((_, places)) => shown::numbers(alloc, places.as_slice()),
@@ -58,7 +55,7 @@ fn next_places(alloc: Global, question: &Value, table: &CronTable) -> Result<Val
 }
 
 /// The first two items of a listing, whether it is over, and the next item of one that is taken up at the second.
-pub fn taken_up(alloc: Global, question: &Value, table: &CronTable) -> Result<Value, Fault> {
+pub fn taken_up(alloc: Global, question: &Value, table: &CronTable) -> Result<Value> {
     let table = table.clone()?;
     let start = civil_value(question, "start")?;
     let mut runs = table.iter_after(start).clone()?;
@@ -68,17 +65,12 @@ pub fn taken_up(alloc: Global, question: &Value, table: &CronTable) -> Result<Va
     };
     let next = Runs::OfTable(resumed_table(&table, *last, Direction::Forward)).next();
     let mut shown = Vec::new(alloc);
-    for (instant, places) in &items {
-        shown.push(item(alloc, instant, places.as_slice())?)?;
+    for run in items {
+        shown.push(Run::of_table(run).shown(alloc)?)?;
     }
     shown.push(Value::Bool(is_over))?;
     if let Some(run) = next {
         shown.push(run.shown(alloc)?)?;
     }
     Ok(Value::Array(shown))
-}
-
-fn item(alloc: Global, instant: &DateTime, places: &[usize]) -> Result<Value, Fault> {
-    let places = shown::numbers(alloc, places)?;
-    shown::pair(alloc, instant.shown(alloc)?, places)
 }

@@ -1,6 +1,6 @@
 //! A writer that fails.
 
-use croner_rows::{Fault, number};
+use croner_rows::{Result, number};
 use serde_json::Value;
 use std::alloc::Global;
 use std::io;
@@ -22,7 +22,7 @@ pub struct Failing {
 
 impl Failing {
     /// The writer of a question, by its members. What is left out has no bound.
-    pub fn new(alloc: Global, limits: Option<&Value>) -> Result<Failing, Fault> {
+    pub fn new(alloc: Global, limits: Option<&Value>) -> Result<Failing> {
         Ok(Failing {
             taken: Vec::new(alloc),
             room: limit(limits, "room")?,
@@ -33,7 +33,7 @@ impl Failing {
     }
 }
 
-fn limit(limits: Option<&Value>, name: &str) -> Result<usize, Fault> {
+fn limit(limits: Option<&Value>, name: &str) -> Result<usize> {
     match limits.and_then(|limits| limits.get(name)) {
         None => Ok(usize::MAX),
         Some(limit) => number(limit),

@@ -2,28 +2,9 @@
 
 use croner::errors::CronError;
 use croner::time::Direction;
-use croner::time::table::TableTime;
 use croner_rows::{Fault, How, Job, Moment, Run, Runs, Subject, items, number, word};
-use jiff::Zoned;
 use serde_json::Value;
 use std::alloc::Global;
-
-/// A time of which the seconds since 1970-01-01T00:00:00 UTC are known.
-pub trait OnClock: Moment {
-    fn second(&self) -> i64;
-}
-
-impl<'t> OnClock for TableTime<'t> {
-    fn second(&self) -> i64 {
-        TableTime::second(self)
-    }
-}
-
-impl<'z> OnClock for Zoned<'z> {
-    fn second(&self) -> i64 {
-        self.timestamp().as_second()
-    }
-}
 
 /// What is asked of a job.
 #[derive(Clone, Copy)]
@@ -54,7 +35,7 @@ impl Asked {
     }
 
     /// The runs from a time on, nearest first. None where a search answers the limit.
-    pub fn runs<T: OnClock>(
+    pub fn runs<T: Moment>(
         &self,
         alloc: Global,
         start: T,
@@ -86,7 +67,7 @@ fn kind_of(value: &Value) -> Result<Kind, Fault> {
     }
 }
 
-fn found<T: OnClock>(alloc: Global, run: Result<Run<T>, CronError>) -> Result<Vec<i64>, Fault> {
+fn found<T: Moment>(alloc: Global, run: Result<Run<T>, CronError>) -> Result<Vec<i64>, Fault> {
     let mut runs = Vec::new(alloc);
     match run {
         Ok(run) => runs.push(run.instant.second())?,
@@ -97,7 +78,7 @@ fn found<T: OnClock>(alloc: Global, run: Result<Run<T>, CronError>) -> Result<Ve
 }
 
 // Neither clock asks for memory, so an iterator over it ends at the limit alone.
-fn listed<T: OnClock>(
+fn listed<T: Moment>(
     alloc: Global,
     listing: &mut Runs<'_, T>,
     count: i64,
