@@ -527,9 +527,11 @@ ORDER = [
 ]
 # These stand behind the others: what is told of a gap, and then what of a repeated range.
 CHANGES = ["gap", "twice", "cron-change"]
+# Of these nothing is lost where cron runs the job: they are notes, and no warnings.
+HARMLESS = ["cron-change moved", "cron-change once"]
 FIELD_NAMES = ["seconds", "minutes", "hours", "days of the month", "months", "weekdays", "years"]
 MOST_LINES = 10_000
-SMALL_CHANGE, HALF_DAY = 3 * 3600, DAY // 2
+SMALL_CHANGE, HALF_DAY, BESIDE = 3 * 3600, DAY // 2, 3 * 3600
 
 
 class Times:
@@ -654,7 +656,8 @@ def is_carried_to(times, before, after):
 
 def warnings_of_changes(times, zone, start):
     """What is told of the first change behind the start that puts the clock forward over a scheduled second, and of the first that
-    repeats one: that cron(8) does otherwise, or that a run is left out, or made twice. Nothing of a change of half a day or more."""
+    repeats one: that cron(8) does otherwise, or that a run is left out, or made twice, of a job that isn't due beside it. Nothing of a
+    change of half a day or more."""
     found = {}
     if len(times.hours) == 24:
         return []
@@ -679,7 +682,12 @@ def warnings_of_change(times, name, before, after):
         return []
     if there != here:
         return [f"cron-change {there}"]
-    return [name] if here in ("left out", "twice") else []
+    return [name] if here in ("left out", "twice") and not is_due_beside(times, min(before, after), max(before, after)) else []
+
+
+def is_due_beside(times, first, end):
+    """Whether the job is due within three hours before a range, or within three hours behind it."""
+    return times.second_in(first - BESIDE, first) is not None or times.second_in(end, end + BESIDE) is not None
 
 
 def fate_by_cron(job, name, size):
@@ -787,18 +795,19 @@ def warnings_of_file(data, is_system, is_pattern, zone, start):
     return found, ["many-lines"] if len(lines) > MOST_LINES and not is_pattern else []
 
 
-def warnings_of_row(row):
-    """The warnings of a row of crontab_warnings.txt."""
+def told_of_row(row):
+    """What is told of the lines of a row of crontab_warnings.txt: the warnings, and the notes of harmless changes of the clock."""
     data = row["text"].encode("latin-1") * row.get("times", 1)
     lines, file = warnings_of_file(data, row.get("system", False), row.get("patterns", False), row["zone"], row["from"])
-    return [said for found in lines for said in found] + file
+    told = [said for found in lines for said in found] + file
+    return [said for said in told if said not in HARMLESS], [said for said in told if said in HARMLESS]
 
 
 def counts_of_row(row):
     """How many lines of a row are refused, and how many are warned of. A file's own warning stands at the first line too many."""
     data, is_system, is_pattern = row["text"].encode("latin-1") * row.get("times", 1), row.get("system", False), row.get("patterns", False)
     lines, file = warnings_of_file(data, is_system, is_pattern, row["zone"], row["from"])
-    warned = {at for at, found in enumerate(lines) if found}
+    warned = {at for at, found in enumerate(lines) if set(found) - set(HARMLESS)}
     refused = sum(not is_pattern and line_of(text, is_system)[0] == "refused" for text, _ in lines_of(data))
     return refused, len(warned | ({MOST_LINES} if file else set()))
 

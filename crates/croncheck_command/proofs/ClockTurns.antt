@@ -186,15 +186,15 @@ watched_changes z start first last cs watched within jumps = record {
 
 -- behind the later one of a start and the second before the first watched one, and up to the earlier one of 372 days and the last
 abbrev pub first_asked : ℤ → ℤ
-first_asked s = int_max s (neg_ℤ (pos 62_135_510_401))
+first_asked s = int_max s (neg_ℤ (pos 62_135_424_001))
 
 abbrev pub last_asked : ℤ → ℤ
-last_asked s = int_min (pos 95_617_497_599) (s +ℤ pos 32_140_800)
+last_asked s = int_min (pos 95_617_411_199) (s +ℤ pos 32_140_800)
 
 watched_is : (s i : ℤ) → IsWithin (first_asked s) (last_asked s) i → IsWatched s i
 watched_is s i h =
-    let a = int_max_is s (neg_ℤ (pos 62_135_510_401)) in
-    let b = int_min_is (pos 95_617_497_599) (s +ℤ pos 32_140_800) in
+    let a = int_max_is s (neg_ℤ (pos 62_135_424_001)) in
+    let b = int_min_is (pos 95_617_411_199) (s +ℤ pos 32_140_800) in
     record {
       behind = omega (arith, ints, a, h.0);
       within = omega (arith, ints, b, h.1);
@@ -204,8 +204,8 @@ watched_is s i h =
 
 within_is : (s i : ℤ) → IsWatched s i → IsWithin (first_asked s) (last_asked s) i
 within_is s i w =
-    let a = int_max_is s (neg_ℤ (pos 62_135_510_401)) in
-    let b = int_min_is (pos 95_617_497_599) (s +ℤ pos 32_140_800) in
+    let a = int_max_is s (neg_ℤ (pos 62_135_424_001)) in
+    let b = int_min_is (pos 95_617_411_199) (s +ℤ pos 32_140_800) in
     (omega (arith, ints, a, w.behind, w.from), omega (arith, ints, b, w.within, w.before))
 
 pub all_watched : (z : Zone) (s first last : ℤ) (cs : List Change) → first ≡ first_asked s → last ≡ last_asked s → AreJumps z first last cs → AreChanges z s cs

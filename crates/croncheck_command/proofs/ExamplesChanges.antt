@@ -37,7 +37,10 @@ abbrev in_autumn : Fate → Meeting
 in_autumn fate = record { change = back; range = ranges.Repeated; second = pos 1_761_444_000; fate = fate }
 
 abbrev compared : Meeting → Option Fate → Compared
-compared meeting in_cron = record { meeting = meeting; in_cron = in_cron }
+compared meeting in_cron = record { meeting = meeting; in_cron = in_cron; is_due_beside = false }
+
+abbrev around : Meeting → Option Fate → Compared
+around meeting in_cron = record { meeting = meeting; in_cron = in_cron; is_due_beside = true }
 
 a_run_left_out : is_told (compared (in_spring 3_600 fates.LeftOut) None) ≡ true
 a_run_left_out = refl
@@ -56,6 +59,16 @@ a_run_made_once = refl
 
 a_run_made_once_by_cron : is_told (compared (in_autumn fates.Twice) (Some fates.Once)) ≡ true
 a_run_made_once_by_cron = refl
+
+-- the same of a job that is due beside the range
+a_run_left_out_of_many : is_told (around (in_spring 3_600 fates.LeftOut) None) ≡ false
+a_run_left_out_of_many = refl
+
+a_run_made_twice_of_many : is_told (around (in_autumn fates.Twice) None) ≡ false
+a_run_made_twice_of_many = refl
+
+many_made_up_by_cron : is_told (around (in_spring 3_600 fates.LeftOut) (Some fates.Moved)) ≡ true
+many_made_up_by_cron = refl
 
 less_than_half_a_day : is_told (compared (in_spring 43_199 fates.LeftOut) None) ≡ true
 less_than_half_a_day = refl

@@ -1,6 +1,6 @@
 -- A clock on which each wall second is its own instant: its readings, and what counts on it.
-use Rattle.std.proofs.Common.{◌≡◌, true, false, refl, sym, ◌∙◌, subst, inl, inr, arith, ℤ, pos, ◌-ℤ◌, ◌<ℤ◌, ◌≤ℤ◌, Option, Some, None, []}
-use Rattle.std.specs.Prelude.{MatchOption}
+use Rattle.std.proofs.Common.{◌≡◌, Bool, true, false, refl, sym, ◌∙◌, subst, inl, inr, arith, ℤ, pos, ◌-ℤ◌, ◌<ℤ◌, ◌≤ℤ◌, Option, Some, None, []}
+use Rattle.std.specs.Prelude.{◌↔◌, ◌⊎◌, IsTrue, is_some, MatchOption}
 use Rattle.std.proofs.lemmas.Bool.{false≢true}
 use Rattle.std.proofs.lemmas.Int.{ints, by_lt_z}
 use Rattle.croner_base.specs.declared.errors.CronError.{CronError}
@@ -21,6 +21,7 @@ use Rattle.croner.specs.search.Limit.{year_5000, InSpan}
 use Rattle.croner.specs.search.PatternJob.{timetable_of}
 use Rattle.croner.specs.search.Runs.{job_in, OwnRun, Run, Counts}
 use Rattle.croner.specs.search.Searches.{IsFound, IsRefused}
+use Rattle.croncheck_command.specs.Changes.{IsDueWithin}
 use Rattle.croncheck_command.specs.Private.Level.{IsNoneFrom, IsLeastFrom, IsNoneWithin, IsLeastWithin}
 use Rattle.croncheck_command.proofs.Listings.{starts_calm, searchable}
 
@@ -133,3 +134,16 @@ found_at m from f w v r is at same h =
 pub none_at : (m : Meaning) (from f : ℤ) (r : Option ℤ) → r ≡ None → f ≡ from → IsNoneFrom m f → MatchOption r (IsNoneFrom m from) (IsLeastFrom m from)
 none_at m from f r is at h =
     subst (λ (x : Option ℤ). MatchOption x (IsNoneFrom m from) (IsLeastFrom m from)) (sym is) (subst (λ (x : ℤ). IsNoneFrom m x) at h)
+
+-- ---- what is due
+
+-- by the first scheduled second up to an end
+pub due_within : (m : Meaning) (from end : ℤ) (r : Option ℤ) (b : Bool) → MatchOption r (IsNoneWithin m from end) (IsLeastWithin m from end) → b ≡ is_some r → IsTrue b ↔ IsDueWithin m from end
+due_within m from end None b none same = (λ so. absurd (false≢true (sym same ∙ so)), λ due. absurd (none due.0 due.1 due.2 due.3))
+due_within m from end (Some w) b least same = (λ so. (w, least.0.behind, least.1, least.0.scheduled), λ due. same)
+
+pub due_before : (P Q : Type 0) (b : Bool) → IsTrue b ↔ P → b ≡ true → IsTrue b ↔ (P ⊎ Q)
+due_before P Q b is holds = (λ so. inl (is.0 so), λ due. holds)
+
+pub due_behind : (P Q : Type 0) (b c : Bool) → IsTrue b ↔ P → b ≡ false → IsTrue c ↔ Q → IsTrue c ↔ (P ⊎ Q)
+due_behind P Q b c before fails behind = (λ so. inr (behind.0 so), λ due. elim due [ inl p ↦ absurd (false≢true (sym fails ∙ before.1 p)) | inr q ↦ behind.1 q ])

@@ -1,6 +1,6 @@
 -- What changes of a clock do to the seconds that a job schedules. Source: this crate's documentation of `Changes`; for cron(8), its manual
 -- page of Debian's 3.0pl1, "Notes".
-use Rattle.std.specs.Prelude.{◌≡◌, ◌<◌, ◌⊎◌, ◌&&◌, ◌||◌, ◌==◌, ℕ, nat_lt, Bool, true, false, ℤ, pos, neg_ℤ, ◌+ℤ◌, ◌-ℤ◌, ◌<ℤ◌, ◌≤ℤ◌, unsigned_abs, List, length, slice_index_or, codes, Option, Some, None, is_some}
+use Rattle.std.specs.Prelude.{◌≡◌, ◌<◌, ◌⊎◌, ◌↔◌, ◌&&◌, ◌||◌, ◌==◌, not, IsTrue, ℕ, nat_lt, Bool, true, false, ℤ, pos, neg_ℤ, ◌+ℤ◌, ◌-ℤ◌, ◌<ℤ◌, ◌≤ℤ◌, unsigned_abs, List, length, slice_index_or, codes, Option, Some, None, is_some}
 use Rattle.std.specs.List.{All}
 use Rattle.croner_base.specs.declared.time.table.TableTime.{TableTime}
 use Rattle.croner_base.specs.Calm.{IsChange}
@@ -28,13 +28,13 @@ use Rattle.croncheck_command.specs.declared.changes.meetings.Meetings.{Meetings}
 abbrev pub watched_seconds : ℕ
 watched_seconds = 32_140_800
 
--- 0001-01-02T00:00:00 UTC
+-- 0001-01-03T00:00:00 UTC
 abbrev pub first_watched : ℤ
-first_watched = neg_ℤ (pos 62_135_510_400)
+first_watched = neg_ℤ (pos 62_135_424_000)
 
--- 4999-12-31T00:00:00 UTC
+-- 4999-12-30T00:00:00 UTC
 abbrev pub end_watched : ℤ
-end_watched = pos 95_617_497_600
+end_watched = pos 95_617_411_200
 
 -- an instant behind a start, by no more than 372 days, at which each clock shows a year from 1 to 4999
 pub record IsWatched (start instant : ℤ) : Type 0 where
@@ -129,6 +129,25 @@ IsFateInCron text ranges.Repeated c fates.LeftOut = ⊥
 IsFateInCron text ranges.Repeated c fates.Once = MakesUp text c
 IsFateInCron text ranges.Repeated c fates.Twice = ¬ (MakesUp text c)
 
+-- ---- beside a change
+
+-- so many seconds beside a range a job is looked at: three hours
+abbrev pub seconds_beside : ℕ
+seconds_beside = 10_800
+
+-- a second is scheduled from a wall second on, before another
+abbrev pub IsDueWithin : Meaning → ℤ → ℤ → Type 0
+IsDueWithin m from end = (w : ℤ) × (from ≤ℤ w) × (w <ℤ end) × IsScheduled m w
+
+-- a second is scheduled within three hours before a range, or within three hours behind it
+abbrev pub IsDueAround : Meaning → ℤ → ℤ → Type 0
+IsDueAround m first end = IsDueWithin m (first -ℤ pos seconds_beside) first ⊎ IsDueWithin m end (end +ℤ pos seconds_beside)
+
+-- the job is due beside the range of a change
+abbrev pub IsDueBeside : Meaning → Range → Change → Type 0
+IsDueBeside m ranges.Gap c = IsDueAround m c.before c.after
+IsDueBeside m ranges.Repeated c = IsDueAround m c.after c.before
+
 -- ---- what is told
 
 -- what becomes of a meeting's second in cron(8). Of a pattern, which is no text for cron(8), it is what becomes of it here
@@ -141,10 +160,11 @@ abbrev pub IsOtherInCron : Option (List ℕ) → Meeting → Option Fate → Typ
 IsOtherInCron text g None = IsFateThere text g g.fate
 IsOtherInCron text g (Some fate) = IsFateThere text g fate × ¬ (fate ≡ g.fate)
 
--- the first change that meets a job in a range, and what cron(8) does there
+-- the first change that meets a job in a range, what cron(8) does there, and whether the job is due beside it
 pub record IsCompared (z : Zone) (start : ℤ) (text : Option (List ℕ)) (m : Meaning) (range : Range) (c : Compared) : Type 0 where
   pub meeting : IsMeeting z start m range c.meeting
   pub in_cron : IsOtherInCron text c.meeting c.in_cron
+  pub beside : IsTrue c.is_due_beside ↔ IsDueBeside m c.meeting.range c.meeting.change
 
 -- the clock is moved by less than twelve hours: more goes to another date, and is no daylight saving
 abbrev pub is_within_a_date : Change → Bool
@@ -157,9 +177,18 @@ is_harmed fates.Moved = false
 is_harmed fates.Once = false
 is_harmed fates.Twice = true
 
--- it is told, if cron(8) does otherwise, or a run is left out or made twice
+-- what becomes of the second by what runs the line: cron(8), or what lists the runs here
+abbrev pub fate_by : Option Fate → Fate → Fate
+fate_by None here = here
+fate_by (Some there) here = there
+
+-- a run is left out, or made twice, by what runs the line
+abbrev pub is_harmful : Compared → Bool
+is_harmful c = is_harmed (fate_by c.in_cron c.meeting.fate)
+
+-- it is told, if cron(8) does otherwise, or a run is left out or made twice of a job that isn't due beside the range
 abbrev pub is_told : Compared → Bool
-is_told c = is_within_a_date c.meeting.change && (is_some c.in_cron || is_harmed c.meeting.fate)
+is_told c = is_within_a_date c.meeting.change && (is_some c.in_cron || (is_harmed c.meeting.fate && not c.is_due_beside))
 
 -- the name of the warning
 abbrev pub name_of_range : Range → List ℕ
@@ -191,6 +220,11 @@ pub record AreMeetings (start : TableTime) (text : Option (List ℕ)) (m : Meani
 abbrev pub none_met : Meetings
 none_met = record { gap = None; twice = None }
 
--- something is told
-abbrev pub are_told : Meetings → Bool
-are_told met = is_some met.gap || is_some met.twice
+-- what is told of a harmful one is a warning, of another a note
+abbrev pub is_warned : Option Compared → Bool
+is_warned None = false
+is_warned (Some c) = is_harmful c
+
+-- one of them is a warning
+abbrev pub are_warned : Meetings → Bool
+are_warned met = is_warned met.gap || is_warned met.twice

@@ -43,7 +43,7 @@ use Rattle.croncheck_command.specs.declared.runs.Runs.{Runs}
 use Rattle.croncheck_command.specs.declared.warnings.Warning.{Warning}
 use Rattle.croncheck_command.specs.declared.warnings.sides.Dates.{Dates}
 use Rattle.croncheck_command.specs.Bytes.{front}
-use Rattle.croncheck_command.specs.Changes.{AreMeetings, none_met, are_told}
+use Rattle.croncheck_command.specs.Changes.{AreMeetings, none_met, are_warned}
 use Rattle.croncheck_command.specs.Entries.{job_seen}
 use Rattle.croncheck_command.specs.Field.{smaller}
 use Rattle.croncheck_command.specs.Line.{Timing, reboot, never, named, Task}
@@ -309,7 +309,7 @@ IsAlone s r = s.compares_jobs ≡ false → earlier_of r ≡ None
 
 -- a job or a pattern has a warning, or is the same as an earlier one
 abbrev pub has_job_warnings : JobReport → Bool
-has_job_warnings j = (not (length j.warnings.items == 0) || are_told j.meetings) || is_some j.same
+has_job_warnings j = (not (length j.warnings.items == 0) || are_warned j.meetings) || is_some j.same
 
 -- a line has a warning. Those of a setting are said in other words: it sets a zone elsewhere, or has no line feed
 abbrev pub has_warnings : Report → Bool

@@ -71,7 +71,7 @@ pub struct Meeting {
 
 /// The changes of a clock behind a start, up to 372 days behind it: a change on a certain Sunday comes again after 364 or 371.
 ///
-/// Those count that come from 0001-01-02T00:00:00 UTC on and before 4999-12-31T00:00:00 UTC.
+/// Those count that come from 0001-01-03T00:00:00 UTC on and before 4999-12-30T00:00:00 UTC.
 #[derive(Drop)]
 pub struct Changes<'t> {
     /// The start, behind which they lie.

@@ -11,10 +11,14 @@ use crate::changes::meetings::{Compared, Meetings};
 use crate::check::{Entries, check};
 use crate::escaped::shown;
 use crate::line::{Entry, Fault};
-use crate::report::{JobReport, Report, Settings, Tally, Told, Why, report_of_line};
+use crate::notes;
+use crate::notes::{Note, is_noted};
+use crate::report::{JobReport, Report, Settings, Tally, Told, Why, is_too_many, report_of_line};
 use crate::runs::{End, Runs};
 use crate::same::Seen;
-use crate::shown::{Place, SAME_JOB, Shared, ahead_of, field_name, push_same, reason_of};
+use crate::shown::{
+    Place, SAME_JOB, Shared, ahead_of, at_fault, field_name, push_reason, push_same,
+};
 use crate::warnings::{Dates, Warning, push_warning_text};
 use croner::time::table::TableTime;
 use serde_json::{Value, json};
@@ -123,8 +127,14 @@ impl<'s, 't, W: Write + Drop> JsonReporter<'s, 't, W> {
         flushed
     }
 
-    // Writes the object of a line's report, whose kind is that of its entry.
-    fn tell(&mut self, kind: &str, report: &Report<'_, '_>) -> io::Result<()>
+    // Writes the object of a line of this text, of this kind of entry, with its report; of a crontab it may be the first line too many.
+    fn tell(
+        &mut self,
+        kind: &str,
+        line: &[u8],
+        is_too_many: bool,
+        report: &Report<'_, '_>,
+    ) -> io::Result<()>
         ensures written { OnOk result (WritesObject (kind_of kind.now report.now) (string_bytes self.old.name) self.old.line report.now
             (W.contents self.old.out) (W.contents self.new.out)) }
         ensures tally { self.new.tally ≡ self.old.tally }
@@ -140,6 +150,8 @@ impl<'s, 't, W: Write + Drop> JsonReporter<'s, 't, W> {
                 self.name.as_str(),
                 self.line,
                 report,
+                line,
+                is_too_many,
             )?;
             object.to_string(self.alloc)?
         };
@@ -171,8 +183,9 @@ impl<'s, 't, W: Write + Drop> Entries for JsonReporter<'s, 't, W> {
         let Ok(report) = report_of_line(self.alloc, self.settings, line, entry, is_fed, same) else {
             return Err(io::Error::from(ErrorKind::OutOfMemory));
         };
+        let is_too_many = is_too_many(self.settings.dialect, self.tally.file_lines);
         self.tally.add(self.settings.dialect, &report);
-        self.tell(kind, &report)
+        self.tell(kind, line, is_too_many, &report)
     }
 }
 
@@ -239,6 +252,8 @@ fn object_of(
     file: &str,
     line: u64,
     report: &Report<'_, '_>,
+    text: &[u8],
+    is_too_many: bool,
 ) -> Result<Value, AllocError>
     ensures { IfOk result (λ v. IsObject kind.now file.now line report.now (view v)) }
 {
@@ -248,32 +263,44 @@ fn object_of(
         "file": file,
         "line": line,
         "job": job_of(alloc, shared, report)?,
-        "refusal": refusal_of(alloc, report)?,
-        "warnings": warnings_of(alloc, report)?
+        "refusal": refusal_of(alloc, report, text)?,
+        "warnings": Value::Array(warnings_of(alloc, report, is_too_many)?),
+        "notes": Value::Array(notes_of(alloc, report, text)?)
     })
 }
 
-// Why a line is refused, and where; null where it isn't.
-fn refusal_of(alloc: Global, report: &Report<'_, '_>) -> Result<Value, AllocError>
+// Why a line of this text is refused, and where; null where it isn't.
+fn refusal_of(alloc: Global, report: &Report<'_, '_>, text: &[u8]) -> Result<Value, AllocError>
     ensures { IfOk result (λ v. IsRefusalData report.now (view v)) }
 {
     match report {
-        Report::Refused { start, end, why } => refusal_object(alloc, *start, *end, why),
+        Report::Refused { start, end, why } => refusal_object(alloc, *start, *end, why, text),
         Report::Silent | Report::Setting { .. } | Report::Job(_) => Ok(Value::Null),
     }
 }
 
-fn refusal_object(alloc: Global, start: usize, end: usize, why: &Why) -> Result<Value, AllocError>
+fn refusal_object(
+    alloc: Global,
+    start: usize,
+    end: usize,
+    why: &Why,
+    text: &[u8],
+) -> Result<Value, AllocError>
     ensures { IfOk result (λ v. IsRefusalObject start end why.now (view v)) }
 {
-    let message = message_of(alloc, why)?;
+    let message = message_of(alloc, why, text, at_fault(text, start, end))?;
     let kind = kind_of_why(why);
     json!(in alloc; {"start": start, "end": end, "kind": kind, "message": message})
 }
 
-fn message_of(alloc: Global, why: &Why) -> Result<String, AllocError> {
+// Why a line of this text is refused, of which this piece is at fault.
+fn message_of(alloc: Global, why: &Why, text: &[u8], piece: &[u8]) -> Result<String, AllocError> {
     match why {
-        Why::Cron(fault) => String::from_str(alloc, reason_of(*fault)),
+        Why::Cron(fault) => {
+            let mut reason = String::new(alloc);
+            push_reason(alloc, &mut reason, *fault, text, piece)?;
+            Ok(reason)
+        }
         Why::Pattern(fault) => format!(in alloc; "{fault}"),
         Why::Crate(refusal) => format!(in alloc; "{refusal}"),
         Why::NotText => String::from_str(alloc, "a pattern is text in UTF-8"),
@@ -362,42 +389,47 @@ fn run_object(
     json!(in alloc; {"second": second, "offset": offset})
 }
 
-// The warnings of a line.
-fn warnings_of(alloc: Global, report: &Report<'_, '_>) -> Result<Value, AllocError> {
+// The warnings of a line: those of a job stand in front of its changes of the clock, and `many-lines` last.
+fn warnings_of(
+    alloc: Global,
+    report: &Report<'_, '_>,
+    is_too_many: bool,
+) -> Result<Vec<Value>, AllocError> {
+    let mut items = Vec::new(alloc);
     match report {
-        Report::Job(job) => job_warnings(alloc, job),
-        Report::Setting { is_zone, is_fed } => setting_warnings(alloc, *is_zone, *is_fed),
-        Report::Silent | Report::Refused { .. } => warning_list(
-            alloc,
-            &[],
-            &Meetings::none(),
-            &None,
-        ),
+        Report::Job(job) => push_job_warnings(alloc, &mut items, job)?,
+        Report::Setting { is_zone, is_fed } => push_setting_warnings(
+            alloc, &mut items, *is_zone, *is_fed,
+        )?,
+        Report::Silent | Report::Refused { .. } => {}
     }
+    push_if(alloc, &mut items, is_too_many, Warning::ManyLines)?;
+    Ok(items)
 }
 
-// The warnings of a setting.
-fn setting_warnings(alloc: Global, is_zone: bool, is_fed: bool) -> Result<Value, AllocError> {
-    match (is_zone, is_fed) {
-        (true, true) => warning_list(alloc, &[Warning::NoZone], &Meetings::none(), &None),
-        (true, false) => warning_list(
-            alloc,
-            &[Warning::NoNewline, Warning::NoZone],
-            &Meetings::none(),
-            &None,
-        ),
-        (false, true) => warning_list(alloc, &[], &Meetings::none(), &None),
-        (false, false) => warning_list(alloc, &[Warning::NoNewline], &Meetings::none(), &None),
-    }
+fn push_setting_warnings(
+    alloc: Global,
+    items: &mut Vec<Value>,
+    is_zone: bool,
+    is_fed: bool,
+) -> Result<(), AllocError> {
+    push_if(alloc, items, !is_fed, Warning::NoNewline)?;
+    push_if(alloc, items, is_zone, Warning::NoZone)
 }
 
-// The warnings of a job.
-fn job_warnings(alloc: Global, job: &JobReport<'_, '_>) -> Result<Value, AllocError> {
-    let mut items = warning_items(alloc, job.warnings.as_slice(), &job.meetings, &job.dates)?;
+fn push_job_warnings(
+    alloc: Global,
+    items: &mut Vec<Value>,
+    job: &JobReport<'_, '_>,
+) -> Result<(), AllocError> {
+    for warning in job.warnings.as_slice() {
+        items.push(warning_object(alloc, *warning, &job.dates)?)?;
+    }
+    push_compared(alloc, items, &job.meetings, true)?;
     if job.same.is_some() {
         items.push(same_object(alloc, job)?)?;
     }
-    Ok(Value::Array(items))
+    Ok(())
 }
 
 fn same_object(alloc: Global, job: &JobReport<'_, '_>) -> Result<Value, AllocError> {
@@ -406,43 +438,87 @@ fn same_object(alloc: Global, job: &JobReport<'_, '_>) -> Result<Value, AllocErr
     json!(in alloc; {"name": SAME_JOB, "field": null, "text": text})
 }
 
-fn warning_list(
+// A warning, if it holds.
+fn push_if(
     alloc: Global,
-    warnings: &[Warning],
-    meetings: &Meetings,
-    dates: &Option<Dates>,
-) -> Result<Value, AllocError> {
-    let items = warning_items(alloc, warnings, meetings, dates)?;
-    Ok(Value::Array(items))
+    items: &mut Vec<Value>,
+    holds: bool,
+    warning: Warning,
+) -> Result<(), AllocError> {
+    if holds {
+        items.push(warning_object(alloc, warning, &None)?)?;
+    }
+    Ok(())
 }
 
-// Warnings, and behind them what is told of changes of the clock.
-fn warning_items(
-    alloc: Global,
-    warnings: &[Warning],
-    meetings: &Meetings,
-    dates: &Option<Dates>,
-) -> Result<Vec<Value>, AllocError> {
+// The notes of a line of this text: what cron makes of its fields, and what harmless changes of the clock do.
+fn notes_of(alloc: Global, report: &Report<'_, '_>, text: &[u8]) -> Result<Vec<Value>, AllocError> {
     let mut items = Vec::new(alloc);
-    for warning in warnings {
-        items.push(warning_object(alloc, *warning, dates)?)?;
+    match report {
+        Report::Job(job) => push_job_notes(alloc, &mut items, job, text)?,
+        Report::Refused {
+            why: Why::Cron(fault),
+            ..
+        } => push_notes(alloc, &mut items, Some(*fault), text)?,
+        Report::Silent | Report::Setting { .. } | Report::Refused { .. } => {}
     }
-    push_compared(alloc, &mut items, &meetings.gap)?;
-    push_compared(alloc, &mut items, &meetings.twice)?;
     Ok(items)
 }
 
+fn push_job_notes(
+    alloc: Global,
+    items: &mut Vec<Value>,
+    job: &JobReport<'_, '_>,
+    text: &[u8],
+) -> Result<(), AllocError> {
+    if job.command.is_some() {
+        push_notes(alloc, items, None, text)?;
+    }
+    push_compared(alloc, items, &job.meetings, false)
+}
+
+fn push_notes(
+    alloc: Global,
+    items: &mut Vec<Value>,
+    fault: Option<Fault>,
+    text: &[u8],
+) -> Result<(), AllocError> {
+    for note in Note::ALL {
+        if is_noted(alloc, note, fault, text)? {
+            items.push(note_object(alloc, note)?)?;
+        }
+    }
+    Ok(())
+}
+
+fn note_object(alloc: Global, note: Note) -> Result<Value, AllocError> {
+    let (name, text) = (note.name(), notes::text(note));
+    json!(in alloc; {"name": name, "field": null, "text": text})
+}
+
+// Those of a job's changes of the clock that are harmful, or those that aren't.
 fn push_compared(
     alloc: Global,
     items: &mut Vec<Value>,
+    meetings: &Meetings,
+    is_harmful: bool,
+) -> Result<(), AllocError> {
+    push_if_so(alloc, items, &meetings.gap, is_harmful)?;
+    push_if_so(alloc, items, &meetings.twice, is_harmful)
+}
+
+fn push_if_so(
+    alloc: Global,
+    items: &mut Vec<Value>,
     compared: &Option<Compared>,
+    is_harmful: bool,
 ) -> Result<(), AllocError> {
     match compared {
-        Some(compared) => {
+        Some(compared) if compared.is_harmful() == is_harmful => {
             items.push(compared_object(alloc, compared)?)?;
             Ok(())
         }
-        None => Ok(()),
+        _ => Ok(()),
     }
 }
 

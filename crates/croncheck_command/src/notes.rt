@@ -64,6 +64,22 @@ impl Note {
         Note::CapitalNickname,
         Note::Seconds,
     ];
+
+    /// The name by which it is known, as `star-day`.
+    pub fn name(self) -> &'static str {
+        match self {
+            Note::StarDay => "star-day",
+            Note::RangeDown => "range-down",
+            Note::PassedOver => "passed-over",
+            Note::StarAmongParts => "star-among-parts",
+            Note::LargeNumber => "large-number",
+            Note::EmptyPart => "empty-part",
+            Note::OtherName => "other-name",
+            Note::Modifier => "modifier",
+            Note::CapitalNickname => "capital-nickname",
+            Note::Seconds => "seconds",
+        }
+    }
 }
 
 // What is looked for in a field: in each of its pieces between commas, or in each of its words of letters and digits.

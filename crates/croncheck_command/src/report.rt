@@ -197,7 +197,7 @@ impl JobReport<'_, '_> {
     pub fn has_warnings(&self) -> bool
         ensures { result ≡ has_job_warnings self.now }
     {
-        !self.warnings.is_empty() || self.meetings.is_told() || self.same.is_some()
+        !self.warnings.is_empty() || self.meetings.are_warned() || self.same.is_some()
     }
 }
 
@@ -759,7 +759,7 @@ fn is_line_warned(dialect: Dialect, lines: u64, report: &Report<'_, '_>) -> bool
 }
 
 // Whether the line behind so many is the first that a crontab has too many.
-fn is_too_many(dialect: Dialect, lines: u64) -> bool
+pub(crate) fn is_too_many(dialect: Dialect, lines: u64) -> bool
     ensures { result ≡ is_too_many dialect lines }
 {
     match dialect {

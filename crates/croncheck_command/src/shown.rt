@@ -137,8 +137,8 @@ fn push_note(
     line: &[u8],
 ) -> Result<(), AllocError> {
     if is_noted(alloc, note, fault, line)? {
-        text.push_str("\n  note: ")?;
-        text.push_str(notes::text(note))?;
+        let (name, sentence) = (note.name(), notes::text(note));
+        write!(text, "\n  note: {name}: {sentence}")?;
     }
     Ok(())
 }
@@ -268,7 +268,7 @@ fn push_repeated(text: &mut String, c: char, count: usize) -> Result<(), AllocEr
 }
 
 // The bytes of a line that are at fault.
-fn at_fault(line: &[u8], start: usize, end: usize) -> &[u8] {
+pub(crate) fn at_fault(line: &[u8], start: usize, end: usize) -> &[u8] {
     let (front, _) = line.split_at(end.min(line.len()));
     let (_, piece) = front.split_at(start.min(front.len()));
     piece
@@ -496,8 +496,13 @@ fn push_compared(
 ) -> Result<(), AllocError> {
     match compared {
         Some(compared) => {
+            let kind = if compared.is_harmful() {
+                "warning"
+            } else {
+                "note"
+            };
             let name = compared.name();
-            write!(text, "\n  warning: {name}: ")?;
+            write!(text, "\n  {kind}: {name}: ")?;
             compared.push_text(text, alloc)
         }
         None => Ok(()),

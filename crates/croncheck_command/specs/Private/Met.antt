@@ -1,12 +1,12 @@
 -- A job's scheduled seconds in a range of a change.
-use Rattle.std.specs.Prelude.{ℤ, ◌≤ℤ◌}
+use Rattle.std.specs.Prelude.{ℤ, pos, ◌+ℤ◌, ◌≤ℤ◌}
 use Rattle.croner_base.specs.declared.time.table.TableTime.{TableTime}
 use Rattle.croner_base.specs.Limits.{first_searched}
 use Rattle.croner_base.specs.TableZone.{table_moment}
 use Rattle.croner_pattern.specs.Meaning.{Meaning}
 use Rattle.croner_pattern.specs.Schedule.{IsScheduled}
 use Rattle.croner.specs.search.Limit.{year_5000}
-use Rattle.croncheck_command.specs.Changes.{IsJump, IsWatched, LiesIn}
+use Rattle.croncheck_command.specs.Changes.{IsJump, IsWatched, LiesIn, seconds_beside}
 use Rattle.croncheck_command.specs.declared.changes.Change.{Change}
 use Rattle.croncheck_command.specs.declared.changes.Range.{Range}
 
@@ -14,12 +14,12 @@ use Rattle.croncheck_command.specs.declared.changes.Range.{Range}
 abbrev pub IsToldOf : TableTime → Change → Type 0
 IsToldOf start c = IsJump (table_moment start).zone c × IsWatched (table_moment start).instant c.instant
 
--- its wall seconds lie in the years 1 to 4999, or it ends where year 5000 begins
+-- its wall seconds lie in the years 1 to 4999, and so do those beside them
 pub record IsInYears (c : Change) : Type 0 where
-  pub before_from : first_searched ≤ℤ c.before
-  pub before_to : c.before ≤ℤ year_5000
-  pub after_from : first_searched ≤ℤ c.after
-  pub after_to : c.after ≤ℤ year_5000
+  pub before_from : (first_searched +ℤ pos seconds_beside) ≤ℤ c.before
+  pub before_to : (c.before +ℤ pos seconds_beside) ≤ℤ year_5000
+  pub after_from : (first_searched +ℤ pos seconds_beside) ≤ℤ c.after
+  pub after_to : (c.after +ℤ pos seconds_beside) ≤ℤ year_5000
 
 -- nothing is scheduled there
 abbrev pub IsNoneIn : Meaning → Range → Change → Type 0

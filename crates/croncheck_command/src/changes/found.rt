@@ -15,11 +15,11 @@ use std::alloc::{AllocError, Global};
 /// How far behind a start changes are told: a year of 365 days and a day.
 const WATCHED_SECONDS: i64 = 32_140_800;
 
-/// Changes are told from the second behind this one on: from 0001-01-02T00:00:00 UTC on.
-const BEFORE_FIRST: i64 = -62_135_510_401;
+/// Changes are told from the second behind this one on: from 0001-01-03T00:00:00 UTC on.
+const BEFORE_FIRST: i64 = -62_135_424_001;
 
-/// And up to this one, the last before 4999-12-31T00:00:00 UTC.
-const LAST: i64 = 95_617_497_599;
+/// And up to this one, the last before 4999-12-30T00:00:00 UTC.
+const LAST: i64 = 95_617_411_199;
 
 const SECONDS_PER_DAY: u64 = 86_400;
 

@@ -1,16 +1,20 @@
 //! A clock on which each wall second is its own instant, and a job's scheduled seconds on it.
-ghost use Rattle.std.specs.Prelude.{◌≡◌, MatchOption, pos, ◌<ℤ◌, ◌≤ℤ◌, []};
+ghost use Rattle.std.specs.Prelude.{◌≡◌, ◌↔◌, IsTrue, MatchOption, pos, ◌<ℤ◌, ◌≤ℤ◌, []};
 ghost use Rattle.croner_base.specs.Calm.{IsInReach, IsSearched};
 ghost use Rattle.croner_base.specs.Civil.{wall_second};
 ghost use Rattle.croner_base.specs.TableZone.{HasParts};
 ghost use Rattle.croner.specs.search.Limit.{year_5000};
 ghost use Rattle.croner.specs.Views.{job_of};
-ghost use Rattle.croncheck_command.specs.Private.Level.{IsNoneFrom, IsLeastFrom, IsNoneWithin, IsLeastWithin};
+ghost use Rattle.croncheck_command.specs.Changes.{IsDueWithin, IsDueAround};
+ghost use Rattle.croncheck_command.specs.Private.Level.{IsNoneFrom, IsLeastFrom, IsNoneWithin, IsLeastWithin, HasRoom};
 
 use croner::Cron;
 use croner::time::table::{ClockTable, TableTime};
 use croner::time::{CivilDateTime, CronDateTime, Resolution};
 use std::alloc::Global;
+
+/// So many seconds beside a range a job is looked at.
+const SECONDS_BESIDE: i64 = 10_800;
 
 /// A clock on which each wall second is its own instant.
 pub struct Level {
@@ -90,6 +94,24 @@ impl Level {
             Some(second) => if_before(second, end),
             None => None,
         }
+    }
+
+    // Whether a second is scheduled from a wall second on, before another.
+    fn is_due_within(&self, job: &Cron, from: i64, end: i64) -> bool
+        requires from { IsSearched from }
+        requires end { end ≤ℤ year_5000 }
+        ensures { IsTrue result ↔ IsDueWithin (job_of job.now) from end }
+    {
+        self.scheduled_within(job, from, end).is_some()
+    }
+
+    /// Whether a second is scheduled within three hours before a range of wall seconds, or within three hours behind it.
+    pub fn is_due_around(&self, job: &Cron, first: i64, end: i64) -> bool
+        requires { HasRoom first end }
+        ensures { IsTrue result ↔ IsDueAround (job_of job.now) first end }
+    {
+        self.is_due_within(job, first - SECONDS_BESIDE, first)
+            || self.is_due_within(job, end, end + SECONDS_BESIDE)
     }
 }
 

@@ -60,9 +60,9 @@ fn push_here(text: &mut String, level: &Level, second: i64, fate: Fate) -> Resul
     push_wall(text, level, second)?;
     text.push_str(match fate {
         Fate::LeftOut => ", is left out. Name an hour that isn't skipped, if it may not be missed.",
-        Fate::Moved => ", is made as soon as the clock has gone on.",
-        Fate::Once => ", is made the first time alone.",
-        Fate::Twice => ", is made twice. Name an hour that comes once, if that does harm.",
+        Fate::Moved => ", runs as soon as the clock has gone on.",
+        Fate::Once => ", runs the first time alone.",
+        Fate::Twice => ", runs twice. Name an hour that comes once, if that does harm.",
     })
 }
 
@@ -73,19 +73,18 @@ fn push_in_cron(
     second: i64,
     in_cron: Fate,
 ) -> Result<(), AllocError> {
-    text.push_str(". Cron ")?;
     text.push_str(match in_cron {
-        Fate::LeftOut => "leaves out what is due in between, first at ",
-        Fate::Moved | Fate::Once | Fate::Twice => "makes what is due in between, first at ",
+        Fate::LeftOut => ". Cron leaves out what is due in between, first at ",
+        Fate::Moved | Fate::Once | Fate::Twice => ". Cron runs what is due in between, first at ",
     })?;
     push_wall(text, level, second)?;
     text.push_str(match in_cron {
         Fate::LeftOut =>
-            "; the runs listed here have it as soon as the clock has gone on. Name an hour that isn't skipped, if it may not be missed.",
-        Fate::Moved => ", as soon as the clock has gone on; the runs listed here leave it out.",
-        Fate::Once => ", the first time alone; the runs listed here have it twice.",
+            "; croncheck lists it as soon as the clock has gone on. Name an hour that isn't skipped, if it may not be missed.",
+        Fate::Moved => ", as soon as the clock has gone on; croncheck lists no run for it.",
+        Fate::Once => ", the first time alone; croncheck lists it twice.",
         Fate::Twice =>
-            ", twice; the runs listed here have it the first time alone. Name an hour that comes once, if that does harm.",
+            ", twice; croncheck lists it the first time alone. Name an hour that comes once, if that does harm.",
     })
 }
 

@@ -105,13 +105,13 @@ fn push_days(text: &mut String, days: u32, length: u32) -> Result<(), AllocError
 }
 
 const EITHER_DAY: &str =
-    "The job runs on each day that the day of the month or the weekday names, not only where both do. For one of the two, write `*` for the other; for both, let the command test the second.";
+    "The job runs on each day that the day of the month or the weekday names, not only where both do. For one of the two, write `*` for the other; for both, let the command test the second, as `[ $(date +\\%u) = 1 ] && ..` does for Monday.";
 
 const UNEVEN_STEP: &str =
-    "The step is counted anew from the field's first value, so that from its last value to the next first one it is shorter. Write a step that divides 60 (24 for hours), or list the values.";
+    "The step is counted anew from the field's first value, so that from the last run of an hour, minute or day to the next it is shorter. Write a step that divides 60 (24 for hours).";
 
 const STEP_BEYOND: &str =
-    "No second value of the field is so far away, so the first alone is named. Write that value, or put the longer step into the next field.";
+    "No second value of the field is so far away, so the first alone is named. Write that value; a longer interval takes the field of the greater unit, or more lines.";
 
 const WHOLE_HOUR: &str =
     "The job runs in each of the sixty minutes of that hour. For one run write one minute, as `0`.";
@@ -123,13 +123,13 @@ const GONE: &str =
     "All years that it names are past, so it never runs again. Name a later year, or take the line out.";
 
 const NEVER: &str =
-    "No run is left before year 5000. Look for a date that doesn't exist, or a range that runs down, as `10-5`.";
+    "No run is left before year 5000. Look for a date that doesn't exist, a range that runs down, as `10-5`, or a time that the clock skips.";
 
 const LOOKS_LIKE_FIELD: &str =
     "A crontab has five fields, so a sixth is taken for the command or the user. Take one field out: seconds and years have no place there.";
 
 const PERCENT: &str =
-    "Cron ends the command at a percent sign without a backslash, and gives it what follows as its input. Write `\\%` for a percent sign.";
+    "Cron ends the command at a percent sign that no backslash takes in, and gives it what follows as its input. Write `\\%` for a percent sign.";
 
 const NO_NEWLINE: &str =
     "The last line doesn't end with a line feed, so cron ignores the whole file. End the line.";

@@ -1,5 +1,5 @@
 -- Wall seconds and years, and the seconds next to a second.
-use Rattle.std.proofs.Common.{◌≡◌, ◌+◌, ◌-◌, arith, refl, ℤ, pos, neg_ℤ, ◌+ℤ◌, ◌-ℤ◌, ◌*ℤ◌, ◌<ℤ◌, ◌≤ℤ◌, Bool, IsTrue, ◌↔◌, Option, Some, None, MatchOption}
+use Rattle.std.proofs.Common.{◌≡◌, ℕ, ◌+◌, ◌-◌, ◌*◌, ◌/◌, arith, refl, ℤ, pos, ◌+ℤ◌, ◌-ℤ◌, ◌*ℤ◌, ◌<ℤ◌, ◌≤ℤ◌, Bool, IsTrue, ◌↔◌, Option, Some, None, MatchOption}
 use Rattle.std.proofs.lemmas.Int.{ints, by_lt_z}
 use Rattle.jiff_core.specs.Calendar.{days_of_months}
 use Rattle.croner_base.specs.declared.time.Direction.{Direction}
@@ -26,24 +26,28 @@ step_backward Backward c None is h = let last = h.0 in last.year_is
 step_backward Backward c (Some moved) is h = h
 step_backward Forward c r is h = absurd cc
 
+-- the day on which a year from 0 on begins
+abbrev first_day : ℕ → ℤ
+first_day y = pos (365 * y + (y + 3) / 4 - (y + 99) / 100 + (y + 399) / 400) -ℤ pos 719_528
+
 -- the years at which a search's span ends, and those far outside, begin at these days
-pub first_of_5000 : day_number (pos last_year) 1 1 ≡ pos 1_106_685
+pub first_of_5000 : day_number (pos last_year) 1 1 ≡ first_day last_year
 unfolding day_number year_start days_since_zero days_until_zero days_of_months
 first_of_5000 = refl
 
-first_of_5002 : day_number (pos (last_year + 2)) 1 1 ≡ pos 1_107_415
+first_of_5002 : day_number (pos (last_year + 2)) 1 1 ≡ first_day (last_year + 2)
 unfolding day_number year_start days_since_zero days_until_zero days_of_months
 first_of_5002 = refl
 
-first_of_2 : day_number (pos (first_year + 1)) 1 1 ≡ neg_ℤ (pos 718_797)
+first_of_2 : day_number (pos (first_year + 1)) 1 1 ≡ first_day (first_year + 1)
 unfolding day_number year_start days_since_zero days_until_zero days_of_months
 first_of_2 = refl
 
-first_of_0 : day_number (pos (first_year - 1)) 1 1 ≡ neg_ℤ (pos 719_528)
+first_of_0 : day_number (pos (first_year - 1)) 1 1 ≡ first_day (first_year - 1)
 unfolding day_number year_start days_since_zero days_until_zero days_of_months
 first_of_0 = refl
 
-pub last_of_1 : day_number (pos first_year) 12 31 ≡ neg_ℤ (pos 718_798)
+pub last_of_1 : day_number (pos first_year) 12 31 ≡ first_day (first_year + 1) -ℤ pos 1
 last_of_1 = omega (arith, ints, first_of_2, day_number-next_year (pos first_year))
 
 -- a date-time is of a year or a later one from the year's first second on
@@ -53,7 +57,7 @@ year_from c y first day e f = rw (f, ← e) (year_reached c y)
 pub within_forward : (direction : Direction) (c : CivilDateTime) (b : Bool) → direction ≡ Forward → (IsTrue b ↔ c.date.year <ℤ pos last_year) → IsTrue b ↔ IsWithin direction (wall_second c)
 within_forward Backward c b e f = absurd (cc)
 within_forward Forward c b e f =
-    let at = year_from c (pos last_year) year_5000 (pos 1_106_685) first_of_5000 refl in (
+    let at = year_from c (pos last_year) year_5000 (first_day last_year) first_of_5000 refl in (
       λ t. by_lt_z (wall_second c) year_5000 (λ lt. lt) (λ le. let late = at.1 le in let early = f.0 t in absurd (omega (arith, ints))),
       λ h. by_lt_z c.date.year (pos last_year) (λ lt. f.1 lt) (λ le. let late = at.0 le in absurd (omega (arith, ints))),
     )
@@ -61,7 +65,7 @@ within_forward Forward c b e f =
 pub within_backward : (direction : Direction) (c : CivilDateTime) (b : Bool) → direction ≡ Backward → (IsTrue b ↔ pos first_year <ℤ c.date.year) → IsTrue b ↔ IsWithin direction (wall_second c)
 within_backward Forward c b e f = absurd (cc)
 within_backward Backward c b e f =
-    let at = year_from c (pos (first_year + 1)) year_2 (neg_ℤ (pos 718_797)) first_of_2 refl in
+    let at = year_from c (pos (first_year + 1)) year_2 (first_day (first_year + 1)) first_of_2 refl in
     (λ t. let late = f.0 t in at.0 (omega (arith, ints)), λ h. let late = at.1 h in f.1 (omega (arith, ints)))
 
 -- a wall second that no search comes to
@@ -72,8 +76,8 @@ IsFar Backward w = w <ℤ first_needed
 -- the last years that a date can have lie far outside
 pub last_year_far : (direction : Direction) (c : CivilDateTime) → IsLastYear direction c.date.year → IsFar direction (wall_second c)
 last_year_far Forward c e =
-    let late = (year_from c (pos (last_year + 2)) (last_needed +ℤ pos 1) (pos 1_107_415) first_of_5002 refl).0 (omega (arith, ints)) in
+    let late = (year_from c (pos (last_year + 2)) (last_needed +ℤ pos 1) (first_day (last_year + 2)) first_of_5002 refl).0 (omega (arith, ints)) in
     omega (arith, ints)
 last_year_far Backward c e =
     by_lt_z (wall_second c) first_needed (λ lt. lt)
-    (λ le. let late = (year_from c (pos (first_year - 1)) first_needed (neg_ℤ (pos 719_528)) first_of_0 refl).1 le in absurd (omega (arith, ints)))
+    (λ le. let late = (year_from c (pos (first_year - 1)) first_needed (first_day (first_year - 1)) first_of_0 refl).1 le in absurd (omega (arith, ints)))

@@ -1,17 +1,17 @@
 -- What the limit of a search means: the years that are searched whole, from year 2 to year 4999.
-use Rattle.std.specs.Prelude.{ℤ, pos, neg_ℤ, ◌<ℤ◌, ◌≤ℤ◌, Bool}
+use Rattle.std.specs.Prelude.{◌+◌, ℤ, ◌<ℤ◌, ◌≤ℤ◌, Bool}
 use Rattle.croner_base.specs.declared.time.Direction.{Direction}
 use Rattle.croner_base.specs.declared.time.Direction.TheVariants.{Forward, Backward}
-use Rattle.croner_base.specs.Limits.{first_searched, last_searched}
+use Rattle.croner_base.specs.Limits.{first_year, last_year, year_second, first_searched, last_searched}
 use Rattle.croner.specs.search.Runs.{Job, Reaches, Ahead, Counts}
 
 -- the wall second 5000-01-01T00:00:00
 abbrev pub year_5000 : ℤ
-year_5000 = pos 95_617_584_000
+year_5000 = year_second last_year
 
 -- the wall second 0002-01-01T00:00:00
 abbrev pub year_2 : ℤ
-year_2 = neg_ℤ (pos 62_104_060_800)
+year_2 = year_second (first_year + 1)
 
 -- a wall second before year 5000 forward, after year 1 backward
 abbrev pub IsWithin : Direction → ℤ → Type 0

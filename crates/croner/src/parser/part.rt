@@ -2,6 +2,11 @@
 
 use super::fault::{Expected, Hint, PatternField, Suggestion, ValueNames};
 use super::second_reading::Piece;
+use croner_base::time::{YEAR_LOWER_LIMIT, YEAR_UPPER_LIMIT};
+
+const FIRST_YEAR: u16 = YEAR_LOWER_LIMIT as u16;
+
+const LAST_YEAR: u16 = YEAR_UPPER_LIMIT as u16;
 
 /// How the parts of a field are read, and what a refused number of it may come from.
 #[derive(Clone, Copy)]
@@ -22,7 +27,7 @@ impl Rules {
             PatternField::Month => (1, 12),
             PatternField::Weekday if self.quartz => (1, 7),
             PatternField::Weekday => (0, 7),
-            PatternField::Year => (1, 5000),
+            PatternField::Year => (FIRST_YEAR, LAST_YEAR),
         }
     }
 
