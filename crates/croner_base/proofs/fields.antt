@@ -7,6 +7,7 @@ pub mod MarkedRanges
 pub mod ModifierSets
 pub mod PartsInTurn
 pub mod ReadingsInTurn
+pub mod SignPlaces
 pub mod SteppedParts
 pub mod StepsMarked
 pub mod TextPieces

@@ -1,13 +1,13 @@
 //! A pattern: its seven fields, and the dates and times that they name.
 
-ghost use Rattle.std.specs.Prelude.{◌≡◌, true, Some, IfOk, IfErr};
+ghost use Rattle.std.specs.Prelude.{◌≡◌, true, Some, IfOk, IfErr, if◌then◌else◌};
 ghost use Rattle.croner_base.specs.Answers.{Finds, IsFieldError, SucceedsIff};
-ghost use Rattle.croner_base.specs.Field.{new_shape};
+ghost use Rattle.croner_base.specs.Field.{empty_field, new_shape};
 ghost use Rattle.croner_pattern.specs.Meaning.{meaning_of};
 ghost use Rattle.croner_pattern.specs.Questions.{asked, clock_field, can_find, FindsMember, IsNearestMember};
 ghost use Rattle.croner_pattern.specs.Schedule.{is_single, is_fixed_time};
 ghost use Rattle.croner_pattern.specs.Private.Clones.{has_fields_of_one_word};
-ghost use Rattle.croner_pattern.specs.Shapes.{has_field_shapes, is_like, new_meaning};
+ghost use Rattle.croner_pattern.specs.Shapes.{has_field_shapes, is_like, new_meaning, weekday_shape};
 
 mod compare;
 mod days;
@@ -88,6 +88,25 @@ impl CronPattern {
         ensures shapes { IfOk result (λ p. has_field_shapes (meaning_of p) ≡ true) }
         ensures err { IfErr result (λ e. e ≡ CronError.OutOfMemory) }
     {
+        Self::new_in_mode(alloc, text, false)
+    }
+
+    /// What [`new`](Self::new) makes, with the weekdays as a mode numbers them: in Quartz mode each number that a text of
+    /// weekdays names has 1 taken off, so that Sunday is 1. The parser makes its patterns by it.
+    ///
+    /// The only error is `OutOfMemory`.
+    ///
+    /// ```
+    /// let mut pattern = CronPattern::new_in_mode(alloc, "on Mondays", true)?;
+    /// pattern.days_of_week.parse("2")?;
+    /// let weekdays = pattern.days_of_week.values()?; // [1]
+    /// ```
+    pub fn new_in_mode(alloc: Global, text: &str, quartz: bool) -> Result<Self, CronError>
+        ensures ok { IfOk result (λ p. meaning_of p
+            ≡ record (new_meaning text.now) { days_of_week = empty_field (weekday_shape (if quartz then 1 else 0)) }) }
+        ensures shapes { IfOk result (λ p. has_field_shapes (meaning_of p) ≡ true) }
+        ensures err { IfErr result (λ e. e ≡ CronError.OutOfMemory) }
+    {
         let day_features = LAST_BIT | CLOSEST_WEEKDAY_BIT;
         let weekday_features = LAST_BIT | NTH_ALL;
         let (first_year, last_year) = (YEAR_LOWER_LIMIT as u16, YEAR_UPPER_LIMIT as u16);
@@ -97,7 +116,13 @@ impl CronPattern {
             hours: CronComponent::new(alloc, 0, LAST_HOUR as u16, NONE_BIT, 0)?,
             days: CronComponent::new(alloc, 1, LONGEST_MONTH, day_features, 0)?,
             months: CronComponent::new(alloc, 1, LAST_MONTH as u16, NONE_BIT, 0)?,
-            days_of_week: CronComponent::new(alloc, 0, LAST_WEEKDAY, weekday_features, 0)?,
+            days_of_week: CronComponent::new(
+                alloc,
+                0,
+                LAST_WEEKDAY,
+                weekday_features,
+                weekday_offset(quartz),
+            )?,
             years: CronComponent::new(alloc, first_year, last_year, NONE_BIT, 0)?,
             text: Text::new(alloc, text)?,
             star_day: false,
@@ -264,6 +289,13 @@ impl CronPattern {
             Err(_) => CronError::OutOfMemory,
         }
     }
+}
+
+/// What is taken off the number of a weekday.
+fn weekday_offset(quartz: bool) -> u16
+    ensures { result ≡ (if quartz then 1 else 0) }
+{
+    if quartz { 1 } else { 0 }
 }
 
 /// Whether a field has these bounds, modifiers and offset. Plain values and `LAST_BIT` are supported everywhere.

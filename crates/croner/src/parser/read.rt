@@ -1,6 +1,6 @@
 //! The last step: the texts of the seven fields are read into a pattern.
 
-ghost use Rattle.std.specs.Prelude.{◌≡◌, ℕ, List, if◌then◌else◌};
+ghost use Rattle.std.specs.Prelude.{◌≡◌, ℕ, List};
 ghost use Rattle.std.specs.List.{list_all};
 ghost use Rattle.croner_base.specs.Field.{with_sloppy};
 ghost use Rattle.croner_base.specs.Part.{field_of};
@@ -8,7 +8,7 @@ ghost use Rattle.croner_base.specs.Reading.{Reads};
 ghost use Rattle.croner_pattern.specs.Meaning.{meaning_of};
 ghost use Rattle.croner.specs.parser.Gives.{Gives};
 ghost use Rattle.croner.specs.parser.Grammar.{is_list_character, is_for_days, is_for_weekdays, are_legal};
-ghost use Rattle.croner.specs.Private.parser.Steps.{Starts, ReadsAll, start_meaning};
+ghost use Rattle.croner.specs.Private.parser.Steps.{ReadsAll, start_meaning};
 ghost use Rattle.croner.specs.parser.Settings.{Settings};
 ghost use Rattle.croner.specs.Views.{texts_of};
 
@@ -17,7 +17,7 @@ use super::fault::PatternField;
 use super::fields::FieldTexts;
 use super::refusals::illegal_character;
 use super::settle::{is_star, settle_weekdays};
-use croner_base::component::{CronComponent, LAST_BIT, NTH_ALL};
+use croner_base::component::CronComponent;
 use croner_base::errors::CronError;
 use croner_pattern::pattern::CronPattern;
 use std::alloc::Global;
@@ -39,7 +39,7 @@ impl CronParser {
         if !are_legal(fields) {
             return Err(illegal_character(alloc));
         }
-        let mut pattern = start_pattern(alloc, text, self.alternative_weekdays)?;
+        let mut pattern = CronPattern::new_in_mode(alloc, text, self.alternative_weekdays)?;
         read_fields(&mut pattern, fields, self.sloppy_ranges)?;
         settle_weekdays(&mut pattern.days_of_week, self.alternative_weekdays)?;
         pattern.set_flags(is_star(fields.days), is_star(fields.days_of_week), and);
@@ -61,17 +61,6 @@ impl FieldReader {
         field.set_sloppy_ranges(self.sloppy);
         field.parse(text)
     }
-}
-
-/// A pattern that keeps the text, with fields to be read by the settings.
-pub fn start_pattern(alloc: Global, text: &str, quartz: bool) -> Result<CronPattern, CronError>
-    ensures { Starts result text.now (if quartz then 1 else 0) }
-{
-    let mut pattern = CronPattern::new(alloc, text)?;
-    if quartz {
-        pattern.days_of_week = CronComponent::new(alloc, 0, 7, NTH_ALL | LAST_BIT, 1)?;
-    }
-    Ok(pattern)
 }
 
 /// Reads each field's text into the field, in order.

@@ -5,7 +5,7 @@ use super::fault::{Expected, FaultKind, Hint, PatternField};
 use super::part::{Part, Rules, fault_of_part};
 use super::place::Finding;
 use super::prepare::{name_at, replaced};
-use super::read::{is_legal_in, start_pattern};
+use super::read::is_legal_in;
 use super::settle::starred;
 use super::{CronParser, Seconds, Year};
 use croner_base::component::CronComponent;
@@ -598,7 +598,7 @@ fn refused_part(
     parser: &CronParser,
     words: &[Piece<'_>],
 ) -> Result<Option<Finding>, CronError> {
-    let mut pattern = start_pattern(alloc, "", parser.alternative_weekdays)?;
+    let mut pattern = CronPattern::new_in_mode(alloc, "", parser.alternative_weekdays)?;
     for (place, word) in words.iter().enumerate() {
         let field = field_of(place, words.len());
         let rules = Rules {

@@ -4,9 +4,10 @@ ghost use Rattle.std.specs.Prelude.{◌≡◌, ◌≤◌, ◌<◌, ◌+◌, ◌&
 ghost use Rattle.croner_base.specs.Answers.{Finds};
 ghost use Rattle.croner_base.specs.Field.{values_between};
 ghost use Rattle.croner_base.specs.Part.{all_marked, field_of, parts_of, part_of, nearest_weekday, single, one_number, tag_of, two_of, pieces_at, number_of, ranged, stepping, step_bounds, stepped_marks, is_starred};
+ghost use Rattle.croner_base.specs.Private.Signs.{byte_of};
 ghost use Rattle.croner_base.specs.Reading.{Reads};
 
-use super::text::{after, before, ends_in_l, has, number};
+use super::text::{Form, Part, Sign, has, number};
 use super::{
     ALL_BIT, CLOSEST_WEEKDAY_BIT, CronComponent, LAST_BIT, NTH_1ST_BIT, NTH_2ND_BIT, NTH_3RD_BIT,
     NTH_4TH_BIT, NTH_5TH_BIT, NTH_ALL,
@@ -58,21 +59,7 @@ impl CronComponent {
     pub fn handle_stepping(&mut self, part: &str) -> Result<(), CronError>
         ensures { Reads (stepping self.old.shape part.now) self.old self.new result }
     {
-        let bit = self.tag(part)?;
-        let (left, right) = self.sides(before(part, '#'), '/', part)?;
-        let step = self.number_in(right, part)?;
-        self.step = step;
-        if step == 0 {
-            return Err(self.step_of_zero(part));
-        }
-        if self.is_starred(left) {
-            self.from_wildcard = true;
-        }
-        let (start, end) = self.step_bounds(left, part)?;
-        if !self.has_range(start, end) {
-            return Err(self.range_out_of_bounds(start, end, part));
-        }
-        self.mark_stepped(start, end, step, bit, part)
+        self.handle_step(&Part::new(part))
     }
 
     fn parse_list(&mut self, list: &str) -> Result<(), CronError>
@@ -90,93 +77,112 @@ impl CronComponent {
     fn parse_part(&mut self, part: &str) -> Result<(), CronError>
         ensures { Reads (part_of self.old.shape part.now) self.old self.new result }
     {
-        if has(part, '/') {
-            self.handle_stepping(part)
-        } else if has(part, '-') {
-            self.handle_range(part)
-        } else if has(part, 'W') {
-            self.handle_closest_weekday(part)
-        } else if part == "L" || part == "l" {
-            self.enable_feature(LAST_BIT)
-        } else {
-            self.handle_number(part)
+        let part = Part::new(part);
+        match part.form() {
+            Form::Step => self.handle_step(&part),
+            Form::Range => self.handle_range(&part),
+            Form::Nearest => self.handle_closest_weekday(&part),
+            Form::Last => self.enable_feature(LAST_BIT),
+            Form::Number => self.handle_number(&part),
         }
     }
 
-    fn handle_range(&mut self, part: &str) -> Result<(), CronError>
+    fn handle_step(&mut self, part: &Part<'_>) -> Result<(), CronError>
+        ensures { Reads (stepping self.old.shape part.now) self.old self.new result }
+    {
+        let text = part.text();
+        let bit = self.tag(part)?;
+        let (left, right) = self.sides(&part.before(Sign::Hash), Sign::Slash, text)?;
+        let step = self.number_in(right, text)?;
+        self.step = step;
+        if step == 0 {
+            return Err(self.step_of_zero(text));
+        }
+        if self.is_starred(left.text()) {
+            self.from_wildcard = true;
+        }
+        let (start, end) = self.step_bounds(&left, text)?;
+        if !self.has_range(start, end) {
+            return Err(self.range_out_of_bounds(start, end, text));
+        }
+        self.mark_stepped(start, end, step, bit, text)
+    }
+
+    fn handle_range(&mut self, part: &Part<'_>) -> Result<(), CronError>
         ensures { Reads (ranged self.old.shape part.now) self.old self.new result }
     {
+        let text = part.text();
         let bit = self.tag(part)?;
-        let (start, end) = self.sides(before(part, '#'), '-', part)?;
-        let start = self.number_in(start.trim(), part)?;
-        let end = self.number_in(end.trim(), part)?;
+        let (start, end) = self.sides(&part.before(Sign::Hash), Sign::Dash, text)?;
+        let start = self.number_in(start.text().trim(), text)?;
+        let end = self.number_in(end.trim(), text)?;
         if !self.has_range(start, end) {
-            return Err(self.range_out_of_bounds(start, end, part));
+            return Err(self.range_out_of_bounds(start, end, text));
         }
         self.mark_all(start, end, bit)
     }
 
-    fn handle_closest_weekday(&mut self, part: &str) -> Result<(), CronError>
+    fn handle_closest_weekday(&mut self, part: &Part<'_>) -> Result<(), CronError>
         ensures { Reads (nearest_weekday self.old.shape part.now) self.old self.new result }
     {
-        let day = before(part, 'W');
+        let day = part.before(Sign::LetterW).text();
         if day == "L" || day == "l" {
             self.enable_feature(LAST_BIT)?;
             return self.enable_feature(CLOSEST_WEEKDAY_BIT);
         }
-        self.mark_number(day, CLOSEST_WEEKDAY_BIT, part)
+        self.mark_number(day, CLOSEST_WEEKDAY_BIT, part.text())
     }
 
-    fn handle_number(&mut self, part: &str) -> Result<(), CronError>
+    fn handle_number(&mut self, part: &Part<'_>) -> Result<(), CronError>
         ensures { Reads (one_number self.old.shape part.now) self.old self.new result }
     {
-        if (has(part, '#') || has(part, 'L')) && !self.is_feature_allowed(NTH_ALL) {
-            return Err(self.no_nth_here(part));
+        let text = part.text();
+        if (part.has(Sign::Hash) || part.has(Sign::LetterL)) && !self.is_feature_allowed(NTH_ALL) {
+            return Err(self.no_nth_here(text));
         }
-        if ends_in_l(part) && !has(part, '#') {
-            return self.mark_number(before(part, 'L'), LAST_BIT, part);
+        if part.ends_in_l() && !part.has(Sign::Hash) {
+            return self.mark_number(part.before(Sign::LetterL).text(), LAST_BIT, text);
         }
         let bit = self.tag(part)?;
-        self.mark_number(before(part, '#'), bit, part)
+        self.mark_number(part.before(Sign::Hash).text(), bit, text)
     }
 
-    fn tag(&self, part: &str) -> Result<u8, CronError>
+    fn tag(&self, part: &Part<'_>) -> Result<u8, CronError>
         ensures { Finds (λ t. t) (tag_of part.now) result }
     {
-        if ends_in_l(part) {
+        if part.ends_in_l() {
             return Ok(LAST_BIT);
         }
-        if !has(part, '#') {
+        if !part.has(Sign::Hash) {
             return Ok(ALL_BIT);
         }
-        let nth = after(part, '#');
+        let nth = part.after(Sign::Hash);
         match number(nth) {
             Some(1) => Ok(NTH_1ST_BIT),
             Some(2) => Ok(NTH_2ND_BIT),
             Some(3) => Ok(NTH_3RD_BIT),
             Some(4) => Ok(NTH_4TH_BIT),
             Some(5) => Ok(NTH_5TH_BIT),
-            _ => Err(self.wrong_nth(nth, part)),
+            _ => Err(self.wrong_nth(nth, part.text())),
         }
     }
 
     #[tactic(auto, using(crate::proofs::fields::TextPieces::two_sides))]
     fn sides<'t>(
         &self,
-        text: &'t str,
-        sign: char,
+        head: &Part<'t>,
+        sign: Sign,
         part: &str,
-    ) -> Result<(&'t str, &'t str), CronError>
-        requires { sign < 128 }
-        ensures { Finds (λ s. (s.0.now, s.1.now)) (two_of (pieces_at sign text.now)) result }
+    ) -> Result<(Part<'t>, &'t str), CronError>
+        ensures { Finds (λ s. (s.0, s.1.now)) (two_of (pieces_at (byte_of sign) head.now)) result }
     {
-        if has(text, sign) {
-            let right = after(text, sign);
-            if !has(right, sign) {
-                return Ok((before(text, sign), right));
+        if head.has(sign) {
+            let right = head.after(sign);
+            if !has(right, sign.character()) {
+                return Ok((head.before(sign), right));
             }
         }
-        Err(self.not_once(sign, part))
+        Err(self.not_once(sign.character(), part))
     }
 
     fn is_starred(&self, left: &str) -> bool
@@ -185,22 +191,23 @@ impl CronComponent {
         left == "*" || (self.sloppy_ranges && left.is_empty())
     }
 
-    fn step_bounds(&self, left: &str, part: &str) -> Result<(u16, u16), CronError>
+    fn step_bounds(&self, left: &Part<'_>, part: &str) -> Result<(u16, u16), CronError>
         ensures { Finds (λ b. (b.0, b.1)) (step_bounds self.now.shape left.now) result }
     {
-        if left == "*" {
+        let text = left.text();
+        if text == "*" {
             Ok((self.min + self.input_offset, self.marks.max()))
-        } else if has(left, '-') {
-            let (start, end) = self.sides(left, '-', part)?;
-            let start = self.number_in(start, part)?;
+        } else if left.has(Sign::Dash) {
+            let (start, end) = self.sides(left, Sign::Dash, part)?;
+            let start = self.number_in(start.text(), part)?;
             let end = self.number_in(end, part)?;
             Ok((start, end))
         } else if !self.sloppy_ranges {
-            Err(self.no_range_to_step(left, part))
-        } else if left.is_empty() {
+            Err(self.no_range_to_step(text, part))
+        } else if text.is_empty() {
             Ok((self.min + self.input_offset, self.marks.max()))
         } else {
-            let start = self.number_in(left, part)?;
+            let start = self.number_in(text, part)?;
             Ok((start, self.marks.max()))
         }
     }

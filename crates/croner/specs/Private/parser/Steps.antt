@@ -5,12 +5,10 @@ use Rattle.std.specs.declared.string.String.{String}
 use denote.Ref.{Bor}
 use Rattle.std.specs.Str.{IsUtf8}
 use Rattle.croner_base.specs.declared.errors.CronError.{CronError}
-use Rattle.croner_base.specs.declared.errors.CronError.TheVariants.{OutOfMemory}
 use Rattle.croner_base.specs.Answers.{IsFieldError}
 use Rattle.croner_base.specs.Field.{Shape, empty_field, can_ask, can_mark}
-use Rattle.croner_pattern.specs.declared.pattern.CronPattern.{CronPattern}
-use Rattle.croner_pattern.specs.Meaning.{Meaning, meaning_of}
-use Rattle.croner_pattern.specs.Shapes.{sixty_shape, hour_shape, day_shape, month_shape, weekday_shape, year_shape, new_meaning}
+use Rattle.croner_pattern.specs.Meaning.{Meaning}
+use Rattle.croner_pattern.specs.Shapes.{sixty_shape, hour_shape, day_shape, month_shape, year_shape, new_meaning}
 use Rattle.croner.specs.declared.parser.settle.Settled.{Settled}
 use Rattle.croner.specs.declared.parser.fields.FieldTexts.{FieldTexts}
 use Rattle.croner.specs.parser.Cut.{Piece, name_of, shown, is_dash, decimal_of, replaced}
@@ -91,11 +89,6 @@ read_meaning s text t = record (new_meaning text) {
   days_of_week = value_of s (weekdays_of s) t.days_of_week;
   years = value_of s year_shape t.years;
 }
-
--- a pattern with no field read, and the weekdays' offset
-abbrev pub Starts : Result CronPattern CronError → List ℕ → ℕ → Type 0
-Starts (Ok p) text offset = meaning_of p ≡ record (new_meaning text) { days_of_week = empty_field (weekday_shape offset) }
-Starts (Err e) text offset = e ≡ OutOfMemory
 
 -- each field was read, or one was refused
 abbrev pub ReadsAll : Settings → List ℕ → Texts → Meaning → Result (Unit {0}) CronError → Type 0

@@ -12,7 +12,7 @@ use Rattle.croner.proofs.parser.CronParser.read.Goals as goal
 
 pub returns-in_err-pattern : goal.returns-in_err-pattern
 returns-in_err-pattern c =
-    let p = err_from_is_err_and c.from_residual.result c.from_residual.ensures.1 in rw (p.1, p.2, c.in_err-pattern.ensures) tt
+    let p = err_from_is_err_and c.from_residual.result c.from_residual.ensures.1 in rw (p.1, p.2, c.in_err-pattern.ensures.err) tt
 
 pub returns-in_err-read_fields : goal.returns-in_err-read_fields
 returns-in_err-read_fields c =
@@ -22,7 +22,7 @@ returns-in_err-read_fields c =
     let legal : true ≡ are_legal t = search rules in
     let mode : c.self.inside.alternative_weekdays ≡ s.quartz = ap (λ v. v.quartz) c.self.view_is in
     let start : meaning_of c.in_ok-pattern.pattern ≡ start_meaning s c.args.text.now =
-    c.in_ok-pattern.ensures ∙ ap (λ b. record (new_meaning c.args.text.now) { days_of_week = empty_field (weekday_shape (cond b 1 0)) }) mode in
+    c.in_ok-pattern.ensures.ok ∙ ap (λ b. record (new_meaning c.args.text.now) { days_of_week = empty_field (weekday_shape (cond b 1 0)) }) mode in
     let h = c.in_err-read_fields.ensures s (sym (ap (λ v. v.sloppy) c.self.view_is)) c.args.text.now start in
     rw (p.1, p.2) (subst (λ b. Fails {Y = Meaning} c.in_err-read_fields.field-0.0 (cond b (of_legal s c.args.text.now t c.args.and) (Err Illegal))) legal (refused_fields s c.args.text.now t c.args.and c.in_err-read_fields.field-0.0 h.0 h.1))
 
@@ -31,7 +31,7 @@ settle_weekdays-requires c = λ plain.
     let s = c.args.self.now in
     let mode : c.self.inside.alternative_weekdays ≡ s.quartz = ap (λ v. v.quartz) c.self.view_is in
     let start : meaning_of c.in_ok-pattern.pattern ≡ start_meaning s c.args.text.now =
-    c.in_ok-pattern.ensures ∙ ap (λ b. record (new_meaning c.args.text.now) { days_of_week = empty_field (weekday_shape (cond b 1 0)) }) mode in
+    c.in_ok-pattern.ensures.ok ∙ ap (λ b. record (new_meaning c.args.text.now) { days_of_week = empty_field (weekday_shape (cond b 1 0)) }) mode in
     let h = c.in_ok-read_fields.ensures s (sym (ap (λ v. v.sloppy) c.self.view_is)) c.args.text.now start in
     read_takes_sunday s c.args.fields.days_of_week.now c.read_fields.new.pattern.days_of_week (sym mode ∙ plain) (ap (λ m. m.days_of_week) h.1)
 
@@ -42,7 +42,7 @@ returns c =
     let legal : true ≡ are_legal t = search rules in
     let mode : c.self.inside.alternative_weekdays ≡ s.quartz = ap (λ v. v.quartz) c.self.view_is in
     let start : meaning_of c.in_ok-pattern.pattern ≡ start_meaning s c.args.text.now =
-    c.in_ok-pattern.ensures ∙ ap (λ b. record (new_meaning c.args.text.now) { days_of_week = empty_field (weekday_shape (cond b 1 0)) }) mode in
+    c.in_ok-pattern.ensures.ok ∙ ap (λ b. record (new_meaning c.args.text.now) { days_of_week = empty_field (weekday_shape (cond b 1 0)) }) mode in
     let h = c.in_ok-read_fields.ensures s (sym (ap (λ v. v.sloppy) c.self.view_is)) c.args.text.now start in
     let old : Meaning = meaning_of c.read_fields.new.pattern in
     let weekdays : c.settle_weekdays.new.weekdays ≡ settled_weekdays s old.days_of_week =

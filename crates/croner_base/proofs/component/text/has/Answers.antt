@@ -2,4 +2,4 @@ use Rattle.croner_base.proofs.fields.TextPieces.{contains_is}
 use Rattle.croner_base.proofs.component.text.has.Goals as goal
 
 pub returns : goal.returns
-returns c = contains_is c.args.byte c.args.text.now _ c.contains.ensures.cases c.requires
+returns c = contains_is c.args.sign c.args.text.now _ c.contains.ensures.cases c.requires
