@@ -1,6 +1,6 @@
 -- The clock of a calm table is calm, and holds what a search needs.
 use Rattle.std.proofs.Common.{◌≡◌, ◌⊎◌, inl, inr, sym, ap, ◌∙◌, subst, Bool, true, false, refl, arith, ◌||◌, zero, suc, ◌≤◌, ℤ, pos, neg_ℤ, ◌+ℤ◌, ◌-ℤ◌, ◌<ℤ◌, ◌≤ℤ◌, int_lt, unsigned_abs, if◌then◌else◌, List, [], ◌∷◌, length, Some, None, IsSome}
-use Rattle.std.proofs.lemmas.Int.{ints, by_lt_z}
+use Rattle.std.proofs.lemmas.Int.{by_lt_z}
 use Rattle.std.specs.List.{All}
 use Rattle.jiff_core.proofs.SignedLemmas.{signed_arith}
 use Rattle.croner_base.specs.declared.time.civil.CivilDateTime.{CivilDateTime}
@@ -13,9 +13,9 @@ use Rattle.croner_base.specs.Calm.{IsChange, IsMet, IsSearched, IsCalm, NamesAll
 use Rattle.croner_base.specs.ZonedZone.{is_near_year, first_timestamp, last_timestamp}
 use Rattle.croner_base.specs.Table.{offset_at, is_met, are_steps, is_step, met_at, gap_at, met_count, met_gaps, is_calm_table, offset_limit}
 use Rattle.croner_base.specs.TableZone.{clock, clock_reads, instants_of, table_zone, table_moment}
-use Rattle.croner_base.proofs.tables.TableTests.{IsSmallStep, both_parts, step_parts, searched_test, lt_test, instant_test}
+use Rattle.croner_base.proofs.tables.TableTests.{IsSmallStep, both_parts, step_parts, searched_test, le_test, le_false, lt_test, lt_false, instant_test}
 use Rattle.croner_base.proofs.tables.TableCheck.{rules_from_calm}
-use Rattle.croner_base.proofs.tables.TableOffsets.{IsSpread, int_le-true, int_le-false, offset_within, stays}
+use Rattle.croner_base.proofs.tables.TableOffsets.{IsSpread, offset_within, stays}
 use Rattle.croner_base.proofs.tables.TableReadings.{calm_spread, calm_offsets}
 use Rattle.croner_base.proofs.tables.TableMoments.{names_instants}
 use Rattle.croner_base.proofs.clocks.ZonedHolds.{farthest_offset, IsNearUtc, holds_around}
@@ -26,10 +26,10 @@ abbrev pub IsOffsetChange : ℤ → List (ℤ × ℤ) → ℤ → Type 0
 IsOffsetChange o cs d = offset_at o cs d ≡ offset_at o cs (d -ℤ pos 1) → ⊥
 
 passed : (o : ℤ) (c : ℤ × ℤ) (cs : List (ℤ × ℤ)) (i : ℤ) → c.0 ≤ℤ i → offset_at o (c ∷ cs) i ≡ offset_at c.1 cs i
-passed o c cs i h = let t = int_le-true c.0 i h in rw t
+passed o c cs i h = let t = le_test c.0 i h in rw t
 
 ahead : (o : ℤ) (c : ℤ × ℤ) (cs : List (ℤ × ℤ)) (i : ℤ) → i <ℤ c.0 → offset_at o (c ∷ cs) i ≡ o
-ahead o c cs i h = let t = int_le-false c.0 i h in rw t
+ahead o c cs i h = let t = le_false c.0 i h in rw t
 
 -- that is at a change of the table
 place : (o : ℤ) (c : ℤ × ℤ) (cs : List (ℤ × ℤ)) (d : ℤ) → IsOffsetChange o (c ∷ cs) d → (d ≡ c.0) ⊎ ((c.0 <ℤ d) × IsOffsetChange c.1 cs d)
@@ -86,9 +86,6 @@ or_right : (a b : Bool) → b ≡ true → (a || b) ≡ true
 or_right true b h = refl
 or_right false b h = h
 
-not_lt : (a b : ℤ) → b ≤ℤ a → int_lt a b ≡ false
-not_lt a b h = grind (arith, ints)
-
 -- a met change is counted, and so are the seconds that it skips
 seen : (o : ℤ) (c : ℤ × ℤ) (x y : ℤ) → x ≡ c.0 +ℤ c.1 → y ≡ c.0 -ℤ pos 1 +ℤ o → IsSearched x ⊎ IsSearched y → is_met o c ≡ true
 seen o c x y e f h =
@@ -101,7 +98,7 @@ skipped : (o : ℤ) (c : ℤ × ℤ) (j : ℤ) → is_met o c ≡ true → j ≡
 skipped o c j h e =
     by_lt_z o c.1
     (λ lt. let a = lt_test (pos 0) (c.1 -ℤ o) (omega (arith, signed_arith, lt)) in let b = lt_test o c.1 lt in rw (e, a, b, h))
-    (λ ge. let a = not_lt (pos 0) (c.1 -ℤ o) (omega (arith, signed_arith, ge)) in let b = not_lt o c.1 ge in rw (e, a, b, h))
+    (λ ge. let a = lt_false (pos 0) (c.1 -ℤ o) (omega (arith, signed_arith, ge)) in let b = lt_false o c.1 ge in rw (e, a, b, h))
 
 tail : (P : ℤ → Type 0) (d : ℤ) (ds : List ℤ) → All P (d ∷ ds) → All P ds
 tail P d ds h = λ k e l. h (suc k) e (omega arith)

@@ -19,7 +19,6 @@ use Rattle.croner_base.proofs.tables.PickExact.{pick_exact}
 use Rattle.croner_base.proofs.tables.TableTests.{between_false, instant_test}
 use Rattle.croner_base.proofs.tables.TableOffsets.{candidates, offset_within}
 use Rattle.croner_base.proofs.tables.TableReadings.{calm_spread, calm_offsets}
-use Rattle.croner_base.proofs.clocks.ZonedResolved.{is_near_year-true}
 
 -- two resolutions that name all instants of a second are one
 pub names_unique : (z : Zone) (w : ℤ) (r s : Resolution ℤ) → NamesAll z w r → NamesAll z w s → r ≡ s
@@ -59,10 +58,9 @@ pub unheld : (t : ClockTable) (c : CivilDateTime) → (neg_ℤ (pos year_limit) 
 unfolding clock
 unheld t c h = let year = near_year-false c.date.year h in inr (inl refl, rw year)
 
-resolves_to : (t : ClockTable) (c : CivilDateTime) (r : Resolution ℤ) → neg_ℤ (pos year_limit) ≤ℤ c.date.year → c.date.year ≤ℤ pos year_limit → NamesAll (table_zone t) (wall_second c) r → (table_zone t).resolves c ≡ Some r
+resolves_to : (t : ClockTable) (c : CivilDateTime) (r : Resolution ℤ) → is_near_year c.date.year ≡ true → NamesAll (table_zone t) (wall_second c) r → (table_zone t).resolves c ≡ Some r
 unfolding clock
-resolves_to t c r low high n =
-    let year = is_near_year-true c.date.year low high in
+resolves_to t c r year n =
     let same = names_unique (table_zone t) (wall_second c) (instants_of t.first_offset t.changes.items (wall_second c)) r (names_instants t.first_offset t.changes.items (wall_second c) t.calm) n in
     rw (year, same)
 
@@ -71,15 +69,15 @@ named t w s x r e =
     let i : x.second ≡ s = ap (λ (m : Moment). m.instant) e in
     record { zone_is = ap (λ (m : Moment). m.zone) e; whole = refl; reads_it = rw i r }
 
-pub resolved_single : (t : ClockTable) (c : CivilDateTime) (s : ℤ) (x : TableTime) → neg_ℤ (pos year_limit) ≤ℤ c.date.year → c.date.year ≤ℤ pos year_limit → NamesAll (table_zone t) (wall_second c) (Single s) → table_moment x ≡ at_instant (table_zone t) s → IsResolved table_moment (table_zone t) c (Single x)
-resolved_single t c s x low high n e =
-    let v = resolves_to t c (Single s) low high n in
+pub resolved_single : (t : ClockTable) (c : CivilDateTime) (s : ℤ) (x : TableTime) → is_near_year c.date.year ≡ true → NamesAll (table_zone t) (wall_second c) (Single s) → table_moment x ≡ at_instant (table_zone t) s → IsResolved table_moment (table_zone t) c (Single x)
+resolved_single t c s x year n e =
+    let v = resolves_to t c (Single s) year n in
     let i : x.second ≡ s = ap (λ (m : Moment). m.instant) e in
     (named t (wall_second c) s x ((n s).1 refl) e, rw i v)
 
-pub resolved_ambiguous : (t : ClockTable) (c : CivilDateTime) (a b : ℤ) (x y : TableTime) → neg_ℤ (pos year_limit) ≤ℤ c.date.year → c.date.year ≤ℤ pos year_limit → NamesAll (table_zone t) (wall_second c) (Ambiguous a b) → table_moment x ≡ at_instant (table_zone t) a → table_moment y ≡ at_instant (table_zone t) b → IsResolved table_moment (table_zone t) c (Ambiguous x y)
-resolved_ambiguous t c a b x y low high n e f =
-    let v = resolves_to t c (Ambiguous a b) low high n in
+pub resolved_ambiguous : (t : ClockTable) (c : CivilDateTime) (a b : ℤ) (x y : TableTime) → is_near_year c.date.year ≡ true → NamesAll (table_zone t) (wall_second c) (Ambiguous a b) → table_moment x ≡ at_instant (table_zone t) a → table_moment y ≡ at_instant (table_zone t) b → IsResolved table_moment (table_zone t) c (Ambiguous x y)
+resolved_ambiguous t c a b x y year n e f =
+    let v = resolves_to t c (Ambiguous a b) year n in
     let i : x.second ≡ a = ap (λ (m : Moment). m.instant) e in
     let j : y.second ≡ b = ap (λ (m : Moment). m.instant) f in (
       named t (wall_second c) a x ((n.1 a).1 (inl refl)) e,
@@ -88,8 +86,8 @@ resolved_ambiguous t c a b x y low high n e f =
       rw (i, j) v,
     )
 
-pub resolved_gap : (t : ClockTable) (c : CivilDateTime) → neg_ℤ (pos year_limit) ≤ℤ c.date.year → c.date.year ≤ℤ pos year_limit → NamesAll (table_zone t) (wall_second c) Gap → IsResolved table_moment (table_zone t) c Gap
-resolved_gap t c low high n = resolves_to t c Gap low high n
+pub resolved_gap : (t : ClockTable) (c : CivilDateTime) → is_near_year c.date.year ≡ true → NamesAll (table_zone t) (wall_second c) Gap → IsResolved table_moment (table_zone t) c Gap
+resolved_gap t c year n = resolves_to t c Gap year n
 
 -- an instant that reads a second of the years -9998 to 9998 is held
 pub named_held : (t : ClockTable) (w s : ℤ) → (first_near ≤ℤ w) × (w ≤ℤ last_near) → (table_zone t).reads s ≡ w → is_table_second s ≡ true

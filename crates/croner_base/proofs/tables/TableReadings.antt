@@ -1,16 +1,17 @@
 -- What the clock of a calm table reads, by the changes around an instant.
-use Rattle.std.proofs.Common.{◌≡◌, ◌⊎◌, inl, inr, ◌∙◌, ap, true, false, refl, arith, ℕ, zero, suc, ◌+◌, ◌<◌, ◌≤◌, ℤ, pos, neg_ℤ, ◌+ℤ◌, ◌-ℤ◌, ◌<ℤ◌, ◌≤ℤ◌, int_le, List, [], ◌∷◌, length, get_or}
+use Rattle.std.proofs.Common.{◌≡◌, ◌⊎◌, inl, inr, ◌∙◌, ap, true, false, refl, arith, ℕ, zero, suc, ◌+◌, ◌<◌, ◌≤◌, ℤ, pos, ◌+ℤ◌, ◌-ℤ◌, ◌<ℤ◌, ◌≤ℤ◌, int_le, List, [], ◌∷◌, length, get_or}
+use Rattle.std.proofs.lemmas.Bool.{cases_eq}
 use Rattle.std.proofs.lemmas.Int.{by_lt_z}
 use Rattle.jiff_core.proofs.SignedLemmas.{signed_arith}
-use Rattle.croner_base.specs.declared.time.value.Resolution.TheVariants.{Single, Ambiguous, Gap}
+use Rattle.croner_base.specs.declared.time.value.Resolution.TheVariants.{Single}
 use Rattle.croner_base.specs.Calm.{NamesAll}
 use Rattle.croner_base.specs.Limits.{apart_limit}
 use Rattle.croner_base.specs.Table.{offset_at, is_offset, is_apart, are_offsets, are_instants, is_calm_table, offset_limit}
-use Rattle.croner_base.specs.Private.TableSteps.{offset_past, IsCountUntil}
+use Rattle.croner_base.specs.Private.TableSteps.{offset_past, IsCountUntil, instants_around}
 use Rattle.croner_base.specs.TableZone.{clock, clock_reads}
-use Rattle.croner_base.proofs.tables.TableTests.{both_parts, lt_of, le_of, gt_of, offset_bounds, offset_test}
+use Rattle.croner_base.proofs.tables.TableTests.{both_parts, lt_of, le_of, le_test, le_false, lt_tells, gt_of, offset_bounds, offset_test}
 use Rattle.croner_base.proofs.tables.TableCheck.{rules_from_calm}
-use Rattle.croner_base.proofs.tables.TableOffsets.{IsAfter, IsSpread, AreOffsets, int_le-true, int_le-false, offset_within}
+use Rattle.croner_base.proofs.tables.TableOffsets.{IsAfter, IsSpread, IsOffset, AreOffsets, offset_within}
 
 after_from : (c : ℤ × ℤ) (cs : List (ℤ × ℤ)) → is_apart c cs ≡ true → IsAfter c cs
 after_from c [] h = tt
@@ -36,21 +37,18 @@ calm_spread o cs h = spread_from cs (rules_from_calm o cs h).instants
 pub calm_offsets : (o : ℤ) (cs : List (ℤ × ℤ)) → is_calm_table o cs ≡ true → AreOffsets o cs
 calm_offsets o cs h = offsets_from o cs (rules_from_calm o cs h).offsets
 
-later_than : (c : ℤ × ℤ) (cs : List (ℤ × ℤ)) (k : ℕ) → IsSpread (c ∷ cs) → k < length cs → (c.0 +ℤ pos apart_limit) <ℤ (get_or cs k (pos 0, pos 0)).0
-later_than c [] k s h = absurd (omega arith)
-later_than c (d ∷ ds) zero s h = s.0
-later_than c (d ∷ ds) (suc k) s h =
-    let r = later_than d ds k s.1 (omega arith) in
-    let a : (c.0 +ℤ pos apart_limit) <ℤ d.0 = s.0 in
-    omega (arith, signed_arith, r, a)
+-- the instant of a change of the list
+abbrev pub instant_in : List (ℤ × ℤ) → ℕ → ℤ
+instant_in cs k = (get_or cs k (pos 0, pos 0)).0
 
 -- so do changes that are not neighbours
-pub spread_index : (cs : List (ℤ × ℤ)) (j k : ℕ) → IsSpread cs → j < k → k < length cs → ((get_or cs j (pos 0, pos 0)).0 +ℤ pos apart_limit) <ℤ (get_or cs k (pos 0, pos 0)).0
+pub spread_index : (cs : List (ℤ × ℤ)) (j k : ℕ) → IsSpread cs → j < k → k < length cs → (instant_in cs j +ℤ pos apart_limit) <ℤ instant_in cs k
 spread_index [] j k s lt h = absurd (omega arith)
-spread_index (c ∷ cs) zero zero s lt h = absurd (omega arith)
-spread_index (c ∷ cs) (suc j) zero s lt h = absurd (omega arith)
-spread_index (c ∷ cs) zero (suc k) s lt h = later_than c cs k s (omega arith)
+spread_index (c ∷ cs) j zero s lt h = absurd (omega arith)
 spread_index (c ∷ cs) (suc j) (suc k) s lt h = spread_index cs j k s.1 (omega arith) (omega arith)
+spread_index (c ∷ []) zero (suc k) s lt h = absurd (omega arith)
+spread_index (c ∷ d ∷ ds) zero (suc zero) s lt h = s.0
+spread_index (c ∷ d ∷ ds) zero (suc (suc k)) s lt h = let r = spread_index (d ∷ ds) zero (suc k) s.1 (omega arith) (omega arith) in omega (arith, signed_arith, r, s.0)
 
 past_shift : (o : ℤ) (c : ℤ × ℤ) (cs : List (ℤ × ℤ)) (n : ℕ) → offset_past c.1 cs n ≡ offset_past o (c ∷ cs) (suc n)
 past_shift o c cs zero = refl
@@ -61,9 +59,9 @@ pub offset_by_count : (o : ℤ) (cs : List (ℤ × ℤ)) (i : ℤ) (n : ℕ) →
 offset_by_count o [] i zero h u = refl
 offset_by_count o [] i (suc n) h u = absurd (omega arith)
 offset_by_count o (c ∷ cs) i zero h u =
-    let t : int_le c.0 i ≡ false = int_le-false c.0 i (u.ahead 0 (omega arith) (omega arith)) in rw t
+    let t : int_le c.0 i ≡ false = le_false c.0 i (u.ahead 0 (omega arith) (omega arith)) in rw t
 offset_by_count o (c ∷ cs) i (suc n) h u =
-    let t : int_le c.0 i ≡ true = int_le-true c.0 i (u.passed 0 (omega arith)) in
+    let t : int_le c.0 i ≡ true = le_test c.0 i (u.passed 0 (omega arith)) in
     rw t (offset_by_count c.1 cs i n (omega arith) (record {
       passed = λ k l. u.passed (suc k) (omega arith);
       ahead = λ k l m. u.ahead (suc k) (omega arith) (omega arith);
@@ -81,48 +79,52 @@ near o cs w i a e =
     let b = offset_within o cs i a in
     (omega (arith, signed_arith, e, b), omega (arith, signed_arith, e, b))
 
-past_within : (o : ℤ) (cs : List (ℤ × ℤ)) (n : ℕ) → n ≤ length cs → AreOffsets o cs → (neg_ℤ (pos offset_limit) ≤ℤ offset_past o cs n) × (offset_past o cs n ≤ℤ pos offset_limit)
+past_within : (o : ℤ) (cs : List (ℤ × ℤ)) (n : ℕ) → n ≤ length cs → AreOffsets o cs → IsOffset (offset_past o cs n)
 past_within o [] zero h a = a
 past_within o [] (suc n) h a = absurd (omega arith)
 past_within o (c ∷ cs) zero h a = a.0
 past_within o (c ∷ cs) (suc n) h a = rw (← past_shift o c cs n) (past_within c.1 cs n (omega arith) a.1)
 
-ascending : (cs : List (ℤ × ℤ)) (j k : ℕ) → IsSpread cs → j ≤ k → k < length cs → (get_or cs j (pos 0, pos 0)).0 ≤ℤ (get_or cs k (pos 0, pos 0)).0
-ascending [] j k s le h = absurd (omega arith)
-ascending (c ∷ cs) zero zero s le h = omega (arith, signed_arith)
-ascending (c ∷ cs) (suc j) zero s le h = absurd (omega arith)
-ascending (c ∷ cs) zero (suc k) s le h = let r = later_than c cs k s (omega arith) in omega (arith, signed_arith, r)
-ascending (c ∷ cs) (suc j) (suc k) s le h = ascending cs j k s.1 (omega arith) (omega arith)
+ascending : (cs : List (ℤ × ℤ)) (j k : ℕ) → IsSpread cs → j ≤ k → k < length cs → instant_in cs j ≤ℤ instant_in cs k
+ascending cs j k s le h = elim (cases_eq j k) [
+  | inl e ↦ rw e (omega (arith, signed_arith))
+  | inr ne ↦ let a = spread_index cs j k s (omega arith) h in omega (arith, signed_arith, a)
+]
 
-on_late : (o : ℤ) (cs : List (ℤ × ℤ)) (w i : ℤ) (n m : ℕ) → n ≡ m + 1 → IsSpread cs → n ≤ length cs → IsCountUntil cs (w +ℤ pos offset_limit) n → (get_or cs m (pos 0, pos 0)).0 ≤ℤ i → i ≤ℤ (w +ℤ pos offset_limit) → offset_at o cs i ≡ offset_past o cs n
-on_late o cs w i n m e s h u low high =
-    offset_by_count o cs i n h (record {
-      passed = λ k l. let a = ascending cs k m s (omega arith) (omega arith) in omega (arith, signed_arith, a, low);
-      ahead = λ k l r. let f = u.ahead k l r in omega (arith, signed_arith, f, high);
+-- of spread changes, change m is the last one before a day after w
+record IsLastBefore (cs : List (ℤ × ℤ)) (w : ℤ) (n m : ℕ) : Type 0 where
+  pub spread : IsSpread cs
+  pub next : n ≡ m + 1
+  pub within : n ≤ length cs
+  pub counted : IsCountUntil cs (w +ℤ pos offset_limit) n
+
+on_late : (o : ℤ) (cs : List (ℤ × ℤ)) (w i : ℤ) (n m : ℕ) → IsLastBefore cs w n m → instant_in cs m ≤ℤ i → i ≤ℤ (w +ℤ pos offset_limit) → offset_at o cs i ≡ offset_past o cs n
+on_late o cs w i n m l low high =
+    offset_by_count o cs i n l.within (record {
+      passed = λ k lt. let a = ascending cs k m l.spread (omega (arith, l.next)) (omega (arith, l.next, l.within)) in omega (arith, signed_arith, a, low);
+      ahead = λ k le lt. let f = l.counted.ahead k le lt in omega (arith, signed_arith, f, high);
     })
 
-on_early : (o : ℤ) (cs : List (ℤ × ℤ)) (w i : ℤ) (n m : ℕ) → n ≡ m + 1 → IsSpread cs → n ≤ length cs → IsCountUntil cs (w +ℤ pos offset_limit) n → (w -ℤ pos offset_limit) ≤ℤ i → i <ℤ (get_or cs m (pos 0, pos 0)).0 → offset_at o cs i ≡ offset_past o cs m
-on_early o cs w i n m e s h u low high =
-    let last = u.passed m (omega arith) in
-    offset_by_count o cs i m (omega arith) (record {
-      passed = λ k l. let a = spread_index cs k m s l (omega arith) in omega (arith, signed_arith, a, last, low);
-      ahead = λ k l r. let a = ascending cs m k s l r in omega (arith, signed_arith, a, high);
+on_early : (o : ℤ) (cs : List (ℤ × ℤ)) (w i : ℤ) (n m : ℕ) → IsLastBefore cs w n m → (w -ℤ pos offset_limit) ≤ℤ i → i <ℤ instant_in cs m → offset_at o cs i ≡ offset_past o cs m
+on_early o cs w i n m l low high =
+    let last = l.counted.passed m (omega (arith, l.next)) in
+    offset_by_count o cs i m (omega (arith, l.next, l.within)) (record {
+      passed = λ k lt. let a = spread_index cs k m l.spread lt (omega (arith, l.next, l.within)) in omega (arith, signed_arith, a, last, low);
+      ahead = λ k le lt. let a = ascending cs m k l.spread le lt in omega (arith, signed_arith, a, high);
     })
 
-pub around_change : (o : ℤ) (cs : List (ℤ × ℤ)) (w : ℤ) (n m : ℕ) → n ≡ m + 1 → IsSpread cs → AreOffsets o cs → n ≤ length cs → IsCountUntil cs (w +ℤ pos offset_limit) n → ReadsAroundChange o cs w (get_or cs m (pos 0, pos 0)).0 (w -ℤ offset_past o cs m) (w -ℤ offset_past o cs n)
-around_change o cs w n m e s a h u =
-    let d = (get_or cs m (pos 0, pos 0)).0 in
-    let last = u.passed m (omega arith) in
-    let before = past_within o cs m (omega arith) a in
-    let after = past_within o cs n h a in
+around_change : (o : ℤ) (cs : List (ℤ × ℤ)) (w : ℤ) (n m : ℕ) → AreOffsets o cs → IsLastBefore cs w n m → ReadsAroundChange o cs w (instant_in cs m) (w -ℤ offset_past o cs m) (w -ℤ offset_past o cs n)
+around_change o cs w n m a l =
+    let before = past_within o cs m (omega (arith, l.next, l.within)) a in
+    let after = past_within o cs n l.within a in
     record {
       cover = λ i r.
           let b = near o cs w i a r in
-          by_lt_z i (get_or cs m (pos 0, pos 0)).0
-          (λ lt. let p = on_early o cs w i n m e s h u b.0 lt in inl (omega (arith, signed_arith, r, p), omega (arith, signed_arith, r, p, lt)))
-          (λ ge. let p = on_late o cs w i n m e s h u ge b.1 in inr (omega (arith, signed_arith, r, p), omega (arith, signed_arith, r, p, ge)));
-      at_early = λ lt. let p = on_early o cs w (w -ℤ offset_past o cs m) n m e s h u (omega (arith, signed_arith, before)) lt in omega (arith, signed_arith, p);
-      at_late = λ ge. let p = on_late o cs w (w -ℤ offset_past o cs n) n m e s h u ge (omega (arith, signed_arith, after)) in omega (arith, signed_arith, p);
+          by_lt_z i (instant_in cs m)
+          (λ lt. let p = on_early o cs w i n m l b.0 lt in inl (omega (arith, signed_arith, r, p), omega (arith, signed_arith, r, p, lt)))
+          (λ ge. let p = on_late o cs w i n m l ge b.1 in inr (omega (arith, signed_arith, r, p), omega (arith, signed_arith, r, p, ge)));
+      at_early = λ lt. let p = on_early o cs w (w -ℤ offset_past o cs m) n m l (omega (arith, signed_arith, before)) lt in omega (arith, signed_arith, p);
+      at_late = λ ge. let p = on_late o cs w (w -ℤ offset_past o cs n) n m l ge (omega (arith, signed_arith, after)) in omega (arith, signed_arith, p);
     }
 
 -- the readings before all changes
@@ -139,41 +141,39 @@ names_first o cs w a u =
       (λ e. let p = first i (omega (arith, signed_arith, e, within)) in omega (arith, signed_arith, e, p)),
     )
 
-pub names_early : (o : ℤ) (cs : List (ℤ × ℤ)) (w d x y : ℤ) → ReadsAroundChange o cs w d x y → x <ℤ d → y <ℤ d → NamesAll (clock o cs) w (Single x)
+pub names_around : (o : ℤ) (cs : List (ℤ × ℤ)) (w d x y : ℤ) → ReadsAroundChange o cs w d x y → NamesAll (clock o cs) w (instants_around d x y)
 unfolding clock
-names_early o cs w d x y s lt no_late = λ i. (
-  (λ r. elim (s.cover i r) [ inl p ↦ p.0 | inr p ↦ absurd (omega (arith, signed_arith, p.1, no_late)) ]),
-  (λ e. rw e (s.at_early lt)),
-)
-
-pub names_late : (o : ℤ) (cs : List (ℤ × ℤ)) (w d x y : ℤ) → ReadsAroundChange o cs w d x y → d ≤ℤ x → d ≤ℤ y → NamesAll (clock o cs) w (Single y)
-unfolding clock
-names_late o cs w d x y s no_early ge = λ i. (
-  (λ r. elim (s.cover i r) [ inl p ↦ absurd (omega (arith, signed_arith, p.1, no_early)) | inr p ↦ p.0 ]),
-  (λ e. rw e (s.at_late ge)),
-)
-
-pub names_both : (o : ℤ) (cs : List (ℤ × ℤ)) (w d x y : ℤ) → ReadsAroundChange o cs w d x y → x <ℤ d → d ≤ℤ y → NamesAll (clock o cs) w (Ambiguous x y)
-unfolding clock
-names_both o cs w d x y s lt ge = (
-  omega (arith, signed_arith, lt, ge),
-  λ i. (
-    (λ r. elim (s.cover i r) [ inl p ↦ inl p.0 | inr p ↦ inr p.0 ]),
-    (λ h. elim h [ inl e ↦ rw e (s.at_early lt) | inr e ↦ rw e (s.at_late ge) ]),
-  ),
-)
-
-pub names_gap : (o : ℤ) (cs : List (ℤ × ℤ)) (w d x y : ℤ) → ReadsAroundChange o cs w d x y → d ≤ℤ x → y <ℤ d → NamesAll (clock o cs) w Gap
-unfolding clock
-names_gap o cs w d x y s no_early no_late = λ i r. elim (s.cover i r) [
-  | inl p ↦ absurd (omega (arith, signed_arith, p.1, no_early))
-  | inr p ↦ absurd (omega (arith, signed_arith, p.1, no_late))
+names_around o cs w d x y s = elim (lt_tells x d) [
+  | inl early ↦ elim (lt_tells y d) [
+    | inl none ↦ rw (early.0, none.0) (λ i. (
+      (λ r. elim (s.cover i r) [ inl p ↦ p.0 | inr p ↦ absurd (omega (arith, signed_arith, p.1, none.1)) ]),
+      (λ e. rw e (s.at_early early.1)),
+    ))
+    | inr late ↦ rw (early.0, late.0) (
+      omega (arith, signed_arith, early.1, late.1),
+      λ i. (
+        (λ r. elim (s.cover i r) [ inl p ↦ inl p.0 | inr p ↦ inr p.0 ]),
+        (λ h. elim h [ inl e ↦ rw e (s.at_early early.1) | inr e ↦ rw e (s.at_late late.1) ]),
+      ),
+    )
+  ]
+  | inr past ↦ elim (lt_tells y d) [
+    | inl none ↦ rw (past.0, none.0) (λ i r. elim (s.cover i r) [
+      | inl p ↦ absurd (omega (arith, signed_arith, p.1, past.1))
+      | inr p ↦ absurd (omega (arith, signed_arith, p.1, none.1))
+    ])
+    | inr late ↦ rw (past.0, late.0) (λ i. (
+      (λ r. elim (s.cover i r) [ inl p ↦ absurd (omega (arith, signed_arith, p.1, past.1)) | inr p ↦ p.0 ]),
+      (λ e. rw e (s.at_late late.1)),
+    ))
+  ]
 ]
 
 -- the changes of a table around a wall second
-pub around_last_change : (o : ℤ) (cs : List (ℤ × ℤ)) (w d b a : ℤ) (n m : ℕ) → is_calm_table o cs ≡ true → n ≡ m + 1 → n ≤ length cs → IsCountUntil cs (w +ℤ pos offset_limit) n → d ≡ (get_or cs m (pos 0, pos 0)).0 → b ≡ offset_past o cs m → a ≡ offset_past o cs n → ReadsAroundChange o cs w d (w -ℤ b) (w -ℤ a)
+pub around_last_change : (o : ℤ) (cs : List (ℤ × ℤ)) (w d b a : ℤ) (n m : ℕ) → is_calm_table o cs ≡ true → n ≡ m + 1 → n ≤ length cs → IsCountUntil cs (w +ℤ pos offset_limit) n
+    → d ≡ instant_in cs m → b ≡ offset_past o cs m → a ≡ offset_past o cs n → ReadsAroundChange o cs w d (w -ℤ b) (w -ℤ a)
 around_last_change o cs w d b a n m h e le u p q r =
-    rw (p, q, r) (around_change o cs w n m e (calm_spread o cs h) (calm_offsets o cs h) le u)
+    rw (p, q, r) (around_change o cs w n m (calm_offsets o cs h) (record { spread = calm_spread o cs h; next = e; within = le; counted = u }))
 
 -- each offset of a table is at most a day
 pub past_is_offset : (o : ℤ) (cs : List (ℤ × ℤ)) (n : ℕ) → is_calm_table o cs ≡ true → n ≤ length cs → is_offset (offset_past o cs n) ≡ true
@@ -192,8 +192,8 @@ at_or_before_first o cs i d h j k le lt up =
     let p = get_or_any cs j d (pos 0, pos 0) (omega arith) in
     let q = get_or_any cs k d (pos 0, pos 0) lt in
     let a = ascending cs j k (calm_spread o cs h) le lt in
-    let b = le_of (get_or cs k (pos 0, pos 0)).0 i (rw q at up) in
-    rw p (int_le-true _ i (omega (arith, signed_arith, a, b)))
+    let b = le_of (instant_in cs k) i (rw q at up) in
+    rw p (le_test _ i (omega (arith, signed_arith, a, b)))
 
 -- the point between the changes at or before an instant and the others
 pub count_until : (cs : List (ℤ × ℤ)) (i : ℤ) (n : ℕ) → ((k : ℕ) (d : ℤ × ℤ) → 0 ≤ k → k < n → int_le (get_or cs k d).0 i ≡ true) → ((k : ℕ) (d : ℤ × ℤ) → n ≤ k → k < length cs → int_le (get_or cs k d).0 i ≡ false) → IsCountUntil cs i n

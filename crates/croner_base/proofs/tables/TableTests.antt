@@ -1,6 +1,6 @@
 -- What the tests of a table say.
-use Rattle.std.proofs.Common.{◌≡◌, Bool, true, false, refl, arith, ◌&&◌, not, ℕ, ◌≤◌, nat_le, ℤ, pos, neg_ℤ, ◌-ℤ◌, ◌<ℤ◌, ◌≤ℤ◌, int_le, int_lt, int_eq}
-use Rattle.std.proofs.lemmas.Int.{ints}
+use Rattle.std.proofs.Common.{◌≡◌, ◌⊎◌, inl, inr, Bool, true, false, refl, arith, ◌&&◌, not, ℕ, ◌≤◌, nat_le, ℤ, pos, neg_ℤ, ◌-ℤ◌, ◌<ℤ◌, ◌≤ℤ◌, int_le, int_lt, int_eq}
+use Rattle.std.proofs.lemmas.Int.{ints, by_lt_z}
 use Rattle.croner_base.specs.Limits.{gap_limit, fold_limit, first_searched, last_searched}
 use Rattle.croner_base.specs.Table.{first_instant, last_instant, is_offset, is_table_second, is_step, is_searched, offset_limit}
 
@@ -21,8 +21,30 @@ le_test a b h = grind (arith, ints)
 pub lt_test : (a b : ℤ) → a <ℤ b → int_lt a b ≡ true
 lt_test a b h = grind (arith, ints)
 
+pub le_false : (a b : ℤ) → b <ℤ a → int_le a b ≡ false
+le_false a b h = grind (arith, ints)
+
+pub lt_false : (a b : ℤ) → b ≤ℤ a → int_lt a b ≡ false
+lt_false a b h = grind (arith, ints)
+
+-- each test with what it tells
+pub le_tells : (a b : ℤ) → ((int_le a b ≡ true) × (a ≤ℤ b)) ⊎ ((int_le a b ≡ false) × (b <ℤ a))
+le_tells a b = by_lt_z b a (λ gt. inr (le_false a b gt, gt)) (λ le. inl (le_test a b le, le))
+
+pub lt_tells : (a b : ℤ) → ((int_lt a b ≡ true) × (a <ℤ b)) ⊎ ((int_lt a b ≡ false) × (b ≤ℤ a))
+lt_tells a b = by_lt_z a b (λ lt. inl (lt_test a b lt, lt)) (λ ge. inr (lt_false a b ge, ge))
+
+pub eq_test : (a b : ℤ) → a ≡ b → int_eq a b ≡ true
+eq_test a b h = grind (arith, ints)
+
+pub eq_of : (a b : ℤ) → int_eq a b ≡ true → a ≡ b
+eq_of a b h = grind (arith, ints)
+
 pub eq_false : (a b : ℤ) → (a ≡ b → ⊥) → int_eq a b ≡ false
 eq_false a b h = grind (arith, ints)
+
+pub eq_tells : (a b : ℤ) → ((int_eq a b ≡ true) × (a ≡ b)) ⊎ (int_eq a b ≡ false)
+eq_tells a b = by_lt_z a b (λ lt. inr (grind (arith, ints))) (λ ge. by_lt_z b a (λ gt. inr (grind (arith, ints))) (λ le. let e : a ≡ b = omega (arith, ints, ge, le) in inl (eq_test a b e, e)))
 
 pub ne_of : (a b : ℤ) → int_eq a b ≡ false → a ≡ b → ⊥
 ne_of a b h e = absurd (grind (arith, ints, h, e))

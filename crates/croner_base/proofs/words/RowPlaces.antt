@@ -3,7 +3,7 @@ use Rattle.std.proofs.Common.{◌≡◌, ℕ, zero, suc, ◌+◌, ◌-◌, ◌*�
 use Rattle.std.specs.Int.{bit_at}
 use Rattle.std.proofs.lemmas.Bool.{cases_eq, cases_lt}
 use Rattle.std.proofs.lemmas.Nat.{and_mask, one_shl, ones_cat, mod-pow-add, mul-add-lt, same_from_place, mod_below, pow_pos, mul-le, ones_le_self, zero_from_ones}
-use Rattle.std.proofs.lemmas.Nat.Bits.{bit_at-lt}
+use Rattle.std.proofs.lemmas.Nat.Bits.{bit_at-lt, bit_at_ones}
 use Rattle.std.proofs.lemmas.Bool.Decides.{nat_tests}
 use Rattle.croner_base.specs.Field.{room}
 use Rattle.croner_base.specs.Private.words.Rows.{rows_below, width}
@@ -88,12 +88,14 @@ same_place s j k wide a b oj ok p q e =
       t.1,
     )
 
--- the place of a supported modifier and of a value
-pub place_in : (max s k v size : ℕ) → bit_at s k ≡ 1 → k < 8 → v < room max → size ≡ rows_below s 8 * width max → max < 65536
-    → (rows_below s k * width max + v / 64 < size) × (rows_below s k * width max + v / 64 < 16384)
-place_in max s k v size one low here long small =
-    let in_row : v / 64 < width max = word_within v max here in
-    (omega (arith, place_within s k (width max) (v / 64) one low in_row), place_fits s k (width max) (v / 64) low (width_small max small) (omega (arith, width_small max small)))
-
 pub count_all : (s : ℕ) → s < 256 → count_ones s ≡ rows_below s 8
 count_all s h = let e : s % 2 ^ 8 ≡ s = omega arith in sym (ap count_ones e) ∙ count_low s 8
+
+-- in place each of the eight modifiers has a row
+pub has_row : (k : ℕ) → k < 8 → bit_at 255 k ≡ 1
+has_row k h = bit_at_ones 8 k h
+
+-- and rows of one word fill the places
+pub one_each : (wide : ℕ) → wide ≡ 1 → 8 ≡ rows_below 255 8 * wide
+unfolding rows_below
+one_each wide e = let all : rows_below 255 8 ≡ 8 = refl in omega (arith, ap (λ n. n * wide) all)

@@ -1,6 +1,6 @@
 -- The changes of an offset: over a stretch without one, at its end, and what the clock of all of them shows.
-use Rattle.std.proofs.Common.{◌≡◌, ℕ, zero, suc, ◌+◌, true, false, cond, refl, sym, ap, ◌∙◌, arith, ℤ, pos, ◌+ℤ◌, ◌-ℤ◌, ◌≤ℤ◌, ◌<ℤ◌, int_eq, int_le, int_lt, List, [], ◌∷◌, ◌++◌, append_assoc, append-nil, unsigned_abs}
-use Rattle.std.proofs.lemmas.Int.{ints, by_lt_z}
+use Rattle.std.proofs.Common.{◌≡◌, inl, inr, ℕ, zero, suc, ◌+◌, true, false, cond, refl, sym, ap, ◌∙◌, arith, ℤ, pos, ◌+ℤ◌, ◌-ℤ◌, ◌≤ℤ◌, ◌<ℤ◌, int_eq, int_le, int_lt, List, [], ◌∷◌, ◌++◌, append_assoc, append-nil, unsigned_abs}
+use Rattle.std.proofs.lemmas.Int.{by_lt_z}
 use Rattle.jiff_core.proofs.SignedLemmas.{signed_arith}
 use Rattle.croner_base.specs.Table.{offset_at}
 use Rattle.jiff_tz.specs.declared.timezone.TimeZone.{TimeZone}
@@ -9,10 +9,9 @@ use Rattle.croner_base.specs.Private.ZoneSteps.{IsNextQuestion}
 use Rattle.croner_base.specs.TableZone.{HasParts, clock, table_zone}
 use Rattle.croner_base.specs.ZoneTable.{IsWindow, ahead_at, change_at, changes_after, window_changes, nearest_in}
 use Rattle.croner_base.specs.ZonedZone.{zone_reads}
-use Rattle.croner_base.proofs.tables.TableTests.{lt_test, eq_false}
+use Rattle.croner_base.proofs.tables.TableTests.{le_test, le_false, le_tells, lt_tells, lt_false, eq_test, eq_tells, eq_false}
 use Rattle.croner_base.proofs.clocks.ZonedMoments.{zone_reads-held}
 use Rattle.croner_base.proofs.zones.ZoneYears.{nonneg_abs}
-use Rattle.croner_base.proofs.tables.TableOffsets.{int_le-true, int_le-false}
 
 pub changes_zero : (f : ℤ → ℤ) (first : ℤ) → changes_after f first 0 ≡ []
 unfolding changes_after
@@ -21,12 +20,6 @@ changes_zero f first = refl
 pub changes_more : (f : ℤ → ℤ) (first : ℤ) (n : ℕ) → changes_after f first (suc n) ≡ changes_after f first n ++ change_at f (first +ℤ pos (suc n))
 unfolding changes_after
 changes_more f first n = refl
-
-same_test : (a b : ℤ) → a ≡ b → int_eq a b ≡ true
-same_test a b e = grind (arith, ints)
-
-eq_of : (a b : ℤ) → int_eq a b ≡ true → a ≡ b
-eq_of a b e = grind (arith, ints)
 
 -- where the offset stays no change is added
 changes_stay : (f : ℤ → ℤ) (first : ℤ) (n k : ℕ) → ((i : ℤ) → (first +ℤ pos n) ≤ℤ i → i ≤ℤ (first +ℤ pos (n + k)) → f i ≡ f (first +ℤ pos n)) → changes_after f first (n + k) ≡ changes_after f first n
@@ -38,7 +31,7 @@ changes_stay f first n (suc k) h =
     let a : ℤ = first +ℤ pos (suc (n + k)) in
     let here = h a (omega (arith, signed_arith)) (omega (arith, signed_arith)) in
     let before = h (a -ℤ pos 1) (omega (arith, signed_arith)) (omega (arith, signed_arith)) in
-    let test : int_eq (f a) (f (a -ℤ pos 1)) ≡ true = same_test (f a) (f (a -ℤ pos 1)) (here ∙ sym before) in
+    let test : int_eq (f a) (f (a -ℤ pos 1)) ≡ true = eq_test (f a) (f (a -ℤ pos 1)) (here ∙ sym before) in
     let none : change_at f a ≡ [] = rw test refl in
     ap (λ m. changes_after f first m) one ∙ changes_more f first (n + k) ∙ ap (λ l. changes_after f first (n + k) ++ l) none ∙ append-nil (changes_after f first (n + k))
     ∙ changes_stay f first n k (λ i low high. h i low (omega (arith, signed_arith, high)))
@@ -71,22 +64,15 @@ offset_past f first (suc n) rest i le =
     let b : ℤ = a -ℤ pos 1 in
     let is : first +ℤ pos n ≡ b = omega (arith, signed_arith) in
     let split : changes_after f first (suc n) ++ rest ≡ changes_after f first n ++ (change_at f a ++ rest) = rw (changes_more f first n) (append_assoc (changes_after f first n) (change_at f a) rest) in
-    let past : int_le a i ≡ true = int_le-true a i le in
+    let past : int_le a i ≡ true = le_test a i le in
     let rest_is : offset_at (f b) (change_at f a ++ rest) i ≡ offset_at (f a) rest i =
-    elim (int_eq (f a) (f b)) as (λ t. int_eq (f a) (f b) ≡ t → offset_at (f b) (change_at f a ++ rest) i ≡ offset_at (f a) rest i) [
-      | true ↦ λ e. let same = eq_of (f a) (f b) e in rw (e, same) refl
-      | false ↦ λ e. rw (e, past) refl
-    ] refl in
+    elim (eq_tells (f a) (f b)) [ inl same ↦ rw (same.0, same.1) refl | inr moved ↦ rw (moved, past) refl ] in
     rw split (offset_past f first n (change_at f a ++ rest) i (omega (arith, signed_arith, le)) ∙ rw is rest_is)
 
 -- a change that lies ahead does not count
 ahead : (o : ℤ) (cs : List (ℤ × ℤ)) (c : ℤ × ℤ) (i : ℤ) → i <ℤ c.0 → offset_at o (cs ++ c ∷ []) i ≡ offset_at o cs i
-ahead o [] c i lt = let t : int_le c.0 i ≡ false = int_le-false c.0 i lt in rw t refl
-ahead o (d ∷ ds) c i lt =
-    elim (int_le d.0 i) as (λ t. int_le d.0 i ≡ t → offset_at o ((d ∷ ds) ++ c ∷ []) i ≡ offset_at o (d ∷ ds) i) [
-      | true ↦ λ e. rw e (ahead d.1 ds c i lt)
-      | false ↦ λ e. rw e refl
-    ] refl
+ahead o [] c i lt = let t : int_le c.0 i ≡ false = le_false c.0 i lt in rw t refl
+ahead o (d ∷ ds) c i lt = elim (le_tells d.0 i) [ inl past ↦ rw past.0 (ahead d.1 ds c i lt) | inr before ↦ rw before.0 refl ]
 
 -- before the first second its offset is in force
 pub offset_before : (f : ℤ → ℤ) (first : ℤ) (n : ℕ) (i : ℤ) → i ≤ℤ first → offset_at (f first) (changes_after f first n) i ≡ f first
@@ -94,10 +80,11 @@ offset_before f first zero i le = rw (changes_zero f first) refl
 offset_before f first (suc n) i le =
     let a : ℤ = first +ℤ pos (suc n) in
     let split = changes_more f first n in
-    rw split (elim (int_eq (f a) (f (a -ℤ pos 1))) as (λ t. int_eq (f a) (f (a -ℤ pos 1)) ≡ t → offset_at (f first) (changes_after f first n ++ change_at f a) i ≡ f first) [
-      | true ↦ λ e. rw (e, append-nil (changes_after f first n)) (offset_before f first n i le)
-      | false ↦ λ e. rw e (ahead (f first) (changes_after f first n) (a, f a) i (omega (arith, signed_arith, le)) ∙ offset_before f first n i le)
-    ] refl)
+    let rest = offset_before f first n i le in
+    rw split (elim (eq_tells (f a) (f (a -ℤ pos 1))) [
+      | inl same ↦ rw (same.0, append-nil (changes_after f first n)) rest
+      | inr moved ↦ rw moved (ahead (f first) (changes_after f first n) (a, f a) i (omega (arith, signed_arith, le)) ∙ rest)
+    ])
 
 -- and up to the last one each second's own
 pub offset_within : (f : ℤ → ℤ) (first : ℤ) (n : ℕ) (i : ℤ) → first ≤ℤ i → i ≤ℤ (first +ℤ pos n) → offset_at (f first) (changes_after f first n) i ≡ f i
@@ -108,17 +95,15 @@ offset_within f first (suc n) i low high =
     let a : ℤ = first +ℤ pos (suc n) in
     by_lt_z i a
     (λ lt.
-    rw (changes_more f first n) (elim (int_eq (f a) (f (a -ℤ pos 1))) as (λ t. int_eq (f a) (f (a -ℤ pos 1)) ≡ t → offset_at (f first) (changes_after f first n ++ change_at f a) i ≡ f i) [
-      | true ↦ λ e. rw (e, append-nil (changes_after f first n)) (offset_within f first n i low (omega (arith, signed_arith, lt)))
-      | false ↦ λ e. rw e (ahead (f first) (changes_after f first n) (a, f a) i lt ∙ offset_within f first n i low (omega (arith, signed_arith, lt)))
-    ] refl))
+    let rest = offset_within f first n i low (omega (arith, signed_arith, lt)) in
+    rw (changes_more f first n) (elim (eq_tells (f a) (f (a -ℤ pos 1))) [
+      | inl same ↦ rw (same.0, append-nil (changes_after f first n)) rest
+      | inr moved ↦ rw moved (ahead (f first) (changes_after f first n) (a, f a) i lt ∙ rest)
+    ]))
     (λ ge.
     let is : a ≡ i = omega (arith, signed_arith, ge, high) in
     let past = offset_past f first (suc n) [] i (omega (arith, signed_arith, is)) in
     ap (λ cs. offset_at (f first) cs i) (sym (append-nil (changes_after f first (suc n)))) ∙ past ∙ ap f is)
-
-not_lt : (a b : ℤ) → b ≤ℤ a → int_lt a b ≡ false
-not_lt a b h = grind (arith, ints)
 
 -- what the clock of the changes of a window shows at each instant
 window_offset : (f : ℤ → ℤ) (first last i : ℤ) → first ≤ℤ last → offset_at (f first) (changes_after f first (unsigned_abs (last -ℤ first))) i ≡ f (nearest_in first last i)
@@ -126,20 +111,15 @@ window_offset f first last i order =
     let n : ℕ = unsigned_abs (last -ℤ first) in
     let size = nonneg_abs (last -ℤ first) (omega (arith, signed_arith, order)) in
     let is : first +ℤ pos n ≡ last = omega (arith, signed_arith, size) in
-    by_lt_z i first
-    (λ early.
-    let t : int_lt i first ≡ true = lt_test i first early in
-    rw t (offset_before f first n i (omega (arith, signed_arith, early))))
-    (λ from.
-    let s : int_lt i first ≡ false = not_lt i first from in
-    by_lt_z last i
-    (λ late.
-    let t : int_lt last i ≡ true = lt_test last i late in
-    let past = offset_past f first n [] i (omega (arith, signed_arith, is, late)) in
-    rw (s, t) (ap (λ cs. offset_at (f first) cs i) (sym (append-nil (changes_after f first n))) ∙ past ∙ ap f is))
-    (λ until.
-    let t : int_lt last i ≡ false = not_lt last i until in
-    rw (s, t) (offset_within f first n i from (omega (arith, signed_arith, is, until)))))
+    elim (lt_tells i first) [
+      | inl early ↦ rw early.0 (offset_before f first n i (omega (arith, signed_arith, early)))
+      | inr from ↦ elim (lt_tells last i) [
+        | inr until ↦ rw (from.0, until.0) (offset_within f first n i from.1 (omega (arith, signed_arith, is, until)))
+        | inl late ↦
+            let past = offset_past f first n [] i (omega (arith, signed_arith, is, late)) in
+            rw (from.0, late.0) (ap (λ cs. offset_at (f first) cs i) (sym (append-nil (changes_after f first n))) ∙ past ∙ ap f is)
+      ]
+    ]
 
 -- the table of a window shows what the zone shows at the nearest second of the window
 pub window_beyond : (tz : TimeZone) (first last : ℤ) (t : ClockTable) (i : ℤ) → first ≤ℤ last → HasParts (ahead_at tz first) (window_changes tz first last) t → (table_zone t).reads i ≡ i +ℤ ahead_at tz (nearest_in first last i)
@@ -149,8 +129,8 @@ window_beyond tz first last t i order h = rw (h.first_is, h.changes_are) (ap (λ
 -- and at its seconds what the zone shows there
 pub window_reads : (tz : TimeZone) (first last : ℤ) (t : ClockTable) (i : ℤ) → IsWindow first last → HasParts (ahead_at tz first) (window_changes tz first last) t → first ≤ℤ i → i ≤ℤ last → (table_zone t).reads i ≡ zone_reads tz i
 window_reads tz first last t i w h low high =
-    let a : int_lt i first ≡ false = not_lt i first low in
-    let b : int_lt last i ≡ false = not_lt last i high in
+    let a : int_lt i first ≡ false = lt_false i first low in
+    let b : int_lt last i ≡ false = lt_false last i high in
     let own : nearest_in first last i ≡ i = rw (a, b) refl in
     let held = zone_reads-held tz i (omega (arith, signed_arith, w.held_first, low)) (omega (arith, signed_arith, w.held_last, high)) in
     window_beyond tz first last t i w.order h ∙ ap (λ (j : ℤ). i +ℤ ahead_at tz j) own ∙ sym held
@@ -171,7 +151,7 @@ pub changes_kept : (tz : TimeZone) (first last a c x y : ℤ) → first ≤ℤ a
 changes_kept tz first last a c x y low q ex ey e =
     let f = ahead_at tz in
     let all : List (ℤ × ℤ) = window_changes tz first a in
-    let test : int_eq (f c) (f a) ≡ true = same_test (f c) (f a) (sym ey ∙ e ∙ ex) in
+    let test : int_eq (f c) (f a) ≡ true = eq_test (f c) (f a) (sym ey ∙ e ∙ ex) in
     let none : cond (int_eq (f c) (f a)) [] ((c, f c) ∷ []) ≡ [] = rw test refl in
     let next = next_changes tz first last a c low q in
     let same : all ++ cond (int_eq (f c) (f a)) [] ((c, f c) ∷ []) ≡ all = ap (λ l. all ++ l) none ∙ append-nil all in

@@ -18,6 +18,7 @@ use Rattle.jiff_tz.specs.declared.posix.DayTime.{DayTime}
 use Rattle.jiff_tz.specs.declared.posix.Dst.{Dst}
 use Rattle.jiff_tz.specs.declared.posix.TimeZone.{TimeZone as Rule}
 use Rattle.jiff_tz.proofs.YearLemmas.{years_within_is}
+use Rattle.croner_base.proofs.tables.TableTests.{lt_false}
 use Rattle.croner_base.proofs.zones.ZoneYears.{nonneg_abs}
 
 -- the year so many after -10000
@@ -208,13 +209,10 @@ year_bounds k low high =
     let first = first_count k in
     (omega (arith, signed_arith, low_days, second_year, count, first), omega (arith, signed_arith, high_days, last_year, step, length, leap, count, first))
 
-ge_test : (a b : ℤ) → b ≤ℤ a → int_lt a b ≡ false
-ge_test a b h = grind (arith, ints)
-
 within_civil : (n o : ℤ) → neg_ℤ (pos 377_673_580_800_000_000_000) ≤ℤ n → n <ℤ pos 253_370_764_800_000_000_000 → IsOffsetSeconds o → saturating_add n (nanos_of_seconds o) ≡ n +ℤ nanos_of_seconds o
 within_civil n o low high h =
-    let a : int_lt (n +ℤ nanos_of_seconds o) (neg_ℤ (pos 377_705_116_800_000_000_000)) ≡ false = ge_test (n +ℤ nanos_of_seconds o) (neg_ℤ (pos 377_705_116_800_000_000_000)) (omega (arith, signed_arith, low, h)) in
-    let b : int_lt (pos 253_402_300_799_999_999_999) (n +ℤ nanos_of_seconds o) ≡ false = ge_test (pos 253_402_300_799_999_999_999) (n +ℤ nanos_of_seconds o) (omega (arith, signed_arith, high, h)) in
+    let a : int_lt (n +ℤ nanos_of_seconds o) (neg_ℤ (pos 377_705_116_800_000_000_000)) ≡ false = lt_false (n +ℤ nanos_of_seconds o) (neg_ℤ (pos 377_705_116_800_000_000_000)) (omega (arith, signed_arith, low, h)) in
+    let b : int_lt (pos 253_402_300_799_999_999_999) (n +ℤ nanos_of_seconds o) ≡ false = lt_false (pos 253_402_300_799_999_999_999) (n +ℤ nanos_of_seconds o) (omega (arith, signed_arith, high, h)) in
     rw (a, b) refl
 
 -- the window of a year, from the moments of its rule and the edges of the year

@@ -1,5 +1,5 @@
 -- Up to its next transition, and within one UTC year, a zone of jiff keeps its offset.
-use Rattle.std.proofs.Common.{◌≡◌, ℕ, ◌-◌, ◌<◌, Bool, true, false, ◌==◌, refl, ap, arith, ℤ, pos, neg_ℤ, ◌≤ℤ◌, ◌<ℤ◌, int_le, int_lt, Option, Some, None, IfSome, length, vec_len}
+use Rattle.std.proofs.Common.{◌≡◌, inl, inr, ℕ, ◌-◌, ◌<◌, true, false, ◌==◌, refl, ap, arith, ℤ, pos, neg_ℤ, ◌≤ℤ◌, ◌<ℤ◌, int_le, int_lt, Option, Some, None, IfSome, length, vec_len}
 use Rattle.std.proofs.lemmas.Bool.Decides.{nat_tests}
 use Rattle.std.proofs.lemmas.Int.{ints, by_lt_z}
 use Rattle.std.proofs.lemmas.List.Sums.{prefix_len_passes, prefix_len-le-length}
@@ -21,7 +21,7 @@ use Rattle.jiff_tz.specs.declared.info.OffsetInfo.{OffsetInfo}
 use Rattle.jiff_tz.proofs.ZoneTheorems.{count_is}
 use Rattle.croner_base.specs.Private.ZoneSteps.{IsHeld, IsYearEnd, IsNextQuestion}
 use Rattle.croner_base.specs.ZoneTable.{ahead_at}
-use Rattle.croner_base.proofs.tables.TableTests.{le_of, lt_of, le_test, gt_of}
+use Rattle.croner_base.proofs.tables.TableTests.{le_of, le_test, le_tells, lt_tells}
 
 pub ge_of : (a b : ℤ) → int_lt a b ≡ false → b ≤ℤ a
 ge_of a b h = grind (arith, ints)
@@ -42,19 +42,14 @@ abbrev IsUncrossed : ℤ → ℤ → ℤ → Type 0
 IsUncrossed w n m = (int_le w m ≡ int_le w n) × (int_lt m w ≡ int_lt n w)
 
 window_stays : (w : ℤ × ℤ) (n m : ℤ) → IsUncrossed (ordered w).0 n m → IsUncrossed (ordered w).1 n m → in_window w m ≡ in_window w n
-window_stays w n m first last =
-    elim (int_le w.0 w.1) as (λ b. int_le w.0 w.1 ≡ b → in_window w m ≡ in_window w n) [
-      | true ↦ λ e. let f = rw e at first in let l = rw e at last in same_side w n m f.0 l.0 f.1 l.1
-      | false ↦ λ e. let f = rw e at first in let l = rw e at last in same_side w n m l.0 f.0 l.1 f.1
-    ] refl
+window_stays w n m first last = elim (le_tells w.0 w.1) [
+  | inl up ↦ let f = rw up.0 at first in let l = rw up.0 at last in same_side w n m f.0 l.0 f.1 l.1
+  | inr down ↦ let f = rw down.0 at first in let l = rw down.0 at last in same_side w n m l.0 f.0 l.1 f.1
+]
 
 -- the first end is the earlier one
 ordered_up : (w : ℤ × ℤ) → (ordered w).0 ≤ℤ (ordered w).1
-ordered_up w =
-    elim (int_le w.0 w.1) as (λ b. int_le w.0 w.1 ≡ b → (ordered w).0 ≤ℤ (ordered w).1) [
-      | true ↦ λ e. let le = le_of w.0 w.1 e in rw e le
-      | false ↦ λ e. let gt = gt_of w.0 w.1 e in rw e (omega (arith, signed_arith, gt))
-    ] refl
+ordered_up w = elim (le_tells w.0 w.1) [ inl up ↦ rw up.0 up.1 | inr down ↦ rw down.0 (omega (arith, signed_arith, down)) ]
 
 -- an end after n, if it is an instant, comes after m; so it does if it is none
 after_both : (tz : Rule) (d : Dst) (w : ℤ × ℤ) (e n m : ℤ) → IsTimestampNanos n → IsTimestampNanos m → n <ℤ e → IfSome (Posix.transition_of tz d w e) (λ t. m <ℤ t.0) → m <ℤ e
@@ -74,27 +69,22 @@ rule_window tz d y n m hn hm le h =
     let a = (ordered w).0 in
     let b = (ordered w).1 in
     let up : a ≤ℤ b = ordered_up w in
-    elim (int_lt n a) as (λ (x : Bool). int_lt n a ≡ x → in_window w m ≡ in_window w n) [
-      | true ↦ λ e.
-          let before = lt_of n a e in
-          let h2 = rw e at h in
-          let past = after_both tz d w a n m hn hm before h2 in
-          window_stays w n m (both_before a n m before past) (both_before b n m (omega (arith, signed_arith, before, up)) (omega (arith, signed_arith, past, up)))
-      | false ↦ λ e.
-          let from = ge_of n a e in
-          let h2 = rw e at h in
-          let first = both_past a n m from (omega (arith, signed_arith, from, le)) in
-          elim (int_lt n b) as (λ (x : Bool). int_lt n b ≡ x → in_window w m ≡ in_window w n) [
-            | true ↦ λ f.
-                let before = lt_of n b f in
-                let h3 = rw f at h2 in
-                let past = after_both tz d w b n m hn hm before h3 in
-                window_stays w n m first (both_before b n m before past)
-            | false ↦ λ f.
-                let until = ge_of n b f in
-                window_stays w n m first (both_past b n m until (omega (arith, signed_arith, until, le)))
-          ] refl
-    ] refl
+    elim (lt_tells n a) [
+      | inl before ↦
+          let h2 = rw before.0 at h in
+          let past = after_both tz d w a n m hn hm before.1 h2 in
+          window_stays w n m (both_before a n m before.1 past) (both_before b n m (omega (arith, signed_arith, before, up)) (omega (arith, signed_arith, past, up)))
+      | inr from ↦
+          let h2 = rw from.0 at h in
+          let first = both_past a n m from.1 (omega (arith, signed_arith, from, le)) in
+          elim (lt_tells n b) [
+            | inl before ↦
+                let h3 = rw before.0 at h2 in
+                let past = after_both tz d w b n m hn hm before.1 h3 in
+                window_stays w n m first (both_before b n m before.1 past)
+            | inr until ↦ window_stays w n m first (both_past b n m until.1 (omega (arith, signed_arith, until, le)))
+          ]
+    ]
 
 -- a rule keeps its offset
 abbrev rule_keeps : Rule → Option Dst → ℤ → ℤ → Type 0

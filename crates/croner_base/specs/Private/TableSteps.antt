@@ -1,7 +1,9 @@
 -- The steps by which a table is checked, change by change, and searched.
 -- Private contracts alone cite these definitions.
-use Rattle.std.specs.Prelude.{◌≡◌, ℕ, zero, suc, ◌+◌, ◌<◌, ◌≤◌, IsTrue, ℤ, pos, ◌+ℤ◌, ◌-ℤ◌, ◌<ℤ◌, ◌≤ℤ◌, List, length, slice_index_or}
+use Rattle.std.specs.Prelude.{◌≡◌, ℕ, zero, suc, ◌+◌, ◌<◌, ◌≤◌, IsTrue, ℤ, pos, ◌+ℤ◌, ◌-ℤ◌, ◌<ℤ◌, ◌≤ℤ◌, int_lt, if◌then◌else◌, List, length, slice_index_or}
 use Rattle.croner_base.specs.declared.time.table.check.Tally.{Tally}
+use Rattle.croner_base.specs.declared.time.value.Resolution.{Resolution}
+use Rattle.croner_base.specs.declared.time.value.Resolution.TheVariants.{Single, Ambiguous, Gap}
 use Rattle.croner_base.specs.Limits.{apart_limit, most_changes, most_gap_seconds}
 use Rattle.croner_base.specs.Table.{first_instant, last_instant, offset_limit, is_offset, is_step, met_at, gap_at}
 
@@ -30,6 +32,12 @@ offset_past offset cs (suc n) = (slice_index_or cs n (pos 0, pos 0)).1
 pub record IsCountUntil (cs : List (ℤ × ℤ)) (i : ℤ) (n : ℕ) : Type 0 where
   pub passed : (k : ℕ) → k < n → (slice_index_or cs k (pos 0, pos 0)).0 ≤ℤ i
   pub ahead : (k : ℕ) → n ≤ k → k < length cs → i <ℤ (slice_index_or cs k (pos 0, pos 0)).0
+
+-- the instants of a wall second, of one by the offset before a change and one by the offset after it
+abbrev pub instants_around : ℤ → ℤ → ℤ → Resolution ℤ
+instants_around change earlier later =
+    if int_lt earlier change then (if int_lt later change then Single earlier else Ambiguous earlier later)
+    else (if int_lt later change then Gap else Single later)
 
 -- what the clock of a table can read: the seconds of its instants, and those at most an offset past them
 abbrev pub first_reading : ℤ

@@ -6,5 +6,4 @@ pub mod Marked
 pub mod Masks
 pub mod Next
 pub mod Rows
-pub mod Search
 pub mod Word

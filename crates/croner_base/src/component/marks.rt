@@ -1,11 +1,11 @@
 //! Marks of values, kept as rows of words: one row for each supported modifier, with one bit a value.
 
-ghost use Rattle.std.specs.Prelude.{◌≡◌, ℕ, ◌+◌, ◌*◌, ◌^◌, ◌<◌, ◌≤◌, ◌==◌, length, bit_and, nat_lt, slice_index, IfOk, IsOk, MatchOption};
+ghost use Rattle.std.specs.Prelude.{◌≡◌, ℕ, false, ◌+◌, ◌*◌, ◌^◌, ◌<◌, ◌≤◌, ◌==◌, length, bit_and, nat_lt, slice_index, IfOk, IsOk, MatchOption};
 ghost use Rattle.std.specs.Int.{bit_at};
 ghost use Rattle.croner_base.specs.Field.{room};
 ghost use Rattle.croner_base.specs.Private.words.Kept.{words_of, rows_of};
-ghost use Rattle.croner_base.specs.Private.words.Marked.{Marked, is_set, set_at, unset_at, nothing_set, GainsRange};
-ghost use Rattle.croner_base.specs.Private.words.Next.{NonePlainFrom, IsLeastPlain, NonePlainTo, IsGreatestPlain};
+ghost use Rattle.croner_base.specs.Private.words.Marked.{Marked, is_set, set_at, unset_at, nothing_set, GainsRange, Turns};
+ghost use Rattle.croner_base.specs.Private.words.Next.{NoneFrom, IsLeast, NoneTo, IsGreatest};
 ghost use Rattle.croner_base.specs.Private.words.Rows.{in_row, rows_below, sums_of, width};
 ghost use Rattle.croner_base.specs.Private.words.Word.{word_bits};
 
@@ -159,9 +159,9 @@ impl Marks {
     {
         let (max, supported) = (self.max, self.supported);
         if self.is_in_place {
-            rows::mark_each(&mut self.in_place, max, ALL_ROWS, bits, value);
+            rows::turn_each(&mut self.in_place, max, ALL_ROWS, bits, value, true);
         } else {
-            rows::mark_each(&mut self.on_heap, max, supported, bits, value);
+            rows::turn_each(&mut self.on_heap, max, supported, bits, value, true);
         }
     }
 
@@ -173,9 +173,9 @@ impl Marks {
     {
         let (max, supported) = (self.max, self.supported);
         if self.is_in_place {
-            rows::unmark_each(&mut self.in_place, max, ALL_ROWS, bits, value);
+            rows::turn_each(&mut self.in_place, max, ALL_ROWS, bits, value, false);
         } else {
-            rows::unmark_each(&mut self.on_heap, max, supported, bits, value);
+            rows::turn_each(&mut self.on_heap, max, supported, bits, value, false);
         }
     }
 
@@ -199,7 +199,7 @@ impl Marks {
         requires within { last < room self.old.max }
         requires modifier { k < 8 }
         requires is_supported { bit_at self.old.supported k ≡ 1 }
-        ensures { GainsRange self.old self.new (2 ^ k) first last }
+        ensures { Turns 1 self.old self.new (2 ^ k) first last }
     {
         let (max, supported) = (self.max, self.supported);
         if self.is_in_place {
@@ -212,7 +212,7 @@ impl Marks {
     /// The least plain value from the given one on.
     #[inline(always)]
     pub fn least_from(&self, value: u16) -> Option<u16>
-        ensures { MatchOption result (NonePlainFrom self.now value) (λ least. IsLeastPlain self.now value least) }
+        ensures { MatchOption result (NoneFrom (is_set 1 self.now) value) (λ least. IsLeast (is_set 1 self.now) value least) }
     {
         match row::least_from(self.plain(), value) {
             Some(least) if self.has(least) => Some(least),
@@ -223,7 +223,7 @@ impl Marks {
     /// The greatest plain value up to the given one.
     #[inline(always)]
     pub fn greatest_to(&self, value: u16) -> Option<u16>
-        ensures { MatchOption result (NonePlainTo self.now value) (λ greatest. IsGreatestPlain self.now value greatest) }
+        ensures { MatchOption result (NoneTo (is_set 1 self.now) value) (λ greatest. IsGreatest (is_set 1 self.now) value greatest) }
     {
         let row = self.plain();
         if row.is_empty() || self.max == 0 {
@@ -243,8 +243,8 @@ impl Marks {
     fn plain(&self) -> &[u64]
         ensures size { length result.now ≤ 1024 }
         ensures full { 0 < length result.now → self.now.max < length result.now * word_bits }
-        ensures past { (v : ℕ) → room self.now.max ≤ v → slice_index self.now.marks v ≡ 0 }
-        ensures plain { (v : ℕ) → v < room self.now.max → in_row result.now v ≡ bit_at (slice_index self.now.marks v) 0 }
+        ensures past { (v : ℕ) → room self.now.max ≤ v → is_set 1 self.now v ≡ false }
+        ensures plain { (v : ℕ) → v < room self.now.max → in_row result.now v ≡ is_set 1 self.now v }
     {
         if self.is_in_place {
             rows::plain(&self.in_place, self.max, ALL_ROWS)

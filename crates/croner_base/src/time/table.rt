@@ -34,7 +34,7 @@ pub struct ClockTable {
 }
 
 impl ClockTable {
-    ghost use Rattle.croner_base.specs.Private.TableSteps.{IsCountUntil, offset_past};
+    ghost use Rattle.croner_base.specs.Private.TableSteps.{IsCountUntil, instants_around, offset_past};
     ghost use Rattle.croner_base.specs.TableZone.{HasParts, table_zone};
     ghost use Rattle.croner_base.specs.Calm.{NamesAll};
 
@@ -125,6 +125,13 @@ impl ClockTable {
         let before = self.offset_past(passed - 1);
         let earlier = wall - before;
         let change = self.instant_of(passed - 1);
+        Self::around(change, earlier, later)
+    }
+
+    // The instants of a wall second, of one by the offset before a change and one by the offset after it.
+    fn around(change: i64, earlier: i64, later: i64) -> Resolution<i64>
+        ensures { result ≡ instants_around change earlier later }
+    {
         if earlier < change {
             if later < change {
                 Resolution::Single(earlier)

@@ -1,6 +1,7 @@
 -- Marks by value: for each value from 0 to the maximum the sum of the bits of its modifiers.
 -- Private contracts alone cite these definitions.
-use Rattle.std.specs.Prelude.{ℕ, ◌≡◌, ◌≤◌, length, ◌-◌, Bool, ◌<◌, List, replicate, slice_index, slice_set, bit_and, bit_or}
+use Rattle.std.specs.Prelude.{ℕ, ◌≡◌, ◌≢◌, ◌≤◌, length, ◌-◌, Bool, true, false, ◌<◌, List, replicate, slice_index, slice_set, bit_and, bit_or}
+use Rattle.std.specs.Int.{bit_at}
 use Rattle.croner_base.specs.Field.{room, has_any}
 
 pub record Marked : Type 0 where
@@ -31,3 +32,21 @@ pub record GainsRange (old new : Marked) (bits first last : ℕ) : Type 0 where
   pub inside : (v : ℕ) → first ≤ v → v ≤ last → slice_index new.marks v ≡ bit_or (slice_index old.marks v) bits
   pub below : (v : ℕ) → v < first → slice_index new.marks v ≡ slice_index old.marks v
   pub above : (v : ℕ) → last < v → slice_index new.marks v ≡ slice_index old.marks v
+
+-- 1 where a modifier is put on a value, and 0 where it is taken off
+abbrev pub digit : Bool → ℕ
+digit true = 1
+digit false = 0
+
+-- a sum whose bits are put on or taken off
+abbrev pub turned : Bool → ℕ → ℕ → ℕ
+turned true sum bits = bit_or sum bits
+turned false sum bits = bit_and sum (255 - bits)
+
+-- of the values from first to last, each modifier of the bits has become this: 1 on, 0 off; and nothing else has changed
+pub record Turns (to : ℕ) (old new : Marked) (bits first last : ℕ) : Type 0 where
+  pub max : new.max ≡ old.max
+  pub supported : new.supported ≡ old.supported
+  pub length : length new.marks ≡ length old.marks
+  pub inside : (v k : ℕ) → first ≤ v → v ≤ last → bit_at bits k ≡ 1 → bit_at (slice_index new.marks v) k ≡ to
+  pub kept : (v k : ℕ) → (first ≤ v → v ≤ last → bit_at bits k ≢ 1) → bit_at (slice_index new.marks v) k ≡ bit_at (slice_index old.marks v) k

@@ -4,19 +4,21 @@ use Rattle.std.specs.Prelude.{ℕ, ◌≡◌, ◌+◌, ◌*◌, ◌<◌, ◌≤�
 use Rattle.std.specs.Int.{bit_at}
 use Rattle.croner_base.specs.Private.words.Word.{word_bits}
 
--- the mask of word i has the values from the given one on
-pub record MasksFrom (mask from i : ℕ) : Type 0 where
-  pub on : (b : ℕ) → b < word_bits → from ≤ i * word_bits + b → bit_at mask b ≡ 1
-  pub off : (b : ℕ) → b < word_bits → i * word_bits + b < from → bit_at mask b ≡ 0
+-- the mask of word i has just the values that are looked for
+pub record Masks (mask i : ℕ) (looked : ℕ → Type 0) : Type 0 where
+  pub on : (b : ℕ) → b < word_bits → looked (i * word_bits + b) → bit_at mask b ≡ 1
+  pub only : (b : ℕ) → b < word_bits → bit_at mask b ≡ 1 → looked (i * word_bits + b)
 
--- the mask of word i has the values up to the given one
-pub record MasksTo (mask to i : ℕ) : Type 0 where
-  pub on : (b : ℕ) → b < word_bits → i * word_bits + b ≤ to → bit_at mask b ≡ 1
-  pub off : (b : ℕ) → b < word_bits → to < i * word_bits + b → bit_at mask b ≡ 0
+-- those from the given one on
+abbrev pub MasksFrom : ℕ → ℕ → ℕ → Type 0
+MasksFrom mask from i = Masks mask i (λ v. from ≤ v)
 
--- from its first word on, the row has the values from first to last too, and no other bit is changed
-pub record HasMarked (old new : List ℕ) (start first last : ℕ) : Type 0 where
-  pub inside : (i b : ℕ) → b < word_bits → first ≤ i * word_bits + b → i * word_bits + b ≤ last → bit_at (slice_index new (start + i)) b ≡ 1
-  pub before : (p : ℕ) → p < start → slice_index new p ≡ slice_index old p
-  pub below : (i b : ℕ) → b < word_bits → i * word_bits + b < first → bit_at (slice_index new (start + i)) b ≡ bit_at (slice_index old (start + i)) b
-  pub above : (i b : ℕ) → b < word_bits → last < i * word_bits + b → bit_at (slice_index new (start + i)) b ≡ bit_at (slice_index old (start + i)) b
+-- and those up to it
+abbrev pub MasksTo : ℕ → ℕ → ℕ → Type 0
+MasksTo mask to i = Masks mask i (λ v. v ≤ to)
+
+-- in the row whose first word is at `start`, the bits of the values from first on and before stop have become this; no other
+-- bit has changed
+pub record TurnsRow (to : ℕ) (old new : List ℕ) (start first stop : ℕ) : Type 0 where
+  pub inside : (i b : ℕ) → b < word_bits → first ≤ i * word_bits + b → i * word_bits + b < stop → bit_at (slice_index new (start + i)) b ≡ to
+  pub kept : (p b : ℕ) → b < word_bits → ((i : ℕ) → p ≡ start + i → first ≤ i * word_bits + b → i * word_bits + b < stop → ⊥) → bit_at (slice_index new p) b ≡ bit_at (slice_index old p) b

@@ -1,22 +1,26 @@
--- The next plain value, upwards and downwards.
+-- The nearest value that passes a test, upwards and downwards.
 -- Private contracts alone cite these definitions.
-use Rattle.std.specs.Prelude.{ℕ, ◌≡◌, ◌<◌, ◌≤◌, true, false}
-use Rattle.croner_base.specs.Private.words.Marked.{Marked, is_set}
+use Rattle.std.specs.Prelude.{ℕ, ◌≡◌, ◌<◌, ◌≤◌, Bool, true, false}
 
-abbrev pub NonePlainFrom : Marked → ℕ → Type 0
-NonePlainFrom f from = (v : ℕ) → from ≤ v → is_set 1 f v ≡ false
+-- no value passes that is asked for
+abbrev pub NonePasses : (ℕ → Bool) → (ℕ → Type 0) → Type 0
+NonePasses test asked = (v : ℕ) → asked v → test v ≡ false
 
--- the value is plain, and none from the given one up to it
-pub record IsLeastPlain (f : Marked) (from least : ℕ) : Type 0 where
-  pub above : from ≤ least
-  pub plain : is_set 1 f least ≡ true
-  pub first : (v : ℕ) → from ≤ v → v < least → is_set 1 f v ≡ false
+-- the value is asked for and passes, and none does that is nearer
+pub record IsNearest (test : ℕ → Bool) (asked nearer : ℕ → Type 0) (found : ℕ) : Type 0 where
+  pub is_asked : asked found
+  pub passes : test found ≡ true
+  pub first : (v : ℕ) → asked v → nearer v → test v ≡ false
 
-abbrev pub NonePlainTo : Marked → ℕ → Type 0
-NonePlainTo f to = (v : ℕ) → v ≤ to → is_set 1 f v ≡ false
+-- from a value on, and up to one
+abbrev pub NoneFrom : (ℕ → Bool) → ℕ → Type 0
+NoneFrom test from = NonePasses test (λ v. from ≤ v)
 
--- the value is plain, and none from it up to the given one
-pub record IsGreatestPlain (f : Marked) (to greatest : ℕ) : Type 0 where
-  pub below : greatest ≤ to
-  pub plain : is_set 1 f greatest ≡ true
-  pub last : (v : ℕ) → v ≤ to → greatest < v → is_set 1 f v ≡ false
+abbrev pub IsLeast : (ℕ → Bool) → ℕ → ℕ → Type 0
+IsLeast test from least = IsNearest test (λ v. from ≤ v) (λ v. v < least) least
+
+abbrev pub NoneTo : (ℕ → Bool) → ℕ → Type 0
+NoneTo test to = NonePasses test (λ v. v ≤ to)
+
+abbrev pub IsGreatest : (ℕ → Bool) → ℕ → ℕ → Type 0
+IsGreatest test to greatest = IsNearest test (λ v. v ≤ to) (λ v. greatest < v) greatest

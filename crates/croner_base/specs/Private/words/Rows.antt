@@ -1,6 +1,6 @@
 -- Rows of words of 64 bits, one row for each supported modifier, one after another, with one bit a value.
 -- Private contracts alone cite these definitions.
-use Rattle.std.specs.Prelude.{ℕ, zero, suc, ◌+◌, ◌-◌, ◌*◌, ◌/◌, ◌%◌, ◌^◌, List, slice_index, map}
+use Rattle.std.specs.Prelude.{ℕ, zero, suc, ◌+◌, ◌-◌, ◌*◌, ◌/◌, ◌%◌, ◌^◌, ◌==◌, Bool, List, slice_index, map}
 use Rattle.std.specs.Int.{bit_at}
 use Rattle.std.specs.List.{range_with_len}
 use Rattle.croner_base.specs.Field.{room}
@@ -11,9 +11,9 @@ use Rattle.croner_base.specs.Private.words.Word.{word_bits}
 abbrev pub width : ℕ → ℕ
 width max = (room max + (word_bits - 1)) / word_bits
 
--- 1 where a row has the value, and else 0
-abbrev pub in_row : List ℕ → ℕ → ℕ
-in_row words v = bit_at (slice_index words (v / word_bits)) (v % word_bits)
+-- a row has the value
+abbrev pub in_row : List ℕ → ℕ → Bool
+in_row words v = bit_at (slice_index words (v / word_bits)) (v % word_bits) == 1
 
 -- how many of the first k modifiers are supported
 unfoldable pub rows_below : ℕ → ℕ → ℕ
@@ -24,10 +24,14 @@ rows_below supported (suc k) = rows_below supported k + bit_at supported k
 unfoldable pub mark_at : List ℕ → ℕ → ℕ → ℕ → ℕ → ℕ
 mark_at words wide supported k v = bit_at supported k * bit_at (slice_index words (rows_below supported k * wide + v / word_bits)) (v % word_bits)
 
+-- the number of n bits that has these
+unfoldable pub number_of : (ℕ → ℕ) → ℕ → ℕ
+number_of bit zero = 0
+number_of bit (suc n) = number_of bit n + bit n * 2 ^ n
+
 -- the sum of the bits of the first k modifiers that the value has
-unfoldable pub sum_below : List ℕ → ℕ → ℕ → ℕ → ℕ → ℕ
-sum_below words wide supported zero v = 0
-sum_below words wide supported (suc k) v = sum_below words wide supported k v + mark_at words wide supported k v * 2 ^ k
+abbrev pub sum_below : List ℕ → ℕ → ℕ → ℕ → ℕ → ℕ
+sum_below words wide supported k v = number_of (λ j. mark_at words wide supported j v) k
 
 -- for each value from 0 to the maximum its sum
 unfoldable pub sums_of : List ℕ → ℕ → ℕ → List ℕ

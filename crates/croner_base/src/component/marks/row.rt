@@ -1,8 +1,9 @@
 //! One row of words: a set of values, one bit each.
 
 ghost use Rattle.std.specs.Prelude.{◌≡◌, ◌∷◌, [], ◌+◌, ◌*◌, ◌/◌, ◌<◌, ◌≤◌, length, MatchOption};
-ghost use Rattle.croner_base.specs.Private.words.Search.{HasNoneFrom, IsLeastFrom, HasNoneTo, IsGreatestTo};
-ghost use Rattle.croner_base.specs.Private.words.Masks.{MasksFrom, MasksTo, HasMarked};
+ghost use Rattle.croner_base.specs.Private.words.Next.{NoneFrom, IsLeast, NoneTo, IsGreatest};
+ghost use Rattle.croner_base.specs.Private.words.Rows.{in_row};
+ghost use Rattle.croner_base.specs.Private.words.Masks.{MasksFrom, MasksTo, TurnsRow};
 ghost use Rattle.croner_base.specs.Private.words.Word.{word_bits};
 
 use super::words::WORD_BITS;
@@ -11,7 +12,7 @@ use super::words::WORD_BITS;
 #[inline(always)]
 pub fn least_from(row: &[u64], value: u16) -> Option<u16>
     requires { length row.now ≤ 1024 }
-    ensures { MatchOption result (HasNoneFrom row.now value) (λ least. IsLeastFrom row.now value least) }
+    ensures { MatchOption result (NoneFrom (in_row row.now) value) (λ least. IsLeast (in_row row.now) value least) }
 {
     if row.len() == 1 {
         least_in_word(row[0], value)
@@ -23,7 +24,7 @@ pub fn least_from(row: &[u64], value: u16) -> Option<u16>
 /// The least value of a row of one word from the given one on.
 #[inline(always)]
 fn least_in_word(word: u64, value: u16) -> Option<u16>
-    ensures { MatchOption result (HasNoneFrom (word ∷ []) value) (λ least. IsLeastFrom (word ∷ []) value least) }
+    ensures { MatchOption result (NoneFrom (in_row (word ∷ [])) value) (λ least. IsLeast (in_row (word ∷ [])) value least) }
 {
     if value >= WORD_BITS {
         return None;
@@ -39,7 +40,7 @@ fn least_in_word(word: u64, value: u16) -> Option<u16>
 #[inline(never)]
 fn least_in_words(row: &[u64], value: u16) -> Option<u16>
     requires { length row.now ≤ 1024 }
-    ensures { MatchOption result (HasNoneFrom row.now value) (λ least. IsLeastFrom row.now value least) }
+    ensures { MatchOption result (NoneFrom (in_row row.now) value) (λ least. IsLeast (in_row row.now) value least) }
 {
     let mut mask = u64::MAX << (value % WORD_BITS);
     for i in usize::from(value / WORD_BITS)..row.len() {
@@ -56,7 +57,7 @@ fn least_in_words(row: &[u64], value: u16) -> Option<u16>
 #[inline(always)]
 pub fn greatest_to(row: &[u64], value: u16) -> Option<u16>
     requires { value < length row.now * word_bits }
-    ensures { MatchOption result (HasNoneTo row.now value) (λ greatest. IsGreatestTo row.now value greatest) }
+    ensures { MatchOption result (NoneTo (in_row row.now) value) (λ greatest. IsGreatest (in_row row.now) value greatest) }
 {
     if row.len() == 1 {
         greatest_in_word(row[0], value)
@@ -69,7 +70,7 @@ pub fn greatest_to(row: &[u64], value: u16) -> Option<u16>
 #[inline(always)]
 fn greatest_in_word(word: u64, value: u16) -> Option<u16>
     requires { value < word_bits }
-    ensures { MatchOption result (HasNoneTo (word ∷ []) value) (λ greatest. IsGreatestTo (word ∷ []) value greatest) }
+    ensures { MatchOption result (NoneTo (in_row (word ∷ [])) value) (λ greatest. IsGreatest (in_row (word ∷ [])) value greatest) }
 {
     let rest = word & (u64::MAX >> (WORD_BITS - 1 - value));
     if rest == 0 {
@@ -82,7 +83,7 @@ fn greatest_in_word(word: u64, value: u16) -> Option<u16>
 #[inline(never)]
 fn greatest_in_words(row: &[u64], value: u16) -> Option<u16>
     requires { value < length row.now * word_bits }
-    ensures { MatchOption result (HasNoneTo row.now value) (λ greatest. IsGreatestTo row.now value greatest) }
+    ensures { MatchOption result (NoneTo (in_row row.now) value) (λ greatest. IsGreatest (in_row row.now) value greatest) }
 {
     let mut mask = u64::MAX >> (WORD_BITS - 1 - value % WORD_BITS);
     let mut i = usize::from(value / WORD_BITS) + 1;
@@ -129,7 +130,7 @@ pub fn mark_between(words: &mut [u64], start: usize, first: u16, last: u16)
     requires order { first ≤ last }
     requires within { start + last / word_bits < length words.old }
     ensures rows { length words.new ≡ length words.old }
-    ensures marked { HasMarked words.old words.new start first last }
+    ensures marked { TurnsRow 1 words.old words.new start first (last + 1) }
 {
     for i in usize::from(first / WORD_BITS)..usize::from(last / WORD_BITS) + 1 {
         words[start + i] |= mask_from(first, i) & mask_to(last, i);

@@ -4,7 +4,7 @@ ghost use Rattle.std.specs.Prelude.{◌≡◌, ℕ, ◌+◌, ◌*◌, ◌/◌, �
 ghost use Rattle.std.specs.Int.{bit_at};
 ghost use Rattle.croner_base.specs.Field.{room};
 ghost use Rattle.croner_base.specs.Private.words.Counts.{ShowsMarked};
-ghost use Rattle.croner_base.specs.Private.words.Marked.{GainsRange};
+ghost use Rattle.croner_base.specs.Private.words.Marked.{Turns, digit, turned, is_set};
 ghost use Rattle.croner_base.specs.Private.words.Rows.{width, rows_below, in_row, mark_at, sums_of, marks_in};
 ghost use Rattle.croner_base.specs.Private.words.Word.{word_bits};
 
@@ -44,24 +44,16 @@ pub fn width(max: u16) -> usize
     (room(max) + WORD_BITS as usize - 1) / WORD_BITS as usize
 }
 
-/// Where the word of a modifier and a value stands.
+/// Where word `i` of the modifier's row stands, or would stand.
 #[inline(always)]
-pub fn place(max: u16, supported: u8, k: u8, value: u16) -> usize
-    requires { k < 8 }
-    ensures { result ≡ rows_below supported k * width max + value / word_bits }
-{
-    usize::from(rows_below(supported, k)) * width(max) + usize::from(value / WORD_BITS)
-}
-
-/// Whether the value has the modifier.
-fn has(words: &[u64], max: u16, supported: u8, k: u8, value: u16) -> bool
+pub fn place(max: u16, supported: u8, k: u8, i: usize) -> usize
     requires modifier { k < 8 }
-    requires within { value < room max }
-    requires rows { length words.now ≡ rows_below supported 8 * width max }
-    ensures { result ≡ (mark_at words.now (width max) supported k value == 1) }
+    requires within { i < width max }
+    ensures value { result ≡ rows_below supported k * width max + i }
+    ensures there { bit_at supported k ≡ 1 → result < rows_below supported 8 * width max }
+    ensures small { result < 16384 }
 {
-    supported >> k & 1 == 1
-        && words[place(max, supported, k, value)] >> (value % WORD_BITS) & 1 == 1
+    usize::from(rows_below(supported, k)) * width(max) + i
 }
 
 /// Word `i` of the modifier's row, and 0 where it isn't supported.
@@ -73,34 +65,28 @@ pub fn word(words: &[u64], max: u16, supported: u8, k: u8, i: usize) -> u64
     ensures { (b : ℕ) → b < word_bits → bit_at result b ≡ mark_at words.now (width max) supported k (i * word_bits + b) }
 {
     if supported >> k & 1 == 1 {
-        words[place(max, supported, k, 0) + i]
+        words[place(max, supported, k, i)]
     } else {
         0
     }
 }
 
-/// Marks the value with the modifier.
-pub fn mark(words: &mut [u64], max: u16, supported: u8, k: u8, value: u16)
+/// Marks the value with the modifier, or takes the modifier off it.
+fn turn(words: &mut [u64], max: u16, supported: u8, k: u8, value: u16, on: bool)
     requires modifier { k < 8 }
     requires is_supported { bit_at supported k ≡ 1 }
     requires within { value < room max }
     requires rows { length words.old ≡ rows_below supported 8 * width max }
     ensures rows { length words.new ≡ length words.old }
-    ensures marked { sums_of words.new max supported ≡ slice_set (sums_of words.old max supported) value (bit_or (slice_index (sums_of words.old max supported) value) (2 ^ k)) }
+    ensures turned { Turns (digit on) (marks_in words.old max supported) (marks_in words.new max supported) (2 ^ k) value value }
 {
-    words[place(max, supported, k, value)] |= 1 << (value % WORD_BITS);
-}
-
-/// Takes the modifier off the value.
-pub fn unmark(words: &mut [u64], max: u16, supported: u8, k: u8, value: u16)
-    requires modifier { k < 8 }
-    requires is_supported { bit_at supported k ≡ 1 }
-    requires within { value < room max }
-    requires rows { length words.old ≡ rows_below supported 8 * width max }
-    ensures rows { length words.new ≡ length words.old }
-    ensures unmarked { sums_of words.new max supported ≡ slice_set (sums_of words.old max supported) value (bit_and (slice_index (sums_of words.old max supported) value) (255 - 2 ^ k)) }
-{
-    words[place(max, supported, k, value)] &= !(1 << (value % WORD_BITS));
+    let place = place(max, supported, k, usize::from(value / WORD_BITS));
+    let bit = 1 << (value % WORD_BITS);
+    if on {
+        words[place] |= bit;
+    } else {
+        words[place] &= !bit;
+    }
 }
 
 /// The values of word `i` that have one of the modifiers of `bits`. Bits past the maximum say nothing.
@@ -125,7 +111,7 @@ pub fn plain(words: &[u64], max: u16, supported: u8) -> &[u64]
     requires { length words.now ≡ rows_below supported 8 * width max }
     ensures size { length result.now ≤ 1024 }
     ensures full { 0 < length result.now → max < length result.now * word_bits }
-    ensures plain { (v : ℕ) → v < room max → in_row result.now v ≡ bit_at (slice_index (sums_of words.now max supported) v) 0 }
+    ensures plain { (v : ℕ) → v < room max → in_row result.now v ≡ is_set 1 (marks_in words.now max supported) v }
 {
     if supported & 1 == 0 {
         &words[..0]
@@ -140,41 +126,26 @@ pub fn sum(words: &[u64], max: u16, supported: u8, value: u16) -> u8
     requires rows { length words.now ≡ rows_below supported 8 * width max }
     ensures { result ≡ slice_index (sums_of words.now max supported) value }
 {
+    let i = usize::from(value / WORD_BITS);
     let mut sum = 0;
     for k in 0..8 {
-        if has(words, max, supported, k, value) {
-            sum += 1 << k;
-        }
+        let digit = word(words, max, supported, k, i) >> (value % WORD_BITS) & 1;
+        sum += (digit as u8) << k;
     }
     sum
 }
 
-/// Marks the value with each modifier of `bits`.
-pub fn mark_each(words: &mut [u64], max: u16, supported: u8, bits: u8, value: u16)
+/// Marks the value with each modifier of `bits`, or takes each off it.
+pub fn turn_each(words: &mut [u64], max: u16, supported: u8, bits: u8, value: u16, on: bool)
     requires are_supported { bit_and supported bits ≡ bits }
     requires within { value < room max }
     requires rows { length words.old ≡ rows_below supported 8 * width max }
     ensures rows { length words.new ≡ length words.old }
-    ensures marked { sums_of words.new max supported ≡ slice_set (sums_of words.old max supported) value (bit_or (slice_index (sums_of words.old max supported) value) bits) }
+    ensures turned { sums_of words.new max supported ≡ slice_set (sums_of words.old max supported) value (turned on (slice_index (sums_of words.old max supported) value) bits) }
 {
     for k in 0..8 {
         if bits >> k & 1 == 1 {
-            mark(words, max, supported, k, value);
-        }
-    }
-}
-
-/// Takes each modifier of `bits` off the value.
-pub fn unmark_each(words: &mut [u64], max: u16, supported: u8, bits: u8, value: u16)
-    requires are_supported { bit_and supported bits ≡ bits }
-    requires within { value < room max }
-    requires rows { length words.old ≡ rows_below supported 8 * width max }
-    ensures rows { length words.new ≡ length words.old }
-    ensures unmarked { sums_of words.new max supported ≡ slice_set (sums_of words.old max supported) value (bit_and (slice_index (sums_of words.old max supported) value) (255 - bits)) }
-{
-    for k in 0..8 {
-        if bits >> k & 1 == 1 {
-            unmark(words, max, supported, k, value);
+            turn(words, max, supported, k, value, on);
         }
     }
 }
@@ -187,7 +158,7 @@ pub fn mark_between(words: &mut [u64], max: u16, supported: u8, k: u8, first: u1
     requires is_supported { bit_at supported k ≡ 1 }
     requires rows { length words.old ≡ rows_below supported 8 * width max }
     ensures rows { length words.new ≡ length words.old }
-    ensures marked { GainsRange (marks_in words.old max supported) (marks_in words.new max supported) (2 ^ k) first last }
+    ensures marked { Turns 1 (marks_in words.old max supported) (marks_in words.new max supported) (2 ^ k) first last }
 {
     row::mark_between(words, place(max, supported, k, 0), first, last);
 }

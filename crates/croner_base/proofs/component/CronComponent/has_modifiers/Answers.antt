@@ -1,7 +1,7 @@
 use Rattle.std.proofs.Common.{rules, ◌≡◌, ◌∙◌, not, eqb, length, ap}
 use Rattle.std.specs.List.{list_any}
 use Rattle.croner_base.specs.Field.{room, has_any}
-use Rattle.croner_base.proofs.words.FieldsOfWords.{any_marked}
+use Rattle.croner_base.proofs.words.Counting.{any_marked}
 use Rattle.croner_base.proofs.component.CronComponent.has_modifiers.Goals as goal
 
 pub returns-else-self-ne-NONE_BIT : goal.returns-else-self-ne-NONE_BIT

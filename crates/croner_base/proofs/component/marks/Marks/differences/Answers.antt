@@ -1,5 +1,5 @@
-use Rattle.std.proofs.Common.{arith, ◌≡◌, ◌<◌, subst}
-use Rattle.croner_base.proofs.words.Differing.{ShowsBelow, shows_none, shows_more, shows_all}
+use Rattle.std.proofs.Common.{arith, ◌<◌}
+use Rattle.croner_base.proofs.words.Differing.{shows_none, shows_more, shows_all}
 use Rattle.croner_base.proofs.component.marks.Marks.differences.Goals as goal
 
 pub loop-k-init : goal.loop-k-init
@@ -11,14 +11,12 @@ loop-k-init c = record {
 
 pub loop-k-preserved : goal.loop-k-preserved
 loop-k-preserved c = record {
-  shows = shows_more c.args.self.now c.args.other.now c.args.i c.loop-k.found c.loop-k.k c.word.result c.word-in-loop-k.result c.loop-k.invariant.shows c.word.ensures.bits c.word-in-loop-k.ensures.bits;
+  shows = shows_more _ _ _ _ c.loop-k.k _ _ c.loop-k.invariant.shows c.word.ensures.bits c.word-in-loop-k.ensures.bits;
   first_small = λ h. c.word.ensures.small;
   second_small = λ h. c.word-in-loop-k.ensures.small;
 }
 
 pub returns : goal.returns
 returns c =
-    let end : c.loop-k.k ≡ 8 = omega arith in
     let some : 0 < c.loop-k.k = omega arith in
-    shows_all c.args.self.now c.args.other.now c.args.i c.loop-k.found (c.loop-k.invariant.first_small some) (c.loop-k.invariant.second_small some)
-    (subst (ShowsBelow c.args.self.now c.args.other.now c.args.i c.loop-k.found) end c.loop-k.invariant.shows)
+    shows_all _ _ _ _ c.loop-k.k (omega arith) (c.loop-k.invariant.first_small some) (c.loop-k.invariant.second_small some) c.loop-k.invariant.shows

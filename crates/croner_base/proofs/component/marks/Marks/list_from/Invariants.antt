@@ -1,8 +1,8 @@
-use Rattle.std.proofs.Common.{◌≡◌, ◌*◌, ◌-◌, min}
-use Rattle.std.specs.List.{filter, range_with_len}
+use Rattle.std.proofs.Common.{◌≡◌, ◌*◌}
 use Rattle.croner_base.specs.Field.{room}
 use Rattle.croner_base.specs.Private.words.Marked.{is_set}
+use Rattle.croner_base.proofs.words.Counting.{values_to}
 use Rattle.croner_base.proofs.component.marks.Marks.list_from.Given as goal
 
 abbrev pub invariant-loop-i : goal.invariant-loop-i
-invariant-loop-i l = l.values.items ≡ filter (is_set l.bits l.self) (range_with_len l.first (min (l.i * 64) (room l.self.max) - l.first))
+invariant-loop-i l = l.values.items ≡ values_to (is_set l.bits l.self) l.first (room l.self.max) (l.i * 64)

@@ -6,5 +6,5 @@ use Rattle.croner_base.proofs.component.marks.Marks.marked.Goals as goal
 pub returns : goal.returns
 returns c =
     let max : c.self.inside.max ≡ c.args.self.now.max = ap (λ f. f.max) c.self.view_is in
-    shows_from c.args.self.now c.args.bits c.args.first c.args.i c.any.result c.mask_from.result c.mask_to.result c.any.ensures c.mask_from.ensures
+    shows_from c.args.self.now _ _ _ _ _ _ c.any.ensures c.mask_from.ensures
     (subst (λ m. MasksTo c.mask_to.result m c.args.i) max c.mask_to.ensures) c.requires.here

@@ -1,6 +1,6 @@
 use Rattle.std.proofs.Common.{◌≡◌, ◌*◌, eqb, ap, sym, ◌∙◌, rules}
 use Rattle.croner_base.specs.Private.words.Rows.{width, sums_of}
-use Rattle.croner_base.proofs.words.KeptMarks.{one_each}
+use Rattle.croner_base.proofs.words.RowPlaces.{one_each}
 use Rattle.croner_base.proofs.words.Sums.{blank, sums_of-none, with_sums}
 use Rattle.croner_base.proofs.component.marks.Marks.new.Goals as goal
 

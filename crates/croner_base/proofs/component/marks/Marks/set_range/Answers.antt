@@ -1,14 +1,14 @@
-use Rattle.std.proofs.Common.{arith, ◌≡◌, ◌+◌, ◌<◌, ap, sym, ◌∙◌, subst}
+use Rattle.std.proofs.Common.{arith, ◌≡◌, ◌<◌, ap, sym, ◌∙◌, subst}
 use Rattle.std.specs.Int.{bit_at}
 use Rattle.std.proofs.lemmas.Nat.Bits.{shr_and_one}
 use Rattle.croner_base.specs.Field.{room}
-use Rattle.croner_base.proofs.words.RangesGained.{GainsFirst, gains-none, gains-skip, gains-more, gains-all}
-use Rattle.croner_base.proofs.words.ModifiersInTurn.{bit_supported}
+use Rattle.croner_base.proofs.words.ModifiersInTurn.{turns-none, turns-skip, turns-more, bit_supported}
+use Rattle.croner_base.proofs.words.TurnedMarks.{turns-all, gains}
 use Rattle.croner_base.proofs.component.marks.Marks.set_range.Goals as goal
 use Rattle.croner_base.proofs.component.marks.Marks.set_range.Goals.{then-bits-k-eq1, else-bits-k-eq1}
 
 pub loop-k-init : goal.loop-k-init
-loop-k-init c = gains-none c.args.self.now c.args.bits c.args.first c.args.last
+loop-k-init c = turns-none 1 c.args.self.now c.args.bits c.args.first c.args.last
 
 pub set_between-requires-clause-within : goal.set_between-requires-clause-within
 set_between-requires-clause-within c = subst (λ m. c.args.last < room m) (sym c.loop-k.invariant.max) c.requires.within
@@ -22,14 +22,10 @@ pub loop-k-preserved : goal.loop-k-preserved
 loop-k-preserved c = elim c.if-bits-k-eq1.branch [
   | then-bits-k-eq1 w ↦
       let one : bit_at c.args.bits c.loop-k.k ≡ 1 = sym (shr_and_one c.args.bits c.loop-k.k) ∙ w.if-bits-k-eq1.true in
-      subst (λ f. GainsFirst c.args.self.now f c.args.bits c.args.first c.args.last (c.loop-k.k + 1)) (sym w.self-is)
-      (gains-more c.args.self.now c.loop-k.self w.set_between.new.self c.args.bits c.args.first c.args.last c.loop-k.k one c.loop-k.invariant w.set_between.ensures)
+      rw w.self-is (turns-more 1 _ _ _ _ _ _ c.loop-k.k one c.loop-k.invariant w.set_between.ensures)
   | else-bits-k-eq1 w ↦
-      subst (λ f. GainsFirst c.args.self.now f c.args.bits c.args.first c.args.last (c.loop-k.k + 1)) (sym w.self-is)
-      (gains-skip c.args.self.now c.loop-k.self c.args.bits c.args.first c.args.last c.loop-k.k (λ e. w.if-bits-k-eq1.false (shr_and_one c.args.bits c.loop-k.k ∙ e)) c.loop-k.invariant)
+      rw w.self-is (turns-skip 1 _ _ _ _ _ c.loop-k.k (λ e. w.if-bits-k-eq1.false (shr_and_one c.args.bits c.loop-k.k ∙ e)) c.loop-k.invariant)
 ]
 
 pub returns : goal.returns
-returns c =
-    let end : c.loop-k.k ≡ 8 = omega arith in
-    gains-all c.args.self.now c.loop-k.self c.args.bits c.args.first c.args.last c.ranges.bits.fits (subst (GainsFirst c.args.self.now c.loop-k.self c.args.bits c.args.first c.args.last) end c.loop-k.invariant)
+returns c = gains _ _ _ _ _ (turns-all 1 _ _ _ _ _ c.loop-k.k (omega arith) c.ranges.bits.fits c.loop-k.invariant)

@@ -10,7 +10,7 @@ slice_bounds-result-end-else-supported-eq0 c =
     sym (length-take-le c.width.result c.args.words.now (omega arith))
 
 pub returns-then-supported-eq0-clause-plain : goal.returns-then-supported-eq0-clause-plain
-returns-then-supported-eq0-clause-plain c = λ v h. no_plain_row c.args.words.now c.args.max c.args.supported v (plain_is_none c.args.supported c.if-supported-eq0.true) h
+returns-then-supported-eq0-clause-plain c = λ v h. no_plain_row _ _ _ v (plain_is_none _ c.if-supported-eq0.true) h
 
 pub returns-else-supported-eq0-clause-plain : goal.returns-else-supported-eq0-clause-plain
 returns-else-supported-eq0-clause-plain c =

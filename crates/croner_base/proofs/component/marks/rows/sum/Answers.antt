@@ -1,25 +1,20 @@
-use Rattle.std.proofs.Common.{arith, ◌≡◌, ◌+◌, ◌%◌, ◌^◌, ◌*◌, ap, sym, ◌∙◌, eq-eqb}
-use Rattle.std.proofs.lemmas.Bool.{eqb-true, false≢true}
-use Rattle.croner_base.specs.Private.words.Rows.{width, sum_below}
-use Rattle.croner_base.proofs.words.Sums.{sum_below-zero, sum_below-more, sum_below-same, sum_below-fits, get_or-sums_of}
+use Rattle.std.proofs.Common.{arith, ◌≡◌, ap, sym, ◌∙◌}
+use Rattle.croner_base.specs.Private.words.Rows.{width, mark_at, sum_below}
+use Rattle.croner_base.proofs.words.Sums.{number_of-zero, digit_is, sum_below-more, get_or-sums_of}
 use Rattle.croner_base.proofs.component.marks.rows.sum.Goals as goal
-use Rattle.croner_base.proofs.component.marks.rows.sum.Goals.{then-has, else-has}
 
 pub loop-k-init : goal.loop-k-init
-loop-k-init c = sum_below-zero c.args.words.now (width c.args.max) c.args.supported c.args.value
+loop-k-init c = number_of-zero (λ j. mark_at c.args.words.now (width c.args.max) c.args.supported j c.args.value)
 
 pub overflow_add-sum : goal.overflow_add-sum
-overflow_add-sum c = let f = sum_below-fits c.args.words.now (width c.args.max) c.args.supported c.loop-k.k c.args.value c.loop-k-test.true in omega (arith, c.loop-k.invariant)
+overflow_add-sum c =
+    let is = digit_is c.args.words.now (width c.args.max) c.args.supported c.loop-k.k c.args.value c.from-i.result c.word.result c.from-i.ensures c.word.ensures in
+    omega (arith, c.loop-k.invariant, (sum_below-more _ _ _ _ _ _ c.loop-k-test.true is).1)
 
 pub loop-k-preserved : goal.loop-k-preserved
-loop-k-preserved c = elim c.if-has.branch [
-  | then-has w ↦
-      w.sum-is ∙ ap (λ n. n + 1 * 2 ^ c.loop-k.k % 256) c.loop-k.invariant
-      ∙ sum_below-more c.args.words.now (width c.args.max) c.args.supported c.loop-k.k c.args.value c.loop-k-test.true (eqb-true _ _ (sym c.has.ensures ∙ w.if-has.true))
-  | else-has w ↦
-      w.sum-is ∙ c.loop-k.invariant
-      ∙ sum_below-same c.args.words.now (width c.args.max) c.args.supported c.loop-k.k c.args.value (λ e. false≢true (sym w.if-has.false ∙ c.has.ensures ∙ eq-eqb _ 1 e))
-]
+loop-k-preserved c =
+    let is = digit_is c.args.words.now (width c.args.max) c.args.supported c.loop-k.k c.args.value c.from-i.result c.word.result c.from-i.ensures c.word.ensures in
+    omega (arith, c.loop-k.invariant, (sum_below-more _ _ _ _ _ _ c.loop-k-test.true is).0)
 
 pub returns : goal.returns
 returns c =

@@ -2,31 +2,18 @@ use Rattle.std.proofs.Common.{arith, ◌≡◌, ◌≢◌, ◌+◌, ◌*◌, ◌
 use Rattle.std.specs.Int.{bit_at}
 use Rattle.std.proofs.lemmas.Nat.Bits.{shr_and_one, bit_at-zero}
 use Rattle.croner_base.specs.Private.words.Rows.{width}
-use Rattle.croner_base.proofs.words.RowPlaces.{place_within, place_fits, width_small}
 use Rattle.croner_base.proofs.words.Sums.{mark_at-one, mark_at-none}
 use Rattle.croner_base.proofs.component.marks.rows.word.Goals as goal
 
-pub overflow_add-result : goal.overflow_add-result
-overflow_add-result c =
-    let fits = place_fits c.args.supported c.args.k (width c.args.max) c.args.i c.requires.modifier (width_small c.args.max c.ranges.max.fits) (omega (arith, width_small c.args.max c.ranges.max.fits)) in
-    omega (arith, c.place.ensures)
-
-pub offset_bounds-words-place : goal.offset_bounds-words-place
-offset_bounds-words-place c =
-    let fits = place_fits c.args.supported c.args.k (width c.args.max) c.args.i c.requires.modifier (width_small c.args.max c.ranges.max.fits) (omega (arith, width_small c.args.max c.ranges.max.fits)) in
-    omega (arith, c.place.ensures)
-
 pub bounds-words-place : goal.bounds-words-place
-bounds-words-place c =
-    let one : bit_at c.args.supported c.args.k ≡ 1 = sym (shr_and_one c.args.supported c.args.k) ∙ c.if-supported-k-eq1.true in
-    omega (arith, c.place.ensures, c.requires.rows, place_within c.args.supported c.args.k (width c.args.max) c.args.i one c.requires.modifier (omega arith))
+bounds-words-place c = omega (arith, c.requires.rows, c.place.ensures.there (sym (shr_and_one c.args.supported c.args.k) ∙ c.if-supported-k-eq1.true))
 
 pub returns-then-supported-k-eq1 : goal.returns-then-supported-k-eq1
 returns-then-supported-k-eq1 c = λ b h.
     let one : bit_at c.args.supported c.args.k ≡ 1 = sym (shr_and_one c.args.supported c.args.k) ∙ c.if-supported-k-eq1.true in
-    let low : (c.args.i * 64 + b) % 64 ≡ b = omega arith in
-    ap (bit_at (get_or c.args.words.now (c.place.result + c.args.i) 0)) (sym low)
-    ∙ mark_at-one c.args.words.now (width c.args.max) c.args.supported c.args.k (c.args.i * 64 + b) (c.place.result + c.args.i) one (omega (arith, c.place.ensures))
+    let low : b ≡ (c.args.i * 64 + b) % 64 = omega arith in
+    ap (bit_at (get_or c.args.words.now c.place.result 0)) low
+    ∙ mark_at-one c.args.words.now (width c.args.max) c.args.supported c.args.k (c.args.i * 64 + b) c.place.result one (omega (arith, c.place.ensures.value))
 
 pub returns-else-supported-k-eq1 : goal.returns-else-supported-k-eq1
 returns-else-supported-k-eq1 c = λ b h.

@@ -10,4 +10,4 @@ pub loop-i-preserved : goal.loop-i-preserved
 loop-i-preserved c = same_one_more c.args.words.now c.args.others.now c.loop-i.i c.loop-i.differing c.loop-i.invariant
 
 pub returns : goal.returns
-returns c = λ none. same_lists c.args.words.now c.args.others.now c.loop-i.i c.loop-i.differing (omega arith) (omega arith) c.loop-i.invariant (eqb-true _ _ none)
+returns c = λ none. same_lists _ _ c.loop-i.i _ (omega arith) (omega arith) c.loop-i.invariant (eqb-true _ _ none)

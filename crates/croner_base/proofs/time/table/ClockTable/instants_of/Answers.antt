@@ -1,10 +1,10 @@
 use mir.Val.{to_z, of_z}
-use Rattle.std.proofs.Common.{◌≡◌, ◌≢◌, ℕ, ◌≤◌, ◌-◌, ℤ, ◌≤ℤ◌, IsTrue, get_or, length, vec_len, arith, pos, ◌-ℤ◌, ◌+ℤ◌, FitsSigned, w64}
+use Rattle.std.proofs.Common.{◌≡◌, ◌≢◌, ℕ, ◌≤◌, ◌-◌, ℤ, ◌≤ℤ◌, IsTrue, get_or, length, vec_len, arith, rules, pos, ◌-ℤ◌, ◌+ℤ◌, FitsSigned, w64}
 use Rattle.std.proofs.lemmas.Int.{ints, to_z-of_z}
 use Rattle.croner_base.specs.declared.time.table.ClockTable.{ClockTable}
 use Rattle.croner_base.specs.Private.TableSteps.{IsCountUntil, offset_past}
 use Rattle.croner_base.proofs.tables.TableTests.{offset_bounds}
-use Rattle.croner_base.proofs.tables.TableReadings.{ReadsAroundChange, around_last_change, names_first, names_early, names_late, names_both, names_gap, calm_offsets}
+use Rattle.croner_base.proofs.tables.TableReadings.{ReadsAroundChange, around_last_change, names_first, names_around, calm_offsets}
 use Rattle.croner_base.proofs.time.table.ClockTable.instants_of.Goals as goal
 use Rattle.croner_base.specs.Table.{first_instant, last_instant, is_offset, offset_limit}
 
@@ -44,26 +44,11 @@ around t wall change before after n fw low high some within count is_change is_b
       omega (arith, ints, u),
     )
 
-pub returns-then-later-change : goal.returns-then-later-change
-returns-then-later-change c =
+pub returns : goal.returns
+returns c =
     let fw : FitsSigned w64 c.args.wall = c.ranges.wall in
-    let (s, fb, fe, fa, fl) = around c.args.self.now c.args.wall c.instant_of-change.result c.offset_past-before.result c.offset_past-after.result c.changes_until-passed.result fw c.requires.low c.requires.high c.if-passed-eq0.false c.changes_until-passed.ensures.bound c.changes_until-passed.ensures.count c.instant_of-change.ensures c.offset_past-before.ensures.value c.offset_past-before.ensures.bound c.offset_past-after.ensures.value c.offset_past-after.ensures.bound in
-    simp to_z-of_z (names_early _ _ c.args.wall c.instant_of-change.result _ _ s (omega (arith, ints)) (omega (arith, ints)))
-
-pub returns-else-later-change : goal.returns-else-later-change
-returns-else-later-change c =
-    let fw : FitsSigned w64 c.args.wall = c.ranges.wall in
-    let (s, fb, fe, fa, fl) = around c.args.self.now c.args.wall c.instant_of-change.result c.offset_past-before.result c.offset_past-after.result c.changes_until-passed.result fw c.requires.low c.requires.high c.if-passed-eq0.false c.changes_until-passed.ensures.bound c.changes_until-passed.ensures.count c.instant_of-change.ensures c.offset_past-before.ensures.value c.offset_past-before.ensures.bound c.offset_past-after.ensures.value c.offset_past-after.ensures.bound in
-    simp to_z-of_z (names_both _ _ c.args.wall c.instant_of-change.result _ _ s (omega (arith, ints)) (omega (arith, ints)))
-
-pub returns-then-later-change-2 : goal.returns-then-later-change-2
-returns-then-later-change-2 c =
-    let fw : FitsSigned w64 c.args.wall = c.ranges.wall in
-    let (s, fb, fe, fa, fl) = around c.args.self.now c.args.wall c.instant_of-change.result c.offset_past-before.result c.offset_past-after.result c.changes_until-passed.result fw c.requires.low c.requires.high c.if-passed-eq0.false c.changes_until-passed.ensures.bound c.changes_until-passed.ensures.count c.instant_of-change.ensures c.offset_past-before.ensures.value c.offset_past-before.ensures.bound c.offset_past-after.ensures.value c.offset_past-after.ensures.bound in
-    names_gap _ _ c.args.wall c.instant_of-change.result _ _ s (omega (arith, ints)) (omega (arith, ints))
-
-pub returns-else-later-change-2 : goal.returns-else-later-change-2
-returns-else-later-change-2 c =
-    let fw : FitsSigned w64 c.args.wall = c.ranges.wall in
-    let (s, fb, fe, fa, fl) = around c.args.self.now c.args.wall c.instant_of-change.result c.offset_past-before.result c.offset_past-after.result c.changes_until-passed.result fw c.requires.low c.requires.high c.if-passed-eq0.false c.changes_until-passed.ensures.bound c.changes_until-passed.ensures.count c.instant_of-change.ensures c.offset_past-before.ensures.value c.offset_past-before.ensures.bound c.offset_past-after.ensures.value c.offset_past-after.ensures.bound in
-    simp to_z-of_z (names_late _ _ c.args.wall c.instant_of-change.result _ _ s (omega (arith, ints)) (omega (arith, ints)))
+    let (s, fb, fe, fa, fl) = around c.args.self.now c.args.wall c.instant_of-change.result c.offset_past-before.result c.offset_past-after.result c.changes_until-passed.result fw c.requires.low c.requires.high c.if-passed-eq0.false
+    c.changes_until-passed.ensures.bound c.changes_until-passed.ensures.count c.instant_of-change.ensures c.offset_past-before.ensures.value c.offset_past-before.ensures.bound c.offset_past-after.ensures.value c.offset_past-after.ensures.bound in
+    let fc : FitsSigned w64 c.instant_of-change.result = search rules in
+    let e = simp to_z-of_z at c.around.ensures in
+    rw e (names_around _ _ c.args.wall c.instant_of-change.result _ _ s)

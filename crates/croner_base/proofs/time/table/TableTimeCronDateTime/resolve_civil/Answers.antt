@@ -78,6 +78,7 @@ pub returns-clause-value : goal.returns-clause-value
 returns-clause-value c =
     let t = c.args.self.now.table.now in
     let b = near_second c.args.civil (omega (arith, ints)) (omega (arith, ints)) in
+    let near = is_near_year-true c.args.civil.date.year (omega (arith, ints)) (omega (arith, ints)) in
     let fw : FitsSigned w64 c.second_of_civil.result = omega (arith, ints, b) in
     elim c.match-instants_of.branch [
       | in-Single w ↦
@@ -86,7 +87,7 @@ returns-clause-value c =
           let i = instant_bounds w.in-Single.second (named_held t (wall_second c.args.civil) w.in-Single.second b ((n w.in-Single.second).1 refl)) in
           let f : FitsSigned w64 w.in-Single.second = omega (arith, ints, i) in
           let m = simp to_z-of_z at w.at.ensures in
-          rw w.result-is (resolved_single t c.args.civil w.in-Single.second w.at.result (omega (arith, ints)) (omega (arith, ints)) n m)
+          rw w.result-is (resolved_single t c.args.civil w.in-Single.second w.at.result near n m)
       | in-Ambiguous w ↦
           let p = simp to_z-of_z at w.in-Ambiguous.ensures in
           let n = rw c.second_of_civil.ensures at p in
@@ -96,9 +97,9 @@ returns-clause-value c =
           let g : FitsSigned w64 w.in-Ambiguous.later = omega (arith, ints, j) in
           let m = simp to_z-of_z at w.at-in-Ambiguous.ensures in
           let l = simp to_z-of_z at w.at-in-Ambiguous-2.ensures in
-          rw w.result-is (resolved_ambiguous t c.args.civil w.in-Ambiguous.earlier w.in-Ambiguous.later w.at-in-Ambiguous.result w.at-in-Ambiguous-2.result (omega (arith, ints)) (omega (arith, ints)) n m l)
+          rw w.result-is (resolved_ambiguous t c.args.civil w.in-Ambiguous.earlier w.in-Ambiguous.later w.at-in-Ambiguous.result w.at-in-Ambiguous-2.result near n m l)
       | in-Gap w ↦
           let p = simp to_z-of_z at w.in-Gap.ensures in
           let n = rw c.second_of_civil.ensures at p in
-          rw w.result-is (resolved_gap t c.args.civil (omega (arith, ints)) (omega (arith, ints)) n)
+          rw w.result-is (resolved_gap t c.args.civil near n)
     ]

@@ -1,0 +1,166 @@
+-- Bits of words that are turned on or off, and what that does to the marks.
+use Rattle.std.proofs.Common.{◌≡◌, ◌≢◌, ℕ, Bool, true, false, ◌+◌, ◌-◌, ◌*◌, ◌/◌, ◌%◌, ◌^◌, ◌<◌, ◌≤◌, List, length, get_or, set, bit_and, bit_or, refl, ap, sym, ◌∙◌, arith, subst, inl, inr, max, min, get_or-set_same, get_or-set_other, length-set, w8, w64}
+use Rattle.std.specs.Int.{bit_at, bit_not}
+use Rattle.std.proofs.lemmas.Bool.{cases_eq, cases_lt}
+use Rattle.std.proofs.lemmas.List.{ext_get_or}
+use Rattle.std.proofs.lemmas.Nat.Bits.{bit_at_and, bit_at_or, bit_at-lt, bit_at-pow_same, bit_at-pow_other, bit_at_not, bit_at_set_same, bit_at_set_other, bit_at_clear_same, bit_at_clear_other, bit_at_above, same_from_bits}
+use Rattle.croner_base.specs.Field.{room}
+use Rattle.croner_base.specs.Private.words.Marked.{Marked, GainsRange, Turns, digit, turned}
+use Rattle.croner_base.specs.Private.words.Masks.{MasksFrom, MasksTo, TurnsRow}
+use Rattle.croner_base.specs.Private.words.Rows.{width, rows_below, mark_at, sums_of, marks_in}
+use Rattle.croner_base.proofs.words.ModifiersInTurn.{low_all}
+use Rattle.croner_base.proofs.words.RowPlaces.{same_place, word_within}
+use Rattle.croner_base.proofs.words.WordSearch.{masked_off}
+use Rattle.croner_base.proofs.words.Sums.{mark_at-one, mark_at-none, sums_of-bit, sums_of-past, sums_of-small, length-sums_of}
+
+-- ---- one word of a row
+
+-- the bit of one value
+pub row-one : (to : ℕ) (ws : List ℕ) (start v x : ℕ) → start + v / 64 < length ws → bit_at x (v % 64) ≡ to
+    → ((b : ℕ) → b < 64 → b ≢ v % 64 → bit_at x b ≡ bit_at (get_or ws (start + v / 64) 0) b) → TurnsRow to ws (set ws (start + v / 64) x) start v (v + 1)
+row-one to ws start v x within bit others = record {
+  inside = λ i b h above below.
+      let word : v / 64 ≡ i = omega arith in
+      let digit : v % 64 ≡ b = omega arith in
+      subst (λ j. bit_at (get_or (set ws (start + v / 64) x) (start + j) 0) b ≡ to) word
+      (ap (λ w. bit_at w b) (get_or-set_same ws (start + v / 64) x 0 within) ∙ ap (bit_at x) (sym digit) ∙ bit);
+  kept = λ p b h outside. elim (cases_eq p (start + v / 64)) [
+    | inr ne ↦ ap (λ w. bit_at w b) (get_or-set_other ws (start + v / 64) p x 0 ne)
+    | inl e ↦ subst (λ q. bit_at (get_or (set ws (start + v / 64) x) q 0) b ≡ bit_at (get_or ws q 0) b) (sym e)
+        (ap (λ w. bit_at w b) (get_or-set_same ws (start + v / 64) x 0 within) ∙ others b h (λ same. outside (v / 64) e (omega arith) (omega arith)))
+  ];
+}
+
+-- the bit of a value, in its word
+abbrev digit_of : ℕ → ℕ
+digit_of v = 1 * 2 ^ (v % 64) % 2 ^ 64
+
+pub row-on : (ws : List ℕ) (start v : ℕ) → start + v / 64 < length ws
+    → TurnsRow 1 ws (set ws (start + v / 64) (bit_or (get_or ws (start + v / 64) 0) (digit_of v))) start v (v + 1)
+row-on ws start v within = row-one 1 ws start v _ within (bit_at_set_same w64 (get_or ws (start + v / 64) 0) (v % 64) (omega arith))
+    (λ b h ne. bit_at_set_other w64 (get_or ws (start + v / 64) 0) (v % 64) (omega arith) b ne)
+
+pub row-off : (ws : List ℕ) (start v : ℕ) → start + v / 64 < length ws
+    → TurnsRow 0 ws (set ws (start + v / 64) (bit_and (get_or ws (start + v / 64) 0) (bit_not w64 (digit_of v)))) start v (v + 1)
+row-off ws start v within = row-one 0 ws start v _ within (bit_at_clear_same w64 (get_or ws (start + v / 64) 0) (v % 64) (omega arith))
+    (λ b h ne. bit_at_clear_other w64 (get_or ws (start + v / 64) 0) (v % 64) (omega arith) b h ne)
+
+-- the words before word n are done
+pub row-none : (ws : List ℕ) (start first stop n : ℕ) → n * 64 ≤ first → TurnsRow 1 ws ws start first (min (n * 64) stop)
+row-none ws start first stop n le = record { inside = λ i b h above below. absurd (omega arith); kept = λ p b h outside. refl }
+
+-- the words with a mask's bits in one of them
+abbrev with_mask : List ℕ → ℕ → ℕ → List ℕ
+with_mask ws p mask = set ws p (bit_or (get_or ws p 0) mask)
+
+pub row-more : (xs ys : List ℕ) (start first last n from to : ℕ) → TurnsRow 1 xs ys start first (min (n * 64) (last + 1)) → MasksFrom from first n → MasksTo to last n
+    → start + n < length ys → TurnsRow 1 xs (with_mask ys (start + n) (bit_and from to)) start first (min ((n + 1) * 64) (last + 1))
+row-more xs ys start first last n from to done masks_from masks_to within = record {
+  inside = λ i b h above below. elim (cases_eq i n) [
+    | inl e ↦ subst (λ j. bit_at (get_or (with_mask ys (start + n) (bit_and from to)) (start + j) 0) b ≡ 1) (sym e)
+        (omega (arith, bit b, masks_from.on b h (omega arith), masks_to.on b h (omega arith), bit_at-lt (get_or ys (start + n) 0) b))
+    | inr ne ↦ ap (λ w. bit_at w b) (get_or-set_other ys (start + n) (start + i) _ 0 (λ e. ne (omega arith))) ∙ done.inside i b h above (omega arith)
+  ];
+  kept = λ p b h outside. elim (cases_eq p (start + n)) [
+    | inr ne ↦ ap (λ w. bit_at w b) (get_or-set_other ys (start + n) p _ 0 ne) ∙ done.kept p b h (λ i e above below. outside i e above (omega arith))
+    | inl e ↦ subst (λ q. bit_at (get_or (with_mask ys (start + n) (bit_and from to)) q 0) b ≡ bit_at (get_or xs q 0) b) (sym e)
+        (same b h (λ above below. outside n e above (omega arith)) ∙ done.kept (start + n) b h (λ i at above below. absurd (omega arith)))
+  ];
+}
+  where
+    bit : (b : ℕ) → bit_at (get_or (with_mask ys (start + n) (bit_and from to)) (start + n) 0) b ≡ max (bit_at (get_or ys (start + n) 0) b) (min (bit_at from b) (bit_at to b))
+    bit b = ap (λ w. bit_at w b) (get_or-set_same ys (start + n) _ 0 within) ∙ bit_at_or (get_or ys (start + n) 0) (bit_and from to) b
+        ∙ ap (max (bit_at (get_or ys (start + n) 0) b)) (bit_at_and from to b)
+
+    same : (b : ℕ) → b < 64 → (first ≤ n * 64 + b → n * 64 + b ≤ last → ⊥) → bit_at (get_or (with_mask ys (start + n) (bit_and from to)) (start + n) 0) b ≡ bit_at (get_or ys (start + n) 0) b
+    same b h outside = elim (cases_lt (n * 64 + b) first) [
+      | inl lt ↦ omega (arith, bit b, masked_off from n b _ masks_from h (λ le. absurd (omega arith)))
+      | inr above ↦ elim (cases_lt last (n * 64 + b)) [
+        | inl past ↦ omega (arith, bit b, masked_off to n b _ masks_to h (λ le. absurd (omega arith)))
+        | inr below ↦ absurd (outside above below)
+      ]
+    ]
+
+-- ---- what that does to the marks
+
+pub turns-row : (to : ℕ) (old new : List ℕ) (max s k first last : ℕ) → bit_at s k ≡ 1 → k < 8 → last < room max → TurnsRow to old new (rows_below s k * width max) first (last + 1)
+    → Turns to (marks_in old max s) (marks_in new max s) (2 ^ k) first last
+turns-row to old new max s k first last one low there done = record {
+  max = refl;
+  supported = refl;
+  length = length-sums_of new max s ∙ sym (length-sums_of old max s);
+  inside = λ v j above below asked. elim (cases_eq j k) [
+    | inr ne ↦ absurd (omega (arith, bit_at-pow_other k j ne))
+    | inl e ↦
+        let on : bit_at s j ≡ 1 = ap (bit_at s) e ∙ one in
+        let row : rows_below s j * width max + v / 64 ≡ rows_below s k * width max + v / 64 = ap (λ i. rows_below s i * width max + v / 64) e in
+        sums_of-bit new max s v j (omega arith) (omega arith) ∙ sym (mark_at-one new (width max) s j v _ on (sym row)) ∙ done.inside (v / 64) (v % 64) (omega arith) (omega arith) (omega arith)
+  ];
+  kept = λ v j outside. elim (cases_lt v (room max)) [
+    | inr past ↦ ap (λ n. bit_at n j) (sums_of-past new max s v past ∙ sym (sums_of-past old max s v past))
+    | inl here ↦ elim (cases_lt j 8) [
+      | inr high ↦ bit_at_above _ 8 j (sums_of-small new max s v) high ∙ sym (bit_at_above _ 8 j (sums_of-small old max s v) high)
+      | inl is ↦ sums_of-bit new max s v j here is ∙ same v j here outside ∙ sym (sums_of-bit old max s v j here is)
+    ]
+  ];
+}
+  where
+    same : (v j : ℕ) → v < room max → (first ≤ v → v ≤ last → bit_at (2 ^ k) j ≢ 1) → mark_at new (width max) s j v ≡ mark_at old (width max) s j v
+    same v j here outside = elim (cases_eq (bit_at s j) 1) [
+      | inr off ↦ mark_at-none new (width max) s j v off ∙ sym (mark_at-none old (width max) s j v off)
+      | inl on ↦
+          sym (mark_at-one new (width max) s j v _ on refl)
+          ∙ done.kept (rows_below s j * width max + v / 64) (v % 64) (omega arith) (λ i e above below.
+          let t = same_place s j k (width max) (v / 64) i on one (word_within v max here) (omega arith) e in
+          outside (omega (arith, t.1)) (omega (arith, t.1)) (ap (bit_at (2 ^ k)) t.0 ∙ bit_at-pow_same k))
+          ∙ mark_at-one old (width max) s j v _ on refl
+    ]
+
+-- ---- the same as numbers
+
+-- the first eight modifiers are all
+pub turns-all : (to : ℕ) (old new : Marked) (bits first last k : ℕ) → k ≡ 8 → bits < 256 → Turns to old new (bits % 2 ^ k) first last → Turns to old new bits first last
+turns-all to old new bits first last k e byte done = subst (λ n. Turns to old new n first last) (ap (λ j. bits % 2 ^ j) e ∙ low_all bits byte) done
+
+pub gains : (old new : Marked) (bits first last : ℕ) → Turns 1 old new bits first last → GainsRange old new bits first last
+gains old new bits first last done = record {
+  max = done.max;
+  supported = done.supported;
+  length = done.length;
+  inside = λ v above below. same_from_bits _ _ (λ k. elim (cases_eq (bit_at bits k) 1) [
+    | inl on ↦ done.inside v k above below on ∙ sym (omega (arith, bit_at_or (get_or old.marks v 0) bits k, bit_at-lt (get_or old.marks v 0) k))
+    | inr off ↦ done.kept v k (λ _ _. off) ∙ sym (omega (arith, bit_at_or (get_or old.marks v 0) bits k, bit_at-lt bits k))
+  ]);
+  below = λ v lt. same_from_bits _ _ (λ k. done.kept v k (λ above _. absurd (omega arith)));
+  above = λ v lt. same_from_bits _ _ (λ k. done.kept v k (λ _ below. absurd (omega arith)));
+}
+
+-- the bits of a sum that is turned
+turned-bit : (on : Bool) (x bits k : ℕ) → x < 256 → bits < 256 → bit_at bits k ≡ 1 → bit_at (turned on x bits) k ≡ digit on
+turned-bit true x bits k small byte one = omega (arith, bit_at_or x bits k, bit_at-lt x k)
+turned-bit false x bits k small byte one = elim (cases_lt k 8) [
+  | inl low ↦ omega (arith, bit_at_and x (255 - bits) k, bit_at_not w8 bits k byte low)
+  | inr high ↦ absurd (omega (arith, bit_at_above bits 8 k byte high))
+]
+
+turned-other : (on : Bool) (x bits k : ℕ) → x < 256 → bits < 256 → bit_at bits k ≢ 1 → bit_at (turned on x bits) k ≡ bit_at x k
+turned-other true x bits k small byte off = omega (arith, bit_at_or x bits k, bit_at-lt bits k)
+turned-other false x bits k small byte off = elim (cases_lt k 8) [
+  | inl low ↦ omega (arith, bit_at_and x (255 - bits) k, bit_at_not w8 bits k byte low, bit_at-lt bits k, bit_at-lt x k)
+  | inr high ↦ omega (arith, bit_at_and x (255 - bits) k, bit_at_above x 8 k small high)
+]
+
+pub one-turned : (on : Bool) (old new : List ℕ) (max s bits v : ℕ) → v < room max → bits < 256 → Turns (digit on) (marks_in old max s) (marks_in new max s) bits v v
+    → sums_of new max s ≡ set (sums_of old max s) v (turned on (get_or (sums_of old max s) v 0) bits)
+one-turned on old new max s bits v here byte done =
+    let y : ℕ = turned on (get_or (sums_of old max s) v 0) bits in
+    let there : v < length (sums_of old max s) = omega (arith, length-sums_of old max s) in
+    let small = sums_of-small old max s v in
+    ext_get_or 0 _ _ (done.length ∙ sym (length-set (sums_of old max s) v y)) (λ u lt. elim (cases_eq u v) [
+      | inr ne ↦ same_from_bits _ _ (λ k. done.kept u k (λ above below. absurd (ne (omega arith)))) ∙ sym (get_or-set_other (sums_of old max s) v u y 0 ne)
+      | inl e ↦ subst (λ i. get_or (sums_of new max s) i 0 ≡ get_or (set (sums_of old max s) v y) i 0) (sym e)
+          (same_from_bits _ _ (λ k. elim (cases_eq (bit_at bits k) 1) [
+            | inl one ↦ done.inside v k (omega arith) (omega arith) one ∙ sym (turned-bit on _ bits k small byte one)
+            | inr other ↦ done.kept v k (λ _ _. other) ∙ sym (turned-other on _ bits k small byte other)
+          ]) ∙ sym (get_or-set_same (sums_of old max s) v y 0 there))
+    ])
