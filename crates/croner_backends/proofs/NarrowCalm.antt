@@ -9,9 +9,8 @@ use Rattle.croner_base.specs.Civil.{wall_second}
 use Rattle.croner_base.specs.Zone.{Zone}
 use Rattle.croner_base.proofs.tables.TableTests.{both_parts, le_of, lt_of, le_test, lt_test}
 use Rattle.croner.specs.Private.search.Halves.{Break}
-use Rattle.croner.proofs.zone.CalmZone.{Exactly, calm_of, exact_of}
+use Rattle.croner.proofs.zone.ZoneOrder.{Exactly, calm_of, exact_of, Calm, below_before, above_after}
 use Rattle.croner.proofs.zone.GapSides.{unread_is_in_gap}
-use Rattle.croner.proofs.zone.ZoneOrder.{Calm, below_before, above_after}
 use Rattle.croner_backends.specs.Narrow.{is_between, is_held, narrowed, narrow, IsHeldBetween}
 
 -- ---- calm

@@ -29,7 +29,7 @@ use Rattle.croner.specs.search.Runs.{Timetable, Job, job_in, Precedes, Reaches, 
 use Rattle.croner.specs.search.Searches.{IsFound}
 use Rattle.croner.proofs.iterator.Listings.{past_start}
 use Rattle.croner.proofs.zone.Ahead.{reaches-precedes}
-use Rattle.croner.proofs.zone.RunsOfSeconds.{true_or_false, is_run, counts_reaches}
+use Rattle.croner.proofs.zone.Walks.{true_or_false, is_run, counts_reaches}
 
 same_some : {A : Type 0} (x y : A) → Some x ≡ Some y → x ≡ y
 same_some x y e = cc

@@ -27,9 +27,8 @@ use Rattle.croner.specs.search.Runs.{Reaches, OwnRun, CarriedRun, Run, StartCoun
 use Rattle.croner_pattern.proofs.civil.DateSearch.{and-split}
 use Rattle.croner_pattern.proofs.civil.SingleValues.{single-value, single_time, second_bounds, minute_bounds, hour_bounds}
 use Rattle.croner.proofs.zone.Ahead.{either, not_both}
-use Rattle.croner.proofs.zone.CalmZone.{calm_of}
-use Rattle.croner.proofs.zone.RunsOfSeconds.{true_or_false, is_run}
-use Rattle.croner.proofs.zone.ZoneOrder.{Calm, cases_lt_z, below_before}
+use Rattle.croner.proofs.zone.ZoneOrder.{calm_of, Calm, cases_lt_z, below_before}
+use Rattle.croner.proofs.zone.Walks.{true_or_false, is_run}
 
 -- a zone's values are told apart by what they answer
 pub zone_set : (y z : Zone) → IsProp (y ≡ z)

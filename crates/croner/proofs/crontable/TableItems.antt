@@ -21,8 +21,7 @@ use Rattle.croner.specs.crontable.TableListing.{TableStanding, table_standing_of
 use Rattle.croner.specs.crontable.TableItems.{item_instants, HavePlaces, BeginsTableRest, GaveTable, GaveAllTable, table_items, TakesTable, TakesTableInTurn}
 use Rattle.croner.specs.declared.crontable.iterator.CronTableIterator.{CronTableIterator}
 use Rattle.croner.proofs.zone.Ahead.{same_or_ahead, reaches-precedes}
-use Rattle.croner.proofs.zone.RunsOfSeconds.{counts_reaches}
-use Rattle.croner.proofs.zone.SearchLimit.{calm_start}
+use Rattle.croner.proofs.zone.Walks.{counts_reaches}
 use Rattle.croner.proofs.iterator.Faults.{no_fault_is_limit}
 use Rattle.croner.proofs.iterator.Listings.{all_given, same_span, Splits, splits_next, IsNext, is_run, begins_where, past_start}
 use Rattle.croner.proofs.iterator.ThereAndBack.{searchable_run}
@@ -124,7 +123,7 @@ module _ (cur : TableStanding) (item : Moment) (places : List ℕ) (new : TableS
   }
 
 searchable_at : (cur : TableStanding) (item : Moment) (places : List ℕ) (new : TableStanding) → GivesTableItem cur item places new → IsSearchable cur.position → IsSearchable item
-searchable_at cur item places new g held = searchable_there cur item places new g (calm_start cur.position held) held
+searchable_at cur item places new g held = searchable_there cur item places new g held.starts held
 
 -- a call with an item
 goes_to : (old cur new : TableStanding) (items : List (ℤ × List ℕ)) (item : Moment) (places : List ℕ) → TableGoes old cur items → GivesTableItem cur item places new

@@ -29,7 +29,7 @@ use Rattle.croner.specs.Private.crontable.Room.{IsRefusedInRoom}
 use Rattle.croner.proofs.zone.Ahead.{reaches-trans, precedes-reaches, not_both, either}
 use Rattle.croner.proofs.iterator.Listings.{is_run}
 use Rattle.croner.proofs.iterator.ThereAndBack.{searchable_run}
-use Rattle.croner.proofs.zone.SearchLimit.{along-nanos, calm_start}
+use Rattle.croner.proofs.zone.HalfEdges.{along-nanos}
 
 none_is_some : {A : Type 0} (x : A) → None ≡ Some x → ⊥
 none_is_some x e = absurd (cc)
@@ -414,7 +414,7 @@ module _ {T : Type 0} (moment : T → Moment) (direction : Direction) (inclusive
 
       searchable_best : IsSearchable start → IsSearchable (moment t)
       searchable_best p =
-          let at = first_counts (calm_start start p) in
+          let at = first_counts p.starts in
           searchable_run at.pattern start (moment t) p best.zone best.whole
           (is_run direction inclusive (pattern_job at.pattern start.zone) start.instant (moment t).instant at.counts)
 

@@ -19,7 +19,6 @@ use Rattle.std.proofs.lemmas.List.{map_push, length_push}
 use Rattle.std.proofs.lemmas.List.Elements.{All-push}
 use Rattle.croner.proofs.iterator.Listings.{all_given, same_span, Splits, splits_next, IsNext, is_next, is_run, begins}
 use Rattle.croner.proofs.iterator.Faults.{no_fault_is_limit}
-use Rattle.croner.proofs.zone.SearchLimit.{calm_start}
 use Rattle.croner.proofs.iterator.ThereAndBack.{searchable_run}
 
 -- the invariant of repeated calls
@@ -72,7 +71,7 @@ goes_to old cur new items item g n =
       calm = λ p. calm_item cur item (g.calm p) n.found.zone n.found.whole;
       searchable = λ p.
           let here = g.searchable p in
-          searchable_item cur item here n.found.zone n.found.whole (n.found.nearest (calm_start cur.position here)).counts;
+          searchable_item cur item here n.found.zone n.found.whole (n.found.nearest here.starts).counts;
     })
 
 -- what the calls show
@@ -111,7 +110,7 @@ pub counted_all : (old cur : Standing) (items : List ℤ) (n calls : ℕ) → Go
 counted_all old cur items n calls g counted p =
     elim counted [
       | inl each ↦ inl each
-      | inr over ↦ inr (gave_all old cur items g over (calm_start old.position p))
+      | inr over ↦ inr (gave_all old cur items g over p.starts)
     ]
 
 -- what is over stays over

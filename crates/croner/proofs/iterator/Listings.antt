@@ -10,8 +10,8 @@ use Rattle.croner_base.specs.Zone.{Zone, Moment}
 use Rattle.croner.specs.search.Limit.{InSpan}
 use Rattle.croner_pattern.specs.Meaning.{Meaning}
 use Rattle.croner.specs.iterator.Listing.{Begins, BeginsWhere, Standing, IsLeft, moved, new_standing}
-pub use Rattle.croner.proofs.zone.RunsOfSeconds.{is_run}
-use Rattle.croner.proofs.zone.RunsOfSeconds.{counts_reaches}
+pub use Rattle.croner.proofs.zone.Walks.{is_run}
+use Rattle.croner.proofs.zone.Walks.{counts_reaches}
 use Rattle.croner.proofs.zone.Ahead.{opposite, same_or_ahead}
 use Rattle.croner_base.specs.declared.time.Direction.{Direction}
 use Rattle.croner_base.specs.declared.time.Direction.TheVariants.{Forward, Backward}

@@ -8,23 +8,21 @@ use Rattle.croner_base.specs.declared.errors.CronError.TheVariants.{TimeSearchLi
 use Rattle.croner_base.specs.declared.time.Direction.TheVariants.{Forward, Backward}
 use Rattle.croner_base.specs.declared.time.civil.CivilDateTime.{CivilDateTime}
 use Rattle.croner_base.specs.Calendar.{day_number, year_start, days_since_zero, days_until_zero}
-use Rattle.croner_base.specs.Calm.{IsCalm}
+use Rattle.croner_base.specs.Calm.{IsCalm, IsSearched, HoldsAround}
 use Rattle.croner_base.specs.Civil.{wall_second}
 use Rattle.croner_base.specs.Zone.{Zone, Moment, at_instant}
 use Rattle.croner_base.proofs.calendar.Chronology.{year_reached}
 use Rattle.croner_base.specs.Limits.{fold_limit}
 use Rattle.croner_pattern.specs.Meaning.{Meaning}
+use Rattle.croner_pattern.specs.SearchedYears.{matched_searched, scheduled_searched}
 use Rattle.croner.specs.search.Limit.{InSpan, NoneInSpan, year_2}
 use Rattle.croner.specs.search.PatternJob.{timetable_of, pattern_job}
 use Rattle.croner.specs.search.Premises.{IsSearchable, StartsCalm}
 use Rattle.croner.specs.search.Runs.{Run, Nearest}
 use Rattle.croner.specs.search.Searches.{IsFound, IsRefused, IsReturnable}
 use Rattle.croner.proofs.zone.Ahead.{opposite}
-use Rattle.croner.proofs.zone.CalmZone.{calm_of}
-use Rattle.croner.proofs.zone.HeldRuns.{holds_from}
+use Rattle.croner.proofs.zone.ZoneOrder.{calm_of, cases_lt_z, drifts, far, steady}
 use Rattle.croner.proofs.iterator.Listings.{is_run, there_and_back}
-use Rattle.croner.proofs.zone.SearchedYears.{searched_run}
-use Rattle.croner.proofs.zone.ZoneOrder.{cases_lt_z, gains, far}
 
 first_of_3 : day_number (pos 3) 1 1 ≡ neg_ℤ (pos 718_432)
 unfolding day_number year_start days_since_zero days_until_zero days_of_months
@@ -39,7 +37,7 @@ stays_late : (z : Zone) → IsCalm z → (i j : ℤ) → (year_2 +ℤ pos fold_l
 stays_late z calm i j low le =
     elim (cases_lt_z (i +ℤ pos fold_limit) j) [
       | inl away ↦ let up = far z.reads (calm_of z calm) i j away in omega (arith, ints)
-      | inr near ↦ let up = gains z.reads (calm_of z calm) i j le (omega (arith, ints)) in omega (arith, ints)
+      | inr near ↦ let up = drifts z.reads (calm_of z calm) i j le (omega (arith, ints)) in omega (arith, ints)
     ]
 
 -- a run of year 3 or later lies in the span of a backward search
@@ -48,11 +46,28 @@ in_span m start r j le =
     let low : (year_2 +ℤ pos fold_limit) ≤ℤ start.zone.reads start.instant = subst (λ (w : ℤ). (year_2 +ℤ pos fold_limit) ≤ℤ w) r.from.shows (late r.from.shown r.from.from) in
     stays_late start.zone r.calm.calm start.instant j low (omega (arith, ints))
 
+-- each run shows a second of the years 1 to 5000, so what a search needs held stays held from each run on
+searched_run : (m : Meaning) (z : Zone) (i : ℤ) → Run (pattern_job m z) i → IsSearched (z.reads i)
+searched_run m z i run = elim run [ inl own ↦ scheduled_searched m (z.reads i) own.0 | inr carried ↦ matched_searched m (z.reads i) carried.2 ]
+
+holds_from : (m : Meaning) (start : Moment) → IsCalm start.zone → HoldsAround start → (i : ℤ) → Run (pattern_job m start.zone) i
+    → HoldsAround (at_instant start.zone i)
+holds_from m start calm held i run =
+    let searched = searched_run m start.zone i run in
+    record {
+      years = held.years;
+      year_instants = held.year_instants;
+      near = λ c near. held.years c (omega (arith, ints), omega (arith, ints));
+      near_instants = λ j near.
+          let shows = steady start.zone.reads (calm_of start.zone calm) i j (omega (arith, ints)) (omega (arith, ints)) in
+          held.year_instants j (omega (arith, ints), omega (arith, ints));
+    }
+
 -- what a search finds is searched from as well
 pub searchable_run : (m : Meaning) (start found : Moment) → IsSearchable start → found.zone ≡ start.zone → found.fraction ≡ 0
     → Run (pattern_job m start.zone) found.instant → IsSearchable found
 searchable_run m start found p same_zone whole run =
-    let held = holds_from start p.starts.calm p.held found.instant (searched_run m start.zone found.instant run) in
+    let held = holds_from m start p.starts.calm p.held found.instant run in
     let in_zone : Zone → Moment = λ z. at_instant z found.instant in
     let with_fraction : ℕ → Moment = λ f. record { zone = found.zone; instant = found.instant; fraction = f } in
     let same : at_instant start.zone found.instant ≡ found = ap in_zone (sym same_zone) ∙ ap with_fraction (sym whole) in

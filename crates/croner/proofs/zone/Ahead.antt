@@ -1,14 +1,30 @@
 -- What comes before what in a direction, and in the other one.
-use Rattle.std.proofs.Common.{◌≡◌, arith, ℤ, neg_ℤ}
+use Rattle.std.proofs.Common.{◌≡◌, arith, ℕ, ℤ, pos, neg_ℤ, ◌+ℤ◌, ◌-ℤ◌, ◌≤ℤ◌}
 use Rattle.std.proofs.lemmas.Int.{ints}
-use Rattle.croner_base.specs.declared.time.Direction.{Direction}
-use Rattle.croner_pattern.specs.Directions.{along, one_on}
-use Rattle.croner.specs.search.Runs.{Precedes, Reaches}
-use Rattle.croner.specs.Private.search.Halves.{opposite_way}
+pub use Rattle.croner_base.specs.declared.time.Direction.{Direction}
+pub use Rattle.croner_base.specs.declared.time.Direction.TheVariants.{Forward, Backward}
+pub use Rattle.croner_pattern.specs.Directions.{along, Precedes, Reaches, offset_from, one_on}
+pub use Rattle.croner.specs.Private.search.Halves.{opposite_way}
 pub use Rattle.croner_pattern.proofs.civil.Ahead.{along-offset, reaches-same, reaches-equal, reaches-trans, precedes-reaches, precedes-trans, reaches-precedes, not_both, either, same_or_ahead, both_ways}
+
+pub zero_on : (dir : Direction) (a : ℤ) → offset_from dir a 0 ≡ a
+zero_on dir a = grind (arith, ints)
+
+pub offset_within : (direction : Direction) (s : ℤ) (n : ℕ) → ((s -ℤ pos n) ≤ℤ offset_from direction s n) × (offset_from direction s n ≤ℤ (s +ℤ pos n))
+offset_within Forward s n = (omega (arith, ints), omega (arith, ints))
+offset_within Backward s n = (omega (arith, ints), omega (arith, ints))
 
 pub along-opposite : (dir : Direction) (a : ℤ) → along (opposite_way dir) a ≡ neg_ℤ (along dir a)
 along-opposite dir a = grind (arith, ints)
+
+-- so far on as from b to c
+pub along-shift : (dir : Direction) (a b c : ℤ) → along dir (a +ℤ (c -ℤ b)) ≡ along dir a +ℤ (along dir c -ℤ along dir b)
+along-shift Forward a b c = omega (arith, ints)
+along-shift Backward a b c = omega (arith, ints)
+
+pub both_next : (dir : Direction) (a b : ℤ) → Precedes dir a b → Precedes dir (a +ℤ pos 1) (b +ℤ pos 1)
+both_next Forward a b h = omega (arith, ints)
+both_next Backward a b h = omega (arith, ints)
 
 -- right behind a number in the direction
 pub along-behind : (dir : Direction) (own e : ℤ) → own ≡ one_on (opposite_way dir) e → along dir e ≡ along dir (one_on dir own)

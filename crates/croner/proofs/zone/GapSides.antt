@@ -1,84 +1,69 @@
--- The search for the two sides of a gap.
-use Rattle.std.proofs.Common.{◌≡◌, ℕ, zero, suc, ◌-◌, ◌*◌, ◌+◌, ◌≤◌, ◌<◌, ℤ, pos, ◌+ℤ◌, ◌-ℤ◌, ◌<ℤ◌, ◌≤ℤ◌, arith, refl, sym, ◌∙◌, inl, inr, ap, subst, Bool, Option, Some, None, IsSome, Ok, Err}
+-- Gaps: the search for their two sides, and how many passes a walk can take, in gaps and in one repeated range.
+use Rattle.std.proofs.Common.{◌≡◌, ℕ, zero, suc, ◌-◌, ◌*◌, ◌+◌, ◌≤◌, ◌<◌, ℤ, pos, ◌+ℤ◌, ◌-ℤ◌, ◌<ℤ◌, ◌≤ℤ◌, negsuc, ◌⊎◌, arith, refl, sym, ◌∙◌, inl, inr, ap, subst, Bool, Option, Some, None, IsSome, Ok, Err, List, [], ◌∷◌, ◌++◌, int_lt, if◌then◌else◌, unsigned_abs, true}
 use Rattle.std.proofs.lemmas.Int.{ints}
+use Rattle.std.specs.List.{All}
+use Rattle.std.proofs.lemmas.List.Elements.{All-nil, All-cons, All-head, All-tail, All-append, All-weaker}
 use borrow.Author.Differences.{up}
-use Rattle.croner_base.specs.declared.time.Direction.{Direction}
-use Rattle.croner_base.specs.declared.time.Direction.TheVariants.{Forward, Backward}
 use Rattle.croner_base.specs.declared.time.civil.CivilDateTime.{CivilDateTime}
 use Rattle.croner_base.specs.declared.time.value.Resolution.TheVariants.{Single, Ambiguous, Gap}
 use Rattle.croner_base.specs.declared.errors.CronError.{CronError}
 use Rattle.croner_base.specs.Civil.{wall_second}
 use Rattle.croner_base.specs.Zone.{Zone, Moment, IsResolved}
-use Rattle.croner_base.specs.Calm.{IsCalm}
-use Rattle.croner_base.specs.Limits.{gap_limit, fold_limit, apart_limit}
+use Rattle.croner_base.specs.Calm.{IsCalm, IsSearched, IsMet, Rises, gap_seconds, jump}
+use Rattle.croner_base.specs.Limits.{gap_limit, fold_limit, apart_limit, first_searched}
 use Rattle.croner.specs.search.Premises.{HasOneInstantEach}
 use Rattle.croner.specs.Private.search.Held.{HoldsYears, IsBackendError}
 use Rattle.croner.specs.search.Limit.{IsWithin}
-use Rattle.croner.specs.search.Runs.{Precedes}
 use Rattle.croner.specs.declared.search.gap.Around.{Around}
-use Rattle.croner_pattern.specs.Directions.{along}
 use Rattle.croner.specs.Private.search.Gaps.{IsSkipped, IsFirstShown, IsBeyond, IsAround, HasGapSide, CrossesGap}
-use Rattle.croner.specs.Private.search.Halves.{Break, offset_from}
-use Rattle.croner.specs.Private.search.Walk.{UnreadTo, HasGapEnd, HasGapFront}
-use Rattle.croner.proofs.zone.Ahead.{along-offset}
-use Rattle.croner.proofs.zone.CalmZone.{Exactly, calm_of, exact_of}
-use Rattle.croner.proofs.zone.ZoneOrder.{Calm, cases_lt_z, distance, gains, read_or_skipped, after_break, below_before, above_after}
-use Rattle.croner.proofs.zone.WalkArms.{first_of_one, first_of_two}
+use Rattle.croner.specs.Private.search.Halves.{Break}
+use Rattle.croner.specs.Private.search.Walk.{UnreadTo, HasGapEnd, HasGapFront, pass_limit, Onward, Paces}
+use Rattle.croner.proofs.zone.Ahead.{Direction, Forward, Backward, along, Precedes, Reaches, offset_from, along-offset, one_on, both_next, either, same_or_ahead}
+use Rattle.croner.proofs.zone.ZoneOrder.{Exactly, calm_of, exact_of, Calm, cases_lt_z, far, crossing, after_break, below_before, above_after, change_of_break, nonnegative, put_back}
+use Rattle.croner.proofs.zone.Walks.{first_of_one, first_of_two}
 
 -- ---- each wall second is passed somewhere
 
+not_read : (a b : ℤ) → (a ≡ b → ⊥) → (a <ℤ b) ⊎ (b <ℤ a)
+not_read a b other = elim (cases_lt_z a b) [ inl lt ↦ inl lt | inr le ↦ elim (cases_lt_z b a) [ inl gt ↦ inr gt | inr ge ↦ absurd (other (omega (arith, ints))) ] ]
+
+up_above : (z : ℤ) → z ≤ℤ pos (up z)
+up_above (pos n) = omega (arith, ints)
+up_above (negsuc n) = omega (arith, ints)
+
 module _ (reads : ℤ → ℤ) (calm : Calm reads) where
-  grows : (n : ℕ) (i : ℤ) → (reads i +ℤ pos ((apart_limit - fold_limit) * n)) ≤ℤ reads (i +ℤ pos (apart_limit * n))
-  grows zero i = let same : reads (i +ℤ pos (apart_limit * 0)) ≡ reads i = ap reads (omega (arith, ints)) in omega (arith, ints)
-  grows (suc n) i =
-      let j : ℤ = i +ℤ pos (apart_limit * n) in
-      let next : ℤ = i +ℤ pos (apart_limit * suc n) in
-      let before = grows n i in
-      let more = gains reads calm j next (omega (arith, ints)) (omega (arith, ints)) in
-      omega (arith, ints)
+  grows : (n : ℕ) (i : ℤ) → (reads i +ℤ pos n) ≤ℤ reads (i +ℤ pos ((fold_limit + 1) * n))
+  grows zero i = let same : reads (i +ℤ pos ((fold_limit + 1) * 0)) ≡ reads i = ap reads (omega (arith, ints)) in omega (arith, ints)
+  grows (suc n) i = omega (arith, ints, grows n i, far reads calm (i +ℤ pos ((fold_limit + 1) * n)) (i +ℤ pos ((fold_limit + 1) * suc n)) (omega (arith, ints)))
 
-  shrinks : (n : ℕ) (i : ℤ) → (reads (i -ℤ pos (apart_limit * n)) +ℤ pos ((apart_limit - fold_limit) * n)) ≤ℤ reads i
-  shrinks n i =
-      let j : ℤ = i -ℤ pos (apart_limit * n) in
-      let same : reads (j +ℤ pos (apart_limit * n)) ≡ reads i = ap reads (omega (arith, ints)) in
-      let more = grows n j in
-      omega (arith, ints)
-
-  pub reaches_up : (s w : ℤ) → (j : ℤ) × (s ≤ℤ j) × (w ≤ℤ reads j)
-  reaches_up s w =
-      elim (cases_lt_z (reads s) w) [
-        | inr le ↦ (s, omega (arith, ints), le)
-        | inl lt ↦
-            let n : ℕ = up (w -ℤ reads s) in
-            let far = distance (reads s) w (omega (arith, ints)) in
-            let g = grows n s in
-            (s +ℤ pos (apart_limit * n), omega (arith, ints), omega (arith, ints))
-      ]
-
-  pub reaches_down : (s w : ℤ) → (j : ℤ) × (j ≤ℤ s) × (reads j ≤ℤ w)
-  reaches_down s w =
-      elim (cases_lt_z w (reads s)) [
-        | inr le ↦ (s, omega (arith, ints), le)
-        | inl lt ↦
-            let n : ℕ = up (reads s -ℤ w) in
-            let far = distance w (reads s) (omega (arith, ints)) in
-            let g = shrinks n s in
-            (s -ℤ pos (apart_limit * n), omega (arith, ints), omega (arith, ints))
-      ]
+  -- far enough on in a direction the clock shows w or past it
+  passed : (direction : Direction) (w : ℤ) → (j : ℤ) × Reaches direction (pos 0) j × Reaches direction w (reads j)
+  passed Forward w =
+      let z = w -ℤ reads (pos 0) in
+      let j : ℤ = pos 0 +ℤ pos ((fold_limit + 1) * up z) in
+      (j, omega (arith, ints), omega (arith, ints, up_above z, grows (up z) (pos 0)))
+  passed Backward w =
+      let z = reads (pos 0) -ℤ w in
+      let j : ℤ = pos 0 -ℤ pos ((fold_limit + 1) * up z) in
+      let same : reads (j +ℤ pos ((fold_limit + 1) * up z)) ≡ reads (pos 0) = ap reads (omega (arith, ints)) in
+      (j, omega (arith, ints), omega (arith, ints, up_above z, grows (up z) j))
 
   -- a second that nothing reads lies in a gap
   pub unread_is_in_gap : (w : ℤ) → Exactly reads w Gap → (p : ℤ) × (reads p <ℤ w) × (w <ℤ reads (p +ℤ pos 1))
   unread_is_in_gap w none =
-      let (i, under, low) = reaches_down (pos 0) w in
-      let (j, over, high) = reaches_up (pos 0) w in
-      elim (read_or_skipped reads calm w i j (omega (arith, ints)) low high) [
-        | inl (k, a, b, e) ↦ absurd (none k e)
-        | inr (p, a, b, below, above) ↦ (p, below, above)
+      let (i, under, low) = passed Backward w in
+      let (j, over, high) = passed Forward w in
+      let unread : (x : ℤ) → (reads x <ℤ w) ⊎ (w <ℤ reads x) = λ x. not_read (reads x) w (none x) in
+      elim (unread i) [
+        | inr above ↦ absurd (omega (arith, ints))
+        | inl below ↦
+            let (p, lt, reached) = crossing reads w i j (omega (arith, ints)) below high in
+            elim (unread (p +ℤ pos 1)) [ inl less ↦ absurd (omega (arith, ints)) | inr past ↦ (p, lt, past) ]
       ]
 
 -- ---- in every zone
 
-pub not_one_each : (zone : Zone) (skipped : CivilDateTime) → zone.resolves skipped ≡ Some Gap → HasOneInstantEach zone → ⊥
+not_one_each : (zone : Zone) (skipped : CivilDateTime) → zone.resolves skipped ≡ Some Gap → HasOneInstantEach zone → ⊥
 not_one_each zone skipped named each =
     let some : IsSome (zone.resolves skipped) = rw named refl in
     let (i, single) = each skipped some in
@@ -88,64 +73,39 @@ not_one_each zone skipped named each =
 -- ---- one gap
 
 module _ (reads : ℤ → ℤ) (calm : Calm reads) where
-  -- what lies between two readings next to each other is never read
-  never_read : (p u : ℤ) → reads p <ℤ u → u <ℤ reads (p +ℤ pos 1) → (x : ℤ) → reads x ≡ u → ⊥
-  never_read p u below above x e =
-      let breaks : Break reads p = λ (same : reads (p +ℤ pos 1) ≡ reads p +ℤ pos 1). omega (arith, ints) in
-      elim (cases_lt_z p x) [
-        | inl after ↦ let high = above_after reads calm p x breaks after in omega (arith, ints)
-        | inr before ↦ let low = below_before reads calm p x breaks before in omega (arith, ints)
-      ]
-
   -- two seconds that are never read, at most two days apart, lie in one gap: nothing between them is read
-  one_gap : (w v : ℤ) → Exactly reads w Gap → Exactly reads v Gap → w ≤ℤ v → v ≤ℤ (w +ℤ pos apart_limit) → (u : ℤ) → w ≤ℤ u → u ≤ℤ v → (x : ℤ) → reads x ≡ u → ⊥
-  one_gap w v none none2 le near u from to x e =
+  one_gap : (w v : ℤ) → Exactly reads w Gap → Exactly reads v Gap → v ≤ℤ (w +ℤ pos apart_limit) → (u : ℤ) → w ≤ℤ u → u ≤ℤ v → (x : ℤ) → reads x ≡ u → ⊥
+  one_gap w v none none2 near u from to x e =
       let (p, below, above) = unread_is_in_gap reads calm w none in
       let (q, below2, above2) = unread_is_in_gap reads calm v none2 in
       let breaks : Break reads p = λ (same : reads (p +ℤ pos 1) ≡ reads p +ℤ pos 1). omega (arith, ints) in
       let breaks2 : Break reads q = λ (same : reads (q +ℤ pos 1) ≡ reads q +ℤ pos 1). omega (arith, ints) in
-      elim (cases_lt_z p q) [
-        | inl lt ↦
-            let far = calm.apart p q breaks breaks2 lt in
-            let m : ℤ = p +ℤ pos (apart_limit + 1) in
-            let line = after_break reads calm p (p +ℤ pos 1) m breaks (omega (arith, ints)) (omega (arith, ints)) (omega (arith, ints)) in
-            let low = below_before reads calm q m breaks2 (omega (arith, ints)) in
-            omega (arith, ints)
-        | inr ge ↦
-            elim (cases_lt_z q p) [
-              | inl lt ↦ let high = above_after reads calm q p breaks2 lt in omega (arith, ints)
-              | inr le2 ↦
-                  let same : q ≡ p = omega (arith, ints) in
-                  let top : v <ℤ reads (p +ℤ pos 1) = subst (λ (r : ℤ). v <ℤ reads (r +ℤ pos 1)) same above2 in
-                  never_read p u (omega (arith, ints)) (omega (arith, ints)) x e
-            ]
-      ]
+      let low : p <ℤ x = elim (cases_lt_z p x) [ inl lt ↦ lt | inr le ↦ absurd (omega (arith, ints, below_before reads calm p x breaks le)) ] in
+      let high : x ≤ℤ q = elim (cases_lt_z q x) [ inl lt ↦ absurd (omega (arith, ints, above_after reads calm q x breaks2 lt)) | inr le ↦ le ] in
+      let far = calm.apart p q breaks breaks2 (omega (arith, ints)) in
+      let m : ℤ = p +ℤ pos (apart_limit + 1) in
+      let line = after_break reads calm p (p +ℤ pos 1) m breaks (omega (arith, ints)) (omega (arith, ints)) (omega (arith, ints)) in
+      omega (arith, ints, below_before reads calm q m breaks2 (omega (arith, ints)))
 
   -- so between a second in a gap and the first in the direction that is read, nothing is
   side_unread : (direction : Direction) (skipped : ℤ) (inside : ℕ) → Exactly reads skipped Gap → Exactly reads (offset_from direction skipped inside) Gap → inside < gap_limit → UnreadTo direction reads skipped (offset_from direction skipped (inside + 1))
   side_unread Forward skipped inside none none2 near =
-      λ u from to x e. one_gap skipped (skipped +ℤ pos inside) none none2 (omega (arith, ints)) (omega (arith, ints)) u from (omega (arith, ints)) x e
+      λ u from to x e. one_gap skipped (skipped +ℤ pos inside) none none2 (omega (arith, ints)) u from (omega (arith, ints)) x e
   side_unread Backward skipped inside none none2 near =
-      λ u from to x e. one_gap (skipped -ℤ pos inside) skipped none2 none (omega (arith, ints)) (omega (arith, ints)) u (omega (arith, ints)) (omega (arith, ints)) x e
+      λ u from to x e. one_gap (skipped -ℤ pos inside) skipped none2 none (omega (arith, ints)) u (omega (arith, ints)) (omega (arith, ints)) x e
 
   -- and the second at the limit of the search lies in the gap no more
   side_ends : (direction : Direction) (skipped : ℤ) → Exactly reads skipped Gap → Exactly reads (offset_from direction skipped gap_limit) Gap → ⊥
   side_ends Forward skipped none none2 =
       let (p, below, above) = unread_is_in_gap reads calm skipped none in
       let small = calm.forth p in
-      one_gap skipped (skipped +ℤ pos gap_limit) none none2 (omega (arith, ints)) (omega (arith, ints)) (reads (p +ℤ pos 1)) (omega (arith, ints)) (omega (arith, ints)) (p +ℤ pos 1) refl
+      one_gap skipped (skipped +ℤ pos gap_limit) none none2 (omega (arith, ints)) (reads (p +ℤ pos 1)) (omega (arith, ints)) (omega (arith, ints)) (p +ℤ pos 1) refl
   side_ends Backward skipped none none2 =
       let (p, below, above) = unread_is_in_gap reads calm skipped none in
       let small = calm.forth p in
-      one_gap (skipped -ℤ pos gap_limit) skipped none2 none (omega (arith, ints)) (omega (arith, ints)) (reads p) (omega (arith, ints)) (omega (arith, ints)) p refl
+      one_gap (skipped -ℤ pos gap_limit) skipped none2 none (omega (arith, ints)) (reads p) (omega (arith, ints)) (omega (arith, ints)) p refl
 
 -- ---- what the backend answers
-
-pub zero_on : (direction : Direction) (w : ℤ) → offset_from direction w 0 ≡ w
-zero_on direction w = grind (arith, ints)
-
-pub own_skipped : (direction : Direction) (z : Zone) (skipped : CivilDateTime) → z.resolves skipped ≡ Some Gap → IsSkipped z (offset_from direction (wall_second skipped) 0)
-own_skipped direction z skipped named = λ calm x e. exact_of z calm skipped Gap named x (e ∙ zero_on direction (wall_second skipped))
 
 pub next_skipped : (z : Zone) (w : ℤ) (c : CivilDateTime) → wall_second c ≡ w → z.resolves c ≡ Some Gap → IsSkipped z w
 next_skipped z w c at named = λ calm x e. exact_of z calm c Gap named x (e ∙ sym at)
@@ -169,49 +129,251 @@ module _ {T : Type 0} (moment : T → Moment) (z : Zone) (c : CivilDateTime) whe
 
 -- ---- the side of the gap
 
-on_past : (direction : Direction) (skipped w : ℤ) (n : ℕ) → 0 < n → w ≡ offset_from direction skipped n → Precedes direction skipped w
-on_past direction skipped w n some at = omega (arith, ints, ap (along direction) at, along-offset direction skipped n)
-
 module _ {T : Type 0} (moment : T → Moment) (lack : Bool) (direction : Direction) (z : Zone) (skipped : CivilDateTime) (named : z.resolves skipped ≡ Some Gap) where
-  pub side_found : (limit : ℕ) (around : Around T) (found : CivilDateTime × T) → IsAround moment lack direction z (wall_second skipped) around → around.outside ≤ around.inside + 1 → around.answer ≡ Ok found → HasGapSide moment direction limit z (wall_second skipped) (Some found)
+  pub side_found : (limit : ℕ) (around : Around T) (found : CivilDateTime × T) → IsAround moment lack direction z (wall_second skipped) around
+      → around.outside ≤ around.inside + 1 → around.answer ≡ Ok found → HasGapSide moment direction limit z (wall_second skipped) (Some found)
   side_found limit around found is tight answered =
       let ordered = is.ordered in
       let near = is.near in
+      let w = wall_second skipped in
       let outside : around.outside ≡ around.inside + 1 = omega arith in
-      let (at, shown) = subst (IsBeyond moment lack z (offset_from direction (wall_second skipped) around.outside)) answered is.beyond in
-      let next : offset_from direction (wall_second skipped) (around.inside + 1) ≡ wall_second found.0 = sym (at ∙ ap (offset_from direction (wall_second skipped)) outside) in (
-        on_past direction (wall_second skipped) (wall_second found.0) around.outside (omega arith) at,
+      let (at, shown) = subst (IsBeyond moment lack z (offset_from direction w around.outside)) answered is.beyond in
+      let next = sym (at ∙ ap (offset_from direction w) outside) in (
+        omega (arith, ints, ap (along direction) at, along-offset direction w around.outside),
         shown,
-        λ calm. subst (UnreadTo direction z.reads (wall_second skipped)) next (side_unread z.reads (calm_of z calm) direction (wall_second skipped) around.inside (exact_of z calm skipped Gap named) (is.skipped calm) (omega arith)),
+        λ calm.
+            let none = side_unread z.reads (calm_of z calm) direction w around.inside (exact_of z calm skipped Gap named) (is.skipped calm) (omega arith) in
+            subst (UnreadTo direction z.reads w) next none,
       )
 
-  pub side_refused : (around : Around T) (e : CronError) → IsAround moment lack direction z (wall_second skipped) around → around.answer ≡ Err e → IsBackendError lack (HoldsYears z → ⊥) e
+  pub side_refused : (around : Around T) (e : CronError) → IsAround moment lack direction z (wall_second skipped) around → around.answer ≡ Err e
+      → IsBackendError lack (HoldsYears z → ⊥) e
   side_refused around e is answered = subst (IsBeyond moment lack z (offset_from direction (wall_second skipped) around.outside)) answered is.beyond
 
   pub side_out : IsSkipped z (offset_from direction (wall_second skipped) gap_limit) → IsCalm z → ⊥
   side_out out calm = side_ends z.reads (calm_of z calm) direction (wall_second skipped) (exact_of z calm skipped Gap named) (out calm)
 
-  pub gap_end_of : (found : CivilDateTime × T) → HasGapSide moment Forward gap_limit z (wall_second skipped) (Some found) → HasGapEnd moment z (wall_second skipped) (Some found)
-  gap_end_of found (past, shown, unread) = (
-    past,
-    shown.zone_is,
-    shown.whole,
-    not_one_each z skipped named,
-    λ calm. record { past = past; unread = unread calm; first = shown.first calm; at = shown.at calm },
-  )
-
-  pub gap_front_of : (found : CivilDateTime × T) → HasGapSide moment Backward gap_limit z (wall_second skipped) (Some found) → HasGapFront z (wall_second skipped) (Some found.0)
-  gap_front_of found (before, shown, unread) = (
-    before,
-    λ calm. (unread calm, ((moment found.1).instant, shown.at calm)),
-  )
+  pub gap_front_of : (found : CivilDateTime × T) → HasGapSide moment Backward gap_limit z (wall_second skipped) (Some found)
+      → HasGapFront z (wall_second skipped) (Some found.0)
+  gap_front_of found (before, shown, unread) = (before, λ calm. (unread calm, ((moment found.1).instant, shown.at calm)))
 
 -- from the skipped second to the side that is found, where both lie in the years that are searched whole
-pub crosses_gap : {T : Type 0} (moment : T → Moment) (direction : Direction) (limit : ℕ) (z : Zone) (skipped : ℤ) (found : CivilDateTime × T) → HasGapSide moment direction limit z skipped (Some found) → IsWithin direction skipped → IsWithin direction (wall_second found.0) → CrossesGap direction z skipped (wall_second found.0)
+pub crosses_gap : {T : Type 0} (moment : T → Moment) (direction : Direction) (limit : ℕ) (z : Zone) (skipped : ℤ) (found : CivilDateTime × T)
+    → HasGapSide moment direction limit z skipped (Some found) → IsWithin direction skipped → IsWithin direction (wall_second found.0)
+    → CrossesGap direction z skipped (wall_second found.0)
 crosses_gap moment direction limit z skipped found (past, shown, unread) from to =
     record { on = past; from = from; to = to; unread = unread; reached = λ calm. ((moment found.1).instant, shown.at calm) }
 
 -- what is found forward is the gap's end
-pub gap_end_or_none : {T : Type 0} (moment : T → Moment) (lack : Bool) (z : Zone) (skipped : CivilDateTime) → z.resolves skipped ≡ Some Gap → (found : Option (CivilDateTime × T)) → HasGapSide moment Forward gap_limit z (wall_second skipped) found → HasGapEnd moment z (wall_second skipped) found
-gap_end_or_none moment lack z skipped named (Some found) side = gap_end_of moment lack Forward z skipped named found side
+pub gap_end_or_none : {T : Type 0} (moment : T → Moment) (lack : Bool) (z : Zone) (skipped : CivilDateTime) → z.resolves skipped ≡ Some Gap
+    → (found : Option (CivilDateTime × T)) → HasGapSide moment Forward gap_limit z (wall_second skipped) found → HasGapEnd moment z (wall_second skipped) found
 gap_end_or_none moment lack z skipped named None out = side_out moment lack Forward z skipped named out
+gap_end_or_none moment lack z skipped named (Some found) (past, shown, unread) = (
+  past,
+  shown.zone_is,
+  shown.whole,
+  not_one_each z skipped named,
+  λ calm. record { past = past; unread = unread calm; first = shown.first calm; at = shown.at calm },
+)
+
+-- ---- the count of passes
+
+-- how far it is from one wall second to another in the direction
+abbrev way : Direction → ℤ → ℤ → ℤ
+way direction from to = along direction to -ℤ along direction from
+
+-- what the clock shows at the far side of the change after q
+abbrev pub far_side : Direction → (ℤ → ℤ) → ℤ → ℤ
+far_side Forward reads q = reads (q +ℤ pos 1)
+far_side Backward reads q = reads q
+
+-- the count of a walk from s that has made k passes and stands at `wall`. It was in gaps that end at these changes, and may make `rest`
+-- passes more in the last of them. Whatever gap lies ahead is this one, or comes after them all
+pub record Paced (direction : Direction) (z : Zone) (s wall : ℤ) (k : ℕ) : Type 0 where
+  pub gaps : List ℤ
+  pub rises : Rises gaps
+  pub met : All (IsMet z) gaps
+  pub rest : ℕ
+  pub room : (q : ℤ) → Precedes direction wall (far_side direction z.reads q)
+      → All (λ d. Precedes direction d (q +ℤ pos 1)) gaps ⊎ (up (way direction wall (far_side direction z.reads q)) ≤ rest)
+  pub slack : ℕ
+  pub margin : slack ≤ fold_limit
+  pub below : slack ≤ up (way direction (z.reads s) wall)
+  pub counted : k + rest ≤ gap_seconds z gaps + slack
+
+up_less : (a b : ℤ) → a ≤ℤ b → up a ≤ up b
+up_less (pos a) (pos b) h = omega (arith, ints)
+up_less (pos a) (negsuc b) h = omega (arith, ints)
+up_less (negsuc a) b h = omega arith
+
+up_more : (a b : ℤ) → pos 0 ≤ℤ a → (a +ℤ pos 1) ≤ℤ b → up a + 1 ≤ up b
+up_more a b h more = omega (arith, ints, nonnegative a h, nonnegative b (omega (arith, ints)))
+
+-- ---- the list of changes
+
+-- one more, which comes after the others in the direction
+abbrev added : Direction → ℤ → List ℤ → List ℤ
+added Forward d ds = ds ++ (d ∷ [])
+added Backward d ds = d ∷ ds
+
+all_added : (direction : Direction) (P : ℤ → Type 0) (d : ℤ) (ds : List ℤ) → P d → All P ds → All P (added direction d ds)
+all_added Forward P d ds h all = All-append P ds (d ∷ []) all (All-cons P d [] h (All-nil P))
+all_added Backward P d ds h all = All-cons P d ds h all
+
+rises_added : (direction : Direction) (d : ℤ) (ds : List ℤ) → Rises ds → All (λ e. Precedes direction e d) ds → Rises (added direction d ds)
+rises_added Forward d [] rises before = (All-nil (λ e. d <ℤ e), tt)
+rises_added Forward d (x ∷ xs) (first, rises) before = (
+  all_added Forward (λ e. x <ℤ e) d xs (All-head (λ e. e <ℤ d) x xs before) first,
+  rises_added Forward d xs rises (All-tail (λ e. e <ℤ d) x xs before),
+)
+rises_added Backward d ds rises before = (All-weaker (λ e. Precedes Backward e d) (λ e. d <ℤ e) (λ e lt. omega (arith, ints)) ds before, rises)
+
+seconds_added : (z : Zone) (direction : Direction) (d : ℤ) (ds : List ℤ) → gap_seconds z (added direction d ds) ≡ gap_seconds z (d ∷ []) + gap_seconds z ds
+seconds_added z Backward d ds = omega arith
+seconds_added z Forward d [] = omega arith
+seconds_added z Forward d (x ∷ xs) = omega (arith, seconds_added z Forward d xs)
+
+gap_of : (j : ℤ) → up j ≤ (if int_lt (pos 0) j then unsigned_abs j else 0)
+gap_of (pos zero) = omega arith
+gap_of (pos (suc n)) = let test : int_lt (pos 0) (pos (suc n)) ≡ true = grind (arith, ints) in rw test (omega (arith, ints))
+gap_of (negsuc n) = omega arith
+
+own_seconds : (z : Zone) (q : ℤ) → up (z.reads (q +ℤ pos 1) -ℤ z.reads q -ℤ pos 1) ≤ gap_seconds z ((q +ℤ pos 1) ∷ [])
+own_seconds z q =
+    let back : z.reads (q +ℤ pos 1 -ℤ pos 1) ≡ z.reads q = ap z.reads (omega (arith, ints)) in
+    let same : jump z (q +ℤ pos 1) ≡ z.reads (q +ℤ pos 1) -ℤ z.reads q -ℤ pos 1 = ap (λ (r : ℤ). z.reads (q +ℤ pos 1) -ℤ r -ℤ pos 1) back in
+    omega (arith, gap_of (jump z (q +ℤ pos 1)), ap up same)
+
+-- ---- one gap
+
+-- w lies in the gap after q
+abbrev IsIn : (ℤ → ℤ) → ℤ → ℤ → Type 0
+IsIn reads q w = (reads q <ℤ w) × (w <ℤ reads (q +ℤ pos 1))
+
+in_breaks : (reads : ℤ → ℤ) (q w : ℤ) → IsIn reads q w → Break reads q
+in_breaks reads q w (below, above) = λ (e : reads (q +ℤ pos 1) ≡ reads q +ℤ pos 1). omega (arith, ints)
+
+-- what comes before it ends before w
+before_gap : (direction : Direction) (reads : ℤ → ℤ) → Calm reads → (p q w : ℤ) → IsIn reads q w → Precedes direction p q → Precedes direction (far_side direction reads p) w
+before_gap Forward reads calm p q w inside before =
+    omega (arith, ints, inside, below_before reads calm q (p +ℤ pos 1) (in_breaks reads q w inside) (omega (arith, ints)))
+before_gap Backward reads calm p q w inside before =
+    omega (arith, ints, inside, above_after reads calm q p (in_breaks reads q w inside) (omega (arith, ints)))
+
+-- from w the far side lies ahead, no further than the gap is wide, and a pass goes not past it
+in_gap : (direction : Direction) (reads : ℤ → ℤ) (q w next : ℤ) → IsIn reads q w → Onward direction reads w next
+    → Precedes direction w (far_side direction reads q) × Reaches direction next (far_side direction reads q)
+    × (way direction w (far_side direction reads q) ≤ℤ (reads (q +ℤ pos 1) -ℤ reads q -ℤ pos 1))
+in_gap Forward reads q w next (below, above) onward = (above, (onward.within q below above).1, omega (arith, ints))
+in_gap Backward reads q w next (below, above) onward = (omega (arith, ints), omega (arith, ints, (onward.within q below above).0), omega (arith, ints))
+
+is_met : (z : Zone) → Calm z.reads → (q w : ℤ) → IsIn z.reads q w → IsSearched w → IsMet z (q +ℤ pos 1)
+is_met z calm q w (below, above) years =
+    let back : z.reads (q +ℤ pos 1 -ℤ pos 1) ≡ z.reads q = ap z.reads (omega (arith, ints)) in
+    let small = calm.forth q in
+    let low = years.0 in
+    let high = years.1 in (
+      change_of_break z q (in_breaks z.reads q w (below, above)),
+      elim (cases_lt_z (z.reads q) first_searched) [
+        | inr le ↦ inr (omega (arith, ints), omega (arith, ints))
+        | inl lt ↦ inl (omega (arith, ints), omega (arith, ints))
+      ],
+    )
+
+-- ---- the count goes on
+
+pub paced_start : (direction : Direction) (z : Zone) (s wall : ℤ) → Paced direction z s wall 0
+paced_start direction z s wall = record {
+  gaps = [];
+  rises = tt;
+  met = All-nil (IsMet z);
+  rest = 0;
+  room = λ q ahead. inl (All-nil (λ d. Precedes direction d (q +ℤ pos 1)));
+  slack = 0;
+  margin = omega arith;
+  below = omega arith;
+  counted = omega arith;
+}
+
+module _ (direction : Direction) (z : Zone) (is_calm : IsCalm z) (s wall w next : ℤ) (k : ℕ) (paced : Paced direction z s wall k) (on : Reaches direction wall w) where
+  -- a pass in a gap, which moves on by a second or more and not past the gap's far side
+  paced_gap : Exactly z.reads w Gap → IsSearched w → Onward direction z.reads w next → Paced direction z s next (k + 1)
+  paced_gap unread years onward =
+      let calm = calm_of z is_calm in
+      let (q, below, above) = unread_is_in_gap z.reads calm w unread in
+      let inside : IsIn z.reads q w = (below, above) in
+      let (ahead, high, skips) = in_gap direction z.reads q w next inside onward in
+      let far : ℤ = far_side direction z.reads q in
+      let further = onward.on in
+      let more = up_less (way direction (z.reads s) wall) (way direction (z.reads s) next) (omega (arith, ints)) in
+      elim (paced.room q (omega (arith, ints))) [
+        | inr last ↦ record {
+          gaps = paced.gaps;
+          rises = paced.rises;
+          met = paced.met;
+          rest = paced.rest - 1;
+          room = λ p past. elim (paced.room p (omega (arith, ints))) [
+            | inl all ↦ inl all
+            | inr le ↦ inr (omega (arith, up_more (way direction next (far_side direction z.reads p)) (way direction wall (far_side direction z.reads p)) (omega (arith, ints)) (omega (arith, ints))))
+          ];
+          slack = paced.slack;
+          margin = paced.margin;
+          below = omega (arith, paced.below);
+          counted = omega (arith, paced.counted, up_more (way direction next far) (way direction wall far) (omega (arith, ints)) (omega (arith, ints)));
+        }
+        | inl all ↦ record {
+          gaps = added direction (q +ℤ pos 1) paced.gaps;
+          rises = rises_added direction (q +ℤ pos 1) paced.gaps paced.rises all;
+          met = all_added direction (IsMet z) (q +ℤ pos 1) paced.gaps (is_met z calm q w inside years) paced.met;
+          rest = up (way direction next far);
+          room = λ p past. elim (either direction p q) [
+            | inl before ↦ absurd (omega (arith, ints, before_gap direction z.reads calm p q w inside before))
+            | inr from ↦ elim (same_or_ahead direction q p from) [
+              | inl same ↦ inr (subst (λ (r : ℤ). up (way direction next (far_side direction z.reads r)) ≤ up (way direction next far)) same (omega arith))
+              | inr after ↦
+                  let lt = both_next direction q p after in
+                  let Before : ℤ → ℤ → Type 0 = λ r d. Precedes direction d (r +ℤ pos 1) in
+                  inl (all_added direction (Before p) (q +ℤ pos 1) paced.gaps lt (All-weaker (Before q) (Before p) (λ d early. omega (arith, ints)) paced.gaps all))
+            ]
+          ];
+          slack = paced.slack;
+          margin = paced.margin;
+          below = omega (arith, paced.below);
+          counted =
+              let less = up_more (way direction next far) (z.reads (q +ℤ pos 1) -ℤ z.reads q -ℤ pos 1) (omega (arith, ints)) (omega (arith, ints)) in
+              omega (arith, paced.counted, own_seconds z q, seconds_added z direction (q +ℤ pos 1) paced.gaps);
+        }
+      ]
+
+  -- a pass at a second whose nearer instant is behind: that lies near what the start shows, since the clock is put back by little
+  paced_behind : (e : ℤ) → Reaches direction (z.reads s) w → Precedes direction e s → z.reads e ≡ w → next ≡ one_on direction w → Paced direction z s next (k + 1)
+  paced_behind e from behind at moved =
+      let same = ap (along direction) at in
+      let turn = put_back z.reads (calm_of z is_calm) direction e s behind (omega (arith, ints)) in
+      let near : way direction (z.reads s) w <ℤ pos fold_limit = omega (arith, ints, turn) in
+      let one = ap (along direction) moved ∙ along-offset direction w 1 in
+      let a = up_less (way direction (z.reads s) wall) (way direction (z.reads s) w) (omega (arith, ints)) in
+      let b = nonnegative (way direction (z.reads s) w) (omega (arith, ints)) in
+      let c = nonnegative (way direction (z.reads s) next) (omega (arith, ints)) in
+      record {
+        gaps = paced.gaps;
+        rises = paced.rises;
+        met = paced.met;
+        rest = paced.rest;
+        room = λ p past. elim (paced.room p (omega (arith, ints))) [
+          | inl all ↦ inl all
+          | inr le ↦ inr (omega (arith, up_less (way direction next (far_side direction z.reads p)) (way direction wall (far_side direction z.reads p)) (omega (arith, ints))))
+        ];
+        slack = paced.slack + 1;
+        margin = omega (arith, ints, paced.below, paced.margin);
+        below = omega (arith, ints, paced.below, paced.margin);
+        counted = omega (arith, paced.counted);
+      }
+
+  pub paced_on : Reaches direction (z.reads s) w → IsSearched w → Paces direction z.reads s w next → Paced direction z s next (k + 1)
+  paced_on from years paces =
+      elim paces [ inl (unread, onward) ↦ paced_gap unread years onward | inr (moved, (e, at, behind)) ↦ paced_behind e from behind at moved ]
+
+-- a walk in a calm zone ends before its limit of passes
+pub paced_ends : (direction : Direction) (z : Zone) → IsCalm z → (s wall : ℤ) (k : ℕ) → Paced direction z s wall k → k < pass_limit
+paced_ends direction z calm s wall k paced = omega (arith, paced.counted, paced.margin, (calm.few paced.gaps paced.rises paced.met).1)

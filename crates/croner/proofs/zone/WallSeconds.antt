@@ -1,72 +1,76 @@
--- Wall seconds and years, and the seconds next to a second.
-use Rattle.std.proofs.Common.{◌≡◌, ℕ, ◌+◌, ◌-◌, ◌*◌, ◌/◌, arith, refl, ℤ, pos, ◌+ℤ◌, ◌-ℤ◌, ◌*ℤ◌, ◌<ℤ◌, ◌≤ℤ◌, Bool, IsTrue, ◌↔◌, Option, Some, None, MatchOption}
+-- Wall seconds and years, the seconds next to a second, and what the limit of the civil search means for wall seconds.
+use Rattle.std.proofs.Common.{◌≡◌, inl, inr, ℕ, ◌+◌, ◌-◌, ◌*◌, ◌/◌, Bool, true, false, IsTrue, ◌↔◌, ◌⊎◌, Option, Some, None, IfSome, MatchOption, refl, sym, subst, ◌∙◌, arith, ℤ, pos, ◌+ℤ◌, ◌-ℤ◌, ◌*ℤ◌, ◌<ℤ◌, ◌≤ℤ◌}
 use Rattle.std.proofs.lemmas.Int.{ints, by_lt_z}
 use Rattle.jiff_core.specs.Calendar.{days_of_months}
-use Rattle.croner_base.specs.declared.time.Direction.{Direction}
-use Rattle.croner_base.specs.declared.time.Direction.TheVariants.{Forward, Backward}
+use Rattle.jiff_core.proofs.SignedLemmas.{signed_arith}
 use Rattle.croner_base.specs.declared.time.civil.CivilDateTime.{CivilDateTime}
 use Rattle.croner_base.specs.Calendar.{day_seconds, day_number, year_start, days_since_zero, days_until_zero}
-use Rattle.croner_base.specs.Civil.{wall_second, seconds_of_time}
+use Rattle.croner_base.specs.Civil.{wall_second, day_of_date, seconds_of_time}
 use Rattle.croner_base.specs.Ends.{IsLastDate, IsFirstDate}
 use Rattle.croner_base.specs.Limits.{first_year, last_year, first_needed, last_needed}
 use Rattle.croner_base.proofs.calendar.DayNumbers.{day_number-next_year}
 use Rattle.croner_base.proofs.calendar.Chronology.{year_reached}
+use Rattle.croner_base.proofs.calendar.JiffSeconds.{wall_second-parts}
+use Rattle.croner_pattern.specs.Meaning.{Meaning}
+use Rattle.croner_pattern.specs.NextSecond.{has_room, edge_day, IsMove, IsOpen, IsOnSchedule, IsNearest, NoneOn, FindsNearest}
+use Rattle.croner_pattern.specs.Schedule.{IsScheduled, DateMatches, is_scheduled, is_date_matching, is_fixed_time}
+use Rattle.croner_pattern.specs.Shapes.{has_field_shapes}
+use Rattle.croner_pattern.specs.Private.Cursor.{IsMatchingTime}
+use Rattle.croner_pattern.proofs.civil.CivilOrder.{seconds_bound, same_date, reach-date, no_room-past}
+use Rattle.croner_pattern.proofs.civil.DateSearch.{bool_cases, same_match, last_day-room, last_day-no_room}
+use Rattle.croner_pattern.proofs.civil.Scheduled.{scheduled_parts}
+use Rattle.croner_pattern.proofs.civil.SingleValues.{single-value, hour_bounds, minute_bounds, single_time}
 use Rattle.croner.specs.search.Limit.{IsWithin, year_5000, year_2}
+use Rattle.croner.specs.Private.search.Schedule.{IsCovered, NextScheduled, NoneScheduled}
 use Rattle.croner.specs.Private.search.Wall.{IsLastYear}
-use Rattle.croner.specs.Private.search.Walk.{one_on}
+use Rattle.croner.proofs.zone.Ahead.{Direction, Forward, Backward, Precedes, Reaches, one_on, not_both, reaches-trans}
 
 -- a step of one second, by the direction
-pub step_forward : (dir : Direction) (c : CivilDateTime) (r : Option CivilDateTime) → dir ≡ Forward → MatchOption r (IsLastDate c.date × (seconds_of_time c.time ≡ day_seconds - 1)) (λ moved. wall_second moved ≡ wall_second c +ℤ pos 1) → MatchOption r (IsLastYear dir c.date.year) (λ moved. wall_second moved ≡ one_on dir (wall_second c))
-step_forward Forward c None is h = let last = h.0 in last.year_is
-step_forward Forward c (Some moved) is h = h
-step_forward Backward c r is h = absurd cc
+pub step_forward : (dir : Direction) (c : CivilDateTime) (r : Option CivilDateTime) → dir ≡ Forward
+    → MatchOption r (IsLastDate c.date × (seconds_of_time c.time ≡ day_seconds - 1)) (λ moved. wall_second moved ≡ wall_second c +ℤ pos 1)
+    → MatchOption r (IsLastYear dir c.date.year) (λ moved. wall_second moved ≡ one_on dir (wall_second c))
+step_forward dir c None is h = let last = h.0 in rw is last.year_is
+step_forward dir c (Some moved) is h = rw is h
 
-pub step_backward : (dir : Direction) (c : CivilDateTime) (r : Option CivilDateTime) → dir ≡ Backward → MatchOption r (IsFirstDate c.date × (seconds_of_time c.time ≡ 0)) (λ moved. wall_second moved ≡ wall_second c -ℤ pos 1) → MatchOption r (IsLastYear dir c.date.year) (λ moved. wall_second moved ≡ one_on dir (wall_second c))
-step_backward Backward c None is h = let last = h.0 in last.year_is
-step_backward Backward c (Some moved) is h = h
-step_backward Forward c r is h = absurd cc
+pub step_backward : (dir : Direction) (c : CivilDateTime) (r : Option CivilDateTime) → dir ≡ Backward
+    → MatchOption r (IsFirstDate c.date × (seconds_of_time c.time ≡ 0)) (λ moved. wall_second moved ≡ wall_second c -ℤ pos 1)
+    → MatchOption r (IsLastYear dir c.date.year) (λ moved. wall_second moved ≡ one_on dir (wall_second c))
+step_backward dir c None is h = let last = h.0 in rw is last.year_is
+step_backward dir c (Some moved) is h = rw is h
 
 -- the day on which a year from 0 on begins
 abbrev first_day : ℕ → ℤ
 first_day y = pos (365 * y + (y + 3) / 4 - (y + 99) / 100 + (y + 399) / 400) -ℤ pos 719_528
 
 -- the years at which a search's span ends, and those far outside, begin at these days
-pub first_of_5000 : day_number (pos last_year) 1 1 ≡ first_day last_year
-unfolding day_number year_start days_since_zero days_until_zero days_of_months
-first_of_5000 = refl
+abbrev Begins : ℕ → Type 0
+Begins y = day_number (pos y) 1 1 ≡ first_day y
 
-first_of_5002 : day_number (pos (last_year + 2)) 1 1 ≡ first_day (last_year + 2)
+begins : Begins last_year × Begins (first_year + 1) × Begins (last_year + 2) × Begins (first_year - 1)
 unfolding day_number year_start days_since_zero days_until_zero days_of_months
-first_of_5002 = refl
+begins = (refl, refl, refl, refl)
 
-first_of_2 : day_number (pos (first_year + 1)) 1 1 ≡ first_day (first_year + 1)
-unfolding day_number year_start days_since_zero days_until_zero days_of_months
-first_of_2 = refl
-
-first_of_0 : day_number (pos (first_year - 1)) 1 1 ≡ first_day (first_year - 1)
-unfolding day_number year_start days_since_zero days_until_zero days_of_months
-first_of_0 = refl
-
-pub last_of_1 : day_number (pos first_year) 12 31 ≡ first_day (first_year + 1) -ℤ pos 1
-last_of_1 = omega (arith, ints, first_of_2, day_number-next_year (pos first_year))
+last_of_1 : day_number (pos first_year) 12 31 ≡ first_day (first_year + 1) -ℤ pos 1
+last_of_1 = omega (arith, ints, begins.1, day_number-next_year (pos first_year))
 
 -- a date-time is of a year or a later one from the year's first second on
-year_from : (c : CivilDateTime) (y first day : ℤ) → day_number y 1 1 ≡ day → first ≡ day *ℤ pos day_seconds → (y ≤ℤ c.date.year) ↔ (first ≤ℤ wall_second c)
-year_from c y first day e f = rw (f, ← e) (year_reached c y)
+year_from : (c : CivilDateTime) (y : ℕ) (first : ℤ) → Begins y → first ≡ first_day y *ℤ pos day_seconds → (pos y ≤ℤ c.date.year) ↔ (first ≤ℤ wall_second c)
+year_from c y first e f = rw (f, ← e) (year_reached c (pos y))
 
-pub within_forward : (direction : Direction) (c : CivilDateTime) (b : Bool) → direction ≡ Forward → (IsTrue b ↔ c.date.year <ℤ pos last_year) → IsTrue b ↔ IsWithin direction (wall_second c)
-within_forward Backward c b e f = absurd (cc)
-within_forward Forward c b e f =
-    let at = year_from c (pos last_year) year_5000 (first_day last_year) first_of_5000 refl in (
+pub within_forward : (direction : Direction) (c : CivilDateTime) (b : Bool) → direction ≡ Forward → (IsTrue b ↔ c.date.year <ℤ pos last_year)
+    → IsTrue b ↔ IsWithin direction (wall_second c)
+within_forward direction c b e f =
+    let at = year_from c last_year year_5000 begins.0 refl in
+    rw e (
       λ t. by_lt_z (wall_second c) year_5000 (λ lt. lt) (λ le. let late = at.1 le in let early = f.0 t in absurd (omega (arith, ints))),
       λ h. by_lt_z c.date.year (pos last_year) (λ lt. f.1 lt) (λ le. let late = at.0 le in absurd (omega (arith, ints))),
     )
 
-pub within_backward : (direction : Direction) (c : CivilDateTime) (b : Bool) → direction ≡ Backward → (IsTrue b ↔ pos first_year <ℤ c.date.year) → IsTrue b ↔ IsWithin direction (wall_second c)
-within_backward Forward c b e f = absurd (cc)
-within_backward Backward c b e f =
-    let at = year_from c (pos (first_year + 1)) year_2 (first_day (first_year + 1)) first_of_2 refl in
-    (λ t. let late = f.0 t in at.0 (omega (arith, ints)), λ h. let late = at.1 h in f.1 (omega (arith, ints)))
+pub within_backward : (direction : Direction) (c : CivilDateTime) (b : Bool) → direction ≡ Backward → (IsTrue b ↔ pos first_year <ℤ c.date.year)
+    → IsTrue b ↔ IsWithin direction (wall_second c)
+within_backward direction c b e f =
+    let at = year_from c (first_year + 1) year_2 begins.1 refl in
+    rw e (λ t. let late = f.0 t in at.0 (omega (arith, ints)), λ h. let late = at.1 h in f.1 (omega (arith, ints)))
 
 -- a wall second that no search comes to
 abbrev pub IsFar : Direction → ℤ → Type 0
@@ -76,8 +80,85 @@ IsFar Backward w = w <ℤ first_needed
 -- the last years that a date can have lie far outside
 pub last_year_far : (direction : Direction) (c : CivilDateTime) → IsLastYear direction c.date.year → IsFar direction (wall_second c)
 last_year_far Forward c e =
-    let late = (year_from c (pos (last_year + 2)) (last_needed +ℤ pos 1) (first_day (last_year + 2)) first_of_5002 refl).0 (omega (arith, ints)) in
+    let late = (year_from c (last_year + 2) (last_needed +ℤ pos 1) begins.2 refl).0 (omega (arith, ints)) in
     omega (arith, ints)
 last_year_far Backward c e =
     by_lt_z (wall_second c) first_needed (λ lt. lt)
-    (λ le. let late = (year_from c (pos (first_year - 1)) first_needed (first_day (first_year - 1)) first_of_0 refl).1 le in absurd (omega (arith, ints)))
+    (λ le. let late = (year_from c (first_year - 1) first_needed begins.3 refl).1 le in absurd (omega (arith, ints)))
+
+-- ---- the civil search
+
+-- the nearest of date-times is the nearest of wall seconds
+next_second : (m : Meaning) (dir : Direction) (from c : CivilDateTime) → IsNearest wall_second (IsOnSchedule m) dir (wall_second from) c → NextScheduled dir (IsScheduled m) (wall_second from) (wall_second c)
+next_second m dir from c n = record {
+  on = n.on;
+  is = record { shown = c; shows = refl; matches = n.is };
+  none = λ v r p is.
+      not_both dir v (wall_second c) p
+      (subst (Reaches dir (wall_second c)) is.shows (n.first is.shown (subst (Reaches dir (wall_second from)) (sym is.shows) r) is.matches));
+}
+
+-- the day of a covered second lies before the edge, or there backward for a fixed-time job
+covered_day : (dir : Direction) (fixed : Bool) (y : CivilDateTime) → IsCovered dir fixed (wall_second y)
+    → Reaches dir (day_of_date y.date) (edge_day dir) × (Precedes dir (day_of_date y.date) (edge_day dir) ⊎ (fixed ≡ true))
+covered_day Forward fixed y h =
+    let before : Precedes Forward (day_of_date y.date) (edge_day Forward) = omega (arith, signed_arith, begins.0, wall_second-parts y) in
+    (omega (arith, signed_arith), inl before)
+covered_day Backward false y h =
+    let before : Precedes Backward (day_of_date y.date) (edge_day Backward) = omega (arith, signed_arith, last_of_1, wall_second-parts y, seconds_bound y.time) in
+    (omega (arith, signed_arith), inl before)
+covered_day Backward true y h = (omega (arith, signed_arith, last_of_1, wall_second-parts y, seconds_bound y.time), inr refl)
+
+-- a job at one time of the day needs no step
+fixed_move : (m : Meaning) (from y : CivilDateTime) → has_field_shapes m ≡ true → is_fixed_time m ≡ true → IsMatchingTime m y.time → IsMove m from.time y.time
+fixed_move m from y shapes fixed is =
+    let s = single_time m fixed in
+    let h = hour_bounds m shapes in
+    let n = minute_bounds m shapes in
+    record {
+      hour = λ p. single-value m.hours 23 y.time.hour from.time.hour s.hours h.min h.max (omega (arith, y.time.hour_in)) (omega (arith, from.time.hour_in)) is.hour p;
+      minute = λ _ p. single-value m.minutes 59 y.time.minute from.time.minute s.minutes n.min n.max (omega (arith, y.time.minute_in)) (omega (arith, from.time.minute_in)) is.minute p;
+    }
+
+-- a covered second is open: from a year without room none lies before the edge
+open_covered : (m : Meaning) (dir : Direction) (fixed : Bool) (from y : CivilDateTime) → has_field_shapes m ≡ true → (fixed ≡ true → is_fixed_time m ≡ true)
+    → Reaches dir (wall_second from) (wall_second y) → is_scheduled m y ≡ true → IsCovered dir fixed (wall_second y) → IsOpen m dir from y
+open_covered m dir fixed from y shapes f r is covered =
+    let (reach, near) = covered_day dir fixed y covered in
+    let day = day_of_date y.date in
+    record {
+      scheduled = is;
+      within = elim (bool_cases (has_room dir from.date.year)) [
+        | inl room ↦ subst (Reaches dir day) (sym (last_day-room dir from.date room)) reach
+        | inr none ↦
+            let past = reaches-trans dir day (edge_day dir) (day_of_date from.date) reach (no_room-past dir from.date none) in
+            subst (Reaches dir day) (sym (last_day-no_room dir from.date none)) past
+      ];
+      move = λ lacks. elim near [
+        | inl before ↦ absurd (not_both dir day (edge_day dir) before (reaches-trans dir (edge_day dir) (day_of_date from.date) day (no_room-past dir from.date lacks) (reach-date dir from y r)))
+        | inr is_fixed ↦ let p = scheduled_parts m y is in fixed_move m from y shapes (f is_fixed) p.time
+      ];
+    }
+
+none_covered : (m : Meaning) (dir : Direction) (fixed : Bool) (from : CivilDateTime) → has_field_shapes m ≡ true → (fixed ≡ true → is_fixed_time m ≡ true)
+    → NoneOn wall_second (IsOpen m dir from) dir (wall_second from) → NoneScheduled dir fixed (IsScheduled m) (wall_second from)
+none_covered m dir fixed from shapes f none w r covered is =
+    let reach = subst (Reaches dir (wall_second from)) (sym is.shows) r in
+    none is.shown reach (open_covered m dir fixed from is.shown shapes f reach is.matches (subst (IsCovered dir fixed) (sym is.shows) covered))
+
+-- what the civil search answers
+pub search_answer : (m : Meaning) (dir : Direction) (from : CivilDateTime) (r : Option CivilDateTime) → has_field_shapes m ≡ true
+    → FindsNearest wall_second (IsOpen m dir from) dir (wall_second from) r → IfSome r (IsNearest wall_second (IsOnSchedule m) dir (wall_second from))
+    → MatchOption r (NoneScheduled dir (is_fixed_time m) (IsScheduled m) (wall_second from)) (λ w. NextScheduled dir (IsScheduled m) (wall_second from) (wall_second w))
+search_answer m dir from None shapes f n = none_covered m dir (is_fixed_time m) from shapes (λ e. e) f
+search_answer m dir from (Some w) shapes f n = next_second m dir from w n
+
+same_day : (a b : CivilDateTime) → wall_second a ≡ wall_second b → day_of_date a.date ≡ day_of_date b.date
+same_day a b h =
+    omega (arith, signed_arith, wall_second-parts a, wall_second-parts b, seconds_bound a.time, seconds_bound b.time)
+
+pub date_answer : (m : Meaning) (c : CivilDateTime) (b : Bool) → b ≡ is_date_matching m c.date → IsTrue b ↔ DateMatches m (wall_second c)
+date_answer m c b e = (
+  λ t. record { shown = c; shows = refl; matches = sym e ∙ t },
+  λ d. e ∙ same_match m c.date d.shown.date (same_date c.date d.shown.date (same_day c d.shown (sym d.shows))) d.matches,
+)

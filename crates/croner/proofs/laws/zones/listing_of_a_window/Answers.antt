@@ -1,4 +1,4 @@
-use Rattle.croner.proofs.zone.WindowListings.{same_left, begins_well, passed_well, span_well}
+use Rattle.croner.proofs.zone.Windows.{same_left, begins_well, span_well}
 use Rattle.croner_base.specs.ZonedZone.{zoned_zone}
 use Rattle.croner.specs.iterator.Listing.{IsLeft}
 use Rattle.croner.specs.laws.Zones.{in_zone}
@@ -11,11 +11,11 @@ returns-clause-left c = λ zone first last s h i hi.
 
 pub returns-clause-begins : goal.returns-clause-begins
 returns-clause-begins c = λ zone first last s h items more n well.
-    begins_well s.direction zone first last s.position.instant (IsLeft s) (IsLeft (in_zone (zoned_zone zone) s)) items more (same_left zone first last c.args.table.now s h) n well
+    begins_well zone first last s.direction s.position.instant (IsLeft s) (IsLeft (in_zone (zoned_zone zone) s)) items more (same_left zone first last c.args.table.now s h) n well
 
 pub returns-clause-passed : goal.returns-clause-passed
 returns-clause-passed c = λ zone first last s h items i item n hi left has reaches.
-    passed_well s.direction zone first last s.position.instant (IsLeft s) (IsLeft (in_zone (zoned_zone zone) s)) items i item (same_left zone first last c.args.table.now s h) n hi left has reaches
+    n.complete i item ((same_left zone first last c.args.table.now s h).back i hi left) has reaches
 
 pub returns-clause-all : goal.returns-clause-all
 returns-clause-all c = λ zone first last s h items i all hi left inside.

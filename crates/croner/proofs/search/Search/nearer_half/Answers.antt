@@ -1,12 +1,13 @@
+use Rattle.std.proofs.Common.{inl, inr}
 use Rattle.croner.specs.Private.search.Sought.{start_of}
 use Rattle.croner.proofs.zone.ErrorsKept.{error_kept}
-use Rattle.croner.proofs.zone.HalfEdges.{refuted, shown}
-use Rattle.croner.proofs.zone.SearchLimit.{first_one_half, first_alone, first_before, second_nearer, first_nearer, second_none, second_error, refused_half, refused_limit, refused_backend}
+use Rattle.croner.proofs.zone.HalfEdges.{refuted}
+use Rattle.croner.proofs.zone.SearchLimit.{found_alone, first_before, second_nearer, first_nearer, second_none, second_error, refused_half, refused_limit, refused_backend}
 use Rattle.croner.proofs.search.Search.nearer_half.Goals as goal
 
 pub returns-then-not-counts_both-clause-found : goal.returns-then-not-counts_both-clause-found
 returns-then-not-counts_both-clause-found g c =
-    first_one_half g.T.CronDateTime.moment _ _ _ _ (λ p. c.requires.walked.ahead p.1) _ (refuted _ _ c.if-not-counts_both.true c.counts_both.ensures) c.requires.walked
+    found_alone g.T.CronDateTime.moment _ _ _ _ (λ p. c.requires.walked.ahead p.1) _ (λ h. inl (refuted _ _ c.if-not-counts_both.true c.counts_both.ensures)) c.requires.walked
 
 pub returns-in_err-edge-clause-refused : goal.returns-in_err-edge-clause-refused
 returns-in_err-edge-clause-refused g c =
@@ -16,12 +17,12 @@ returns-in_err-edge-clause-refused g c =
 pub returns-in_default-clause-found : goal.returns-in_default-clause-found
 returns-in_default-clause-found g c =
     let none = rw c.in_default.is at c.in_ok-edge.ensures.value in
-    first_alone g.T.CronDateTime.moment _ _ _ _ (λ p. c.requires.walked.ahead p.1) _ none c.requires.walked
+    found_alone g.T.CronDateTime.moment _ _ _ _ (λ p. c.requires.walked.ahead p.1) _ (λ h. inr (none h)) c.requires.walked
 
 pub returns-then-precedes-clause-found : goal.returns-then-precedes-clause-found
 returns-then-precedes-clause-found g c =
     let half = rw c.in-Some.is at c.in_ok-edge.ensures.value in
-    first_before g.T.CronDateTime.moment _ _ _ _ (λ p. c.requires.walked.ahead p.1) _ _ _ (shown _ _ c.if-not-counts_both.false c.counts_both.ensures) half c.if-precedes.true c.precedes.ensures c.requires.walked
+    first_before g.T.CronDateTime.moment _ _ _ _ _ (c.counts_both.ensures.0 c.if-not-counts_both.false) half (λ p. c.requires.walked.ahead p.1) _ (c.precedes.ensures.0 c.if-precedes.true) c.requires.walked
 
 pub returns-in_err-second-clause-refused : goal.returns-in_err-second-clause-refused
 returns-in_err-second-clause-refused g c =
@@ -33,16 +34,16 @@ pub returns-in_default-2-clause-refused : goal.returns-in_default-2-clause-refus
 returns-in_default-2-clause-refused g c =
     let half = rw c.in-Some.is at c.in_ok-edge.ensures.value in
     let there = rw c.in_default-2.is at c.in_ok-second.ensures.value in
-    refused_limit _ _ _ _ _ (second_none g.T.CronDateTime.moment _ _ _ _ _ _ _ (shown _ _ c.if-not-counts_both.false c.counts_both.ensures) half c.if-precedes.false c.precedes.ensures c.requires.walked there)
+    refused_limit _ _ _ _ _ (second_none g.T.CronDateTime.moment _ _ _ _ _ (c.counts_both.ensures.0 c.if-not-counts_both.false) half _ (refuted _ _ c.if-precedes.false c.precedes.ensures) c.requires.walked there)
 
 pub returns-then-precedes-2-clause-found : goal.returns-then-precedes-2-clause-found
 returns-then-precedes-2-clause-found g c =
     let half = rw c.in-Some.is at c.in_ok-edge.ensures.value in
     let there = rw c.in-Some-2.is at c.in_ok-second.ensures.value in
-    second_nearer g.T.CronDateTime.moment _ _ _ _ (λ p. c.requires.walked.ahead p.1) _ _ _ _ (shown _ _ c.if-not-counts_both.false c.counts_both.ensures) half c.if-precedes-2.true c.precedes-2.ensures c.requires.walked there
+    second_nearer g.T.CronDateTime.moment _ _ _ _ _ (c.counts_both.ensures.0 c.if-not-counts_both.false) half (λ p. c.requires.walked.ahead p.1) _ _ (c.precedes-2.ensures.0 c.if-precedes-2.true) c.requires.walked there
 
 pub returns-else-precedes-2-clause-found : goal.returns-else-precedes-2-clause-found
 returns-else-precedes-2-clause-found g c =
     let half = rw c.in-Some.is at c.in_ok-edge.ensures.value in
     let there = rw c.in-Some-2.is at c.in_ok-second.ensures.value in
-    first_nearer g.T.CronDateTime.moment _ _ _ _ (λ p. c.requires.walked.ahead p.1) _ _ _ _ (shown _ _ c.if-not-counts_both.false c.counts_both.ensures) half c.if-precedes-2.false c.precedes-2.ensures c.requires.walked there
+    first_nearer g.T.CronDateTime.moment _ _ _ _ _ (c.counts_both.ensures.0 c.if-not-counts_both.false) half (λ p. c.requires.walked.ahead p.1) _ _ (refuted _ _ c.if-precedes-2.false c.precedes-2.ensures) c.requires.walked there

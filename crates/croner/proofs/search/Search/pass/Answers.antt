@@ -1,4 +1,4 @@
-use Rattle.croner.proofs.zone.WalkLoop.{single_walked}
+use Rattle.croner.proofs.zone.Walks.{single_walked}
 use Rattle.croner.proofs.search.Search.pass.Goals as goal
 
 pub returns-in-Single-clause-value : goal.returns-in-Single-clause-value

@@ -1,6 +1,6 @@
 use Rattle.croner_base.specs.Civil.{wall_second}
-use Rattle.croner.proofs.zone.ErrorsKept.{error_kept}
-use Rattle.croner.proofs.zone.WalkLoop.{chosen_walked, past_two, can_move, backend_error, searched_not_last}
+use Rattle.croner.proofs.zone.ErrorsKept.{error_kept, backend_error}
+use Rattle.croner.proofs.zone.Walks.{chosen_walked, past_two, can_move, searched_not_last}
 use Rattle.croner.specs.Private.search.Sought.{start_of}
 use Rattle.croner.proofs.search.Search.pass_two.Goals as goal
 use Rattle.std.proofs.Common.{inl, inr}
@@ -23,8 +23,8 @@ pub returns-in-Some-clause-value : goal.returns-in-Some-clause-value
 returns-in-Some-clause-value g c =
     let names = c.requires.resolved in
     let taken = rw c.in-Some.is at c.in_ok-answer.ensures in
-    chosen_walked g.T.CronDateTime.moment _ _ _ (start_of g.T.CronDateTime.moment c.args.self.now) c.args.found c.args.earlier c.args.later _
-    names.0 names.1 names.3 c.requires.scheduled c.requires.walking taken.one taken.value
+    chosen_walked g.T.CronDateTime.moment _ _ _ (start_of g.T.CronDateTime.moment c.args.self.now) c.args.found c.args.earlier c.args.later
+    names.0 names.1 names.3 c.requires.walking _ c.requires.scheduled taken.one taken.value
 
 pub unreachable-requires : goal.unreachable-requires
 unreachable-requires g c =
@@ -37,5 +37,5 @@ returns-in-Some-one_second_on-clause-value g c =
     let names = c.requires.resolved in
     let taken = rw c.in-None.is at c.in_ok-answer.ensures in
     let moved = rw c.in-Some-one_second_on.is at c.one_second_on.ensures in
-    past_two g.T.CronDateTime.moment _ _ _ (start_of g.T.CronDateTime.moment c.args.self.now) c.args.found c.args.earlier c.args.later _
-    names.0 names.1 names.3 c.requires.walking taken.value moved
+    past_two g.T.CronDateTime.moment _ _ _ (start_of g.T.CronDateTime.moment c.args.self.now) c.args.found c.args.earlier c.args.later
+    names.0 names.1 names.3 c.requires.walking _ taken.value moved

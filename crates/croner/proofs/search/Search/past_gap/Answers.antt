@@ -1,4 +1,4 @@
-use Rattle.croner.proofs.zone.WalkLoop.{searched_not_last}
+use Rattle.croner.proofs.zone.Walks.{searched_not_last}
 use Rattle.croner.proofs.search.Search.past_gap.Goals as goal
 
 pub unreachable-requires : goal.unreachable-requires

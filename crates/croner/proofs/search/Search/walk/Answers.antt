@@ -2,9 +2,8 @@ use Rattle.std.proofs.Common.{◌∙◌, ap, arith}
 use Rattle.croner_base.specs.Civil.{wall_second}
 use Rattle.croner.specs.Private.search.Sought.{start_of, sought}
 use Rattle.croner.specs.Private.search.Walk.{walk_start}
-use Rattle.croner.proofs.zone.CalmZone.{calm_of}
-use Rattle.croner.proofs.zone.WalkPace.{paced_start, paced_on, paced_ends}
-use Rattle.croner.proofs.zone.WalkLoop.{walking_start, walking_next, walk_reaches, something_ahead, out_far}
+use Rattle.croner.proofs.zone.GapSides.{paced_start, paced_on, paced_ends}
+use Rattle.croner.proofs.zone.Walks.{walking_start, walking_next, walk_reaches, something_ahead, out_far}
 use Rattle.croner.proofs.zone.ErrorsKept.{error_kept}
 use Rattle.croner.proofs.search.Search.walk.Goals as goal
 
@@ -47,7 +46,7 @@ loop-passed-preserved g c =
     let passed = rw c.in-GoOn.is at c.in_ok-answer.ensures in
     record {
       walking = passed.value.0;
-      paced = λ calm. paced_on search.direction start.zone.reads (calm_of start.zone calm.calm) start.instant _ _ _ _ (c.loop-passed.invariant.paced calm) found.on (walk_reaches _ _ job _ _ _ there) searched (passed.value.1 calm);
+      paced = λ calm. paced_on search.direction start.zone calm.calm start.instant _ _ _ _ (c.loop-passed.invariant.paced calm) found.on (walk_reaches _ _ job _ _ _ there) searched (passed.value.1 calm);
     }
 
 pub returns-clause-value : goal.returns-clause-value

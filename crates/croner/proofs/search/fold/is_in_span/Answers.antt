@@ -1,12 +1,12 @@
-use Rattle.croner.proofs.zone.ErrorsKept.{error_kept}
+use Rattle.croner.proofs.zone.ErrorsKept.{error_kept, backend_error}
+use Rattle.croner.proofs.zone.HalfEdges.{outside_span, alone_in_span, across_in_span, refuted, start_within, start_outside}
 use Rattle.croner.proofs.zone.SearchLimit.{holds_here}
-use Rattle.croner.proofs.zone.Span.{outside_span, alone_in_span, across_in_span}
-use Rattle.croner.proofs.zone.WalkLoop.{backend_error}
 use Rattle.croner.proofs.search.fold.is_in_span.Goals as goal
 
 pub returns-then-not-is_within-clause-value : goal.returns-then-not-is_within-clause-value
 returns-then-not-is_within-clause-value g c = λ calm.
-    outside_span c.args.direction (g.T.CronDateTime.moment c.args.run.now) _ c.to_civil-shown.ensures _ c.is_within.ensures c.if-not-is_within.true
+    let m = g.T.CronDateTime.moment c.args.run.now in
+    outside_span c.args.direction m (start_outside _ m _ _ c.if-not-is_within.true c.to_civil-shown.ensures c.is_within.ensures)
 
 pub returns-in_err-is_on_first_half-clause-err : goal.returns-in_err-is_on_first_half-clause-err
 returns-in_err-is_on_first_half-clause-err g c =
@@ -15,12 +15,14 @@ returns-in_err-is_on_first_half-clause-err g c =
 
 pub returns-then-not-branch-clause-value : goal.returns-then-not-branch-clause-value
 returns-then-not-branch-clause-value g c = λ calm.
-    alone_in_span c.args.direction (g.T.CronDateTime.moment c.args.run.now) _ c.to_civil-shown.ensures _ c.is_within.ensures
-    c.opposite-back.result c.in_ok-is_on_first_half.field-0 c.if-not-is_within.false c.opposite-back.ensures c.if-not-branch.true (c.in_ok-is_on_first_half.ensures.value calm) calm
+    let m = g.T.CronDateTime.moment c.args.run.now in
+    let within = start_within _ m _ _ c.if-not-is_within.false c.to_civil-shown.ensures c.is_within.ensures in
+    alone_in_span c.args.direction m _ within c.opposite-back.ensures (refuted _ _ c.if-not-branch.true (c.in_ok-is_on_first_half.ensures.value calm)) calm
 
 pub returns-clause-value : goal.returns-clause-value
 returns-clause-value g c = λ calm.
+    let m = g.T.CronDateTime.moment c.args.run.now in
+    let within = start_within _ m _ _ c.if-not-is_within.false c.to_civil-shown.ensures c.is_within.ensures in
     let edge = rw c.in-Some.is at c.in_ok-edge.ensures.value in
-    across_in_span c.args.direction (g.T.CronDateTime.moment c.args.run.now) _ c.to_civil-shown.ensures _ c.is_within.ensures
-    g.T.CronDateTime.moment c.opposite-back.result c.in_ok-is_on_first_half.field-0 c.in-Some.edge _ _ c.if-not-is_within.false c.opposite-back.ensures c.if-not-branch.false
-    (c.in_ok-is_on_first_half.ensures.value calm) edge c.to_civil.ensures c.is_within-2.ensures calm
+    across_in_span c.args.direction m g.T.CronDateTime.moment _ c.in-Some.edge _ _ within c.opposite-back.ensures
+    ((c.in_ok-is_on_first_half.ensures.value calm).0 c.if-not-branch.false) edge c.to_civil.ensures c.is_within-2.ensures calm

@@ -1,7 +1,6 @@
 use Rattle.std.proofs.lemmas.Result.{IfErr-weaker}
-use Rattle.croner.proofs.zone.ErrorsKept.{error_kept}
+use Rattle.croner.proofs.zone.ErrorsKept.{error_kept, backend_error}
 use Rattle.croner.proofs.zone.HalfEdges.{test_moved, holds_there, holds_second_there}
-use Rattle.croner.proofs.zone.WalkLoop.{backend_error}
 use Rattle.croner.proofs.search.fold.is_offset_on_first_half.Goals as goal
 
 pub returns-in_err-there-clause-err : goal.returns-in_err-there-clause-err

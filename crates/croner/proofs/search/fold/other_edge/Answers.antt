@@ -1,7 +1,6 @@
 use Rattle.std.proofs.Common.{arith}
-use Rattle.croner.proofs.zone.ErrorsKept.{error_kept}
+use Rattle.croner.proofs.zone.ErrorsKept.{error_kept, backend_error}
 use Rattle.croner.proofs.zone.HalfEdges.{bisect_start, bisect_out, none_within, edge_found, holds_there}
-use Rattle.croner.proofs.zone.WalkLoop.{backend_error}
 use Rattle.croner.proofs.search.fold.other_edge.Goals as goal
 
 pub returns-then-branch-clause-value : goal.returns-then-branch-clause-value

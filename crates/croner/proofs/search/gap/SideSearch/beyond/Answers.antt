@@ -1,5 +1,5 @@
 use Rattle.croner.proofs.zone.GapSides.{shown_one, shown_two, next_skipped}
-use Rattle.croner.proofs.zone.WalkLoop.{searched_not_last}
+use Rattle.croner.proofs.zone.Walks.{searched_not_last}
 use Rattle.croner.proofs.search.gap.SideSearch.beyond.Goals as goal
 
 pub unreachable-requires : goal.unreachable-requires

@@ -1,14 +1,15 @@
-use Rattle.std.proofs.Common.{arith, ◌≡◌, ℕ, subst}
+use Rattle.std.proofs.Common.{arith, ◌≡◌, ℕ, subst, sym}
 use Rattle.croner_base.specs.Civil.{wall_second}
 use Rattle.croner.specs.Private.search.Gaps.{IsSkipped}
 use Rattle.croner.specs.Private.search.Halves.{offset_from}
-use Rattle.croner.proofs.zone.GapSides.{own_skipped}
+use Rattle.croner.proofs.zone.Ahead.{zero_on}
+use Rattle.croner.proofs.zone.GapSides.{next_skipped}
 use Rattle.croner.proofs.search.gap.SideSearch.first_beyond.Goals as goal
 
 pub loop-inside-init : goal.loop-inside-init
 loop-inside-init g c = record {
   near = omega arith;
-  skipped = own_skipped c.args.self.now.direction (g.T.CronDateTime.moment c.args.self.now.time.now).zone c.args.self.now.skipped c.requires.in_gap;
+  skipped = next_skipped (g.T.CronDateTime.moment c.args.self.now.time.now).zone _ c.args.self.now.skipped (sym (zero_on c.args.self.now.direction (wall_second c.args.self.now.skipped))) c.requires.in_gap;
 }
 
 pub returns-in-Some : goal.returns-in-Some

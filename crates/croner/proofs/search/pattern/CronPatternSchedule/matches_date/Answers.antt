@@ -1,7 +1,7 @@
 use Rattle.std.proofs.Common.{ap, ◌∙◌}
 use Rattle.croner_pattern.specs.Meaning.{meaning_of}
 use Rattle.croner_pattern.specs.Schedule.{is_date_matching}
-use Rattle.croner.proofs.zone.Covered.{date_answer}
+use Rattle.croner.proofs.zone.WallSeconds.{date_answer}
 use Rattle.croner.proofs.search.pattern.CronPatternSchedule.matches_date.Goals as goal
 
 pub returns : goal.returns

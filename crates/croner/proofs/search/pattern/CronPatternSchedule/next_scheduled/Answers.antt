@@ -1,5 +1,5 @@
 use Rattle.croner_pattern.specs.Meaning.{meaning_of}
-use Rattle.croner.proofs.zone.Covered.{search_answer}
+use Rattle.croner.proofs.zone.WallSeconds.{search_answer}
 use Rattle.croner.proofs.search.pattern.CronPatternSchedule.next_scheduled.Goals as goal
 
 pub returns : goal.returns
