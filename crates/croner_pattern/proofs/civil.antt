@@ -2,7 +2,6 @@
 pub mod Ahead
 pub mod CivilOrder
 pub mod DateSearch
-pub mod DaysOfMonths
 pub mod ExamplesCursor
 pub mod FieldBits
 pub mod Foremost
@@ -10,5 +9,4 @@ pub mod MonthKinds
 pub mod Scheduled
 pub mod SingleValues
 pub mod TimeSearch
-pub mod ValueSearch
 pub mod Weekdays

@@ -3,7 +3,7 @@
 use Rattle.std.proofs.Common.{◌≡◌, inl, inr, ℤ, pos, ◌+ℤ◌, ◌-ℤ◌, ◌<ℤ◌, ◌≤ℤ◌, arith, sym, ap, subst, ◌∙◌, Bool, true, false}
 use Rattle.std.proofs.Props.{props}
 use Rattle.std.proofs.Math.Logic.{∥∥₁_elim, ∥∥₁_map}
-use Rattle.std.proofs.lemmas.Bool.{false≢true}
+use Rattle.std.proofs.lemmas.Bool.{and_parts, false≢true}
 use Rattle.std.proofs.lemmas.Int.{ints}
 use mathlib.Core.HLevel.{is_prop→PathP}
 use mathlib.Core.Sum.{⊎_set}
@@ -24,8 +24,8 @@ use Rattle.croner.specs.Private.search.Halves.{Break}
 use Rattle.croner.specs.search.PatternJob.{pattern_job, timetable_of}
 use Rattle.croner.specs.search.Searches.{IsFound}
 use Rattle.croner.specs.search.Runs.{Reaches, OwnRun, CarriedRun, Run, StartCounts, Counts}
-use Rattle.croner_pattern.proofs.civil.DateSearch.{and-split}
-use Rattle.croner_pattern.proofs.civil.SingleValues.{single-value, single_time, second_bounds, minute_bounds, hour_bounds}
+use Rattle.croner_pattern.proofs.civil.SingleValues.{single-value, single_time}
+use Rattle.croner_pattern.proofs.questions.FieldShapes.{field_shapes}
 use Rattle.croner.proofs.zone.Ahead.{either, not_both}
 use Rattle.croner.proofs.zone.ZoneOrder.{calm_of, Calm, cases_lt_z, below_before}
 use Rattle.croner.proofs.zone.Walks.{true_or_false, is_run}
@@ -61,9 +61,9 @@ module _ (m : Meaning) where
 
   timed : (c : CivilDateTime) → is_scheduled m c ≡ true → IsTimed c
   timed c h =
-      let one = and-split _ _ h in
-      let two = and-split _ _ one.1 in
-      let three = and-split _ _ two.1 in
+      let one = and_parts _ _ h in
+      let two = and_parts _ _ one.1 in
+      let three = and_parts _ _ two.1 in
       record { second = one.0; minute = two.0; hour = three.0 }
 
   module _ (shapes : has_field_shapes m ≡ true) (fixed : is_fixed_time m ≡ true) where
@@ -71,9 +71,10 @@ module _ (m : Meaning) where
     one_time : (a b : CivilDateTime) → IsTimed a → IsTimed b → seconds_of_time a.time ≡ seconds_of_time b.time
     one_time a b s t =
         let single = single_time m fixed in
-        let second_range = second_bounds m shapes in
-        let minute_range = minute_bounds m shapes in
-        let hour_range = hour_bounds m shapes in
+        let fields = field_shapes m shapes in
+        let second_range = fields.seconds in
+        let minute_range = fields.minutes in
+        let hour_range = fields.hours in
         let second = single-value m.seconds 59 a.time.second b.time.second single.seconds second_range.min second_range.max (omega (arith, a.time.second_in)) (omega (arith, b.time.second_in)) s.second t.second in
         let minute = single-value m.minutes 59 a.time.minute b.time.minute single.minutes minute_range.min minute_range.max (omega (arith, a.time.minute_in)) (omega (arith, b.time.minute_in)) s.minute t.minute in
         let hour = single-value m.hours 23 a.time.hour b.time.hour single.hours hour_range.min hour_range.max (omega (arith, a.time.hour_in)) (omega (arith, b.time.hour_in)) s.hour t.hour in

@@ -1,5 +1,6 @@
 -- Wall seconds and years, the seconds next to a second, and what the limit of the civil search means for wall seconds.
 use Rattle.std.proofs.Common.{◌≡◌, inl, inr, ℕ, ◌+◌, ◌-◌, ◌*◌, ◌/◌, Bool, true, false, IsTrue, ◌↔◌, ◌⊎◌, Option, Some, None, IfSome, MatchOption, refl, sym, subst, ◌∙◌, arith, ℤ, pos, ◌+ℤ◌, ◌-ℤ◌, ◌*ℤ◌, ◌<ℤ◌, ◌≤ℤ◌}
+use Rattle.std.proofs.lemmas.Bool.{cases_Bool}
 use Rattle.std.proofs.lemmas.Int.{ints, by_lt_z}
 use Rattle.jiff_core.specs.Calendar.{days_of_months}
 use Rattle.jiff_core.proofs.SignedLemmas.{signed_arith}
@@ -17,9 +18,10 @@ use Rattle.croner_pattern.specs.Schedule.{IsScheduled, DateMatches, is_scheduled
 use Rattle.croner_pattern.specs.Shapes.{has_field_shapes}
 use Rattle.croner_pattern.specs.Private.Cursor.{IsMatchingTime}
 use Rattle.croner_pattern.proofs.civil.CivilOrder.{seconds_bound, same_date, reach-date, no_room-past}
-use Rattle.croner_pattern.proofs.civil.DateSearch.{bool_cases, same_match, last_day-room, last_day-no_room}
+use Rattle.croner_pattern.proofs.civil.DateSearch.{same_match, last_day-room, last_day-no_room}
 use Rattle.croner_pattern.proofs.civil.Scheduled.{scheduled_parts}
-use Rattle.croner_pattern.proofs.civil.SingleValues.{single-value, hour_bounds, minute_bounds, single_time}
+use Rattle.croner_pattern.proofs.civil.SingleValues.{single-value, single_time}
+use Rattle.croner_pattern.proofs.questions.FieldShapes.{field_shapes}
 use Rattle.croner.specs.search.Limit.{IsWithin, year_5000, year_2}
 use Rattle.croner.specs.Private.search.Schedule.{IsCovered, NextScheduled, NoneScheduled}
 use Rattle.croner.specs.Private.search.Wall.{IsLastYear}
@@ -113,8 +115,9 @@ covered_day Backward true y h = (omega (arith, signed_arith, last_of_1, wall_sec
 fixed_move : (m : Meaning) (from y : CivilDateTime) → has_field_shapes m ≡ true → is_fixed_time m ≡ true → IsMatchingTime m y.time → IsMove m from.time y.time
 fixed_move m from y shapes fixed is =
     let s = single_time m fixed in
-    let h = hour_bounds m shapes in
-    let n = minute_bounds m shapes in
+    let fields = field_shapes m shapes in
+    let h = fields.hours in
+    let n = fields.minutes in
     record {
       hour = λ p. single-value m.hours 23 y.time.hour from.time.hour s.hours h.min h.max (omega (arith, y.time.hour_in)) (omega (arith, from.time.hour_in)) is.hour p;
       minute = λ _ p. single-value m.minutes 59 y.time.minute from.time.minute s.minutes n.min n.max (omega (arith, y.time.minute_in)) (omega (arith, from.time.minute_in)) is.minute p;
@@ -128,7 +131,7 @@ open_covered m dir fixed from y shapes f r is covered =
     let day = day_of_date y.date in
     record {
       scheduled = is;
-      within = elim (bool_cases (has_room dir from.date.year)) [
+      within = elim (cases_Bool (has_room dir from.date.year)) [
         | inl room ↦ subst (Reaches dir day) (sym (last_day-room dir from.date room)) reach
         | inr none ↦
             let past = reaches-trans dir day (edge_day dir) (day_of_date from.date) reach (no_room-past dir from.date none) in

@@ -7,13 +7,13 @@ use Rattle.std.proofs.lemmas.Nat.Bits.{bit_at_and, bit_at-lt, bit_at-trailing_ze
 use Rattle.jiff_core.proofs.SignedLemmas.{signed_arith}
 use Rattle.croner_base.specs.declared.time.Direction.{Direction}
 use Rattle.croner_base.specs.declared.time.Direction.TheVariants.{Forward, Backward}
-use Rattle.croner_base.specs.Field.{Field, can_ask, is_marked}
+use Rattle.croner_base.specs.Field.{Field, is_marked}
 use Rattle.croner_base.proofs.words.WordSearch.{top_bit}
 use Rattle.croner_pattern.specs.Meaning.{Meaning}
-use Rattle.croner_pattern.specs.Schedule.{is_plain}
 use Rattle.croner_pattern.specs.Shapes.{has_field_shapes}
-use Rattle.croner_pattern.proofs.questions.FieldShapes.{field_shapes, asks_sixty, asks_hour, asks_month, marked-named}
-use Rattle.croner_pattern.specs.Directions.{Reaches}
+use Rattle.croner_pattern.proofs.questions.FieldShapes.{field_shapes, asks_sixty, asks_hour, asks_month, marked_named}
+use Rattle.croner_pattern.specs.Directions.{Precedes, Reaches}
+use Rattle.croner_pattern.proofs.civil.Ahead.{either}
 use Rattle.croner_pattern.specs.Private.Cursor.{AreFrom, HoldsAll, IsOnTheWay, IsPlainWithin, IsForemost, IsNearest, NoneOn}
 
 -- ---- bits of a word
@@ -33,8 +33,8 @@ kept word mask b Ahead to back = (
 in_word : (word b : ℕ) → word < 2 ^ 64 → bit_at word b ≡ 1 → b < 64
 in_word word b fits one = elim (cases_lt b 64) [ inl lt ↦ lt | inr le ↦ absurd (omega (arith, bit_at_above word 64 b fits le, one)) ]
 
-pub from_forward : (dir : Direction) (word from : ℕ) → dir ≡ Forward → word < 2 ^ 64 → from < 64 → AreFrom dir word from (bit_and word ((2 ^ 64 - 1) * 2 ^ from % 2 ^ 64))
-from_forward Forward word from is fits small b =
+pub from_forward : (word from : ℕ) → word < 2 ^ 64 → from < 64 → AreFrom Forward word from (bit_and word ((2 ^ 64 - 1) * 2 ^ from % 2 ^ 64))
+from_forward word from fits small b =
     let e = ones_shl 64 from (omega arith) in
     rw e
     (kept word (2 ^ 64 - 2 ^ from) b (Reaches Forward (pos from) (pos b))
@@ -43,10 +43,9 @@ from_forward Forward word from is fits small b =
       | inr le ↦ omega (arith, signed_arith)
     ])
     (λ a ahead. bit_at_mask_inside from 64 b (omega (arith, signed_arith)) (in_word word b fits a)))
-from_forward Backward word from is fits small b = absurd cc
 
-pub from_backward : (dir : Direction) (word from : ℕ) → dir ≡ Backward → word < 2 ^ 64 → from < 64 → AreFrom dir word from (bit_and word ((2 ^ 64 - 1) / 2 ^ (63 - from)))
-from_backward Backward word from is fits small b =
+pub from_backward : (word from : ℕ) → word < 2 ^ 64 → from < 64 → AreFrom Backward word from (bit_and word ((2 ^ 64 - 1) / 2 ^ (63 - from)))
+from_backward word from fits small b =
     let e = ones_shr 64 (63 - from) (omega arith) in
     rw e
     (kept word (2 ^ (64 - (63 - from)) - 1) b (Reaches Backward (pos from) (pos b))
@@ -55,39 +54,25 @@ from_backward Backward word from is fits small b =
       | inr le ↦ omega (arith, signed_arith)
     ])
     (λ a ahead. bit_at_ones (64 - (63 - from)) b (omega (arith, signed_arith))))
-from_backward Forward word from is fits small b = absurd cc
 
-pub first_bit_forward : (dir : Direction) (word : ℕ) → dir ≡ Forward → 0 < word → word < 2 ^ 64 → IsForemost pos (λ b. bit_at word b ≡ 1) dir (trailing_zeros w64 word)
-first_bit_forward Forward word is some fits =
+-- a bit before which there is none
+foremost_bit : (dir : Direction) (word place : ℕ) → bit_at word place ≡ 1 → ((b : ℕ) → Precedes dir (pos b) (pos place) → bit_at word b ≡ 0) → IsForemost pos (λ b. bit_at word b ≡ 1) dir place
+foremost_bit dir word place one rest = record {
+  is = one;
+  first = λ y h. elim (either dir (pos y) (pos place)) [ inl before ↦ absurd (omega (arith, h, rest y before)) | inr on ↦ on ];
+}
+
+pub lowest_bit : (word : ℕ) → 0 < word → word < 2 ^ 64 → IsForemost pos (λ b. bit_at word b ≡ 1) Forward (trailing_zeros w64 word)
+lowest_bit word some fits =
     let t = bit_at-trailing_zeros w64 word some fits in
-    lowest word (trailing_zeros w64 word) t.1 t.2
-  where
-    lowest : (word z : ℕ) → bit_at word z ≡ 1 → ((b : ℕ) → b < z → bit_at word b ≡ 0) → IsForemost pos (λ b. bit_at word b ≡ 1) Forward z
-    lowest word z one rest = record {
-      is = one;
-      first = λ y h. elim (cases_lt y z) [
-        | inl lt ↦ absurd (omega (arith, h, rest y lt))
-        | inr le ↦ omega (arith, signed_arith)
-      ];
-    }
-first_bit_forward Backward word is some fits = absurd cc
+    foremost_bit Forward word (trailing_zeros w64 word) t.1 (λ b lt. t.2 b (omega (arith, signed_arith, lt)))
 
-pub first_bit_backward : (dir : Direction) (word : ℕ) → dir ≡ Backward → 0 < word → word < 2 ^ 64 → IsForemost pos (λ b. bit_at word b ≡ 1) dir (63 - leading_zeros w64 word)
-first_bit_backward Backward word is some fits =
+pub highest_bit : (word : ℕ) → 0 < word → word < 2 ^ 64 → IsForemost pos (λ b. bit_at word b ≡ 1) Backward (63 - leading_zeros w64 word)
+highest_bit word some fits =
     let t = leading_top 64 word some fits in
     let e : t.0 ≡ 63 - leading_zeros w64 word = omega (arith, t.1) in
     subst (IsForemost pos (λ b. bit_at word b ≡ 1) Backward) e
-    (highest word t.0 (top_bit word t.0 t.2 t.3) (λ b h. bit_at_above word (suc t.0) b t.3 (omega arith)))
-  where
-    highest : (word j : ℕ) → bit_at word j ≡ 1 → ((b : ℕ) → j < b → bit_at word b ≡ 0) → IsForemost pos (λ b. bit_at word b ≡ 1) Backward j
-    highest word j one rest = record {
-      is = one;
-      first = λ y h. elim (cases_lt j y) [
-        | inl lt ↦ absurd (omega (arith, h, rest y lt))
-        | inr le ↦ omega (arith, signed_arith)
-      ];
-    }
-first_bit_backward Forward word is some fits = absurd cc
+    (foremost_bit Backward word t.0 (top_bit word t.0 t.2 t.3) (λ b lt. bit_at_above word (suc t.0) b t.3 (omega (arith, signed_arith, lt))))
 
 pub no_bit : (word b : ℕ) → word ≡ 0 → ¬ (bit_at word b ≡ 1)
 no_bit word b e h = omega (arith, ap (λ n. bit_at n b) e, bit_at-zero b, h)
@@ -98,36 +83,28 @@ no_bit word b e h = omega (arith, ap (λ n. bit_at n b) e, bit_at-zero b, h)
 abbrev pub ShowsPlain : Field → ℕ → Type 0
 ShowsPlain f word = (v : ℕ) → v < 64 → (bit_at word v == 1) ≡ is_marked 1 f v
 
-pub plain-bit : (f : Field) (word v : ℕ) → ShowsPlain f word → v < 64 → can_ask f.shape v 1 ≡ true → is_plain f v ≡ true → bit_at word v ≡ 1
-plain-bit f word v shows small held named = eqb-true _ _ (shows v small ∙ marked-named 1 f v held ∙ named)
+module _ (f : Field) (dir : Direction) (min max from word : ℕ) (small : max < 63) (held : HoldsAll f min max) (shows : ShowsPlain f word) where
+  plain-bit : (v : ℕ) → IsPlainWithin f min max v → bit_at word v ≡ 1
+  plain-bit v p = eqb-true _ _ (shows v (omega (arith, p.high)) ∙ marked_named 1 f v (held v p.low p.high) ∙ p.plain)
 
-pub bit-plain : (f : Field) (word v : ℕ) → ShowsPlain f word → v < 64 → can_ask f.shape v 1 ≡ true → bit_at word v ≡ 1 → is_plain f v ≡ true
-bit-plain f word v shows small held one = sym (marked-named 1 f v held) ∙ sym (shows v small) ∙ ap (λ n. n == 1) one
+  pub none_ahead : NoneOn pos (λ b. bit_at word b ≡ 1) dir (pos from) → NoneOn pos (IsPlainWithin f min max) dir (pos from)
+  none_ahead none v on p = none v on (plain-bit v p)
 
-pub none-ahead : (f : Field) (dir : Direction) (min max from word ahead : ℕ) → max < 63 → HoldsAll f min max → ShowsPlain f word → AreFrom dir word from ahead → ((b : ℕ) → ¬ (bit_at ahead b ≡ 1)) → NoneOn pos (IsPlainWithin f min max) dir (pos from)
-none-ahead f dir min max from word ahead small held shows bits none y on p =
-    none y ((bits y).1 (plain-bit f word y shows (omega (arith, p.high)) (held y p.low p.high) p.plain, on))
+  pub nearest_ahead : (found : ℕ) → IsNearest pos (λ b. bit_at word b ≡ 1) dir (pos from) found → min ≤ found → found ≤ max → IsNearest pos (IsPlainWithin f min max) dir (pos from) found
+  nearest_ahead found h low high = record {
+    on = h.on;
+    is = record { low = low; high = high; plain = sym (marked_named 1 f found (held found low high)) ∙ sym (shows found (omega arith)) ∙ ap (λ n. n == 1) h.is };
+    first = λ v on p. h.first v on (plain-bit v p);
+  }
 
-pub nearest-ahead : (f : Field) (dir : Direction) (min max from word ahead found : ℕ) → max < 63 → HoldsAll f min max → ShowsPlain f word → AreFrom dir word from ahead → IsForemost pos (λ b. bit_at ahead b ≡ 1) dir found → min ≤ found → found ≤ max → IsNearest pos (IsPlainWithin f min max) dir (pos from) found
-nearest-ahead f dir min max from word ahead found small held shows bits h low high = record {
-  on = ((bits found).0 h.is).1;
-  is = record {
-    low = low;
-    high = high;
-    plain = bit-plain f word found shows (omega arith) (held found low high) ((bits found).0 h.is).0;
-  };
-  first = λ y on p. h.first y ((bits y).1 (plain-bit f word y shows (omega (arith, p.high)) (held y p.low p.high) p.plain, on));
-}
+  -- what is found from a value on the way lies beside the others
+  beside : (found v : ℕ) → IsOnTheWay dir min max from → Reaches dir (pos from) (pos found) → Reaches dir (pos found) (pos v) → min ≤ v → v ≤ max → (min ≤ found) × (found ≤ max)
+  beside found v way on first low high = grind (arith, signed_arith)
 
--- what is found from a value on the way lies beside the others
-beside : (dir : Direction) (min max from found y : ℕ) → IsOnTheWay dir min max from → Reaches dir (pos from) (pos found) → Reaches dir (pos found) (pos y) → min ≤ y → y ≤ max → (min ≤ found) × (found ≤ max)
-beside dir min max from found y way on first low high = grind (arith, signed_arith)
-
-pub outside-ahead : (f : Field) (dir : Direction) (min max from word ahead found : ℕ) → max < 63 → HoldsAll f min max → ShowsPlain f word → AreFrom dir word from ahead → IsForemost pos (λ b. bit_at ahead b ≡ 1) dir found → IsOnTheWay dir min max from → (min ≤ found → found ≤ max → ⊥) → NoneOn pos (IsPlainWithin f min max) dir (pos from)
-outside-ahead f dir min max from word ahead found small held shows bits h way out y on p =
-    let first = h.first y ((bits y).1 (plain-bit f word y shows (omega (arith, p.high)) (held y p.low p.high) p.plain, on)) in
-    let there = beside dir min max from found y way ((bits found).0 h.is).1 first p.low p.high in
-    out there.0 there.1
+  pub outside_ahead : (found : ℕ) → IsNearest pos (λ b. bit_at word b ≡ 1) dir (pos from) found → IsOnTheWay dir min max from → (min ≤ found → found ≤ max → ⊥) → NoneOn pos (IsPlainWithin f min max) dir (pos from)
+  outside_ahead found h way out v on p =
+      let there = beside found v way h.on (h.first v on (plain-bit v p)) p.low p.high in
+      out there.0 there.1
 
 -- ---- the fields of a pattern hold the values of their places
 

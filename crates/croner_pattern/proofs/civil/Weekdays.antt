@@ -24,13 +24,13 @@ year_start-leaps (suc n) =
     omega (arith, signed_arith, year_start-leaps n, leaps-suc n, days_in_year-leap_day (pos n))
 
 -- the weekday of the first of a month
-pub weekday-place : (n m : ℕ) → 1 ≤ day_of_year (pos n) m 1 → first_weekday (pos n) m ≡ (n + leaps n + day_of_year (pos n) m 1 + 5) % 7
+pub weekday_place : (n m : ℕ) → 1 ≤ day_of_year (pos n) m 1 → first_weekday (pos n) m ≡ (n + leaps n + day_of_year (pos n) m 1 + 5) % 7
 unfolding weekday_of_day
-weekday-place n m h =
+weekday_place n m h =
     omega (arith, signed_arith, day_number-parts (pos n) m 1, year_start-leaps n, year_start-leaps 1970)
 
-pub day_of_year-first : (y : ℤ) (m : ℕ) → IsInRange 1 12 m → day_of_year y m 1 ≤ 366
-day_of_year-first y m h =
+pub first_bound : (y : ℤ) (m : ℕ) → IsInRange 1 12 m → day_of_year y m 1 ≤ 366
+first_bound y m h =
     let real : IsRealDate y m 1 = (h, (omega arith, omega (arith, days_in_month_bounds y m))) in
     omega (arith, day_of_year_bound y m 1 real, days_in_year_bounds y)
 
@@ -51,6 +51,6 @@ pub weekday-month : (y : ℤ) (m : ℕ) → first_weekday y m ≡ (first_weekday
 unfolding weekday_of_day
 weekday-month y m = omega (arith, signed_arith, day_number-parts y m 1, day_number-parts y 1 1, days_of_months-zero y)
 
-pub weekday-bound : (y : ℤ) (m : ℕ) → first_weekday y m < 7
+pub weekday_bound : (y : ℤ) (m : ℕ) → first_weekday y m < 7
 unfolding weekday_of_day
-weekday-bound y m = omega (arith, signed_arith)
+weekday_bound y m = omega (arith, signed_arith)

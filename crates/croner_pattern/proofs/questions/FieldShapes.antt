@@ -83,8 +83,8 @@ asks_day s v bits h has a b = can_ask-alike s day_shape v bits h ∙ rw (in_boun
 pub asks_weekday : (s : Shape) (v bits : ℕ) → HasLikeShape s (weekday_shape 0) → has_all 127 bits ≡ true → v ≤ 7 → can_ask s v bits ≡ true
 asks_weekday s v bits h has b = can_ask-alike s (weekday_shape 0) v bits h ∙ rw (in_bounds 0 7 v (omega arith) b, has) refl
 
-pub marked-named : (bits : ℕ) (f : Field) (v : ℕ) → can_ask f.shape v bits ≡ true → is_marked bits f v ≡ is_named bits f v
-marked-named bits f v h = rw h refl
+pub marked_named : (bits : ℕ) (f : Field) (v : ℕ) → can_ask f.shape v bits ≡ true → is_marked bits f v ≡ is_named bits f v
+marked_named bits f v h = rw h refl
 
 pub some-same : {X : Type 0} (x y : X) → Some x ≡ Some y → x ≡ y
 some-same x y e = cc

@@ -64,11 +64,6 @@ pub record HasDay (days day : ℕ) : Type 0 where
   pub low : 1 ≤ day
   pub bit : bit_at days (day - 1) ≡ 1
 
--- and it lies after a day
-pub record HasDayAfter (direction : Direction) (days day later : ℕ) : Type 0 where
-  pub day_is : HasDay days later
-  pub ahead : Precedes direction (pos day) (pos later)
-
 -- the days are those of the month that match
 pub record IsMonthDays (m : Meaning) (year : ℤ) (month days : ℕ) : Type 0 where
   pub within : (day : ℕ) → HasDay days day → day ≤ days_in_month year month
@@ -111,43 +106,40 @@ AreYearKinds m kinds = (year : ℤ) → (bit_at kinds (year_kind year) ≡ 1) �
 
 -- ---- dates
 
--- the first year in the direction after a year, of those that a pattern can name
-pub record IsYearBeyond (direction : Direction) (year : ℤ) (beyond : ℕ) : Type 0 where
-  pub low : first_year ≤ beyond
-  pub high : beyond ≤ last_year
-  pub on : Reaches direction (one_on direction year) (pos beyond)
-  pub first : (y : ℕ) → first_year ≤ y → y ≤ last_year → Reaches direction (one_on direction year) (pos y) → Reaches direction (pos beyond) (pos y)
-
 -- a number of a year that the pattern names
 pub record IsNamedYear (m : Meaning) (year : ℤ) (number : ℕ) : Type 0 where
   pub is : pos number ≡ year
   pub named : is_year_matching m year ≡ true
 
--- a date that matches, in a year
-pub record IsMatchingIn (m : Meaning) (year : ℤ) (d : CivilDate) : Type 0 where
-  pub same_year : d.year ≡ year
-  pub matches : is_date_matching m d ≡ true
+-- a date that matches
+abbrev pub IsMatchingDate : Meaning → CivilDate → Type 0
+IsMatchingDate m d = is_date_matching m d ≡ true
 
--- there in a month, and in the months from one on
-abbrev pub IsInMonth : Meaning → ℤ → ℕ → CivilDate → Type 0
-IsInMonth m year month = IsAt (IsMatchingIn m year) (λ d. pos d.month) (pos month)
+-- the units of a date
+abbrev pub year_of : CivilDate → ℤ
+year_of d = d.year
+
+abbrev pub month_of : CivilDate → ℤ
+month_of d = pos d.month
+
+abbrev pub day_of : CivilDate → ℤ
+day_of d = pos d.day
+
+-- a date that matches, in a year, and in a month of it
+abbrev pub IsInYear : Meaning → ℤ → CivilDate → Type 0
+IsInYear m year = IsAt (IsMatchingDate m) year_of year
+
+abbrev pub IsInMonth : Meaning → ℤ → ℤ → CivilDate → Type 0
+IsInMonth m year month = IsAt (IsInYear m year) month_of month
+
+-- in the years, and in the months from one on
+abbrev pub IsInYears : Meaning → Direction → ℤ → CivilDate → Type 0
+IsInYears m direction from = IsFrom (IsMatchingDate m) year_of direction from
 
 abbrev pub IsInMonths : Meaning → Direction → ℤ → ℤ → CivilDate → Type 0
-IsInMonths m direction year from = IsFrom (IsMatchingIn m year) (λ d. pos d.month) direction from
+IsInMonths m direction year from = IsFrom (IsInYear m year) month_of direction from
 
--- a date that matches and that a search comes to
-pub record IsReached (m : Meaning) (direction : Direction) (d : CivilDate) : Type 0 where
-  pub within : Reaches direction (day_of_date d) (edge_day direction)
-  pub matches : is_date_matching m d ≡ true
-
--- in a year, and in the years from one on
-abbrev pub IsInYear : Meaning → Direction → ℤ → CivilDate → Type 0
-IsInYear m direction year = IsAt (IsReached m direction) (λ d. d.year) year
-
-abbrev pub IsInYears : Meaning → Direction → ℤ → CivilDate → Type 0
-IsInYears m direction from = IsFrom (IsReached m direction) (λ d. d.year) direction from
-
--- such a date after a date
+-- a date that matches after a date, and that a search comes to
 pub record IsAfter (m : Meaning) (direction : Direction) (date d : CivilDate) : Type 0 where
   pub ahead : Precedes direction (day_of_date date) (day_of_date d)
   pub within : Reaches direction (day_of_date d) (edge_day direction)
@@ -165,17 +157,32 @@ pub record IsMatchingTime (m : Meaning) (t : CivilTime) : Type 0 where
   pub minute : is_plain m.minutes t.minute ≡ true
   pub second : is_plain m.seconds t.second ≡ true
 
--- a time that matches, from a time on
-pub record IsTimeFrom (m : Meaning) (direction : Direction) (from t : CivilTime) : Type 0 where
-  pub on : Reaches direction (place_in_day from) (place_in_day t)
-  pub matches : IsMatchingTime m t
+-- the units of a time
+abbrev pub hour_of : CivilTime → ℤ
+hour_of t = pos t.hour
 
--- in the hour of a time, from it on, one whose minute and second match
-pub record IsInHourFrom (m : Meaning) (direction : Direction) (from t : CivilTime) : Type 0 where
-  pub on : Reaches direction (place_in_day from) (place_in_day t)
-  pub same_hour : t.hour ≡ from.hour
-  pub minute : is_plain m.minutes t.minute ≡ true
-  pub second : is_plain m.seconds t.second ≡ true
+abbrev pub minute_of : CivilTime → ℤ
+minute_of t = pos t.minute
+
+abbrev pub second_of : CivilTime → ℤ
+second_of t = pos t.second
+
+-- a time that matches, in an hour, and in a minute of it
+abbrev pub IsInHour : Meaning → ℤ → CivilTime → Type 0
+IsInHour m hour = IsAt (IsMatchingTime m) hour_of hour
+
+abbrev pub IsInMinute : Meaning → ℤ → ℤ → CivilTime → Type 0
+IsInMinute m hour minute = IsAt (IsInHour m hour) minute_of minute
+
+-- in the hours, the minutes and the seconds from one on
+abbrev pub IsInHours : Meaning → Direction → ℤ → CivilTime → Type 0
+IsInHours m direction from = IsFrom (IsMatchingTime m) hour_of direction from
+
+abbrev pub IsInMinutes : Meaning → Direction → ℤ → ℤ → CivilTime → Type 0
+IsInMinutes m direction hour from = IsFrom (IsInHour m hour) minute_of direction from
+
+abbrev pub IsInSeconds : Meaning → Direction → ℤ → ℤ → ℤ → CivilTime → Type 0
+IsInSeconds m direction hour minute from = IsFrom (IsInMinute m hour minute) second_of direction from
 
 -- a time that matches on a date that matches, from its time on, and that needs no step where there is no room for one
 pub record IsOpenTime (m : Meaning) (direction : Direction) (from : CivilDateTime) (t : CivilTime) : Type 0 where
@@ -183,14 +190,3 @@ pub record IsOpenTime (m : Meaning) (direction : Direction) (from : CivilDateTim
   pub on : Reaches direction (place_in_day from.time) (place_in_day t)
   pub matches : IsMatchingTime m t
   pub move : has_room direction from.date.year ≡ false → IsMove m from.time t
-
--- the first plain value of a field in the direction
-pub record IsFirstValue (field : Field) (direction : Direction) (max value : ℕ) : Type 0 where
-  pub plain : is_plain field value ≡ true
-  pub first : (v : ℕ) → v ≤ max → is_plain field v ≡ true → Reaches direction (pos value) (pos v)
-
--- the first hour, the first minute and the first second in the direction
-pub record IsFirstTime (m : Meaning) (direction : Direction) (t : CivilTime) : Type 0 where
-  pub hour : IsFirstValue m.hours direction 23 t.hour
-  pub minute : IsFirstValue m.minutes direction 59 t.minute
-  pub second : IsFirstValue m.seconds direction 59 t.second

@@ -7,7 +7,7 @@ ghost use Rattle.croner_pattern.specs.Directions.{Reaches};
 ghost use Rattle.croner_pattern.specs.Meaning.{meaning_of};
 ghost use Rattle.croner_pattern.specs.Shapes.{has_field_shapes};
 ghost use Rattle.croner_pattern.specs.Schedule.{is_plain, is_year_matching, first_weekday, IsDayMask};
-ghost use Rattle.croner_pattern.specs.Private.Cursor.{one_on, has_room, FindsForemost, IsOnTheWay, IsNamedYear, IsMonthDays, IsInMonth, IsInMonths, IsInYear, IsInYears, IsAfter};
+ghost use Rattle.croner_pattern.specs.Private.Cursor.{one_on, has_room, FindsForemost, FindsNearest, IsOnTheWay, IsNamedYear, IsMonthDays, IsMatchingDate, IsInMonth, IsInMonths, IsInYear, IsInYears, IsAfter, AreYearKinds};
 
 use crate::cursor::calendar::{
     FIRST_SEARCHED_YEAR, LAST_SEARCHED_YEAR, first_weekday, is_reached, year_beyond,
@@ -19,15 +19,15 @@ use crate::pattern::CronPattern;
 use croner_base::limits::LAST_MONTH;
 use croner_base::time::{CivilDate, Direction, days_in_month};
 
-// The number of a year that the pattern names.
+// The number of the year of a date, where the pattern names it.
 #[inline(always)]
-fn named_year(pattern: &CronPattern, year: i32) -> Option<u32>
+fn named_year(pattern: &CronPattern, date: CivilDate) -> Option<u32>
     requires { has_field_shapes (meaning_of pattern.now) ≡ true }
-    ensures { MatchOption result (is_year_matching (meaning_of pattern.now) year ≡ false)
-        (IsNamedYear (meaning_of pattern.now) year) }
+    ensures { MatchOption result (is_year_matching (meaning_of pattern.now) date.year ≡ false)
+        (IsNamedYear (meaning_of pattern.now) date.year) }
 {
-    match pattern.year_match(year) {
-        Ok(true) => Some(year as u32),
+    match pattern.year_match(date.year()) {
+        Ok(true) => Some(date.year() as u32),
         _ => None,
     }
 }
@@ -52,7 +52,7 @@ pub(crate) fn month_days(pattern: &CronPattern, date: CivilDate) -> u32
     requires { has_field_shapes (meaning_of pattern.now) ≡ true }
     ensures { IsMonthDays (meaning_of pattern.now) date.year date.month result }
 {
-    match named_year(pattern, date.year()) {
+    match named_year(pattern, date) {
         Some(year) if is_plain(&pattern.months, date.month()) => {
             named_days(pattern, year, date.month())
         }
@@ -66,7 +66,7 @@ fn in_month(pattern: &CronPattern, year: u32, month: u32, direction: Direction) 
     requires year_in { IsInRange FIRST_SEARCHED_YEAR LAST_SEARCHED_YEAR year }
     requires month_in { IsInRange 1 LAST_MONTH month }
     ensures { is_year_matching (meaning_of pattern.now) (pos year) ≡ true → is_plain (meaning_of pattern.now).months month ≡ true
-        → FindsForemost day_of_date (IsInMonth (meaning_of pattern.now) (pos year) month) direction result }
+        → FindsForemost day_of_date (IsInMonth (meaning_of pattern.now) (pos year) (pos month)) direction result }
 {
     let day = first_day(named_days(pattern, year, month), direction)?;
     Some(CivilDate::from_parts_unchecked(year as i32, month, day))
@@ -107,16 +107,32 @@ fn first_month(direction: Direction) -> u32
     }
 }
 
-// The first date of a named year that matches and that a search comes to.
+// The first date that matches in a named year.
+#[tactic(auto, using(crate::proofs::civil::DateSearch::whole_year))]
 fn in_year(pattern: &CronPattern, year: u32, direction: Direction) -> Option<CivilDate>
     requires shapes { has_field_shapes (meaning_of pattern.now) ≡ true }
     requires year_in { IsInRange FIRST_SEARCHED_YEAR LAST_SEARCHED_YEAR year }
     ensures { is_year_matching (meaning_of pattern.now) (pos year) ≡ true
-        → FindsForemost day_of_date (IsInYear (meaning_of pattern.now) direction (pos year)) direction result }
+        → FindsForemost day_of_date (IsInYear (meaning_of pattern.now) (pos year)) direction result }
 {
-    let found = in_months(pattern, year, first_month(direction), direction)?;
-    if is_reached(found, year, direction) {
-        Some(found)
+    in_months(pattern, year, first_month(direction), direction)
+}
+
+// The same, by the kinds of year that have a day that matches.
+fn in_open_year(
+    pattern: &CronPattern,
+    kinds: u32,
+    year: u32,
+    direction: Direction,
+) -> Option<CivilDate>
+    requires shapes { has_field_shapes (meaning_of pattern.now) ≡ true }
+    requires kinds { AreYearKinds (meaning_of pattern.now) kinds }
+    requires year_in { IsInRange FIRST_SEARCHED_YEAR LAST_SEARCHED_YEAR year }
+    ensures { is_year_matching (meaning_of pattern.now) (pos year) ≡ true
+        → FindsForemost day_of_date (IsInYear (meaning_of pattern.now) (pos year)) direction result }
+{
+    if has_kind(kinds, year) {
+        in_year(pattern, year, direction)
     } else {
         None
     }
@@ -134,10 +150,8 @@ fn in_later_years(pattern: &CronPattern, year: u32, direction: Direction) -> Opt
     }
     let mut from = year;
     while let Some(year) = nearest_year(&pattern.years, from, direction) {
-        if has_kind(kinds, year) {
-            if let Some(found) = in_year(pattern, year, direction) {
-                return Some(found);
-            }
+        if let Some(found) = in_open_year(pattern, kinds, year, direction) {
+            return Some(found);
         }
         from = neighbour(year, direction)?;
     }
@@ -168,7 +182,7 @@ fn in_rest_of_year(
     ensures { FindsForemost day_of_date
         (IsInMonths (meaning_of pattern.now) direction date.year (one_on direction (pos date.month))) direction result }
 {
-    let year = named_year(pattern, date.year())?;
+    let year = named_year(pattern, date)?;
     in_months(
         pattern,
         year,
@@ -177,8 +191,29 @@ fn in_rest_of_year(
     )
 }
 
-// The first date that matches after a date, up to the last day that a search comes to. `days` are those that match in the
-// month of the date.
+// The first date that matches after a date. `days` are those that match in the month of the date.
+fn next_date(
+    pattern: &CronPattern,
+    date: CivilDate,
+    days: u32,
+    direction: Direction,
+) -> Option<CivilDate>
+    requires shapes { has_field_shapes (meaning_of pattern.now) ≡ true }
+    requires room { has_room direction date.year ≡ true }
+    requires days { IsMonthDays (meaning_of pattern.now) date.year date.month days }
+    ensures { FindsNearest day_of_date (IsMatchingDate (meaning_of pattern.now)) direction (one_on direction (day_of_date date)) result }
+{
+    if let Some(day) = day_after(days, date, direction) {
+        return Some(CivilDate::from_parts_unchecked(date.year(), date.month(), day));
+    }
+    if let Some(found) = in_rest_of_year(pattern, date, direction) {
+        return Some(found);
+    }
+    in_years(pattern, year_beyond(date, direction), direction)
+}
+
+// The first date that matches after a date, up to the last day that a search comes to.
+#[tactic(auto, using(crate::proofs::civil::Foremost::up_to, crate::proofs::civil::Foremost::beyond))]
 pub(crate) fn date_after(
     pattern: &CronPattern,
     date: CivilDate,
@@ -190,11 +225,10 @@ pub(crate) fn date_after(
     requires days { IsMonthDays (meaning_of pattern.now) date.year date.month days }
     ensures { FindsForemost day_of_date (IsAfter (meaning_of pattern.now) direction date) direction result }
 {
-    if let Some(day) = day_after(days, date.day(), direction) {
-        return Some(CivilDate::from_parts_unchecked(date.year(), date.month(), day));
+    let found = next_date(pattern, date, days, direction)?;
+    if is_reached(found, direction) {
+        Some(found)
+    } else {
+        None
     }
-    if let Some(found) = in_rest_of_year(pattern, date, direction) {
-        return Some(found);
-    }
-    in_years(pattern, year_beyond(date.year(), direction), direction)
 }

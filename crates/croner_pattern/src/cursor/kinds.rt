@@ -51,6 +51,7 @@ fn year_kind(year: u32) -> u32
 }
 
 // Which kinds of month have a day that matches, one bit a kind.
+#[tactic(auto, using(crate::proofs::civil::MonthKinds::no_month_kinds))]
 fn month_kinds(pattern: &CronPattern) -> u32
     requires { has_field_shapes (meaning_of pattern.now) ≡ true }
     ensures { AreMonthKinds (meaning_of pattern.now) result }
@@ -65,6 +66,7 @@ fn month_kinds(pattern: &CronPattern) -> u32
 }
 
 // The kinds of month of one length, one bit for the weekday of the first day.
+#[tactic(auto, using(crate::proofs::civil::MonthKinds::week_of_length, std::proofs::lemmas::Nat::and_le_r))]
 fn kinds_of_length(months: u32, length: u32) -> u32
     requires { IsInRange 28 31 length }
     ensures value { (first : ℕ) → first < 7 → bit_at result first ≡ bit_at months (month_kind length first) }
@@ -74,6 +76,7 @@ fn kinds_of_length(months: u32, length: u32) -> u32
 }
 
 // The bits of a week, each so many weekdays earlier.
+#[tactic(auto, using(crate::proofs::civil::MonthKinds::week_turned, std::proofs::lemmas::Nat::and_le_r))]
 fn turned(week: u32, days: u32) -> u32
     requires week { week < 128 }
     requires days { days < 7 }
@@ -111,7 +114,7 @@ fn open_years(months: u32, month: u32) -> u32
 }
 
 // Which kinds of year have a day that matches in a named month, one bit a kind.
-#[tactic(auto, using(crate::proofs::civil::FieldBits::holds_months))]
+#[tactic(auto, using(crate::proofs::civil::FieldBits::holds_months, crate::proofs::civil::MonthKinds::no_year_kinds))]
 pub(crate) fn year_kinds(pattern: &CronPattern) -> u32
     requires { has_field_shapes (meaning_of pattern.now) ≡ true }
     ensures { AreYearKinds (meaning_of pattern.now) result }

@@ -39,7 +39,7 @@ pub fn next_scheduled(
 {
     let date = from.date();
     let days = month_days(pattern, date);
-    let room = has_room(date.year(), direction);
+    let room = has_room(date, direction);
     if let Some(time) = in_own_day(pattern, from, days, room, direction) {
         return Some(CivilDateTime::new(date, time));
     }
@@ -66,7 +66,7 @@ fn in_own_day(
     requires room { room ≡ has_room direction from.date.year }
     ensures { FindsForemost place_in_day (IsOpenTime (meaning_of pattern.now) direction from) direction result }
 {
-    if !has_day(days, from.date().day()) {
+    if !has_day(days, from.date()) {
         return None;
     }
     let start = from.time();
@@ -86,5 +86,5 @@ pub fn matches_date(pattern: &CronPattern, date: CivilDate) -> bool
     requires { has_field_shapes (meaning_of pattern.now) ≡ true }
     ensures { result ≡ is_date_matching (meaning_of pattern.now) date }
 {
-    has_day(month_days(pattern, date), date.day())
+    has_day(month_days(pattern, date), date)
 }

@@ -1,9 +1,9 @@
 //! The nearest time of day that matches a pattern.
-ghost use Rattle.std.specs.Prelude.{◌≡◌, ◌↔◌, true, IsTrue, MatchOption};
-ghost use Rattle.croner_base.specs.declared.time.civil.CivilTime.{CivilTime};
+ghost use Rattle.std.specs.Prelude.{◌≡◌, ◌<◌, ◌↔◌, true, pos, IsTrue};
+ghost use Rattle.croner_base.specs.Civil.{IsTimeOfDay};
 ghost use Rattle.croner_pattern.specs.Meaning.{meaning_of};
 ghost use Rattle.croner_pattern.specs.Shapes.{has_field_shapes};
-ghost use Rattle.croner_pattern.specs.Private.Cursor.{FindsForemost, place_in_day, IsMatchingTime, IsTimeFrom, IsInHourFrom, IsMove, IsFirstTime};
+ghost use Rattle.croner_pattern.specs.Private.Cursor.{one_on, FindsForemost, FindsNearest, place_in_day, IsMatchingTime, IsInHours, IsInMinutes, IsInSeconds, IsMove};
 
 use crate::cursor::values::{first_value, is_plain, nearest_beyond, nearest_value};
 use crate::pattern::CronPattern;
@@ -14,9 +14,7 @@ use croner_base::time::{CivilTime, Direction};
 #[tactic(auto, using(crate::proofs::civil::FieldBits::holds_hours, crate::proofs::civil::FieldBits::holds_minutes, crate::proofs::civil::FieldBits::holds_seconds))]
 pub(crate) fn first_time(pattern: &CronPattern, direction: Direction) -> Option<CivilTime>
     requires { has_field_shapes (meaning_of pattern.now) ≡ true }
-    ensures { MatchOption result
-        ((t : CivilTime) → ¬ (IsMatchingTime (meaning_of pattern.now) t))
-        (IsFirstTime (meaning_of pattern.now) direction) }
+    ensures { FindsForemost place_in_day (IsMatchingTime (meaning_of pattern.now)) direction result }
 {
     let hour = first_value(&pattern.hours, LAST_HOUR, direction)?;
     let minute = first_value(&pattern.minutes, LAST_MINUTE, direction)?;
@@ -24,49 +22,76 @@ pub(crate) fn first_time(pattern: &CronPattern, direction: Direction) -> Option<
     Some(CivilTime::from_parts_unchecked(hour, minute, second))
 }
 
-// The nearest time in the hour of a time, from it on, whose minute and second match.
+// The first time in a minute, from a second on.
 #[tactic(auto, using(crate::proofs::civil::FieldBits::holds_hours, crate::proofs::civil::FieldBits::holds_minutes, crate::proofs::civil::FieldBits::holds_seconds))]
-fn in_hour(pattern: &CronPattern, from: CivilTime, direction: Direction) -> Option<CivilTime>
-    requires { has_field_shapes (meaning_of pattern.now) ≡ true }
-    ensures { FindsForemost place_in_day (IsInHourFrom (meaning_of pattern.now) direction from) direction result }
+fn in_minute(
+    pattern: &CronPattern,
+    hour: u32,
+    minute: u32,
+    second: u32,
+    direction: Direction,
+) -> Option<CivilTime>
+    requires shapes { has_field_shapes (meaning_of pattern.now) ≡ true }
+    requires time { IsTimeOfDay hour minute second }
+    ensures { FindsForemost place_in_day (IsInSeconds (meaning_of pattern.now) direction (pos hour) (pos minute) (pos second)) direction result }
 {
-    let (hour, minute) = (from.hour(), from.minute());
-    if is_plain(&pattern.minutes, minute) {
-        if let Some(second) = nearest_value(
-            &pattern.seconds,
-            0,
-            LAST_SECOND,
-            from.second(),
-            direction,
-        ) {
-            return Some(CivilTime::from_parts_unchecked(hour, minute, second));
-        }
+    if !is_plain(&pattern.hours, hour) || !is_plain(&pattern.minutes, minute) {
+        return None;
+    }
+    let second = nearest_value(&pattern.seconds, 0, LAST_SECOND, second, direction)?;
+    Some(CivilTime::from_parts_unchecked(hour, minute, second))
+}
+
+// The first time in the minutes of an hour after one.
+#[tactic(auto, using(crate::proofs::civil::FieldBits::holds_hours, crate::proofs::civil::FieldBits::holds_minutes, crate::proofs::civil::FieldBits::holds_seconds))]
+fn in_later_minutes(
+    pattern: &CronPattern,
+    hour: u32,
+    minute: u32,
+    direction: Direction,
+) -> Option<CivilTime>
+    requires shapes { has_field_shapes (meaning_of pattern.now) ≡ true }
+    requires time { IsTimeOfDay hour minute 0 }
+    ensures { FindsForemost place_in_day (IsInMinutes (meaning_of pattern.now) direction (pos hour) (one_on direction (pos minute))) direction result }
+{
+    if !is_plain(&pattern.hours, hour) {
+        return None;
     }
     let minute = nearest_beyond(&pattern.minutes, LAST_MINUTE, minute, direction)?;
     let second = first_value(&pattern.seconds, LAST_SECOND, direction)?;
     Some(CivilTime::from_parts_unchecked(hour, minute, second))
 }
 
-// The nearest time of the day that matches, from a time on, itself included.
+// The first time in the hours after one.
 #[tactic(auto, using(crate::proofs::civil::FieldBits::holds_hours, crate::proofs::civil::FieldBits::holds_minutes, crate::proofs::civil::FieldBits::holds_seconds))]
+fn in_later_hours(pattern: &CronPattern, hour: u32, direction: Direction) -> Option<CivilTime>
+    requires shapes { has_field_shapes (meaning_of pattern.now) ≡ true }
+    requires time { hour < 24 }
+    ensures { FindsForemost place_in_day (IsInHours (meaning_of pattern.now) direction (one_on direction (pos hour))) direction result }
+{
+    let hour = nearest_beyond(&pattern.hours, LAST_HOUR, hour, direction)?;
+    let minute = first_value(&pattern.minutes, LAST_MINUTE, direction)?;
+    let second = first_value(&pattern.seconds, LAST_SECOND, direction)?;
+    Some(CivilTime::from_parts_unchecked(hour, minute, second))
+}
+
+// The nearest time of the day that matches, from a time on, itself included.
 pub(crate) fn in_day(
     pattern: &CronPattern,
     from: CivilTime,
     direction: Direction,
 ) -> Option<CivilTime>
     requires { has_field_shapes (meaning_of pattern.now) ≡ true }
-    ensures { FindsForemost place_in_day (IsTimeFrom (meaning_of pattern.now) direction from) direction result }
+    ensures { FindsNearest place_in_day (IsMatchingTime (meaning_of pattern.now)) direction (place_in_day from) result }
 {
-    let hour = from.hour();
-    if is_plain(&pattern.hours, hour) {
-        if let Some(time) = in_hour(pattern, from, direction) {
-            return Some(time);
-        }
+    let (hour, minute) = (from.hour(), from.minute());
+    if let Some(time) = in_minute(pattern, hour, minute, from.second(), direction) {
+        return Some(time);
     }
-    let hour = nearest_beyond(&pattern.hours, LAST_HOUR, hour, direction)?;
-    let minute = first_value(&pattern.minutes, LAST_MINUTE, direction)?;
-    let second = first_value(&pattern.seconds, LAST_SECOND, direction)?;
-    Some(CivilTime::from_parts_unchecked(hour, minute, second))
+    if let Some(time) = in_later_minutes(pattern, hour, minute, direction) {
+        return Some(time);
+    }
+    in_later_hours(pattern, hour, direction)
 }
 
 // Whether the way from one time to another of the same day steps over no hour and no minute: a plain one stays.

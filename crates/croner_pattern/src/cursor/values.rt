@@ -1,9 +1,9 @@
 //! The nearest value that a field names.
-ghost use Rattle.std.specs.Prelude.{◌≡◌, ◌<◌, ◌≤◌, ℕ, true, pos, negsuc, MatchOption};
+ghost use Rattle.std.specs.Prelude.{◌≡◌, ◌<◌, ◌≤◌, true, pos, negsuc, MatchOption};
 ghost use Rattle.std.specs.Int.{bit_at};
 ghost use Rattle.croner_base.specs.Field.{can_ask};
 ghost use Rattle.croner_pattern.specs.Schedule.{is_plain};
-ghost use Rattle.croner_pattern.specs.Private.Cursor.{one_on, FindsNearest, FindsForemost, AreFrom, HoldsAll, IsPlainWithin, IsOnTheWay, IsFirstValue};
+ghost use Rattle.croner_pattern.specs.Private.Cursor.{one_on, FindsNearest, FindsForemost, AreFrom, HoldsAll, IsPlainWithin, IsOnTheWay};
 
 use crate::cursor::calendar::{FIRST_SEARCHED_YEAR, LAST_SEARCHED_YEAR};
 use crate::pattern::nearest_member;
@@ -11,6 +11,7 @@ use croner_base::component::{ALL_BIT, CronComponent};
 use croner_base::time::Direction;
 
 // Whether the field names the value by itself, which is one of those that it holds.
+#[tactic(auto, using(crate::proofs::questions::FieldShapes::marked_named, std::proofs::lemmas::Nat::Bits::shr_and_one))]
 #[inline(always)]
 pub(crate) fn is_plain(field: &CronComponent, value: u32) -> bool
     requires small { value < 64 }
@@ -34,8 +35,9 @@ pub(crate) fn neighbour(value: u32, direction: Direction) -> Option<u32>
 }
 
 // The bits of a word from a place on, the place itself included.
+#[tactic(auto, using(crate::proofs::civil::FieldBits::from_forward, crate::proofs::civil::FieldBits::from_backward))]
 #[inline(always)]
-pub(crate) fn bits_from(word: u64, from: u32, direction: Direction) -> u64
+fn bits_from(word: u64, from: u32, direction: Direction) -> u64
     requires { from < 64 }
     ensures { AreFrom direction word from result }
 {
@@ -46,6 +48,7 @@ pub(crate) fn bits_from(word: u64, from: u32, direction: Direction) -> u64
 }
 
 // The place of the first bit of a word.
+#[tactic(auto, using(crate::proofs::civil::FieldBits::no_bit))]
 #[inline(always)]
 pub(crate) fn first_bit(word: u64, direction: Direction) -> Option<u32>
     ensures { FindsForemost pos (λ place. bit_at word place ≡ 1) direction result }
@@ -59,7 +62,18 @@ pub(crate) fn first_bit(word: u64, direction: Direction) -> Option<u32>
     }
 }
 
+// The place of the nearest bit of a word, from a place on, the place itself included.
+#[tactic(auto, using(crate::proofs::civil::Foremost::as_nearest))]
+#[inline(always)]
+pub(crate) fn nearest_bit(word: u64, from: u32, direction: Direction) -> Option<u32>
+    requires { from < 64 }
+    ensures { FindsNearest pos (λ place. bit_at word place ≡ 1) direction (pos from) result }
+{
+    first_bit(bits_from(word, from, direction), direction)
+}
+
 // The nearest plain value between `min` and `max`, from a value on, itself included, of a field that holds all of these.
+#[tactic(auto, using(crate::proofs::civil::FieldBits::none_ahead, crate::proofs::civil::FieldBits::nearest_ahead, crate::proofs::civil::FieldBits::outside_ahead))]
 #[inline(always)]
 pub(crate) fn nearest_value(
     field: &CronComponent,
@@ -73,8 +87,7 @@ pub(crate) fn nearest_value(
     requires from_in { IsOnTheWay direction min max from }
     ensures { FindsNearest pos (IsPlainWithin field.now min max) direction (pos from) result }
 {
-    let ahead = bits_from(field.low_word(ALL_BIT), from, direction);
-    let found = first_bit(ahead, direction)?;
+    let found = nearest_bit(field.low_word(ALL_BIT), from, direction)?;
     if found >= min && found <= max {
         Some(found)
     } else {
@@ -117,9 +130,7 @@ pub(crate) fn nearest_beyond(
 pub(crate) fn first_value(field: &CronComponent, max: u32, direction: Direction) -> Option<u32>
     requires small { max < 63 }
     requires held { HoldsAll field.now 0 max }
-    ensures { MatchOption result
-        ((v : ℕ) → v ≤ max → ¬ (is_plain field.now v ≡ true))
-        (IsFirstValue field.now direction max) }
+    ensures { FindsForemost pos (IsPlainWithin field.now 0 max) direction result }
 {
     let from = match direction {
         Direction::Forward => 0,

@@ -3,7 +3,7 @@ use Rattle.croner_base.specs.Civil.{day_of_date}
 use Rattle.croner_pattern.specs.Meaning.{meaning_of}
 use Rattle.croner_pattern.specs.Private.Cursor.{first_year, last_year, IsOnTheWay, IsInYears}
 use Rattle.croner_pattern.proofs.civil.Foremost.{Leads}
-use Rattle.croner_pattern.proofs.civil.ValueSearch.{steps_left}
+use Rattle.croner_pattern.proofs.civil.Ahead.{steps_left}
 use Rattle.croner_pattern.proofs.cursor.dates.in_later_years.Given as goal
 
 abbrev pub invariant-loop-year : goal.invariant-loop-year

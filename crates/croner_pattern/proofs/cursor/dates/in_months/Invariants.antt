@@ -4,7 +4,7 @@ use Rattle.croner_pattern.specs.Meaning.{meaning_of}
 use Rattle.croner_pattern.specs.Schedule.{is_year_matching}
 use Rattle.croner_pattern.specs.Private.Cursor.{IsOnTheWay, IsInMonths}
 use Rattle.croner_pattern.proofs.civil.Foremost.{Leads}
-use Rattle.croner_pattern.proofs.civil.ValueSearch.{steps_left}
+use Rattle.croner_pattern.proofs.civil.Ahead.{steps_left}
 use Rattle.croner_pattern.proofs.cursor.dates.in_months.Given as goal
 
 abbrev pub invariant-loop-month : goal.invariant-loop-month

@@ -5,7 +5,7 @@ use Rattle.jiff_core.specs.Calendar.{days_in_month, day_of_year}
 use Rattle.croner_pattern.specs.Schedule.{first_weekday}
 use Rattle.croner_pattern.specs.Private.Cursor.{HasOpenDay}
 use Rattle.croner_pattern.proofs.civil.MonthKinds.{open-beginning}
-use Rattle.croner_pattern.proofs.civil.Weekdays.{same-month, same-place, weekday-month, weekday-bound}
+use Rattle.croner_pattern.proofs.civil.Weekdays.{same-month, same-place, weekday-month, weekday_bound}
 use Rattle.croner_pattern.proofs.cursor.kinds.open_beginnings.Goals as goal
 
 pub returns-clause-value : goal.returns-clause-value
@@ -20,4 +20,4 @@ returns-clause-value c = λ m kinds year e.
     let weekday : first_weekday year mo ≡ (first_weekday year 1 + (c.day_of_year.result - 1) % 7) % 7 = weekday-month year mo ∙ ap (λ n. (first_weekday year 1 + (n - 1) % 7) % 7) place in
     subst (λ (n : ℕ). (bit_at c.turned.result (first_weekday year 1) ≡ 1) ↔ HasOpenDay m n (first_weekday year mo)) (sym length)
     (open-beginning m c.args.months c.kinds_of_length-week.result c.turned.result ((c.day_of_year.result - 1) % 7) c.days_in_month.result (first_weekday year 1) (first_weekday year mo)
-    kinds c.days_in_month.ensures.bound (weekday-bound year 1) weekday c.turned.ensures.value c.kinds_of_length-week.ensures.value)
+    kinds c.days_in_month.ensures.bound (weekday_bound year 1) weekday c.turned.ensures.value c.kinds_of_length-week.ensures.value)

@@ -1,16 +1,10 @@
-use Rattle.std.proofs.Common.{◌≡◌, ℤ, ◌-◌, ◌<◌, ◌≤◌}
-use Rattle.std.specs.Int.{bit_at}
+use Rattle.std.proofs.Common.{◌-◌}
 use Rattle.croner_pattern.specs.Meaning.{meaning_of}
-use Rattle.croner_pattern.specs.Private.Cursor.{year_kind, HasOpenMonth}
+use Rattle.croner_pattern.proofs.civil.MonthKinds.{YearKindsBelow}
 use Rattle.croner_pattern.proofs.cursor.kinds.year_kinds.Given as goal
 
 abbrev pub invariant-loop-month : goal.invariant-loop-month
-invariant-loop-month l = record {
-  low : 1 ≤ l.from;
-  high : l.from ≤ 13;
-  is_open : (year : ℤ) → bit_at l.kinds (year_kind year) ≡ 1 → HasOpenMonth (meaning_of l.pattern) year;
-  has_kind : (year : ℤ) (h : HasOpenMonth (meaning_of l.pattern) year) → h.month < l.from → bit_at l.kinds (year_kind year) ≡ 1;
-}
+invariant-loop-month l = YearKindsBelow (meaning_of l.pattern) l.from l.kinds
 
 abbrev pub decreases-loop-month : goal.decreases-loop-month
 decreases-loop-month l = 13 - l.from

@@ -5,7 +5,7 @@ use Rattle.croner_pattern.specs.Schedule.{bit_of_nth, is_named, is_plain}
 use Rattle.croner_pattern.proofs.days.DayBits.{has-or, has-and}
 use Rattle.croner_pattern.proofs.days.DayTable.{last_is}
 use Rattle.croner_pattern.proofs.questions.DayAnswers.{nth_of_day}
-use Rattle.croner_pattern.proofs.questions.FieldShapes.{either_weekday, asks_weekday, marked-named}
+use Rattle.croner_pattern.proofs.questions.FieldShapes.{either_weekday, asks_weekday, marked_named}
 use Rattle.croner_pattern.proofs.pattern.mask.weekdays.weekdays_named.Goals as goal
 
 or_assoc : (a b c : Bool) → ((a || b) || c) ≡ (a || (b || c))
@@ -26,11 +26,11 @@ returns c place low =
     let s = either_weekday f.shape c.requires.shape in
     let nth = bit_of_nth (occurrence first day) in
     let plain : has_bit c.marked-2.result place ≡ is_plain f w =
-    c.marked-2.ensures place in_month ∙ marked-named 1 f w (asks_weekday f.shape w 1 s refl (omega arith)) in
+    c.marked-2.ensures place in_month ∙ marked_named 1 f w (asks_weekday f.shape w 1 s refl (omega arith)) in
     let at : has_bit c.nth_named.result place ≡ is_named nth f w =
-    c.nth_named.ensures place in_month ∙ marked-named nth f w (asks_weekday f.shape w nth s (nth_of_day first day c.requires.first (omega arith) (omega arith)) (omega arith)) in
+    c.nth_named.ensures place in_month ∙ marked_named nth f w (asks_weekday f.shape w nth s (nth_of_day first day c.requires.first (omega arith) (omega arith)) (omega arith)) in
     let last : has_bit c.marked.result place ≡ is_named 64 f w =
-    c.marked.ensures place in_month ∙ marked-named 64 f w (asks_weekday f.shape w 64 s refl (omega arith)) in
+    c.marked.ensures place in_month ∙ marked_named 64 f w (asks_weekday f.shape w 64 s refl (omega arith)) in
     let end : has_bit c.last_week.result place ≡ is_last_weekday len first day =
     c.last_week.ensures place low ∙ last_is len first day short long (omega arith) (omega arith) c.requires.first in
     let one = has-or c.marked-2.result c.nth_named.result place ∙ (λ i. plain i || at i) in
