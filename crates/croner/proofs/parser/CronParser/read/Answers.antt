@@ -1,18 +1,25 @@
 use Rattle.std.proofs.Common.{rules, ◌≡◌, ◌∙◌, sym, ap, subst, refl, true, cond, fold, Ok, Err}
+use Rattle.std.specs.Prelude.{Result}
 use Rattle.std.proofs.lemmas.Result.{err_from_is_err_and}
+use Rattle.croner_base.specs.declared.errors.CronError.{CronError}
+use Rattle.croner_base.specs.declared.errors.CronError.TheVariants as errors
 use Rattle.croner_base.specs.Field.{empty_field}
 use Rattle.croner_pattern.specs.Meaning.{Meaning, meaning_of}
 use Rattle.croner_pattern.specs.Shapes.{new_meaning, weekday_shape}
 use Rattle.croner.specs.parser.Gives.{Fails}
-use Rattle.croner.specs.parser.Grammar.{Illegal, are_legal, of_legal, settled_weekdays, sunday_moved, weekday_modifiers}
+use Rattle.croner.specs.parser.Grammar.{Illegal, Refusal, are_legal, of_legal, settled_weekdays, sunday_moved, weekday_modifiers}
 use Rattle.croner.specs.Private.parser.Steps.{start_meaning}
 use Rattle.croner.specs.Views.{texts_of}
 use Rattle.croner.proofs.parser.FieldReads.{refused_fields, read_takes_sunday, finished}
 use Rattle.croner.proofs.parser.CronParser.read.Goals as goal
 
+-- want of memory may come with any outcome
+lacking : {Y : Type 0} (e : CronError) (x : Result Y Refusal) → e ≡ errors.OutOfMemory → Fails e x
+lacking e x same = rw same tt
+
 pub returns-in_err-pattern : goal.returns-in_err-pattern
 returns-in_err-pattern c =
-    let p = err_from_is_err_and c.from_residual.result c.from_residual.ensures.1 in rw (p.1, p.2, c.in_err-pattern.ensures.err) tt
+    let p = err_from_is_err_and c.from_residual.result c.from_residual.ensures.1 in rw (p.1, p.2) (lacking c.in_err-pattern.field-0.0 _ c.in_err-pattern.ensures.err)
 
 pub returns-in_err-read_fields : goal.returns-in_err-read_fields
 returns-in_err-read_fields c =
