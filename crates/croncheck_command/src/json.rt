@@ -147,8 +147,10 @@ impl<'s, 't, W: Write + Drop> JsonReporter<'s, 't, W> {
                 self.alloc,
                 self.shared,
                 kind,
-                self.name.as_str(),
-                self.line,
+                Place {
+                    file: self.name.as_str(),
+                    line: self.line,
+                },
                 report,
                 line,
                 is_too_many,
@@ -249,14 +251,14 @@ fn object_of(
     alloc: Global,
     shared: &Shared<'_>,
     kind: &str,
-    file: &str,
-    line: u64,
+    place: Place<'_>,
     report: &Report<'_, '_>,
     text: &[u8],
     is_too_many: bool,
 ) -> Result<Value, AllocError>
-    ensures { IfOk result (λ v. IsObject kind.now file.now line report.now (view v)) }
+    ensures { IfOk result (λ v. IsObject kind.now place.entry.file.now place.entry.line report.now (view v)) }
 {
+    let (file, line) = (place.file, place.line);
     json!(in alloc; {
         "version": VERSION,
         "kind": kind,

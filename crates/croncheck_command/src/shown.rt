@@ -414,7 +414,7 @@ fn said_by_cron(fault: Fault) -> &'static str {
 }
 
 // Why cron refuses a line, by the fault alone: its own words first, where it has some.
-pub(crate) fn reason_of(fault: Fault) -> &'static str {
+fn reason_of(fault: Fault) -> &'static str {
     match fault {
         Fault::Nul =>
             "bad line: cron ends it at the byte 0, and reads what follows as a further one",

@@ -12,7 +12,7 @@ use croner::time::CronDateTime;
 use croner::time::table::TableTime;
 use std::alloc::{AllocError, Global};
 
-/// How far behind a start changes are told: a year of 365 days and a day.
+/// How far behind a start changes are told: 372 days, since a change on a certain Sunday comes again after 364 or 371.
 const WATCHED_SECONDS: i64 = 32_140_800;
 
 /// Changes are told from the second behind this one on: from 0001-01-03T00:00:00 UTC on.
