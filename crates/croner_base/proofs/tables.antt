@@ -1,6 +1,5 @@
 -- Clocks that are given by tables of offsets: which tables are calm, and what their clocks read.
 pub mod ExamplesTable
-pub mod PickExact
 pub mod TableCalm
 pub mod TableCheck
 pub mod TableMoments

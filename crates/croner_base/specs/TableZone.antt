@@ -1,13 +1,13 @@
 -- The clock of a table as a zone.
-use Rattle.std.specs.Prelude.{◌≡◌, ℤ, pos, ◌+ℤ◌, ◌-ℤ◌, if◌then◌else◌, Some, None, List}
-use Rattle.std.specs.Ordering.{int_eq}
+use Rattle.std.specs.Prelude.{◌≡◌, ℤ, pos, ◌+ℤ◌, ◌-ℤ◌, int_lt, if◌then◌else◌, Some, None, List, [], ◌∷◌}
 use Rattle.croner_base.specs.declared.time.table.ClockTable.{ClockTable}
 use Rattle.croner_base.specs.declared.time.table.TableTime.{TableTime}
 use Rattle.croner_base.specs.declared.time.value.Resolution.{Resolution}
+use Rattle.croner_base.specs.declared.time.value.Resolution.TheVariants.{Single, Ambiguous, Gap}
 use Rattle.croner_base.specs.Civil.{wall_second}
 use Rattle.croner_base.specs.Table.{offset_at, offset_limit, is_table_second}
 use Rattle.croner_base.specs.Zone.{Zone, Moment}
-use Rattle.croner_base.specs.ZonedZone.{pick, is_near_year}
+use Rattle.croner_base.specs.ZonedZone.{is_near_year}
 
 -- a table has this first offset and these changes
 pub record HasParts (offset : ℤ) (cs : List (ℤ × ℤ)) (table : ClockTable) : Type 0 where
@@ -18,20 +18,19 @@ pub record HasParts (offset : ℤ) (cs : List (ℤ × ℤ)) (table : ClockTable)
 abbrev pub clock_reads : ℤ → List (ℤ × ℤ) → ℤ → ℤ
 clock_reads offset cs i = i +ℤ offset_at offset cs i
 
--- the instant that reads a wall second if the offset a day before it is in force
-abbrev pub earlier_instant : ℤ → List (ℤ × ℤ) → ℤ → ℤ
-earlier_instant offset cs w = w -ℤ offset_at offset cs (w -ℤ pos offset_limit)
+-- the instants of a wall second, of one by the offset before a change and one by the offset after it
+abbrev pub instants_around : ℤ → ℤ → ℤ → Resolution ℤ
+instants_around change earlier later =
+    if int_lt earlier change then (if int_lt later change then Single earlier else Ambiguous earlier later)
+    else (if int_lt later change then Gap else Single later)
 
--- and if that a day after it is
-abbrev pub later_instant : ℤ → List (ℤ × ℤ) → ℤ → ℤ
-later_instant offset cs w = w -ℤ offset_at offset cs (w +ℤ pos offset_limit)
-
--- those of the two that do read it, each once, the earlier first: no other instant reads it
+-- the instants that read a wall second. A change that lies more than a day before it is past; of the others the first
+-- decides, since each next one lies more than two days after it. That no other instant reads it is proved
 abbrev pub instants_of : ℤ → List (ℤ × ℤ) → ℤ → Resolution ℤ
-instants_of offset cs w =
-    pick (int_eq (clock_reads offset cs (earlier_instant offset cs w)) w)
-    (int_eq (clock_reads offset cs (later_instant offset cs w)) w)
-    (earlier_instant offset cs w) (later_instant offset cs w)
+instants_of offset [] w = Single (w -ℤ offset)
+instants_of offset (c ∷ cs) w =
+    if int_lt (c.0 +ℤ pos offset_limit) w then instants_of c.1 cs w
+    else instants_around c.0 (w -ℤ offset) (w -ℤ c.1)
 
 -- the zone of a first offset and changes: it holds the instants of the UTC years -9999 to 9999, and the wall seconds
 -- of the years -9998 to 9998

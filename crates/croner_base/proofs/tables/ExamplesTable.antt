@@ -4,7 +4,7 @@ use Rattle.jiff_core.specs.Calendar.{days_of_months}
 use Rattle.croner_base.specs.declared.time.value.Resolution.TheVariants.{Single, Ambiguous, Gap}
 use Rattle.croner_base.specs.Calendar.{day_number, year_start, days_since_zero, day_seconds}
 use Rattle.croner_base.specs.Limits.{first_searched, last_searched, gap_limit, fold_limit, apart_limit}
-use Rattle.croner_base.specs.Table.{offset_limit, is_calm_table, met_count, met_gaps}
+use Rattle.croner_base.specs.Table.{offset_limit, is_calm_table, met_at, gap_at}
 use Rattle.croner_base.specs.TableZone.{clock_reads, instants_of}
 
 -- Paris in 2024
@@ -149,21 +149,21 @@ unfolding is_calm_table
 after_last = refl
 
 -- which changes count: a reading in the years 1 to 5000 at the instant or one second before it
-last_met : met_count (pos 0) ((last_searched +ℤ pos 1, pos 60) ∷ []) ≡ 1
+last_met : met_at (pos 0) (last_searched +ℤ pos 1, pos 60) ≡ 1
 last_met = refl
 
-after_last_met : met_count (pos 0) ((last_searched +ℤ pos 2, pos 60) ∷ []) ≡ 0
+after_last_met : met_at (pos 0) (last_searched +ℤ pos 2, pos 60) ≡ 0
 after_last_met = refl
 
-moved_into_the_years : met_count (pos 60) ((last_searched +ℤ pos 1, pos 0 -ℤ pos 1) ∷ []) ≡ 1
+moved_into_the_years : met_at (pos 60) (last_searched +ℤ pos 1, pos 0 -ℤ pos 1) ≡ 1
 moved_into_the_years = refl
 
-first_met : met_count (pos 0) ((first_searched, neg_ℤ (pos 60)) ∷ []) ≡ 0
+first_met : met_at (pos 0) (first_searched, neg_ℤ (pos 60)) ≡ 0
 first_met = refl
 
-first_met_forward : met_count (neg_ℤ (pos 60)) ((first_searched, pos 0) ∷ []) ≡ 1
+first_met_forward : met_at (neg_ℤ (pos 60)) (first_searched, pos 0) ≡ 1
 first_met_forward = refl
 
 -- only clocks that are moved forward skip seconds
-sums : met_gaps (pos 3_600) paris ≡ 3_600
+sums : gap_at (pos 3_600) (pos 1_711_846_800, pos 7_200) + gap_at (pos 7_200) (pos 1_729_990_800, pos 3_600) ≡ 3_600
 sums = refl

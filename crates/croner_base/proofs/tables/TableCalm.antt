@@ -1,5 +1,5 @@
 -- The clock of a calm table is calm, and holds what a search needs.
-use Rattle.std.proofs.Common.{◌≡◌, ◌⊎◌, inl, inr, sym, ap, ◌∙◌, subst, Bool, true, false, refl, arith, ◌||◌, zero, suc, ◌≤◌, ℤ, pos, neg_ℤ, ◌+ℤ◌, ◌-ℤ◌, ◌<ℤ◌, ◌≤ℤ◌, int_lt, unsigned_abs, if◌then◌else◌, List, [], ◌∷◌, length, Some, None, IsSome}
+use Rattle.std.proofs.Common.{◌≡◌, ◌⊎◌, inl, inr, sym, ap, ◌∙◌, subst, Bool, true, false, refl, arith, ◌||◌, zero, suc, ◌+◌, ◌≤◌, ℤ, pos, neg_ℤ, ◌+ℤ◌, ◌-ℤ◌, ◌<ℤ◌, ◌≤ℤ◌, int_lt, unsigned_abs, if◌then◌else◌, List, [], ◌∷◌, length, Some, None, IsSome}
 use Rattle.std.proofs.lemmas.Int.{by_lt_z}
 use Rattle.std.specs.List.{All}
 use Rattle.jiff_core.proofs.SignedLemmas.{signed_arith}
@@ -11,25 +11,18 @@ use Rattle.croner_base.specs.Civil.{wall_second}
 use Rattle.croner_base.specs.Zone.{Zone, reading}
 use Rattle.croner_base.specs.Calm.{IsChange, IsMet, IsSearched, IsCalm, NamesAll, Rises, HoldsAround, jump, gap_seconds}
 use Rattle.croner_base.specs.ZonedZone.{is_near_year, first_timestamp, last_timestamp}
-use Rattle.croner_base.specs.Table.{offset_at, is_met, are_steps, is_step, met_at, gap_at, met_count, met_gaps, is_calm_table, offset_limit}
+use Rattle.croner_base.specs.Table.{Known, after, at_first, all_follow, offset_at, is_met, met_at, gap_at, is_calm_table, offset_limit}
 use Rattle.croner_base.specs.TableZone.{clock, clock_reads, instants_of, table_zone, table_moment}
-use Rattle.croner_base.proofs.tables.TableTests.{IsSmallStep, both_parts, step_parts, searched_test, le_test, le_false, lt_test, lt_false, instant_test}
-use Rattle.croner_base.proofs.tables.TableCheck.{rules_from_calm}
-use Rattle.croner_base.proofs.tables.TableOffsets.{IsSpread, offset_within, stays}
-use Rattle.croner_base.proofs.tables.TableReadings.{calm_spread, calm_offsets}
-use Rattle.croner_base.proofs.tables.TableMoments.{names_instants}
+use Rattle.croner_base.proofs.tables.TableTests.{IsSmallStep, step_parts, searched_test, lt_test, lt_false, instant_test}
+use Rattle.croner_base.proofs.tables.TableCheck.{first_follows, calm_parts}
+use Rattle.croner_base.proofs.tables.TableOffsets.{calm_offset, stays}
+use Rattle.croner_base.proofs.tables.TableReadings.{passed, ahead, names_instants}
 use Rattle.croner_base.proofs.clocks.ZonedHolds.{farthest_offset, IsNearUtc, holds_around}
-use Rattle.croner_base.specs.Limits.{apart_limit, first_start, last_start}
+use Rattle.croner_base.specs.Limits.{apart_limit, most_changes, most_gap_seconds, first_start, last_start}
 
 -- the offset in force changes at d
 abbrev pub IsOffsetChange : ℤ → List (ℤ × ℤ) → ℤ → Type 0
 IsOffsetChange o cs d = offset_at o cs d ≡ offset_at o cs (d -ℤ pos 1) → ⊥
-
-passed : (o : ℤ) (c : ℤ × ℤ) (cs : List (ℤ × ℤ)) (i : ℤ) → c.0 ≤ℤ i → offset_at o (c ∷ cs) i ≡ offset_at c.1 cs i
-passed o c cs i h = let t = le_test c.0 i h in rw t
-
-ahead : (o : ℤ) (c : ℤ × ℤ) (cs : List (ℤ × ℤ)) (i : ℤ) → i <ℤ c.0 → offset_at o (c ∷ cs) i ≡ o
-ahead o c cs i h = let t = le_false c.0 i h in rw t
 
 -- that is at a change of the table
 place : (o : ℤ) (c : ℤ × ℤ) (cs : List (ℤ × ℤ)) (d : ℤ) → IsOffsetChange o (c ∷ cs) d → (d ≡ c.0) ⊎ ((c.0 <ℤ d) × IsOffsetChange c.1 cs d)
@@ -41,44 +34,42 @@ place o c cs d m =
     (λ le. inl (omega (arith, signed_arith, ge, le))))
 
 -- there the offset is the change's, and was the one before
-at_change : (o : ℤ) (c : ℤ × ℤ) (cs : List (ℤ × ℤ)) (d : ℤ) → IsSpread (c ∷ cs) → d ≡ c.0 → (offset_at o (c ∷ cs) d ≡ c.1) × (offset_at o (c ∷ cs) (d -ℤ pos 1) ≡ o)
-at_change o c cs d s e = (
-  passed o c cs d (omega (arith, signed_arith, e)) ∙ stays c cs d s.0 (omega (arith, signed_arith, e)),
-  ahead o c cs (d -ℤ pos 1) (omega (arith, signed_arith, e)),
+at_change : (k : Known) (c : ℤ × ℤ) (cs : List (ℤ × ℤ)) (d : ℤ) → all_follow (after k c) cs ≡ true → d ≡ c.0 → (offset_at k.offset (c ∷ cs) d ≡ c.1) × (offset_at k.offset (c ∷ cs) (d -ℤ pos 1) ≡ k.offset)
+at_change k c cs d h e = (
+  passed k.offset c cs d (omega (arith, signed_arith, e)) ∙ stays k c cs d h (omega (arith, signed_arith, e)),
+  ahead k.offset c cs (d -ℤ pos 1) (omega (arith, signed_arith, e)),
 )
 
-moved_by : (o : ℤ) (cs : List (ℤ × ℤ)) (d : ℤ) → IsSpread cs → are_steps o cs ≡ true → IsOffsetChange o cs d → IsSmallStep (offset_at o cs (d -ℤ pos 1)) (offset_at o cs d)
-moved_by o [] d s h m = absurd (m refl)
-moved_by o (c ∷ cs) d s h m =
-    let p = both_parts (is_step o c.1) (are_steps c.1 cs) h in
-    elim (place o c cs d m) [
-      | inl e ↦ let a = at_change o c cs d s e in rw (a.0, a.1) (step_parts o c.1 p.0)
+moved_by : (k : Known) (cs : List (ℤ × ℤ)) (d : ℤ) → all_follow k cs ≡ true → IsOffsetChange k.offset cs d → IsSmallStep (offset_at k.offset cs (d -ℤ pos 1)) (offset_at k.offset cs d)
+moved_by k [] d h m = absurd (m refl)
+moved_by k (c ∷ cs) d h m =
+    let p = first_follows k c cs h in
+    elim (place k.offset c cs d m) [
+      | inl e ↦ let a = at_change k c cs d p.1 e in rw (a.0, a.1) (step_parts k.offset c.1 p.0.step)
       | inr q ↦
-          let x = passed o c cs d (omega (arith, signed_arith, q.0)) in
-          let y = passed o c cs (d -ℤ pos 1) (omega (arith, signed_arith, q.0)) in
-          rw (x, y) (moved_by c.1 cs d s.1 p.1 q.1)
+          let x = passed k.offset c cs d (omega (arith, signed_arith, q.0)) in
+          let y = passed k.offset c cs (d -ℤ pos 1) (omega (arith, signed_arith, q.0)) in
+          rw (x, y) (moved_by (after k c) cs d p.1 q.1)
     ]
 
-after_first : (c : ℤ × ℤ) (cs : List (ℤ × ℤ)) (e : ℤ) → IsSpread (c ∷ cs) → IsOffsetChange c.1 cs e → (c.0 +ℤ pos apart_limit) <ℤ e
-after_first c [] e s m = absurd (m refl)
-after_first c (d ∷ ds) e s m =
-    let a : (c.0 +ℤ pos apart_limit) <ℤ d.0 = s.0 in
-    elim (place c.1 d ds e m) [
-      | inl h ↦ omega (arith, signed_arith, a, h)
-      | inr q ↦ omega (arith, signed_arith, a, q.0)
-    ]
+not_before : (k : Known) (cs : List (ℤ × ℤ)) (d : ℤ) → all_follow k cs ≡ true → IsOffsetChange k.offset cs d → k.earliest ≤ℤ d
+not_before k [] d h m = absurd (m refl)
+not_before k (c ∷ cs) d h m =
+    let n = (first_follows k c cs h).0 in
+    elim (place k.offset c cs d m) [ inl e ↦ omega (arith, signed_arith, n.late_enough, e) | inr q ↦ omega (arith, signed_arith, n.late_enough, q.0) ]
 
-far_apart : (o : ℤ) (cs : List (ℤ × ℤ)) (d e : ℤ) → IsSpread cs → IsOffsetChange o cs d → IsOffsetChange o cs e → d <ℤ e → (d +ℤ pos apart_limit) <ℤ e
-far_apart o [] d e s m n lt = absurd (m refl)
-far_apart o (c ∷ cs) d e s m n lt =
-    elim (place o c cs d m) [
-      | inl h ↦ elim (place o c cs e n) [
-        | inl k ↦ absurd (omega (arith, signed_arith, h, k, lt))
-        | inr q ↦ let a = after_first c cs e s q.1 in omega (arith, signed_arith, a, h)
+far_apart : (k : Known) (cs : List (ℤ × ℤ)) (d e : ℤ) → all_follow k cs ≡ true → IsOffsetChange k.offset cs d → IsOffsetChange k.offset cs e → d <ℤ e → (d +ℤ pos apart_limit) <ℤ e
+far_apart k [] d e h m n lt = absurd (m refl)
+far_apart k (c ∷ cs) d e h m n lt =
+    let rest = (first_follows k c cs h).1 in
+    elim (place k.offset c cs d m) [
+      | inl i ↦ elim (place k.offset c cs e n) [
+        | inl j ↦ absurd (omega (arith, signed_arith, i, j, lt))
+        | inr q ↦ let a = not_before (after k c) cs e rest q.1 in omega (arith, signed_arith, a, i)
       ]
-      | inr p ↦ elim (place o c cs e n) [
-        | inl k ↦ absurd (omega (arith, signed_arith, p.0, k, lt))
-        | inr q ↦ far_apart c.1 cs d e s.1 p.1 q.1 lt
+      | inr p ↦ elim (place k.offset c cs e n) [
+        | inl j ↦ absurd (omega (arith, signed_arith, p.0, j, lt))
+        | inr q ↦ far_apart (after k c) cs d e rest p.1 q.1 lt
       ]
     ]
 
@@ -110,40 +101,43 @@ above_first : (d : ℤ) (ds : List ℤ) → All (λ e. d <ℤ e) ds → All (λ 
 above_first d ds h zero e l = omega (arith, signed_arith)
 above_first d ds h (suc k) e l = let a = h k e (omega arith) in omega (arith, signed_arith, a)
 
--- of a zone that reads as the table after f, the changes after f are counted
-few_in : (z : Zone) (f o : ℤ) (cs : List (ℤ × ℤ)) (ds : List ℤ) → ((i : ℤ) → f ≤ℤ i → z.reads i ≡ clock_reads o cs i) → All (λ e. f <ℤ e) ds → IsSpread cs → Rises ds → All (IsMet z) ds → (length ds ≤ met_count o cs) × (gap_seconds z ds ≤ met_gaps o cs)
-few_in z f o [] [] agree above s r met = (omega arith, omega arith)
-few_in z f o (c ∷ cs) [] agree above s r met = (omega arith, omega arith)
-few_in z f o [] (d ∷ ds) agree above s r met =
+-- of a zone that reads as the changes after f, those that it meets are few
+few_in : (z : Zone) (f : ℤ) (k : Known) (cs : List (ℤ × ℤ)) (ds : List ℤ) → (k.met ≤ most_changes) × (k.gap_seconds ≤ most_gap_seconds) → ((i : ℤ) → f ≤ℤ i → z.reads i ≡ clock_reads k.offset cs i) → All (λ e. f <ℤ e) ds
+    → all_follow k cs ≡ true → Rises ds → All (IsMet z) ds → (k.met + length ds ≤ most_changes) × (k.gap_seconds + gap_seconds z ds ≤ most_gap_seconds)
+few_in z f k [] [] so_far agree above h r met = (omega (arith, so_far), omega (arith, so_far))
+few_in z f k (c ∷ cs) [] so_far agree above h r met = (omega (arith, so_far), omega (arith, so_far))
+few_in z f k [] (d ∷ ds) so_far agree above h r met =
+    let a = above 0 d (omega arith) in
+    let p : z.reads d ≡ d +ℤ k.offset = agree d (omega (arith, signed_arith, a)) in
+    let q : z.reads (d -ℤ pos 1) ≡ (d -ℤ pos 1) +ℤ k.offset = agree (d -ℤ pos 1) (omega (arith, signed_arith, a)) in
+    absurd ((met 0 d (omega arith)).0 (omega (arith, signed_arith, p, q)))
+few_in z f k (c ∷ cs) (d ∷ ds) so_far agree above h r met =
+    let o = k.offset in
     let m = met 0 d (omega arith) in
     let a = above 0 d (omega arith) in
-    let p : z.reads d ≡ d +ℤ o = agree d (omega (arith, signed_arith, a)) in
-    let q : z.reads (d -ℤ pos 1) ≡ (d -ℤ pos 1) +ℤ o = agree (d -ℤ pos 1) (omega (arith, signed_arith, a)) in
-    absurd (m.0 (omega (arith, signed_arith, p, q)))
-few_in z f o (c ∷ cs) (d ∷ ds) agree above s r met =
-    let m = met 0 d (omega arith) in
-    let a = above 0 d (omega arith) in
+    let n = first_follows k c cs h in
     let p : z.reads d ≡ d +ℤ offset_at o (c ∷ cs) d = agree d (omega (arith, signed_arith, a)) in
     let q : z.reads (d -ℤ pos 1) ≡ (d -ℤ pos 1) +ℤ offset_at o (c ∷ cs) (d -ℤ pos 1) = agree (d -ℤ pos 1) (omega (arith, signed_arith, a)) in
     elim (place o c cs d (λ e. m.0 (plain_change _ _ d _ _ p q e))) [
-      | inl h ↦
-          let w = at_change o c cs d s h in
-          let rest = few_in z d c.1 cs ds (λ i le. agree i (omega (arith, signed_arith, a, le)) ∙ ap (λ (x : ℤ). i +ℤ x) (passed o c cs i (omega (arith, signed_arith, h, le)))) r.0 s.1 r.1 (tail (IsMet z) d ds met) in
-          let x : z.reads d ≡ c.0 +ℤ c.1 = p ∙ rw w.0 (omega (arith, signed_arith, h)) in
-          let y : z.reads (d -ℤ pos 1) ≡ c.0 -ℤ pos 1 +ℤ o = q ∙ rw w.1 (omega (arith, signed_arith, h)) in
+      | inl here ↦
+          let w = at_change k c cs d n.1 here in
+          let rest = few_in z d (after k c) cs ds (n.0.few, n.0.few_seconds) (λ i le. agree i (omega (arith, signed_arith, a, le)) ∙ ap (λ (x : ℤ). i +ℤ x) (passed o c cs i (omega (arith, signed_arith, here, le)))) r.0 n.1 r.1 (tail (IsMet z) d ds met) in
+          let x : z.reads d ≡ c.0 +ℤ c.1 = p ∙ rw w.0 (omega (arith, signed_arith, here)) in
+          let y : z.reads (d -ℤ pos 1) ≡ c.0 -ℤ pos 1 +ℤ o = q ∙ rw w.1 (omega (arith, signed_arith, here)) in
           let seen1 = seen o c (z.reads d) (z.reads (d -ℤ pos 1)) x y m.1 in
           let one : met_at o c ≡ 1 = rw seen1 refl in
           let skip = skipped o c (jump z d) seen1 (omega (arith, signed_arith, x, y)) in
           (omega (arith, one, rest.0), omega (arith, skip, rest.1))
-      | inr h ↦
-          let rest = few_in z (d -ℤ pos 1) c.1 cs (d ∷ ds) (λ i le. agree i (omega (arith, signed_arith, a, le)) ∙ ap (λ (x : ℤ). i +ℤ x) (passed o c cs i (omega (arith, signed_arith, h.0, le)))) (above_first d ds r.0) s.1 r met in
+      | inr past ↦
+          let rest = few_in z (d -ℤ pos 1) (after k c) cs (d ∷ ds) (n.0.few, n.0.few_seconds) (λ i le. agree i (omega (arith, signed_arith, a, le)) ∙ ap (λ (x : ℤ). i +ℤ x) (passed o c cs i (omega (arith, signed_arith, past.0, le)))) (above_first d ds r.0) n.1 r met in
           (omega (arith, rest.0), omega (arith, rest.1))
     ]
 
-few_all : (z : Zone) (o : ℤ) (cs : List (ℤ × ℤ)) (ds : List ℤ) → ((i : ℤ) → z.reads i ≡ clock_reads o cs i) → IsSpread cs → Rises ds → All (IsMet z) ds → (length ds ≤ met_count o cs) × (gap_seconds z ds ≤ met_gaps o cs)
-few_all z o cs [] agree s r met = (omega arith, omega arith)
-few_all z o cs (d ∷ ds) agree s r met =
-    few_in z (d -ℤ pos 1) o cs (d ∷ ds) (λ i le. agree i) (above_first d ds r.0) s r met
+few_all : (z : Zone) (o : ℤ) (cs : List (ℤ × ℤ)) (ds : List ℤ) → ((i : ℤ) → z.reads i ≡ clock_reads o cs i) → all_follow (at_first o) cs ≡ true → Rises ds → All (IsMet z) ds → (length ds ≤ most_changes) × (gap_seconds z ds ≤ most_gap_seconds)
+few_all z o cs [] agree h r met = (omega arith, omega arith)
+few_all z o cs (d ∷ ds) agree h r met =
+    let f = few_in z (d -ℤ pos 1) (at_first o) cs (d ∷ ds) (omega arith, omega arith) (λ i le. agree i) (above_first d ds r.0) h r met in
+    (omega (arith, f.0), omega (arith, f.1))
 
 jump_plain : (d x y : ℤ) → ((d +ℤ x) -ℤ ((d -ℤ pos 1) +ℤ y)) -ℤ pos 1 ≡ x -ℤ y
 jump_plain d x y = omega (arith, signed_arith)
@@ -171,17 +165,15 @@ exact_all o cs c r h e =
 
 pub clock_calm : (o : ℤ) (cs : List (ℤ × ℤ)) → is_calm_table o cs ≡ true → IsCalm (clock o cs)
 clock_calm o cs h =
-    let rules = rules_from_calm o cs h in
-    let spread = calm_spread o cs h in
+    let p = calm_parts o cs h in
     record {
       exact = λ c r e. exact_all o cs c r h e;
-      small = λ d m. let s = moved_by o cs d spread rules.steps (change_moves o cs d m) in (
+      small = λ d m. let s = moved_by (at_first o) cs d p.1 (change_moves o cs d m) in (
         omega (arith, signed_arith, s.back, jump_is o cs d),
         omega (arith, signed_arith, s.forward, jump_is o cs d),
       );
-      apart = λ d e m n lt. far_apart o cs d e spread (change_moves o cs d m) (change_moves o cs e n) lt;
-      few = λ ds r m. let f = few_all (clock o cs) o cs ds (clock_reads_is o cs) spread r m in
-          (omega (arith, f.0, rules.few), omega (arith, f.1, rules.few_seconds));
+      apart = λ d e m n lt. far_apart (at_first o) cs d e p.1 (change_moves o cs d m) (change_moves o cs e n) lt;
+      few = λ ds r m. few_all (clock o cs) o cs ds (clock_reads_is o cs) p.1 r m;
     }
 
 -- what a search needs held
@@ -199,7 +191,7 @@ near_plain i x h = (omega (arith, signed_arith, h), omega (arith, signed_arith, 
 near_utc : (t : ClockTable) → IsNearUtc (table_zone t)
 unfolding clock
 near_utc t =
-    λ i. near_plain i (offset_at t.first_offset t.changes.items i) (offset_within t.first_offset t.changes.items i (calm_offsets t.first_offset t.changes.items t.calm))
+    λ i. near_plain i (offset_at t.first_offset t.changes.items i) (calm_offset t.first_offset t.changes.items i t.calm)
 
 pub table_holds : (t : TableTime) → first_start ≤ℤ reading (table_moment t) → reading (table_moment t) ≤ℤ last_start → HoldsAround (table_moment t)
 table_holds t low high = holds_around (table_moment t) (named t.table.now) (held t.table.now) (near_utc t.table.now) low high

@@ -1,59 +1,55 @@
 -- The offsets of a table around an instant.
-use Rattle.std.proofs.Common.{◌≡◌, ◌⊎◌, inl, inr, false, refl, arith, ℤ, pos, neg_ℤ, ◌+ℤ◌, ◌-ℤ◌, ◌<ℤ◌, ◌≤ℤ◌, List, [], ◌∷◌, int_le}
+use Rattle.std.proofs.Common.{◌≡◌, ◌⊎◌, inl, inr, false, true, refl, arith, ℤ, pos, neg_ℤ, ◌+ℤ◌, ◌≤ℤ◌, List, [], ◌∷◌, int_le}
 use Rattle.jiff_core.proofs.SignedLemmas.{signed_arith}
 use Rattle.croner_base.specs.Limits.{apart_limit}
-use Rattle.croner_base.specs.Table.{offset_at, offset_limit}
-use Rattle.croner_base.proofs.tables.TableTests.{le_test, le_false, le_tells}
-
--- the next change is more than two days after it
-abbrev pub IsAfter : ℤ × ℤ → List (ℤ × ℤ) → Type 0
-IsAfter c [] = Unit {0}
-IsAfter c (d ∷ ds) = (c.0 +ℤ pos apart_limit) <ℤ d.0
-
--- each change is more than two days after the one before
-abbrev pub IsSpread : List (ℤ × ℤ) → Type 0
-IsSpread [] = Unit {0}
-IsSpread (c ∷ cs) = IsAfter c cs × IsSpread cs
+use Rattle.croner_base.specs.Table.{Known, after, at_first, all_follow, offset_at, offset_limit, is_offset, is_calm_table}
+use Rattle.croner_base.proofs.tables.TableCheck.{first_follows, calm_parts}
+use Rattle.croner_base.proofs.tables.TableTests.{le_test, le_false, le_tells, offset_bounds}
 
 -- an offset is at most a day
 abbrev pub IsOffset : ℤ → Type 0
 IsOffset o = (neg_ℤ (pos offset_limit) ≤ℤ o) × (o ≤ℤ pos offset_limit)
 
--- each offset is at most a day
-abbrev pub AreOffsets : ℤ → List (ℤ × ℤ) → Type 0
-AreOffsets o [] = IsOffset o
-AreOffsets o (c ∷ cs) = IsOffset o × AreOffsets c.1 cs
-
 -- before the next change the offset stays
-pub stays : (c : ℤ × ℤ) (cs : List (ℤ × ℤ)) (i : ℤ) → IsAfter c cs → i ≤ℤ (c.0 +ℤ pos apart_limit) → offset_at c.1 cs i ≡ c.1
-stays c [] i h le = refl
-stays c (d ∷ ds) i h le = let t : int_le d.0 i ≡ false = le_false d.0 i (omega (arith, signed_arith)) in rw t
+pub stays : (k : Known) (c : ℤ × ℤ) (cs : List (ℤ × ℤ)) (i : ℤ) → all_follow (after k c) cs ≡ true → i ≤ℤ (c.0 +ℤ pos apart_limit) → offset_at c.1 cs i ≡ c.1
+stays k c [] i h le = refl
+stays k c (d ∷ ds) i h le =
+    let n = (first_follows (after k c) d ds h).0 in
+    let t : int_le d.0 i ≡ false = le_false d.0 i (omega (arith, signed_arith, n.late_enough)) in
+    rw t
 
 -- within two days the offset changes at most once
-pub between : (o : ℤ) (cs : List (ℤ × ℤ)) (x i y : ℤ) → IsSpread cs → x ≤ℤ i → i ≤ℤ y → y ≤ℤ (x +ℤ pos apart_limit) → (offset_at o cs i ≡ offset_at o cs x) ⊎ (offset_at o cs i ≡ offset_at o cs y)
-between o [] x i y s low high near = inl refl
-between o (c ∷ cs) x i y s low high near = elim (le_tells c.0 i) [
+between : (k : Known) (cs : List (ℤ × ℤ)) (x i y : ℤ) → all_follow k cs ≡ true → x ≤ℤ i → i ≤ℤ y → y ≤ℤ (x +ℤ pos apart_limit) → (offset_at k.offset cs i ≡ offset_at k.offset cs x) ⊎ (offset_at k.offset cs i ≡ offset_at k.offset cs y)
+between k [] x i y h low high near = inl refl
+between k (c ∷ cs) x i y h low high near = elim (le_tells c.0 i) [
   | inr early ↦ let before = le_false c.0 x (omega (arith, signed_arith, early)) in inl (rw (early.0, before))
   | inl late ↦
+      let rest = (first_follows k c cs h).1 in
       let past = le_test c.0 y (omega (arith, signed_arith, late)) in
       elim (le_tells c.0 x) [
-        | inl all ↦ rw (late.0, all.0, past) (between c.1 cs x i y s.1 low high near)
+        | inl all ↦ rw (late.0, all.0, past) (between (after k c) cs x i y rest low high near)
         | inr before ↦
-            let p = stays c cs i s.0 (omega (arith, signed_arith, before)) in
-            let q = stays c cs y s.0 (omega (arith, signed_arith, before)) in
+            let p = stays k c cs i rest (omega (arith, signed_arith, before)) in
+            let q = stays k c cs y rest (omega (arith, signed_arith, before)) in
             inr (rw (late.0, past, p, q))
       ]
 ]
 
-pub offset_within : (o : ℤ) (cs : List (ℤ × ℤ)) (i : ℤ) → AreOffsets o cs → IsOffset (offset_at o cs i)
-offset_within o [] i h = h
-offset_within o (c ∷ cs) i h = elim (le_tells c.0 i) [ inl late ↦ rw late.0 (offset_within c.1 cs i h.1) | inr early ↦ rw early.0 h.0 ]
+-- of a calm table
+pub calm_between : (o : ℤ) (cs : List (ℤ × ℤ)) (x i y : ℤ) → is_calm_table o cs ≡ true → x ≤ℤ i → i ≤ℤ y → y ≤ℤ (x +ℤ pos apart_limit) → (offset_at o cs i ≡ offset_at o cs x) ⊎ (offset_at o cs i ≡ offset_at o cs y)
+calm_between o cs x i y h low high near = between (at_first o) cs x i y (calm_parts o cs h).1 low high near
 
--- so an instant that shows w is w less the offset a day before w or a day after it
-pub candidates : (o : ℤ) (cs : List (ℤ × ℤ)) (w i : ℤ) → IsSpread cs → AreOffsets o cs → i +ℤ offset_at o cs i ≡ w → (i ≡ w -ℤ offset_at o cs (w -ℤ pos offset_limit)) ⊎ (i ≡ w -ℤ offset_at o cs (w +ℤ pos offset_limit))
-candidates o cs w i s a e =
-    let b = offset_within o cs i a in
-    elim (between o cs (w -ℤ pos offset_limit) i (w +ℤ pos offset_limit) s (omega (arith, signed_arith, e, b)) (omega (arith, signed_arith, e, b)) (omega (arith, signed_arith))) [
-      | inl p ↦ inl (omega (arith, signed_arith, e, p))
-      | inr p ↦ inr (omega (arith, signed_arith, e, p))
+-- each offset in force is at most a day
+pub offset_within : (k : Known) (cs : List (ℤ × ℤ)) (i : ℤ) → is_offset k.offset ≡ true → all_follow k cs ≡ true → IsOffset (offset_at k.offset cs i)
+offset_within k [] i o h = offset_bounds k.offset o
+offset_within k (c ∷ cs) i o h =
+    let p = first_follows k c cs h in
+    elim (le_tells c.0 i) [
+      | inl late ↦ rw late.0 (offset_within (after k c) cs i p.0.offset_in p.1)
+      | inr early ↦ rw early.0 (offset_bounds k.offset o)
     ]
+
+pub calm_offset : (o : ℤ) (cs : List (ℤ × ℤ)) (i : ℤ) → is_calm_table o cs ≡ true → IsOffset (offset_at o cs i)
+calm_offset o cs i h =
+    let p = calm_parts o cs h in
+    offset_within (at_first o) cs i p.0 p.1

@@ -34,9 +34,8 @@ pub struct ClockTable {
 }
 
 impl ClockTable {
-    ghost use Rattle.croner_base.specs.Private.TableSteps.{IsCountUntil, instants_around, offset_past};
-    ghost use Rattle.croner_base.specs.TableZone.{HasParts, table_zone};
-    ghost use Rattle.croner_base.specs.Calm.{NamesAll};
+    ghost use Rattle.croner_base.specs.Private.TableSteps.{IsCountUntil, offset_past};
+    ghost use Rattle.croner_base.specs.TableZone.{HasParts, instants_around, instants_of};
 
     /// The clock that is `first_offset` seconds ahead of UTC before its first change. Each change is an instant, in
     /// seconds since 1970-01-01T00:00:00 UTC, and the seconds that the clock is ahead of UTC from that instant on.
@@ -81,14 +80,6 @@ impl ClockTable {
         )
     }
 
-    // The instant of a change.
-    fn instant_of(&self, index: usize) -> i64
-        requires { index < vec_len self.now.changes }
-        ensures { result ≡ (slice_index_or self.now.changes.items index (pos 0, pos 0)).0 }
-    {
-        self.changes[index].0
-    }
-
     // The offset in force after so many changes.
     fn offset_past(&self, count: usize) -> i64
         requires { count ≤ vec_len self.now.changes }
@@ -114,18 +105,23 @@ impl ClockTable {
     fn instants_of(&self, wall: i64) -> Resolution<i64>
         requires low { Spec.first_instant ≤ℤ wall }
         requires high { wall ≤ℤ Spec.last_instant }
-        ensures { NamesAll (table_zone self.now) wall result }
+        ensures { result ≡ instants_of self.now.first_offset self.now.changes.items wall }
     {
-        let passed = self.changes_until(wall + OFFSET_LIMIT_SECONDS as i64);
-        let after = self.offset_past(passed);
-        let later = wall - after;
-        if passed == 0 {
-            return Resolution::Single(later);
+        let passed = self.changes_until(wall - OFFSET_LIMIT_SECONDS as i64 - 1);
+        let earlier = wall - self.offset_past(passed);
+        if passed == self.changes.len() {
+            return Resolution::Single(earlier);
         }
-        let before = self.offset_past(passed - 1);
-        let earlier = wall - before;
-        let change = self.instant_of(passed - 1);
-        Self::around(change, earlier, later)
+        let later = wall - self.offset_past(passed + 1);
+        Self::around(self.instant_of(passed), earlier, later)
+    }
+
+    // The instant of a change.
+    fn instant_of(&self, index: usize) -> i64
+        requires { index < vec_len self.now.changes }
+        ensures { result ≡ (slice_index_or self.now.changes.items index (pos 0, pos 0)).0 }
+    {
+        self.changes[index].0
     }
 
     // The instants of a wall second, of one by the offset before a change and one by the offset after it.

@@ -28,7 +28,7 @@ const MOST_GAP_SECONDS: u32 = 20_000_000;
 
 // Whether a first offset and changes make a calm clock.
 pub(crate) fn is_calm(first_offset: i32, changes: &[(i64, i32)]) -> bool
-    ensures { IsTrue result ↔ IsTrue (Spec.is_calm_table first_offset changes.now) }
+    ensures { result ≡ Spec.is_calm_table first_offset changes.now }
 {
     if !is_offset(first_offset) {
         return false;
@@ -66,13 +66,12 @@ struct Tally {
 }
 
 impl Tally {
-    ghost use Rattle.croner_base.specs.Private.TableSteps.{IsNextChange, HasTallied};
+    ghost use Rattle.croner_base.specs.Private.TableSteps.{known_by, IsNextChange, HasTallied};
 
     // One change more, or nothing where the table is refused for it.
     fn with(self, second: i64, offset: i32) -> Option<Tally>
-        ensures some { IsSome result ↔ IsNextChange self.offset self.earliest self.met self.gap_seconds (second, offset) }
-        ensures value { IfSome result
-            (HasTallied self.offset self.met self.gap_seconds (second, offset)) }
+        ensures some { IsSome result ↔ IsNextChange (known_by self) (second, offset) }
+        ensures value { IfSome result (HasTallied (known_by self) (second, offset)) }
     {
         if second < self.earliest || second > LAST_INSTANT {
             return None;

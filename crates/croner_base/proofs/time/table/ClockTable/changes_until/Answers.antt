@@ -12,4 +12,4 @@ returns-clause-count c =
     let calm : is_calm_table t.first_offset c.as_slice.result.now ≡ true = subst (λ (l : List (ℤ × ℤ)). is_calm_table t.first_offset l ≡ true) (sym same) t.calm in
     let point = c.partition_point.ensures.partitioned (λ x. int_le x.0 c.args.second) (always_returns_same _ _ _ (λ a r f k. search (rules, of_calls)))
     (λ i j d l m up. at_or_before_first t.first_offset c.as_slice.result.now c.args.second d calm i j l m up) in
-    subst (λ (l : List (ℤ × ℤ)). IsCountUntil l c.args.second c.partition_point.result) same (count_until c.as_slice.result.now c.args.second c.partition_point.result point.0 point.1)
+    subst (λ (l : List (ℤ × ℤ)). IsCountUntil l c.args.second c.partition_point.result) same (count_until c.as_slice.result.now c.args.second c.partition_point.result c.partition_point.ensures.bound point.0 point.1)

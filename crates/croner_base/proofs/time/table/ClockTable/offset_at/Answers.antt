@@ -1,4 +1,4 @@
-use Rattle.std.proofs.Common.{◌≤◌, length, arith, FitsSigned, w64}
+use Rattle.std.proofs.Common.{arith, FitsSigned, w64}
 use Rattle.std.proofs.lemmas.Int.{ints, to_z-of_z}
 use Rattle.croner_base.proofs.tables.TableTests.{offset_bounds}
 use Rattle.croner_base.proofs.tables.TableReadings.{offset_by_count}
@@ -9,8 +9,7 @@ returns-clause-value c =
     let t = c.args.self.now in
     let f : FitsSigned w64 c.args.second = c.ranges.second in
     let count = simp to_z-of_z at c.changes_until.ensures.count in
-    let le : c.changes_until.result ≤ length t.changes.items = omega (arith, t.changes.ok.0, c.changes_until.ensures.bound) in
-    omega (arith, ints, c.offset_past.ensures.value, offset_by_count t.first_offset t.changes.items c.args.second c.changes_until.result le count)
+    omega (arith, ints, c.offset_past.ensures.value, offset_by_count t.first_offset t.changes.items c.args.second c.changes_until.result count)
 
 pub returns-clause-bound : goal.returns-clause-bound
 returns-clause-bound c =

@@ -1,14 +1,14 @@
 use Rattle.std.proofs.Common.{rules, ◌≡◌, ◌∙◌, sym, refl, true, arith, get_or, pos, FitsSigned, w32, w64}
 use Rattle.std.proofs.lemmas.Int.{ints, to_z-of_z}
 use Rattle.croner_base.specs.Table.{is_offset}
-use Rattle.croner_base.proofs.tables.TableCheck.{calm_offset, calm_follow, stop, go, both_ways}
+use Rattle.croner_base.proofs.tables.TableCheck.{calm_is, stop, go}
 use Rattle.croner_base.proofs.time.table.check.is_calm.Goals as goal
 
 pub returns-then-not-is_offset : goal.returns-then-not-is_offset
 returns-then-not-is_offset c =
     let f : FitsSigned w32 c.args.first_offset = c.ranges.first_offset in
     let within = simp to_z-of_z at c.is_offset.ensures in
-    (λ h. absurd (cc), λ h. sym c.if-not-is_offset.true ∙ within ∙ calm_offset c.args.first_offset c.args.changes.now h)
+    rw (calm_is c.args.first_offset c.args.changes.now, ← within, c.if-not-is_offset.true)
 
 pub loop-second-init : goal.loop-second-init
 loop-second-init c =
@@ -20,7 +20,7 @@ loop-second-init c =
       earliest_in = omega (arith, ints);
       met_in = omega arith;
       gaps_in = omega arith;
-      onward = simp to_z-of_z (calm_follow c.args.first_offset c.args.changes.now offset_in);
+      onward = simp to_z-of_z (rw (calm_is c.args.first_offset c.args.changes.now, offset_in) refl);
     }
 
 pub returns-in-None : goal.returns-in-None
@@ -32,8 +32,7 @@ returns-in-None c =
     let h : FitsSigned w32 (get_or cs k (pos 0, pos 0)).1 = search rules in
     let some = simp to_z-of_z at c.in-None.ensures.some in
     let i = simp to_z-of_z at c.loop-second.invariant.onward in
-    let t = c.loop-second.tally in
-    (λ e. absurd (cc), λ e. absurd (stop t.0 t.1.0 t.1.1.0 t.1.1.1.0 cs k (omega arith) (λ n. cc (some.1 n)) (i.0 e)))
+    sym (i ∙ stop _ cs k (omega arith) (λ n. cc (some.1 n)))
 
 pub loop-second-preserved : goal.loop-second-preserved
 loop-second-preserved c =
@@ -45,12 +44,11 @@ loop-second-preserved c =
     let some = simp to_z-of_z at c.in-Some.ensures.some in
     let value = simp to_z-of_z at c.in-Some.ensures.value in
     let i = simp to_z-of_z at c.loop-second.invariant.onward in
-    let t = c.loop-second.tally in
     let next = c.in-Some.next in
     record {
       offset_in = next.offset_in;
       earliest_in = next.earliest_in;
       met_in = next.met_in;
       gaps_in = next.gaps_in;
-      onward = simp to_z-of_z (both_ways i (go t.0 t.1.0 t.1.1.0 t.1.1.1.0 cs k next (omega arith) (some.0 refl) value));
+      onward = simp to_z-of_z (i ∙ go _ cs k next (omega arith) (some.0 refl) value);
     }
