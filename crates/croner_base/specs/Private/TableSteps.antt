@@ -2,6 +2,10 @@
 -- Private contracts alone cite these definitions.
 use Rattle.std.specs.Prelude.{◌≡◌, ℕ, zero, suc, ◌+◌, ◌≤◌, IsTrue, ℤ, pos, ◌+ℤ◌, ◌-ℤ◌, ◌<ℤ◌, ◌≤ℤ◌, List, [], ◌∷◌, slice_index_or}
 use Rattle.croner_base.specs.declared.time.table.check.Tally.{Tally}
+use Rattle.croner_base.specs.declared.time.table.ClockTable.{ClockTable}
+use Rattle.croner_base.specs.declared.time.table.TableTime.{TableTime}
+use Rattle.croner_base.specs.declared.time.value.Resolution.{Resolution}
+use Rattle.croner_base.specs.declared.time.value.Resolution.TheVariants.{Single, Ambiguous, Gap}
 use Rattle.croner_base.specs.Limits.{most_changes, most_gap_seconds}
 use Rattle.croner_base.specs.Table.{Known, after, first_instant, last_instant, offset_limit, is_offset, is_step, met_at, gap_at}
 
@@ -42,3 +46,22 @@ first_reading = first_instant -ℤ pos offset_limit
 
 abbrev pub last_reading : ℤ
 last_reading = last_instant +ℤ pos offset_limit
+
+-- the wall seconds whose instants are all in the range
+abbrev pub first_resolved : ℤ
+first_resolved = first_instant +ℤ pos offset_limit
+
+abbrev pub last_resolved : ℤ
+last_resolved = last_instant -ℤ pos offset_limit
+
+-- the instants of a resolution
+abbrev pub seconds_of : Resolution TableTime → Resolution ℤ
+seconds_of (Single t) = Single t.second
+seconds_of (Ambiguous a b) = Ambiguous a.second b.second
+seconds_of Gap = Gap
+
+-- its seconds are on the clock of the table
+abbrev pub AreOn : ClockTable → Resolution TableTime → Type 0
+AreOn table (Single t) = t.table.now ≡ table
+AreOn table (Ambiguous a b) = (a.table.now ≡ table) × (b.table.now ≡ table)
+AreOn table Gap = Unit {0}

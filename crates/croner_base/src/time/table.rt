@@ -35,7 +35,7 @@ pub struct ClockTable {
 
 impl ClockTable {
     ghost use Rattle.croner_base.specs.Private.TableSteps.{IsCountUntil, offset_past};
-    ghost use Rattle.croner_base.specs.TableZone.{HasParts, instants_around, instants_of};
+    ghost use Rattle.croner_base.specs.TableZone.{HasParts};
 
     /// The clock that is `first_offset` seconds ahead of UTC before its first change. Each change is an instant, in
     /// seconds since 1970-01-01T00:00:00 UTC, and the seconds that the clock is ahead of UTC from that instant on.
@@ -101,44 +101,12 @@ impl ClockTable {
         self.offset_past(self.changes_until(second))
     }
 
-    // The instants at which the clock reads a wall second.
-    fn instants_of(&self, wall: i64) -> Resolution<i64>
-        requires low { Spec.first_instant ≤ℤ wall }
-        requires high { wall ≤ℤ Spec.last_instant }
-        ensures { result ≡ instants_of self.now.first_offset self.now.changes.items wall }
-    {
-        let passed = self.changes_until(wall - OFFSET_LIMIT_SECONDS as i64 - 1);
-        let earlier = wall - self.offset_past(passed);
-        if passed == self.changes.len() {
-            return Resolution::Single(earlier);
-        }
-        let later = wall - self.offset_past(passed + 1);
-        Self::around(self.instant_of(passed), earlier, later)
-    }
-
     // The instant of a change.
     fn instant_of(&self, index: usize) -> i64
         requires { index < vec_len self.now.changes }
         ensures { result ≡ (slice_index_or self.now.changes.items index (pos 0, pos 0)).0 }
     {
         self.changes[index].0
-    }
-
-    // The instants of a wall second, of one by the offset before a change and one by the offset after it.
-    fn around(change: i64, earlier: i64, later: i64) -> Resolution<i64>
-        ensures { result ≡ instants_around change earlier later }
-    {
-        if earlier < change {
-            if later < change {
-                Resolution::Single(earlier)
-            } else {
-                Resolution::Ambiguous(earlier, later)
-            }
-        } else if later < change {
-            Resolution::Gap
-        } else {
-            Resolution::Single(later)
-        }
     }
 }
 
@@ -158,9 +126,9 @@ pub struct TableTime<'t> {
 }
 
 impl<'t> TableTime<'t> {
-    ghost use Rattle.croner_base.specs.TableZone.{table_zone, table_moment};
-    ghost use Rattle.croner_base.specs.Private.TableSteps.{first_reading, last_reading};
-    ghost use Rattle.croner_base.specs.Zone.{reading, at_instant};
+    ghost use Rattle.croner_base.specs.TableZone.{instants_around, instants_of, table_moment};
+    ghost use Rattle.croner_base.specs.Private.TableSteps.{AreOn, first_reading, first_resolved, last_reading, last_resolved, seconds_of};
+    ghost use Rattle.croner_base.specs.Zone.{reading};
     ghost use Rattle.croner_base.specs.ZonedZone.{is_timestamp_second};
     ghost use Rattle.jiff_core.specs.Timestamp.{nanos_of_seconds};
     ghost use Rattle.std.specs.Int.{int_div_euclid};
@@ -242,10 +210,45 @@ impl<'t> TableTime<'t> {
         self.second + self.table.offset_at(self.second)
     }
 
+    // The seconds at which the clock reads a wall second.
+    fn resolved(&self, wall: i64) -> Resolution<TableTime<'t>>
+        requires low { first_resolved ≤ℤ wall }
+        requires high { wall ≤ℤ last_resolved }
+        ensures value { seconds_of result ≡ instants_of self.now.table.now.first_offset self.now.table.now.changes.items wall }
+        ensures table { AreOn self.now.table.now result }
+    {
+        let passed = self.table.changes_until(wall - OFFSET_LIMIT_SECONDS as i64 - 1);
+        let earlier = self.at(wall - self.table.offset_past(passed));
+        if passed == self.table.changes.len() {
+            return Resolution::Single(earlier);
+        }
+        let later = self.at(wall - self.table.offset_past(passed + 1));
+        Self::around(self.table.instant_of(passed), earlier, later)
+    }
+
+    // The seconds at which a clock reads a wall second, of one by the offset before a change and one by the offset after it.
+    fn around(change: i64, earlier: TableTime<'t>, later: TableTime<'t>) -> Resolution<TableTime<'t>>
+        ensures value { seconds_of result ≡ instants_around change earlier.entry.second later.entry.second }
+        ensures table { (t : ClockTable) → earlier.entry.table.now ≡ t → later.entry.table.now ≡ t → AreOn t result }
+    {
+        if earlier.second < change {
+            if later.second < change {
+                Resolution::Single(earlier)
+            } else {
+                Resolution::Ambiguous(earlier, later)
+            }
+        } else if later.second < change {
+            Resolution::Gap
+        } else {
+            Resolution::Single(later)
+        }
+    }
+
     // Another second on the same clock.
     fn at(&self, second: i64) -> TableTime<'t>
         requires { IsTrue (Spec.is_table_second second) }
-        ensures { table_moment result ≡ at_instant (table_zone self.now.table.now) second }
+        ensures second { result.second ≡ second }
+        ensures table { result.table.now ≡ self.now.table.now }
     {
         TableTime {
             table: self.table,
@@ -287,14 +290,7 @@ impl<'t> CronDateTime for TableTime<'t> {
         if civil.year() < -YEAR_LIMIT || civil.year() > YEAR_LIMIT {
             return Err(CronError::InvalidDate);
         }
-        Ok(match self.table.instants_of(second_of_civil(civil)) {
-            Resolution::Single(second) => Resolution::Single(self.at(second)),
-            Resolution::Ambiguous(earlier, later) => Resolution::Ambiguous(
-                self.at(earlier),
-                self.at(later),
-            ),
-            Resolution::Gap => Resolution::Gap,
-        })
+        Ok(self.resolved(second_of_civil(civil)))
     }
 
     fn checked_add_seconds(

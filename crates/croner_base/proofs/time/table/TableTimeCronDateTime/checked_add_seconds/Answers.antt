@@ -21,9 +21,8 @@ returns-then-is_instant-clause-value c =
     let g : FitsSigned w64 t.second = omega (arith, ints, i) in
     let sum = simp to_z-of_z at c.in-Some.ensures in
     let h : FitsSigned w64 c.in-Some.sum = rw sum.1 sum.0 in
-    let within = simp to_z-of_z at c.is_instant.ensures in
-    let moment = simp to_z-of_z at c.at.ensures in
-    moved t c.at.result c.args.seconds c.in-Some.sum sum.1 (sym within ∙ c.if-is_instant.true) moment
+    let second = simp to_z-of_z at c.at.ensures.second in
+    moved t c.at.result c.args.seconds (second ∙ sum.1) c.at.ensures.table
 
 pub returns-else-is_instant-clause-value : goal.returns-else-is_instant-clause-value
 returns-else-is_instant-clause-value c =

@@ -1,6 +1,6 @@
 use Rattle.std.proofs.Common.{◌≡◌, ◌≤◌, ◌≤ℤ◌, IsTrue, drop}
 use Rattle.croner_base.specs.Limits.{most_changes, most_gap_seconds}
-use Rattle.croner_base.specs.Table.{Known, first_instant, is_offset, is_calm_table, all_follow}
+use Rattle.croner_base.specs.Table.{first_instant, is_offset, is_calm_table, all_follow}
 use Rattle.croner_base.proofs.time.table.check.is_calm.Given as goal
 
 abbrev pub invariant-loop-second : goal.invariant-loop-second
