@@ -7,6 +7,11 @@ use Rattle.croner_base.specs.Limits.{first_searched, last_searched, gap_limit, f
 use Rattle.croner_base.specs.Table.{offset_limit, is_calm_table, met_at, gap_at}
 use Rattle.croner_base.specs.TableZone.{clock_reads, instants_of}
 
+-- the days that are asked about: in 2024 the last Sundays of March and October, and a day of 2011
+days : (day_number (pos 2024) 3 31 ≡ pos 19_813) × (day_number (pos 2024) 10 27 ≡ pos 20_023) × (day_number (pos 2011) 12 30 ≡ pos 15_338)
+unfolding day_number year_start days_since_zero days_of_months
+days = (refl, refl, refl)
+
 -- Paris in 2024
 abbrev paris : List (ℤ × ℤ)
 paris = (pos 1_711_846_800, pos 7_200) ∷ (pos 1_729_990_800, pos 3_600) ∷ []
@@ -14,15 +19,6 @@ paris = (pos 1_711_846_800, pos 7_200) ∷ (pos 1_729_990_800, pos 3_600) ∷ []
 paris_accepted : is_calm_table (pos 3_600) paris ≡ true
 unfolding is_calm_table
 paris_accepted = refl
-
--- 2024-03-31 and 2024-10-27
-march : day_number (pos 2024) 3 31 ≡ pos 19_813
-unfolding day_number year_start days_since_zero days_of_months
-march = refl
-
-october : day_number (pos 2024) 10 27 ≡ pos 20_023
-unfolding day_number year_start days_since_zero days_of_months
-october = refl
 
 -- half past two in the gap, at 2024-03-31T02:30:00
 paris_gap : instants_of (pos 3_600) paris (pos 19_813 *ℤ pos day_seconds +ℤ pos 9_000) ≡ Gap
@@ -36,59 +32,37 @@ paris_once : instants_of (pos 3_600) paris (pos 20_023 *ℤ pos day_seconds +ℤ
 paris_once = refl
 
 -- the second before a change reads with the offset before it
-paris_before : clock_reads (pos 3_600) paris (pos 1_711_846_799) ≡ pos 1_711_850_399
-paris_before = refl
+paris_around : (clock_reads (pos 3_600) paris (pos 1_711_846_799) ≡ pos 1_711_850_399) × (clock_reads (pos 3_600) paris (pos 1_711_846_800) ≡ pos 1_711_854_000)
+paris_around = (refl, refl)
 
-paris_after : clock_reads (pos 3_600) paris (pos 1_711_846_800) ≡ pos 1_711_854_000
-paris_after = refl
+-- a repeated range of one second, the second before it, and the one after it
+one_second : (instants_of (pos 7_200) ((pos 0, pos 7_199) ∷ []) (pos 7_199) ≡ Ambiguous (neg_ℤ (pos 1)) (pos 0))
+    × (instants_of (pos 7_200) ((pos 0, pos 7_199) ∷ []) (pos 7_198) ≡ Single (neg_ℤ (pos 2)))
+    × (instants_of (pos 7_200) ((pos 0, pos 7_199) ∷ []) (pos 7_200) ≡ Single (pos 1))
+one_second = (refl, refl, refl)
 
--- a repeated range of one second
-one_second : instants_of (pos 7_200) ((pos 0, pos 7_199) ∷ []) (pos 7_199) ≡ Ambiguous (neg_ℤ (pos 1)) (pos 0)
-one_second = refl
+-- a second a day behind a change, and one more: the change is past, and names the same
+a_day_behind : (instants_of (pos 0) ((pos 0, pos 3_600) ∷ []) (pos 86_400) ≡ Single (pos 82_800))
+    × (instants_of (pos 0) ((pos 0, pos 3_600) ∷ []) (pos 86_401) ≡ Single (pos 82_801))
+a_day_behind = (refl, refl)
 
-one_second_before : instants_of (pos 7_200) ((pos 0, pos 7_199) ∷ []) (pos 7_198) ≡ Single (neg_ℤ (pos 2))
-one_second_before = refl
-
-one_second_after : instants_of (pos 7_200) ((pos 0, pos 7_199) ∷ []) (pos 7_200) ≡ Single (pos 1)
-one_second_after = refl
-
--- offsets of the limit either way
-most_ahead : is_calm_table (pos offset_limit) [] ≡ true
+-- offsets of the limit either way, and past it
+offsets : (is_calm_table (pos offset_limit) [] ≡ true)
+    × (is_calm_table (pos (offset_limit + 1)) [] ≡ false)
+    × (is_calm_table (neg_ℤ (pos offset_limit)) [] ≡ true)
+    × (is_calm_table (neg_ℤ (pos (offset_limit + 1))) [] ≡ false)
+    × (is_calm_table (pos offset_limit) ((pos 0, pos (offset_limit + 1)) ∷ []) ≡ false)
 unfolding is_calm_table
-most_ahead = refl
+offsets = (refl, refl, refl, refl, refl)
 
-past_most_ahead : is_calm_table (pos (offset_limit + 1)) [] ≡ false
+-- how far a change moves the clock: forward, back, and not at all
+moves : (is_calm_table (pos 0) ((pos 0, pos gap_limit) ∷ []) ≡ true)
+    × (is_calm_table (neg_ℤ (pos 1)) ((pos 0, pos gap_limit) ∷ []) ≡ false)
+    × (is_calm_table (pos 0) ((pos 0, neg_ℤ (pos fold_limit)) ∷ []) ≡ true)
+    × (is_calm_table (pos fold_limit) ((pos 0, neg_ℤ (pos 1)) ∷ []) ≡ false)
+    × (is_calm_table (pos 0) ((pos 0, pos 0) ∷ []) ≡ false)
 unfolding is_calm_table
-past_most_ahead = refl
-
-most_behind : is_calm_table (neg_ℤ (pos offset_limit)) [] ≡ true
-unfolding is_calm_table
-most_behind = refl
-
-past_most_behind : is_calm_table (neg_ℤ (pos (offset_limit + 1))) [] ≡ false
-unfolding is_calm_table
-past_most_behind = refl
-
-past_most_later : is_calm_table (pos offset_limit) ((pos 0, pos (offset_limit + 1)) ∷ []) ≡ false
-unfolding is_calm_table
-past_most_later = refl
-
--- how far a change moves the clock
-at_gap_limit : is_calm_table (pos 0) ((pos 0, pos gap_limit) ∷ []) ≡ true
-unfolding is_calm_table
-at_gap_limit = refl
-
-past_gap_limit : is_calm_table (neg_ℤ (pos 1)) ((pos 0, pos gap_limit) ∷ []) ≡ false
-unfolding is_calm_table
-past_gap_limit = refl
-
-at_fold_limit : is_calm_table (pos 0) ((pos 0, neg_ℤ (pos fold_limit)) ∷ []) ≡ true
-unfolding is_calm_table
-at_fold_limit = refl
-
-past_fold_limit : is_calm_table (pos fold_limit) ((pos 0, neg_ℤ (pos 1)) ∷ []) ≡ false
-unfolding is_calm_table
-past_fold_limit = refl
+moves = (refl, refl, refl, refl, refl)
 
 -- the year 2011 without its 30 December: ten hours behind UTC, and fourteen ahead from the end of the 29th on
 abbrev without_a_date : List (ℤ × ℤ)
@@ -98,72 +72,41 @@ without_a_date_accepted : is_calm_table (neg_ℤ (pos 36_000)) without_a_date �
 unfolding is_calm_table
 without_a_date_accepted = refl
 
-december : day_number (pos 2011) 12 30 ≡ pos 15_338
-unfolding day_number year_start days_since_zero days_of_months
-december = refl
+-- the last second of the 29th is followed by the first of the 31st
+without_a_date_reads : (clock_reads (neg_ℤ (pos 36_000)) without_a_date (pos 1_325_239_199) ≡ pos 15_338 *ℤ pos day_seconds -ℤ pos 1)
+    × (clock_reads (neg_ℤ (pos 36_000)) without_a_date (pos 1_325_239_200) ≡ pos 15_339 *ℤ pos day_seconds)
+without_a_date_reads = (refl, refl)
 
-last_of_the_29th : clock_reads (neg_ℤ (pos 36_000)) without_a_date (pos 1_325_239_199) ≡ pos 15_338 *ℤ pos day_seconds -ℤ pos 1
-last_of_the_29th = refl
+-- no instant reads the first and the last second of the 30th
+without_a_date_gap : (instants_of (neg_ℤ (pos 36_000)) without_a_date (pos 15_338 *ℤ pos day_seconds) ≡ Gap)
+    × (instants_of (neg_ℤ (pos 36_000)) without_a_date (pos 15_339 *ℤ pos day_seconds -ℤ pos 1) ≡ Gap)
+without_a_date_gap = (refl, refl)
 
-first_of_the_31st : clock_reads (neg_ℤ (pos 36_000)) without_a_date (pos 1_325_239_200) ≡ pos 15_339 *ℤ pos day_seconds
-first_of_the_31st = refl
-
-first_of_the_30th : instants_of (neg_ℤ (pos 36_000)) without_a_date (pos 15_338 *ℤ pos day_seconds) ≡ Gap
-first_of_the_30th = refl
-
-last_of_the_30th : instants_of (neg_ℤ (pos 36_000)) without_a_date (pos 15_339 *ℤ pos day_seconds -ℤ pos 1) ≡ Gap
-last_of_the_30th = refl
-
-no_move : is_calm_table (pos 0) ((pos 0, pos 0) ∷ []) ≡ false
+-- how far changes lie apart, and that they ascend
+distances : (is_calm_table (pos 0) ((pos 0, pos 3_600) ∷ (pos apart_limit, pos 0) ∷ []) ≡ false)
+    × (is_calm_table (pos 0) ((pos 0, pos 3_600) ∷ (pos (apart_limit + 1), pos 0) ∷ []) ≡ true)
+    × (is_calm_table (pos 0) ((pos (apart_limit + 1), pos 3_600) ∷ (pos 0, pos 0) ∷ []) ≡ false)
 unfolding is_calm_table
-no_move = refl
+distances = (refl, refl, refl)
 
--- how far changes lie apart
-at_apart_limit : is_calm_table (pos 0) ((pos 0, pos 3_600) ∷ (pos apart_limit, pos 0) ∷ []) ≡ false
+-- the first and the last instant of a change, and those beyond
+instants : (is_calm_table (pos 0) ((neg_ℤ (pos 377_705_116_800), pos 1) ∷ []) ≡ true)
+    × (is_calm_table (pos 0) ((neg_ℤ (pos 377_705_116_801), pos 1) ∷ []) ≡ false)
+    × (is_calm_table (pos 0) ((pos 253_402_300_799, pos 1) ∷ []) ≡ true)
+    × (is_calm_table (pos 0) ((pos 253_402_300_800, pos 1) ∷ []) ≡ false)
 unfolding is_calm_table
-at_apart_limit = refl
-
-past_apart_limit : is_calm_table (pos 0) ((pos 0, pos 3_600) ∷ (pos (apart_limit + 1), pos 0) ∷ []) ≡ true
-unfolding is_calm_table
-past_apart_limit = refl
-
-descending : is_calm_table (pos 0) ((pos (apart_limit + 1), pos 3_600) ∷ (pos 0, pos 0) ∷ []) ≡ false
-unfolding is_calm_table
-descending = refl
-
--- the instants of changes
-first_one : is_calm_table (pos 0) ((neg_ℤ (pos 377_705_116_800), pos 1) ∷ []) ≡ true
-unfolding is_calm_table
-first_one = refl
-
-before_first : is_calm_table (pos 0) ((neg_ℤ (pos 377_705_116_801), pos 1) ∷ []) ≡ false
-unfolding is_calm_table
-before_first = refl
-
-last_one : is_calm_table (pos 0) ((pos 253_402_300_799, pos 1) ∷ []) ≡ true
-unfolding is_calm_table
-last_one = refl
-
-after_last : is_calm_table (pos 0) ((pos 253_402_300_800, pos 1) ∷ []) ≡ false
-unfolding is_calm_table
-after_last = refl
+instants = (refl, refl, refl, refl)
 
 -- which changes count: a reading in the years 1 to 5000 at the instant or one second before it
-last_met : met_at (pos 0) (last_searched +ℤ pos 1, pos 60) ≡ 1
-last_met = refl
-
-after_last_met : met_at (pos 0) (last_searched +ℤ pos 2, pos 60) ≡ 0
-after_last_met = refl
+last_met : (met_at (pos 0) (last_searched +ℤ pos 1, pos 60) ≡ 1) × (met_at (pos 0) (last_searched +ℤ pos 2, pos 60) ≡ 0)
+last_met = (refl, refl)
 
 moved_into_the_years : met_at (pos 60) (last_searched +ℤ pos 1, pos 0 -ℤ pos 1) ≡ 1
 moved_into_the_years = refl
 
-first_met : met_at (pos 0) (first_searched, neg_ℤ (pos 60)) ≡ 0
-first_met = refl
-
-first_met_forward : met_at (neg_ℤ (pos 60)) (first_searched, pos 0) ≡ 1
-first_met_forward = refl
+first_met : (met_at (pos 0) (first_searched, neg_ℤ (pos 60)) ≡ 0) × (met_at (neg_ℤ (pos 60)) (first_searched, pos 0) ≡ 1)
+first_met = (refl, refl)
 
 -- only clocks that are moved forward skip seconds
-sums : gap_at (pos 3_600) (pos 1_711_846_800, pos 7_200) + gap_at (pos 7_200) (pos 1_729_990_800, pos 3_600) ≡ 3_600
-sums = refl
+skipped : (gap_at (pos 3_600) (pos 1_711_846_800, pos 7_200) ≡ 3_600) × (gap_at (pos 7_200) (pos 1_729_990_800, pos 3_600) ≡ 0)
+skipped = (refl, refl)

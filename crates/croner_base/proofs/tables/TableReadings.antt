@@ -98,53 +98,36 @@ pub ahead : (o : ℤ) (c : ℤ × ℤ) (cs : List (ℤ × ℤ)) (i : ℤ) → i 
 ahead o c cs i h = let t = le_false c.0 i h in rw t
 
 -- where a clock reads a wall second, around a change
-record ReadsAround (reads : ℤ → ℤ) (w d early late : ℤ) : Type 0 where
-  pub cover : (i : ℤ) → reads i ≡ w → ((i ≡ early) × (early <ℤ d)) ⊎ ((i ≡ late) × (d ≤ℤ late))
-  pub at_early : early <ℤ d → reads early ≡ w
-  pub at_late : d ≤ℤ late → reads late ≡ w
+abbrev ReadsAround : (ℤ → ℤ) → ℤ → ℤ → ℤ → ℤ → Type 0
+ReadsAround reads w d early late = (i : ℤ) → (reads i ≡ w) ↔ (((i ≡ early) × (early <ℤ d)) ⊎ ((i ≡ late) × (d ≤ℤ late)))
 
 around_first : (k : Known) (c : ℤ × ℤ) (cs : List (ℤ × ℤ)) (w : ℤ) → is_offset k.offset ≡ true → all_follow k (c ∷ cs) ≡ true → w ≤ℤ (c.0 +ℤ pos offset_limit)
     → ReadsAround (clock_reads k.offset (c ∷ cs)) w c.0 (w -ℤ k.offset) (w -ℤ c.1)
-around_first k c cs w o h near =
+around_first k c cs w o h near i =
     let p = first_follows k c cs h in
+    let b = offset_within k (c ∷ cs) i o h in
     let a = offset_bounds c.1 p.0.offset_in in
-    let late : (i : ℤ) → c.0 ≤ℤ i → i ≤ℤ (w +ℤ pos offset_limit) → offset_at k.offset (c ∷ cs) i ≡ c.1 = λ i ge le. passed k.offset c cs i ge ∙ stays k c cs i p.1 (omega (arith, signed_arith, le, near)) in
-    record {
-      cover = λ i r.
-          by_lt_z i c.0
-          (λ lt. let e = ahead k.offset c cs i lt in inl (omega (arith, signed_arith, r, e), omega (arith, signed_arith, r, e, lt)))
-          (λ ge.
-          let b = offset_within k (c ∷ cs) i o h in
-          let e = late i ge (omega (arith, signed_arith, r, b)) in
-          inr (omega (arith, signed_arith, r, e), omega (arith, signed_arith, r, e, ge)));
-      at_early = λ lt. let e = ahead k.offset c cs (w -ℤ k.offset) lt in omega (arith, signed_arith, e);
-      at_late = λ ge. let e = late (w -ℤ c.1) ge (omega (arith, signed_arith, a)) in omega (arith, signed_arith, e);
-    }
+    by_lt_z i c.0
+    (λ lt. let e = ahead k.offset c cs i lt in ((λ r. inl (omega (arith, signed_arith, r, e), omega (arith, signed_arith, r, e, lt))), λ h. omega (arith, signed_arith, h, e, lt)))
+    (λ ge.
+    let e = passed k.offset c cs i ge in
+    let late : i ≤ℤ (c.0 +ℤ pos apart_limit) → offset_at k.offset (c ∷ cs) i ≡ c.1 = λ le. e ∙ stays k c cs i p.1 le in (
+      (λ r. let l = late (omega (arith, signed_arith, r, b, near)) in inr (omega (arith, signed_arith, r, l), omega (arith, signed_arith, r, l, ge))),
+      λ h. let l = late (omega (arith, signed_arith, h, a, near, ge)) in omega (arith, signed_arith, h, l, ge),
+    ))
 
 names_around : (z : Zone) (w d x y : ℤ) → ReadsAround z.reads w d x y → NamesAll z w (instants_around d x y)
 names_around z w d x y s = elim (lt_tells x d) [
   | inl early ↦ elim (lt_tells y d) [
-    | inl none ↦ rw (early.0, none.0) (λ i. (
-      (λ r. elim (s.cover i r) [ inl p ↦ p.0 | inr p ↦ absurd (omega (arith, signed_arith, p.1, none.1)) ]),
-      (λ e. rw e (s.at_early early.1)),
+    | inl none ↦ rw (early.0, none.0) (λ i. ((λ r. let h = (s i).0 r in omega (arith, signed_arith, h, none.1)), λ e. (s i).1 (inl (e, early.1))))
+    | inr late ↦ rw (early.0, late.0) (omega (arith, signed_arith, early.1, late.1), λ i. (
+      (λ r. elim ((s i).0 r) [ inl p ↦ inl p.0 | inr p ↦ inr p.0 ]),
+      λ h. (s i).1 (elim h [ inl e ↦ inl (e, early.1) | inr e ↦ inr (e, late.1) ]),
     ))
-    | inr late ↦ rw (early.0, late.0) (
-      omega (arith, signed_arith, early.1, late.1),
-      λ i. (
-        (λ r. elim (s.cover i r) [ inl p ↦ inl p.0 | inr p ↦ inr p.0 ]),
-        (λ h. elim h [ inl e ↦ rw e (s.at_early early.1) | inr e ↦ rw e (s.at_late late.1) ]),
-      ),
-    )
   ]
   | inr past ↦ elim (lt_tells y d) [
-    | inl none ↦ rw (past.0, none.0) (λ i r. elim (s.cover i r) [
-      | inl p ↦ absurd (omega (arith, signed_arith, p.1, past.1))
-      | inr p ↦ absurd (omega (arith, signed_arith, p.1, none.1))
-    ])
-    | inr late ↦ rw (past.0, late.0) (λ i. (
-      (λ r. elim (s.cover i r) [ inl p ↦ absurd (omega (arith, signed_arith, p.1, past.1)) | inr p ↦ p.0 ]),
-      (λ e. rw e (s.at_late late.1)),
-    ))
+    | inl none ↦ rw (past.0, none.0) (λ i r. let h = (s i).0 r in absurd (omega (arith, signed_arith, h, past.1, none.1)))
+    | inr late ↦ rw (past.0, late.0) (λ i. ((λ r. let h = (s i).0 r in omega (arith, signed_arith, h, past.1)), λ e. (s i).1 (inr (e, late.1))))
   ]
 ]
 
