@@ -5,5 +5,4 @@ pub mod TableCheck
 pub mod TableMoments
 pub mod TableOffsets
 pub mod TableReadings
-pub mod TableSums
 pub mod TableTests

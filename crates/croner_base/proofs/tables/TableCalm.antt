@@ -1,6 +1,7 @@
 -- The clock of a calm table is calm, and holds what a search needs.
 use Rattle.std.proofs.Common.{◌≡◌, ◌⊎◌, inl, inr, sym, ap, ◌∙◌, subst, Bool, true, false, refl, arith, ◌||◌, zero, suc, ◌+◌, ◌≤◌, ℤ, pos, neg_ℤ, ◌+ℤ◌, ◌-ℤ◌, ◌<ℤ◌, ◌≤ℤ◌, int_lt, unsigned_abs, if◌then◌else◌, List, [], ◌∷◌, length, Some, None, IsSome}
 use Rattle.std.proofs.lemmas.Int.{by_lt_z}
+use Rattle.std.proofs.lemmas.Bool.Decides.{Decides-or}
 use Rattle.std.specs.List.{All}
 use Rattle.jiff_core.proofs.SignedLemmas.{signed_arith}
 use Rattle.croner_base.specs.declared.time.civil.CivilDateTime.{CivilDateTime}
@@ -13,12 +14,12 @@ use Rattle.croner_base.specs.Calm.{IsChange, IsMet, IsSearched, IsCalm, NamesAll
 use Rattle.croner_base.specs.ZonedZone.{is_near_year, first_timestamp, last_timestamp}
 use Rattle.croner_base.specs.Table.{Known, after, at_first, all_follow, offset_at, is_met, met_at, gap_at, is_calm_table, offset_limit}
 use Rattle.croner_base.specs.TableZone.{clock, clock_reads, instants_of, table_zone, table_moment}
-use Rattle.croner_base.proofs.tables.TableTests.{IsSmallStep, step_parts, searched_test, lt_test, lt_false, instant_test}
+use Rattle.croner_base.proofs.tables.TableTests.{IsSmallStep, step_parts, between, lt_test, lt_false, instant_test}
 use Rattle.croner_base.proofs.tables.TableCheck.{first_follows, calm_parts}
 use Rattle.croner_base.proofs.tables.TableOffsets.{calm_offset, stays}
 use Rattle.croner_base.proofs.tables.TableReadings.{passed, ahead, names_instants}
 use Rattle.croner_base.proofs.clocks.ZonedHolds.{farthest_offset, IsNearUtc, holds_around}
-use Rattle.croner_base.specs.Limits.{apart_limit, most_changes, most_gap_seconds, first_start, last_start}
+use Rattle.croner_base.specs.Limits.{apart_limit, first_searched, last_searched, most_changes, most_gap_seconds, first_start, last_start}
 
 -- the offset in force changes at d
 abbrev pub IsOffsetChange : ℤ → List (ℤ × ℤ) → ℤ → Type 0
@@ -73,17 +74,9 @@ far_apart k (c ∷ cs) d e h m n lt =
       ]
     ]
 
-or_right : (a b : Bool) → b ≡ true → (a || b) ≡ true
-or_right true b h = refl
-or_right false b h = h
-
 -- a met change is counted, and so are the seconds that it skips
-seen : (o : ℤ) (c : ℤ × ℤ) (x y : ℤ) → x ≡ c.0 +ℤ c.1 → y ≡ c.0 -ℤ pos 1 +ℤ o → IsSearched x ⊎ IsSearched y → is_met o c ≡ true
-seen o c x y e f h =
-    elim h [
-      | inl p ↦ let t = searched_test (c.0 +ℤ c.1) (rw (← e) p.0) (rw (← e) p.1) in rw t
-      | inr p ↦ let t = searched_test (c.0 -ℤ pos 1 +ℤ o) (rw (← f) p.0) (rw (← f) p.1) in or_right _ _ t
-    ]
+seen : (o : ℤ) (c : ℤ × ℤ) → IsSearched (c.0 +ℤ c.1) ⊎ IsSearched (c.0 -ℤ pos 1 +ℤ o) → is_met o c ≡ true
+seen o c h = (Decides-or _ _ (between first_searched last_searched (c.0 +ℤ c.1)) (between first_searched last_searched (c.0 -ℤ pos 1 +ℤ o))).1 h
 
 skipped : (o : ℤ) (c : ℤ × ℤ) (j : ℤ) → is_met o c ≡ true → j ≡ c.1 -ℤ o → (if int_lt (pos 0) j then unsigned_abs j else 0) ≡ gap_at o c
 skipped o c j h e =
@@ -124,7 +117,7 @@ few_in z f k (c ∷ cs) (d ∷ ds) so_far agree above h r met =
           let rest = few_in z d (after k c) cs ds (n.0.few, n.0.few_seconds) (λ i le. agree i (omega (arith, signed_arith, a, le)) ∙ ap (λ (x : ℤ). i +ℤ x) (passed o c cs i (omega (arith, signed_arith, here, le)))) r.0 n.1 r.1 (tail (IsMet z) d ds met) in
           let x : z.reads d ≡ c.0 +ℤ c.1 = p ∙ rw w.0 (omega (arith, signed_arith, here)) in
           let y : z.reads (d -ℤ pos 1) ≡ c.0 -ℤ pos 1 +ℤ o = q ∙ rw w.1 (omega (arith, signed_arith, here)) in
-          let seen1 = seen o c (z.reads d) (z.reads (d -ℤ pos 1)) x y m.1 in
+          let seen1 = seen o c (rw (x, y) at m.1) in
           let one : met_at o c ≡ 1 = rw seen1 refl in
           let skip = skipped o c (jump z d) seen1 (omega (arith, signed_arith, x, y)) in
           (omega (arith, one, rest.0), omega (arith, skip, rest.1))
@@ -169,8 +162,8 @@ clock_calm o cs h =
     record {
       exact = λ c r e. exact_all o cs c r h e;
       small = λ d m. let s = moved_by (at_first o) cs d p.1 (change_moves o cs d m) in (
-        omega (arith, signed_arith, s.back, jump_is o cs d),
-        omega (arith, signed_arith, s.forward, jump_is o cs d),
+        omega (arith, signed_arith, s.0, jump_is o cs d),
+        omega (arith, signed_arith, s.1, jump_is o cs d),
       );
       apart = λ d e m n lt. far_apart (at_first o) cs d e p.1 (change_moves o cs d m) (change_moves o cs e n) lt;
       few = λ ds r m. few_all (clock o cs) o cs ds (clock_reads_is o cs) p.1 r m;

@@ -1,9 +1,10 @@
 -- A table is calm exactly where each change can follow the ones before it.
-use Rattle.std.proofs.Common.{◌≡◌, Bool, true, false, refl, ◌&&◌, ℕ, ◌+◌, ◌<◌, ℤ, pos, List, ◌∷◌, length, get_or, drop, drop-cons, add-one}
+use Rattle.std.proofs.Common.{◌≡◌, true, false, refl, ◌&&◌, ℕ, ◌+◌, ◌<◌, ℤ, pos, List, ◌∷◌, length, get_or, drop, drop-cons, add-one}
 use Rattle.croner_base.specs.Table.{Known, after, at_first, can_follow, all_follow, is_offset, is_calm_table}
 use Rattle.croner_base.specs.Private.TableSteps.{known_by, IsNextChange, HasTallied}
 use Rattle.croner_base.specs.declared.time.table.check.Tally.{Tally}
-use Rattle.croner_base.proofs.tables.TableTests.{both_parts, le_of, le_test, nat_le_of, nat_le_test}
+use Rattle.croner_base.proofs.tables.TableTests.{both_parts, not_true, le_of, le_test}
+use Rattle.std.proofs.lemmas.Bool.{le-leb, leb-true}
 
 can_follow_parts : (k : Known) (c : ℤ × ℤ) → can_follow k c ≡ true → IsNextChange k c
 can_follow_parts k c h =
@@ -17,16 +18,16 @@ can_follow_parts k c h =
       early_enough = le_of _ _ i.1;
       offset_in = o.1;
       step = s.1;
-      few = nat_le_of _ _ n.1;
-      few_seconds = nat_le_of _ _ g.1;
+      few = leb-true _ _ n.1;
+      few_seconds = leb-true _ _ g.1;
     }
 
 can_follow_by : (k : Known) (c : ℤ × ℤ) → IsNextChange k c → can_follow k c ≡ true
 can_follow_by k c n =
     let i = le_test _ _ n.late_enough in
     let j = le_test _ _ n.early_enough in
-    let m = nat_le_test _ _ n.few in
-    let g = nat_le_test _ _ n.few_seconds in
+    let m = le-leb _ _ n.few in
+    let g = le-leb _ _ n.few_seconds in
     rw (i, j, n.offset_in, n.step, m, g)
 
 -- the first change can follow, and so can the others
@@ -43,10 +44,6 @@ calm_is o cs = refl
 pub calm_parts : (o : ℤ) (cs : List (ℤ × ℤ)) → is_calm_table o cs ≡ true → (is_offset o ≡ true) × (all_follow (at_first o) cs ≡ true)
 unfolding is_calm_table
 calm_parts o cs h = both_parts _ _ h
-
-not_true : (b : Bool) → (b ≡ true → ⊥) → b ≡ false
-not_true true h = absurd (h refl)
-not_true false h = refl
 
 -- where the next change cannot follow, not all follow
 pub stop : (k : Known) (cs : List (ℤ × ℤ)) (n : ℕ) → n < length cs → (IsNextChange k (get_or cs n (pos 0, pos 0)) → ⊥) → all_follow k (drop n cs) ≡ false

@@ -1,12 +1,11 @@
 -- What the seconds of a table do as moments.
-use Rattle.std.proofs.Common.{◌≡◌, inl, inr, ap, sym, subst, true, false, refl, ℤ, pos, neg_ℤ, ◌+ℤ◌, ◌≤ℤ◌, Some, None}
+use Rattle.std.proofs.Common.{◌≡◌, inl, inr, ap, sym, subst, true, false, refl, ℤ, ◌+ℤ◌, ◌≤ℤ◌, Some, None}
 use Rattle.croner_base.specs.declared.errors.CronError.TheVariants.{InvalidDate}
 use Rattle.croner_base.specs.declared.time.civil.CivilDateTime.{CivilDateTime}
 use Rattle.croner_base.specs.declared.time.table.ClockTable.{ClockTable}
 use Rattle.croner_base.specs.declared.time.table.TableTime.{TableTime}
 use Rattle.croner_base.specs.declared.time.value.Resolution.{Resolution}
 use Rattle.croner_base.specs.declared.time.value.Resolution.TheVariants.{Single, Ambiguous, Gap}
-use Rattle.croner_base.specs.Limits.{year_limit}
 use Rattle.croner_base.specs.Civil.{wall_second}
 use Rattle.croner_base.specs.Calm.{NamesAll}
 use Rattle.croner_base.specs.Zone.{Names, IsResolved, IsUnheld, IsMoved}

@@ -1,5 +1,5 @@
 -- What the clock of a calm table reads, and which instants read a wall second.
-use Rattle.std.proofs.Common.{◌≡◌, ◌↔◌, ◌⊎◌, inl, inr, ◌∙◌, ap, true, false, refl, arith, ℕ, zero, suc, ◌+◌, ◌<◌, ◌≤◌, ℤ, pos, ◌+ℤ◌, ◌-ℤ◌, ◌<ℤ◌, ◌≤ℤ◌, int_le, int_lt, List, [], ◌∷◌, length, get_or}
+use Rattle.std.proofs.Common.{◌≡◌, ◌↔◌, ◌⊎◌, inl, inr, ◌∙◌, ap, true, false, refl, arith, ℕ, zero, suc, ◌<◌, ◌≤◌, ℤ, pos, ◌+ℤ◌, ◌-ℤ◌, ◌<ℤ◌, ◌≤ℤ◌, int_le, List, [], ◌∷◌, length, get_or}
 use Rattle.std.proofs.lemmas.Int.{by_lt_z}
 use Rattle.jiff_core.proofs.SignedLemmas.{signed_arith}
 use Rattle.croner_base.specs.declared.time.value.Resolution.{Resolution}
@@ -11,7 +11,7 @@ use Rattle.croner_base.specs.Table.{Known, after, at_first, all_follow, offset_a
 use Rattle.croner_base.specs.Private.TableSteps.{offset_past, IsCountUntil}
 use Rattle.croner_base.specs.TableZone.{clock, clock_reads, instants_around, instants_of}
 use Rattle.croner_base.proofs.tables.TableCheck.{first_follows, calm_parts}
-use Rattle.croner_base.proofs.tables.TableOffsets.{IsOffset, offset_within, stays}
+use Rattle.croner_base.proofs.tables.TableOffsets.{offset_within, stays}
 use Rattle.croner_base.proofs.tables.TableTests.{le_of, le_test, le_false, lt_test, lt_false, lt_tells, gt_of, offset_bounds}
 
 -- each change lies late enough, and its offset is at most a day

@@ -39,8 +39,8 @@ pub(crate) fn is_calm(first_offset: i32, changes: &[(i64, i32)]) -> bool
         met: 0,
         gap_seconds: 0,
     };
-    for &(second, offset) in changes {
-        match tally.with(second, offset) {
+    for &change in changes {
+        match tally.with(change) {
             Some(next) => tally = next,
             None => return false,
         }
@@ -69,10 +69,11 @@ impl Tally {
     ghost use Rattle.croner_base.specs.Private.TableSteps.{known_by, IsNextChange, HasTallied};
 
     // One change more, or nothing where the table is refused for it.
-    fn with(self, second: i64, offset: i32) -> Option<Tally>
-        ensures some { IsSome result ↔ IsNextChange (known_by self) (second, offset) }
-        ensures value { IfSome result (HasTallied (known_by self) (second, offset)) }
+    fn with(self, change: (i64, i32)) -> Option<Tally>
+        ensures some { IsSome result ↔ IsNextChange (known_by self) change }
+        ensures value { IfSome result (HasTallied (known_by self) change) }
     {
+        let (second, offset) = change;
         if second < self.earliest || second > LAST_INSTANT {
             return None;
         }

@@ -1,6 +1,5 @@
-use Rattle.std.proofs.Common.{◌≡◌, ◌∙◌, sym, ap, add-one, ◌<◌, length, arith, rules, pos, ◌-ℤ◌, FitsSigned, w64}
+use Rattle.std.proofs.Common.{◌∙◌, sym, add-one, ◌<◌, length, arith, rules, pos, ◌-ℤ◌, FitsSigned, w64}
 use Rattle.std.proofs.lemmas.Int.{ints, to_z-of_z}
-use Rattle.croner_base.specs.declared.time.value.Resolution.TheVariants.{Single}
 use Rattle.croner_base.specs.Table.{offset_limit}
 use Rattle.croner_base.proofs.tables.TableTests.{instant_test, offset_bounds}
 use Rattle.croner_base.proofs.tables.TableReadings.{resolved_around, resolved_last}

@@ -1,7 +1,7 @@
-use Rattle.std.proofs.Common.{◌∙◌, sym, arith, ◌<ℤ◌, ◌-ℤ◌, FitsSigned, w32, w64}
+use Rattle.std.proofs.Common.{◌≡◌, ◌∙◌, sym, arith, unsigned_abs, ◌-ℤ◌, FitsSigned, w32, w64}
 use Rattle.std.proofs.lemmas.Int.{ints, to_z-of_z}
-use Rattle.croner_base.proofs.tables.TableTests.{step_parts}
-use Rattle.croner_base.proofs.tables.TableSums.{gap_is}
+use Rattle.croner_base.specs.Table as Spec
+use Rattle.croner_base.proofs.tables.TableTests.{lt_test, step_parts}
 use Rattle.croner_base.proofs.time.table.check.gap_at.Goals as goal
 
 pub overflow_cast-result : goal.overflow_cast-result
@@ -16,6 +16,7 @@ returns-then-before-after-clause-value c =
     let g : FitsSigned w32 c.args.before = c.ranges.before in
     let h : FitsSigned w32 c.args.after = c.ranges.after in
     let d : FitsSigned w32 (c.args.after -ℤ c.args.before) = omega (arith, ints) in
-    let e = simp to_z-of_z at c.is_met.ensures in
-    let lt : c.args.before <ℤ c.args.after = omega (arith, ints) in
-    simp to_z-of_z (gap_is c.args.before c.args.second c.args.after (sym e ∙ c.if-is_met.true) lt)
+    let e = sym (simp to_z-of_z at c.is_met.ensures) ∙ c.if-is_met.true in
+    let lt = lt_test c.args.before c.args.after (omega (arith, ints)) in
+    let gap : unsigned_abs (c.args.after -ℤ c.args.before) ≡ Spec.gap_at c.args.before (c.args.second, c.args.after) = rw (e, lt) in
+    simp to_z-of_z gap

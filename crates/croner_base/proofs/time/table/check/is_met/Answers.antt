@@ -1,6 +1,6 @@
-use Rattle.std.proofs.Common.{rules, refl, pos, ◌+ℤ◌, ◌-ℤ◌, FitsSigned, w32, w64}
+use Rattle.std.proofs.Common.{rules, ◌≡◌, ◌∙◌, sym, false, pos, ◌+ℤ◌, ◌-ℤ◌, FitsSigned, w32, w64}
 use Rattle.std.proofs.lemmas.Int.{to_z-of_z}
-use Rattle.croner_base.proofs.tables.TableSums.{second_decides}
+use Rattle.croner_base.specs.Table.{is_searched}
 use Rattle.croner_base.proofs.time.table.check.is_met.Goals as goal
 
 pub returns-else-is_searched : goal.returns-else-is_searched
@@ -15,4 +15,5 @@ returns-else-is_searched c =
     let second : FitsSigned w64 (c.args.second -ℤ pos 1 +ℤ c.args.before) = search rules in
     let p = simp to_z-of_z at c.is_searched.ensures in
     let q = simp to_z-of_z at c.is_searched-else-is_searched.ensures in
-    second_decides c.args.before c.args.second c.args.after (c.args.second +ℤ c.args.after) (c.args.second -ℤ pos 1 +ℤ c.args.before) _ _ p c.if-is_searched.false q refl refl
+    let miss : is_searched (c.args.second +ℤ c.args.after) ≡ false = sym p ∙ c.if-is_searched.false in
+    rw miss q

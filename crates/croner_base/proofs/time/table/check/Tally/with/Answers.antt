@@ -4,8 +4,8 @@ use Rattle.croner_base.proofs.time.table.check.Tally.with.Goals as goal
 
 pub invariant_of-result : goal.invariant_of-result
 invariant_of-result c =
-    let f : FitsSigned w64 c.args.second = c.ranges.second in
-    let g : FitsSigned w32 c.args.offset = c.ranges.offset in
+    let f : FitsSigned w64 c.args.change.0 = search rules in
+    let g : FitsSigned w32 c.args.change.1 = search rules in
     let within = simp to_z-of_z at c.is_offset.ensures in
     record {
       offset_in = simp to_z-of_z (sym within ∙ c.if-not-is_offset.false);
@@ -16,8 +16,8 @@ invariant_of-result c =
 
 pub returns-clause-some : goal.returns-clause-some
 returns-clause-some c =
-    let f : FitsSigned w64 c.args.second = c.ranges.second in
-    let g : FitsSigned w32 c.args.offset = c.ranges.offset in
+    let f : FitsSigned w64 c.args.change.0 = search rules in
+    let g : FitsSigned w32 c.args.change.1 = search rules in
     let h : FitsSigned w32 c.args.self.offset = search rules in
     let within = simp to_z-of_z at c.is_offset.ensures in
     let moved = simp to_z-of_z at c.is_step.ensures in
@@ -36,8 +36,8 @@ returns-clause-some c =
 
 pub returns-clause-value : goal.returns-clause-value
 returns-clause-value c =
-    let f : FitsSigned w64 c.args.second = c.ranges.second in
-    let g : FitsSigned w32 c.args.offset = c.ranges.offset in
+    let f : FitsSigned w64 c.args.change.0 = search rules in
+    let g : FitsSigned w32 c.args.change.1 = search rules in
     let h : FitsSigned w32 c.args.self.offset = search rules in
     let met = simp to_z-of_z at c.met_at.ensures.value in
     let gap = simp to_z-of_z at c.gap_at.ensures.value in
