@@ -16,7 +16,7 @@ use Rattle.croner_base.specs.Table.{Known, after, at_first, all_follow, offset_a
 use Rattle.croner_base.specs.TableZone.{clock, clock_reads, instants_of, table_zone, table_moment}
 use Rattle.croner_base.proofs.tables.TableTests.{IsSmallStep, step_parts, between, lt_test, lt_false, instant_test}
 use Rattle.croner_base.proofs.tables.TableCheck.{first_follows, calm_parts}
-use Rattle.croner_base.proofs.tables.TableOffsets.{calm_offset, stays}
+use Rattle.croner_base.proofs.tables.TableOffsets.{calm_offset, calm_between, stays}
 use Rattle.croner_base.proofs.tables.TableReadings.{passed, ahead, names_instants}
 use Rattle.croner_base.proofs.clocks.ZonedHolds.{farthest_offset, IsNearUtc, holds_around}
 use Rattle.croner_base.specs.Limits.{apart_limit, first_searched, last_searched, most_changes, most_gap_seconds, first_start, last_start}
@@ -53,26 +53,11 @@ moved_by k (c ∷ cs) d h m =
           rw (x, y) (moved_by (after k c) cs d p.1 q.1)
     ]
 
-not_before : (k : Known) (cs : List (ℤ × ℤ)) (d : ℤ) → all_follow k cs ≡ true → IsOffsetChange k.offset cs d → k.earliest ≤ℤ d
-not_before k [] d h m = absurd (m refl)
-not_before k (c ∷ cs) d h m =
-    let n = (first_follows k c cs h).0 in
-    elim (place k.offset c cs d m) [ inl e ↦ omega (arith, signed_arith, n.late_enough, e) | inr q ↦ omega (arith, signed_arith, n.late_enough, q.0) ]
-
-far_apart : (k : Known) (cs : List (ℤ × ℤ)) (d e : ℤ) → all_follow k cs ≡ true → IsOffsetChange k.offset cs d → IsOffsetChange k.offset cs e → d <ℤ e → (d +ℤ pos apart_limit) <ℤ e
-far_apart k [] d e h m n lt = absurd (m refl)
-far_apart k (c ∷ cs) d e h m n lt =
-    let rest = (first_follows k c cs h).1 in
-    elim (place k.offset c cs d m) [
-      | inl i ↦ elim (place k.offset c cs e n) [
-        | inl j ↦ absurd (omega (arith, signed_arith, i, j, lt))
-        | inr q ↦ let a = not_before (after k c) cs e rest q.1 in omega (arith, signed_arith, a, i)
-      ]
-      | inr p ↦ elim (place k.offset c cs e n) [
-        | inl j ↦ absurd (omega (arith, signed_arith, p.0, j, lt))
-        | inr q ↦ far_apart (after k c) cs d e rest p.1 q.1 lt
-      ]
-    ]
+far_apart : (o : ℤ) (cs : List (ℤ × ℤ)) (d e : ℤ) → is_calm_table o cs ≡ true → IsOffsetChange o cs d → IsOffsetChange o cs e → d <ℤ e → (d +ℤ pos apart_limit) <ℤ e
+far_apart o cs d e h m n lt = by_lt_z (d +ℤ pos apart_limit) e (λ far. far) (λ near. absurd (elim (calm_between o cs (d -ℤ pos 1) d e h (omega (arith, signed_arith)) (omega (arith, signed_arith, lt)) (omega (arith, signed_arith, near))) [
+  | inl p ↦ m p
+  | inr p ↦ elim (calm_between o cs d (e -ℤ pos 1) e h (omega (arith, signed_arith, lt)) (omega (arith, signed_arith)) (omega (arith, signed_arith, near))) [ inl q ↦ n (sym p ∙ sym q) | inr q ↦ n (sym q) ]
+]))
 
 -- a met change is counted, and so are the seconds that it skips
 seen : (o : ℤ) (c : ℤ × ℤ) → IsSearched (c.0 +ℤ c.1) ⊎ IsSearched (c.0 -ℤ pos 1 +ℤ o) → is_met o c ≡ true
@@ -165,7 +150,7 @@ clock_calm o cs h =
         omega (arith, signed_arith, s.0, jump_is o cs d),
         omega (arith, signed_arith, s.1, jump_is o cs d),
       );
-      apart = λ d e m n lt. far_apart (at_first o) cs d e p.1 (change_moves o cs d m) (change_moves o cs e n) lt;
+      apart = λ d e m n lt. far_apart o cs d e h (change_moves o cs d m) (change_moves o cs e n) lt;
       few = λ ds r m. few_all (clock o cs) o cs ds (clock_reads_is o cs) p.1 r m;
     }
 

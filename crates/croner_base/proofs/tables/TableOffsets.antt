@@ -18,8 +18,8 @@ stays k c (d ∷ ds) i h le =
     let t : int_le d.0 i ≡ false = le_false d.0 i (omega (arith, signed_arith, n.late_enough)) in
     rw t
 
--- within two days the offset changes at most once
-between : (k : Known) (cs : List (ℤ × ℤ)) (x i y : ℤ) → all_follow k cs ≡ true → x ≤ℤ i → i ≤ℤ y → y ≤ℤ (x +ℤ pos apart_limit) → (offset_at k.offset cs i ≡ offset_at k.offset cs x) ⊎ (offset_at k.offset cs i ≡ offset_at k.offset cs y)
+-- within two days and a second the offset changes at most once
+between : (k : Known) (cs : List (ℤ × ℤ)) (x i y : ℤ) → all_follow k cs ≡ true → x ≤ℤ i → i ≤ℤ y → y ≤ℤ (x +ℤ pos apart_limit +ℤ pos 1) → (offset_at k.offset cs i ≡ offset_at k.offset cs x) ⊎ (offset_at k.offset cs i ≡ offset_at k.offset cs y)
 between k [] x i y h low high near = inl refl
 between k (c ∷ cs) x i y h low high near = elim (le_tells c.0 i) [
   | inr early ↦ let before = le_false c.0 x (omega (arith, signed_arith, early)) in inl (rw (early.0, before))
@@ -36,7 +36,7 @@ between k (c ∷ cs) x i y h low high near = elim (le_tells c.0 i) [
 ]
 
 -- of a calm table
-pub calm_between : (o : ℤ) (cs : List (ℤ × ℤ)) (x i y : ℤ) → is_calm_table o cs ≡ true → x ≤ℤ i → i ≤ℤ y → y ≤ℤ (x +ℤ pos apart_limit) → (offset_at o cs i ≡ offset_at o cs x) ⊎ (offset_at o cs i ≡ offset_at o cs y)
+pub calm_between : (o : ℤ) (cs : List (ℤ × ℤ)) (x i y : ℤ) → is_calm_table o cs ≡ true → x ≤ℤ i → i ≤ℤ y → y ≤ℤ (x +ℤ pos apart_limit +ℤ pos 1) → (offset_at o cs i ≡ offset_at o cs x) ⊎ (offset_at o cs i ≡ offset_at o cs y)
 calm_between o cs x i y h low high near = between (at_first o) cs x i y (calm_parts o cs h).1 low high near
 
 -- each offset in force is at most a day

@@ -120,10 +120,13 @@ names_around : (z : Zone) (w d x y : ℤ) → ReadsAround z.reads w d x y → Na
 names_around z w d x y s = elim (lt_tells x d) [
   | inl early ↦ elim (lt_tells y d) [
     | inl none ↦ rw (early.0, none.0) (λ i. ((λ r. let h = (s i).0 r in omega (arith, signed_arith, h, none.1)), λ e. (s i).1 (inl (e, early.1))))
-    | inr late ↦ rw (early.0, late.0) (omega (arith, signed_arith, early.1, late.1), λ i. (
-      (λ r. elim ((s i).0 r) [ inl p ↦ inl p.0 | inr p ↦ inr p.0 ]),
-      λ h. (s i).1 (elim h [ inl e ↦ inl (e, early.1) | inr e ↦ inr (e, late.1) ]),
-    ))
+    | inr late ↦ rw (early.0, late.0) (
+      omega (arith, signed_arith, early.1, late.1),
+      λ i. (
+        (λ r. elim ((s i).0 r) [ inl p ↦ inl p.0 | inr p ↦ inr p.0 ]),
+        λ h. (s i).1 (elim h [ inl e ↦ inl (e, early.1) | inr e ↦ inr (e, late.1) ]),
+      ),
+    )
   ]
   | inr past ↦ elim (lt_tells y d) [
     | inl none ↦ rw (past.0, none.0) (λ i r. let h = (s i).0 r in absurd (omega (arith, signed_arith, h, past.1, none.1)))
@@ -143,15 +146,11 @@ names_from k [] w o h = λ i. ((λ e. omega (arith, signed_arith, e)), λ e. ome
 names_from k (c ∷ cs) w o h = elim (lt_tells (c.0 +ℤ pos offset_limit) w) [
   | inl far ↦
       let p = first_follows k c cs h in
-      let same : (i : ℤ) → (clock_reads c.1 cs i ≡ w) ↔ (clock_reads k.offset (c ∷ cs) i ≡ w) = λ i. (
-        (λ e.
-            let b = offset_within (after k c) cs i p.0.offset_in p.1 in
-            let q = passed k.offset c cs i (omega (arith, signed_arith, e, b, far.1)) in
-            omega (arith, signed_arith, e, q)),
-        (λ e.
-            let b = offset_within k (c ∷ cs) i o h in
-            let q = passed k.offset c cs i (omega (arith, signed_arith, e, b, far.1)) in
-            omega (arith, signed_arith, e, q)),
+      let same : (i : ℤ) → (clock_reads c.1 cs i ≡ w) ↔ (clock_reads k.offset (c ∷ cs) i ≡ w) = λ i.
+      let a = offset_within (after k c) cs i p.0.offset_in p.1 in
+      let b = offset_within k (c ∷ cs) i o h in (
+        (λ e. let q = passed k.offset c cs i (omega (arith, signed_arith, e, a, far.1)) in omega (arith, signed_arith, e, q)),
+        (λ e. let q = passed k.offset c cs i (omega (arith, signed_arith, e, b, far.1)) in omega (arith, signed_arith, e, q)),
       ) in
       rw far.0 (names_alike (clock c.1 cs) (clock k.offset (c ∷ cs)) w _ same (names_from (after k c) cs w p.0.offset_in p.1))
   | inr here ↦ rw here.0 (names_around (clock k.offset (c ∷ cs)) w c.0 _ _ (around_first k c cs w o h here.1))

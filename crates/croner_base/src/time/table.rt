@@ -217,7 +217,9 @@ impl<'t> TableTime<'t> {
         ensures value { seconds_of result ≡ instants_of self.now.table.now.first_offset self.now.table.now.changes.items wall }
         ensures table { AreOn self.now.table.now result }
     {
-        let passed = self.table.changes_until(wall - OFFSET_LIMIT_SECONDS as i64 - 1);
+        let passed = self
+            .table
+            .changes_until(wall - OFFSET_LIMIT_SECONDS as i64 - 1);
         let earlier = self.at(wall - self.table.offset_past(passed));
         if passed == self.table.changes.len() {
             return Resolution::Single(earlier);
@@ -227,7 +229,11 @@ impl<'t> TableTime<'t> {
     }
 
     // The seconds at which a clock reads a wall second, of one by the offset before a change and one by the offset after it.
-    fn around(change: i64, earlier: TableTime<'t>, later: TableTime<'t>) -> Resolution<TableTime<'t>>
+    fn around(
+        change: i64,
+        earlier: TableTime<'t>,
+        later: TableTime<'t>,
+    ) -> Resolution<TableTime<'t>>
         ensures value { seconds_of result ≡ instants_around change earlier.entry.second later.entry.second }
         ensures table { (t : ClockTable) → earlier.entry.table.now ≡ t → later.entry.table.now ≡ t → AreOn t result }
     {

@@ -13,18 +13,6 @@ returns-then-year-clause-err c =
       | then-year-via-else-year+then-year-gt-YEAR_LIMIT w ↦ unheld c.args.self.now.table.now c.args.civil (is_near_year-high c.args.civil.date.year (omega (arith, ints)))
     ]
 
-pub returns-then-year-clause-held : goal.returns-then-year-clause-held
-returns-then-year-clause-held c =
-    elim c.then-year.branch [
-      | then-year-via-then-year w ↦ let far = is_near_year-low c.args.civil.date.year (omega (arith, ints)) in (λ h. absurd (cc), λ h. absurd (cc))
-      | then-year-via-else-year+then-year-gt-YEAR_LIMIT w ↦ let far = is_near_year-high c.args.civil.date.year (omega (arith, ints)) in (λ h. absurd (cc), λ h. absurd (cc))
-    ]
-
-pub returns-clause-held : goal.returns-clause-held
-returns-clause-held c =
-    let near = is_near_year-true c.args.civil.date.year (omega (arith, ints)) (omega (arith, ints)) in
-    (λ h. near, λ h. refl)
-
 pub resolved-requires-clause-low : goal.resolved-requires-clause-low
 resolved-requires-clause-low c =
     let b = near_second c.args.civil (omega (arith, ints)) (omega (arith, ints)) in
