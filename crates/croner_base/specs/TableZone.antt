@@ -18,14 +18,16 @@ pub record HasParts (offset : ℤ) (cs : List (ℤ × ℤ)) (table : ClockTable)
 abbrev pub clock_reads : ℤ → List (ℤ × ℤ) → ℤ → ℤ
 clock_reads offset cs i = i +ℤ offset_at offset cs i
 
--- the instants of a wall second, of one by the offset before a change and one by the offset after it
+-- of two instants, those that read a wall second: the one by the offset before a change if it lies before the change,
+-- and the one by the offset after it if it doesn't
 abbrev pub instants_around : ℤ → ℤ → ℤ → Resolution ℤ
-instants_around change earlier later =
-    if int_lt earlier change then (if int_lt later change then Single earlier else Ambiguous earlier later)
-    else (if int_lt later change then Gap else Single later)
+instants_around change by_old by_new =
+    if int_lt by_old change then (if int_lt by_new change then Single by_old else Ambiguous by_old by_new)
+    else (if int_lt by_new change then Gap else Single by_new)
 
--- the instants that read a wall second. A change that lies more than a day before it is past; of the others the first
--- decides, since each next one lies more than two days after it. That no other instant reads it is proved
+-- the instants that read a wall second, of a calm table. Offsets are at most a day, so a change that lies more than a
+-- day before the second is past at all of them. Of the others the first decides: the next one lies more than two days
+-- after it, so at none of them has it come. That it is exactly these is proved (the law `table_is_calm`)
 abbrev pub instants_of : ℤ → List (ℤ × ℤ) → ℤ → Resolution ℤ
 instants_of offset [] w = Single (w -ℤ offset)
 instants_of offset (c ∷ cs) w =

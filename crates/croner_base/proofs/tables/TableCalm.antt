@@ -12,7 +12,7 @@ use Rattle.croner_base.specs.Civil.{wall_second}
 use Rattle.croner_base.specs.Zone.{Zone, reading}
 use Rattle.croner_base.specs.Calm.{IsChange, IsMet, IsSearched, IsCalm, NamesAll, Rises, HoldsAround, jump, gap_seconds}
 use Rattle.croner_base.specs.ZonedZone.{is_near_year, first_timestamp, last_timestamp}
-use Rattle.croner_base.specs.Table.{Known, after, at_first, all_follow, offset_at, is_met, met_at, gap_at, is_calm_table, offset_limit}
+use Rattle.croner_base.specs.Table.{Known, known_after, known_at_first, all_follow, offset_at, is_met, met_at, gap_at, is_calm_table, offset_limit}
 use Rattle.croner_base.specs.TableZone.{clock, clock_reads, instants_of, table_zone, table_moment}
 use Rattle.croner_base.proofs.tables.TableTests.{IsSmallStep, step_parts, between, lt_test, lt_false, instant_test}
 use Rattle.croner_base.proofs.tables.TableCheck.{first_follows, calm_parts}
@@ -35,7 +35,7 @@ place o c cs d m =
     (λ le. inl (omega (arith, signed_arith, ge, le))))
 
 -- there the offset is the change's, and was the one before
-at_change : (k : Known) (c : ℤ × ℤ) (cs : List (ℤ × ℤ)) (d : ℤ) → all_follow (after k c) cs ≡ true → d ≡ c.0 → (offset_at k.offset (c ∷ cs) d ≡ c.1) × (offset_at k.offset (c ∷ cs) (d -ℤ pos 1) ≡ k.offset)
+at_change : (k : Known) (c : ℤ × ℤ) (cs : List (ℤ × ℤ)) (d : ℤ) → all_follow (known_after k c) cs ≡ true → d ≡ c.0 → (offset_at k.offset (c ∷ cs) d ≡ c.1) × (offset_at k.offset (c ∷ cs) (d -ℤ pos 1) ≡ k.offset)
 at_change k c cs d h e = (
   passed k.offset c cs d (omega (arith, signed_arith, e)) ∙ stays k c cs d h (omega (arith, signed_arith, e)),
   ahead k.offset c cs (d -ℤ pos 1) (omega (arith, signed_arith, e)),
@@ -50,7 +50,7 @@ moved_by k (c ∷ cs) d h m =
       | inr q ↦
           let x = passed k.offset c cs d (omega (arith, signed_arith, q.0)) in
           let y = passed k.offset c cs (d -ℤ pos 1) (omega (arith, signed_arith, q.0)) in
-          rw (x, y) (moved_by (after k c) cs d p.1 q.1)
+          rw (x, y) (moved_by (known_after k c) cs d p.1 q.1)
     ]
 
 far_apart : (o : ℤ) (cs : List (ℤ × ℤ)) (d e : ℤ) → is_calm_table o cs ≡ true → IsOffsetChange o cs d → IsOffsetChange o cs e → d <ℤ e → (d +ℤ pos apart_limit) <ℤ e
@@ -99,7 +99,7 @@ few_in z f k (c ∷ cs) (d ∷ ds) so_far agree above h r met =
     elim (place o c cs d (λ e. m.0 (plain_change _ _ d _ _ p q e))) [
       | inl here ↦
           let w = at_change k c cs d n.1 here in
-          let rest = few_in z d (after k c) cs ds (n.0.few, n.0.few_seconds) (λ i le. agree i (omega (arith, signed_arith, a, le)) ∙ ap (λ (x : ℤ). i +ℤ x) (passed o c cs i (omega (arith, signed_arith, here, le)))) r.0 n.1 r.1 (tail (IsMet z) d ds met) in
+          let rest = few_in z d (known_after k c) cs ds (n.0.few, n.0.few_seconds) (λ i le. agree i (omega (arith, signed_arith, a, le)) ∙ ap (λ (x : ℤ). i +ℤ x) (passed o c cs i (omega (arith, signed_arith, here, le)))) r.0 n.1 r.1 (tail (IsMet z) d ds met) in
           let x : z.reads d ≡ c.0 +ℤ c.1 = p ∙ rw w.0 (omega (arith, signed_arith, here)) in
           let y : z.reads (d -ℤ pos 1) ≡ c.0 -ℤ pos 1 +ℤ o = q ∙ rw w.1 (omega (arith, signed_arith, here)) in
           let seen1 = seen o c (rw (x, y) at m.1) in
@@ -107,14 +107,14 @@ few_in z f k (c ∷ cs) (d ∷ ds) so_far agree above h r met =
           let skip = skipped o c (jump z d) seen1 (omega (arith, signed_arith, x, y)) in
           (omega (arith, one, rest.0), omega (arith, skip, rest.1))
       | inr past ↦
-          let rest = few_in z (d -ℤ pos 1) (after k c) cs (d ∷ ds) (n.0.few, n.0.few_seconds) (λ i le. agree i (omega (arith, signed_arith, a, le)) ∙ ap (λ (x : ℤ). i +ℤ x) (passed o c cs i (omega (arith, signed_arith, past.0, le)))) (above_first d ds r.0) n.1 r met in
+          let rest = few_in z (d -ℤ pos 1) (known_after k c) cs (d ∷ ds) (n.0.few, n.0.few_seconds) (λ i le. agree i (omega (arith, signed_arith, a, le)) ∙ ap (λ (x : ℤ). i +ℤ x) (passed o c cs i (omega (arith, signed_arith, past.0, le)))) (above_first d ds r.0) n.1 r met in
           (omega (arith, rest.0), omega (arith, rest.1))
     ]
 
-few_all : (z : Zone) (o : ℤ) (cs : List (ℤ × ℤ)) (ds : List ℤ) → ((i : ℤ) → z.reads i ≡ clock_reads o cs i) → all_follow (at_first o) cs ≡ true → Rises ds → All (IsMet z) ds → (length ds ≤ most_changes) × (gap_seconds z ds ≤ most_gap_seconds)
+few_all : (z : Zone) (o : ℤ) (cs : List (ℤ × ℤ)) (ds : List ℤ) → ((i : ℤ) → z.reads i ≡ clock_reads o cs i) → all_follow (known_at_first o) cs ≡ true → Rises ds → All (IsMet z) ds → (length ds ≤ most_changes) × (gap_seconds z ds ≤ most_gap_seconds)
 few_all z o cs [] agree h r met = (omega arith, omega arith)
 few_all z o cs (d ∷ ds) agree h r met =
-    let f = few_in z (d -ℤ pos 1) (at_first o) cs (d ∷ ds) (omega arith, omega arith) (λ i le. agree i) (above_first d ds r.0) h r met in
+    let f = few_in z (d -ℤ pos 1) (known_at_first o) cs (d ∷ ds) (omega arith, omega arith) (λ i le. agree i) (above_first d ds r.0) h r met in
     (omega (arith, f.0), omega (arith, f.1))
 
 jump_plain : (d x y : ℤ) → ((d +ℤ x) -ℤ ((d -ℤ pos 1) +ℤ y)) -ℤ pos 1 ≡ x -ℤ y
@@ -146,7 +146,7 @@ clock_calm o cs h =
     let p = calm_parts o cs h in
     record {
       exact = λ c r e. exact_all o cs c r h e;
-      small = λ d m. let s = moved_by (at_first o) cs d p.1 (change_moves o cs d m) in (
+      small = λ d m. let s = moved_by (known_at_first o) cs d p.1 (change_moves o cs d m) in (
         omega (arith, signed_arith, s.0, jump_is o cs d),
         omega (arith, signed_arith, s.1, jump_is o cs d),
       );

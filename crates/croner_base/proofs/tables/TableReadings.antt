@@ -7,7 +7,7 @@ use Rattle.croner_base.specs.declared.time.value.Resolution.TheVariants.{Single,
 use Rattle.croner_base.specs.Calm.{NamesAll}
 use Rattle.croner_base.specs.Limits.{apart_limit}
 use Rattle.croner_base.specs.Zone.{Zone}
-use Rattle.croner_base.specs.Table.{Known, after, at_first, all_follow, offset_at, is_offset, is_calm_table, offset_limit}
+use Rattle.croner_base.specs.Table.{Known, known_after, known_at_first, all_follow, offset_at, is_offset, is_calm_table, offset_limit}
 use Rattle.croner_base.specs.Private.TableSteps.{offset_past, IsCountUntil}
 use Rattle.croner_base.specs.TableZone.{clock, clock_reads, instants_around, instants_of}
 use Rattle.croner_base.proofs.tables.TableCheck.{first_follows, calm_parts}
@@ -22,22 +22,22 @@ each_change k (c ∷ cs) zero d lt h =
     (n.late_enough, n.offset_in)
 each_change k (c ∷ cs) (suc j) d lt h =
     let p = first_follows k c cs h in
-    let r = each_change (after k c) cs j d (omega arith) p.1 in
+    let r = each_change (known_after k c) cs j d (omega arith) p.1 in
     (omega (arith, signed_arith, p.0.late_enough, r.0), r.1)
 
 ascending : (k : Known) (cs : List (ℤ × ℤ)) (i j : ℕ) (d : ℤ × ℤ) → i ≤ j → j < length cs → all_follow k cs ≡ true → (get_or cs i d).0 ≤ℤ (get_or cs j d).0
 ascending k [] i j d le lt h = absurd (omega arith)
 ascending k (c ∷ cs) zero zero d le lt h = omega (arith, signed_arith)
 ascending k (c ∷ cs) zero (suc j) d le lt h =
-    let r = each_change (after k c) cs j d (omega arith) (first_follows k c cs h).1 in
+    let r = each_change (known_after k c) cs j d (omega arith) (first_follows k c cs h).1 in
     omega (arith, signed_arith, r.0)
 ascending k (c ∷ cs) (suc i) zero d le lt h = absurd (omega arith)
-ascending k (c ∷ cs) (suc i) (suc j) d le lt h = ascending (after k c) cs i j d (omega arith) (omega arith) (first_follows k c cs h).1
+ascending k (c ∷ cs) (suc i) (suc j) d le lt h = ascending (known_after k c) cs i j d (omega arith) (omega arith) (first_follows k c cs h).1
 
 -- the changes rise, so those at or before an instant come first
 pub at_or_before_first : (o : ℤ) (cs : List (ℤ × ℤ)) (i : ℤ) (d : ℤ × ℤ) → is_calm_table o cs ≡ true → (j k : ℕ) → j ≤ k → k < length cs → int_le (get_or cs k d).0 i ≡ true → int_le (get_or cs j d).0 i ≡ true
 at_or_before_first o cs i d h j k le lt up =
-    let a = ascending (at_first o) cs j k d le lt (calm_parts o cs h).1 in
+    let a = ascending (known_at_first o) cs j k d le lt (calm_parts o cs h).1 in
     let b = le_of (get_or cs k d).0 i up in
     le_test _ i (omega (arith, signed_arith, a, b))
 
@@ -81,10 +81,10 @@ resolved_last o (c ∷ cs) w (suc n) u e =
 -- each offset of a table is at most a day
 pub past_is_offset : (o : ℤ) (cs : List (ℤ × ℤ)) (n : ℕ) → is_calm_table o cs ≡ true → n ≤ length cs → is_offset (offset_past o cs n) ≡ true
 past_is_offset o cs zero h le = (calm_parts o cs h).0
-past_is_offset o cs (suc n) h le = (each_change (at_first o) cs n (pos 0, pos 0) (omega arith) (calm_parts o cs h).1).1
+past_is_offset o cs (suc n) h le = (each_change (known_at_first o) cs n (pos 0, pos 0) (omega arith) (calm_parts o cs h).1).1
 
 pub each_is_offset : (o : ℤ) (cs : List (ℤ × ℤ)) (k : ℕ) (x : ℤ × ℤ) → is_calm_table o cs ≡ true → k < length cs → x ≡ get_or cs k x → is_offset x.1 ≡ true
-each_is_offset o cs k x h lt e = rw e (each_change (at_first o) cs k x lt (calm_parts o cs h).1).1
+each_is_offset o cs k x h lt e = rw e (each_change (known_at_first o) cs k x lt (calm_parts o cs h).1).1
 
 -- what the clock reads
 pub reads_by : (a r o : ℤ) (cs : List (ℤ × ℤ)) (i : ℤ) → r ≡ offset_at o cs i → a ≡ i +ℤ r → a ≡ clock_reads o cs i
@@ -147,12 +147,12 @@ names_from k (c ∷ cs) w o h = elim (lt_tells (c.0 +ℤ pos offset_limit) w) [
   | inl far ↦
       let p = first_follows k c cs h in
       let same : (i : ℤ) → (clock_reads c.1 cs i ≡ w) ↔ (clock_reads k.offset (c ∷ cs) i ≡ w) = λ i.
-      let a = offset_within (after k c) cs i p.0.offset_in p.1 in
+      let a = offset_within (known_after k c) cs i p.0.offset_in p.1 in
       let b = offset_within k (c ∷ cs) i o h in (
         (λ e. let q = passed k.offset c cs i (omega (arith, signed_arith, e, a, far.1)) in omega (arith, signed_arith, e, q)),
         (λ e. let q = passed k.offset c cs i (omega (arith, signed_arith, e, b, far.1)) in omega (arith, signed_arith, e, q)),
       ) in
-      rw far.0 (names_alike (clock c.1 cs) (clock k.offset (c ∷ cs)) w _ same (names_from (after k c) cs w p.0.offset_in p.1))
+      rw far.0 (names_alike (clock c.1 cs) (clock k.offset (c ∷ cs)) w _ same (names_from (known_after k c) cs w p.0.offset_in p.1))
   | inr here ↦ rw here.0 (names_around (clock k.offset (c ∷ cs)) w c.0 _ _ (around_first k c cs w o h here.1))
 ]
 
@@ -160,4 +160,4 @@ names_from k (c ∷ cs) w o h = elim (lt_tells (c.0 +ℤ pos offset_limit) w) [
 pub names_instants : (o : ℤ) (cs : List (ℤ × ℤ)) (w : ℤ) → is_calm_table o cs ≡ true → NamesAll (clock o cs) w (instants_of o cs w)
 names_instants o cs w h =
     let p = calm_parts o cs h in
-    names_from (at_first o) cs w p.0 p.1
+    names_from (known_at_first o) cs w p.0 p.1

@@ -7,7 +7,7 @@ use Rattle.croner_base.specs.declared.time.table.TableTime.{TableTime}
 use Rattle.croner_base.specs.declared.time.value.Resolution.{Resolution}
 use Rattle.croner_base.specs.declared.time.value.Resolution.TheVariants.{Single, Ambiguous, Gap}
 use Rattle.croner_base.specs.Limits.{most_changes, most_gap_seconds}
-use Rattle.croner_base.specs.Table.{Known, after, first_instant, last_instant, offset_limit, is_offset, is_step, met_at, gap_at}
+use Rattle.croner_base.specs.Table.{Known, first_instant, last_instant, offset_limit, is_offset, is_step, met_at, gap_at}
 
 -- what a tally tells
 abbrev pub known_by : Tally → Known
@@ -21,13 +21,6 @@ pub record IsNextChange (k : Known) (c : ℤ × ℤ) : Type 0 where
   pub step : IsTrue (is_step k.offset c.1)
   pub few : k.met + met_at k.offset c ≤ most_changes
   pub few_seconds : k.gap_seconds + gap_at k.offset c ≤ most_gap_seconds
-
--- what is known by the tally is what the change leaves
-pub record HasTallied (k : Known) (c : ℤ × ℤ) (t : Tally) : Type 0 where
-  pub offset_is : t.offset ≡ (after k c).offset
-  pub earliest_is : t.earliest ≡ (after k c).earliest
-  pub met_is : t.met ≡ (after k c).met
-  pub gaps_are : t.gap_seconds ≡ (after k c).gap_seconds
 
 -- the offset after the first n changes
 abbrev pub offset_past : ℤ → List (ℤ × ℤ) → ℕ → ℤ

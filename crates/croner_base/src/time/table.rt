@@ -220,33 +220,30 @@ impl<'t> TableTime<'t> {
         let passed = self
             .table
             .changes_until(wall - OFFSET_LIMIT_SECONDS as i64 - 1);
-        let earlier = self.at(wall - self.table.offset_past(passed));
+        let by_old = self.at(wall - self.table.offset_past(passed));
         if passed == self.table.changes.len() {
-            return Resolution::Single(earlier);
+            return Resolution::Single(by_old);
         }
-        let later = self.at(wall - self.table.offset_past(passed + 1));
-        Self::around(self.table.instant_of(passed), earlier, later)
+        let by_new = self.at(wall - self.table.offset_past(passed + 1));
+        Self::around(self.table.instant_of(passed), by_old, by_new)
     }
 
-    // The seconds at which a clock reads a wall second, of one by the offset before a change and one by the offset after it.
-    fn around(
-        change: i64,
-        earlier: TableTime<'t>,
-        later: TableTime<'t>,
-    ) -> Resolution<TableTime<'t>>
-        ensures value { seconds_of result ≡ instants_around change earlier.entry.second later.entry.second }
-        ensures table { (t : ClockTable) → earlier.entry.table.now ≡ t → later.entry.table.now ≡ t → AreOn t result }
+    // Of two seconds, those at which the clock reads a wall second: the one by the offset before a change if it lies before the
+    // change, and the one by the offset after it if it doesn't.
+    fn around(change: i64, by_old: TableTime<'t>, by_new: TableTime<'t>) -> Resolution<TableTime<'t>>
+        ensures value { seconds_of result ≡ instants_around change by_old.entry.second by_new.entry.second }
+        ensures table { (t : ClockTable) → by_old.entry.table.now ≡ t → by_new.entry.table.now ≡ t → AreOn t result }
     {
-        if earlier.second < change {
-            if later.second < change {
-                Resolution::Single(earlier)
+        if by_old.second < change {
+            if by_new.second < change {
+                Resolution::Single(by_old)
             } else {
-                Resolution::Ambiguous(earlier, later)
+                Resolution::Ambiguous(by_old, by_new)
             }
-        } else if later.second < change {
+        } else if by_new.second < change {
             Resolution::Gap
         } else {
-            Resolution::Single(later)
+            Resolution::Single(by_new)
         }
     }
 

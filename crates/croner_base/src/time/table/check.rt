@@ -66,12 +66,12 @@ struct Tally {
 }
 
 impl Tally {
-    ghost use Rattle.croner_base.specs.Private.TableSteps.{known_by, IsNextChange, HasTallied};
+    ghost use Rattle.croner_base.specs.Private.TableSteps.{known_by, IsNextChange};
 
     // One change more, or nothing where the table is refused for it.
     fn with(self, change: (i64, i32)) -> Option<Tally>
         ensures some { IsSome result ↔ IsNextChange (known_by self) change }
-        ensures value { IfSome result (HasTallied (known_by self) change) }
+        ensures value { IfSome result (λ t. known_by t ≡ Spec.known_after (known_by self) change) }
     {
         let (second, offset) = change;
         if second < self.earliest || second > LAST_INSTANT {
@@ -80,8 +80,8 @@ impl Tally {
         if !is_offset(offset) || !is_step(self.offset, offset) {
             return None;
         }
-        let met = self.met + met_at(self.offset, second, offset);
-        let gap_seconds = self.gap_seconds + gap_at(self.offset, second, offset);
+        let met = self.met + met_at(self.offset, change);
+        let gap_seconds = self.gap_seconds + gap_at(self.offset, change);
         if met > MOST_CHANGES || gap_seconds > MOST_GAP_SECONDS {
             return None;
         }
@@ -114,35 +114,37 @@ fn is_step(before: i32, after: i32) -> bool
 }
 
 // 1 for a change with a reading in the years that a pattern can name, at its instant or one second before it.
-fn met_at(before: i32, second: i64, after: i32) -> u32
-    requires low { Spec.first_instant ≤ℤ second }
-    requires high { second ≤ℤ Spec.last_instant }
-    ensures value { result ≡ Spec.met_at before (second, after) }
+fn met_at(before: i32, change: (i64, i32)) -> u32
+    requires low { Spec.first_instant ≤ℤ change.0 }
+    requires high { change.0 ≤ℤ Spec.last_instant }
+    ensures value { result ≡ Spec.met_at before change }
     ensures bound { result ≤ 1 }
 {
-    if is_met(before, second, after) { 1 } else { 0 }
+    if is_met(before, change) { 1 } else { 0 }
 }
 
 // The seconds that the clock skips at such a change.
-fn gap_at(before: i32, second: i64, after: i32) -> u32
-    requires low { Spec.first_instant ≤ℤ second }
-    requires high { second ≤ℤ Spec.last_instant }
-    requires step { IsTrue (Spec.is_step before after) }
-    ensures value { result ≡ Spec.gap_at before (second, after) }
+fn gap_at(before: i32, change: (i64, i32)) -> u32
+    requires low { Spec.first_instant ≤ℤ change.0 }
+    requires high { change.0 ≤ℤ Spec.last_instant }
+    requires step { IsTrue (Spec.is_step before change.1) }
+    ensures value { result ≡ Spec.gap_at before change }
     ensures bound { result ≤ gap_limit }
 {
-    if is_met(before, second, after) && before < after {
+    let after = change.1;
+    if is_met(before, change) && before < after {
         (after - before) as u32
     } else {
         0
     }
 }
 
-fn is_met(before: i32, second: i64, after: i32) -> bool
-    requires low { Spec.first_instant ≤ℤ second }
-    requires high { second ≤ℤ Spec.last_instant }
-    ensures { result ≡ Spec.is_met before (second, after) }
+fn is_met(before: i32, change: (i64, i32)) -> bool
+    requires low { Spec.first_instant ≤ℤ change.0 }
+    requires high { change.0 ≤ℤ Spec.last_instant }
+    ensures { result ≡ Spec.is_met before change }
 {
+    let (second, after) = change;
     is_searched(second + after as i64) || is_searched(second - 1 + before as i64)
 }
 

@@ -5,8 +5,8 @@ use Rattle.croner_base.proofs.tables.TableTests.{instant_test, offset_bounds}
 use Rattle.croner_base.proofs.tables.TableReadings.{resolved_around, resolved_last}
 use Rattle.croner_base.proofs.time.table.TableTime.resolved.Goals as goal
 
-pub at-earlier-requires : goal.at-earlier-requires
-at-earlier-requires c =
+pub at-by_old-requires : goal.at-by_old-requires
+at-by_old-requires c =
     let b = offset_bounds c.offset_past.result c.offset_past.ensures.bound in
     let f : FitsSigned w64 (c.args.wall -ℤ c.offset_past.result) = omega (arith, ints, b) in
     let fw : FitsSigned w64 c.args.wall = c.ranges.wall in
@@ -18,8 +18,8 @@ overflow_sub-wall-4 c =
     let b = offset_bounds c.offset_past-2.result c.offset_past-2.ensures.bound in
     omega (arith, ints, b)
 
-pub at-later-requires : goal.at-later-requires
-at-later-requires c =
+pub at-by_new-requires : goal.at-by_new-requires
+at-by_new-requires c =
     let b = offset_bounds c.offset_past-2.result c.offset_past-2.ensures.bound in
     let f : FitsSigned w64 (c.args.wall -ℤ c.offset_past-2.result) = omega (arith, ints, b) in
     let fw : FitsSigned w64 c.args.wall = c.ranges.wall in
@@ -37,7 +37,7 @@ returns-then-passed-len-clause-value c =
     let fr : FitsSigned w64 (c.args.wall -ℤ c.offset_past.result) = omega (arith, ints, b) in
     let count = simp to_z-of_z at c.changes_until-passed.ensures.count in
     let e = resolved_last t.first_offset t.changes.items c.args.wall c.changes_until-passed.result count (omega (arith, t.changes.ok.0, c.if-passed-len.true, c.len.ensures)) in
-    let second = simp to_z-of_z at c.at-earlier.ensures.second in
+    let second = simp to_z-of_z at c.at-by_old.ensures.second in
     rw (second, c.offset_past.ensures.value) (sym e)
 
 pub returns-clause-value : goal.returns-clause-value
@@ -56,11 +56,11 @@ returns-clause-value c =
     let fc : FitsSigned w64 c.instant_of.result = search rules in
     let count = simp to_z-of_z at c.changes_until-passed.ensures.count in
     let lt : n < length t.changes.items = omega (arith, t.changes.ok.0, c.if-passed-len.false, c.len.ensures, c.changes_until-passed.ensures.bound) in
-    let early = simp to_z-of_z at c.at-earlier.ensures.second in
-    let late = simp to_z-of_z at c.at-later.ensures.second in
+    let early = simp to_z-of_z at c.at-by_old.ensures.second in
+    let late = simp to_z-of_z at c.at-by_new.ensures.second in
     let e = simp to_z-of_z at c.around.ensures.value in
     let v = resolved_around t.first_offset t.changes.items c.args.wall n count lt in
     e ∙ rw (early, late, c.instant_of.ensures, c.offset_past.ensures.value, c.offset_past-2.ensures.value, add-one) (sym v)
 
 pub returns-clause-table : goal.returns-clause-table
-returns-clause-table c = c.around.ensures.table c.args.self.now.table.now c.at-earlier.ensures.table c.at-later.ensures.table
+returns-clause-table c = c.around.ensures.table c.args.self.now.table.now c.at-by_old.ensures.table c.at-by_new.ensures.table

@@ -1,5 +1,6 @@
-use Rattle.std.proofs.Common.{rules, ◌∙◌, sym, ap, refl, arith, ◌+◌, FitsSigned, w32, w64}
+use Rattle.std.proofs.Common.{rules, ◌≡◌, ◌∙◌, sym, refl, arith, pos, ◌+ℤ◌, FitsSigned, w32, w64}
 use Rattle.std.proofs.lemmas.Int.{ints, to_z-of_z}
+use Rattle.croner_base.specs.Limits.{apart_limit}
 use Rattle.croner_base.proofs.time.table.check.Tally.with.Goals as goal
 
 pub invariant_of-result : goal.invariant_of-result
@@ -41,9 +42,6 @@ returns-clause-value c =
     let h : FitsSigned w32 c.args.self.offset = search rules in
     let met = simp to_z-of_z at c.met_at.ensures.value in
     let gap = simp to_z-of_z at c.gap_at.ensures.value in
-    record {
-      offset_is = omega (arith, ints);
-      earliest_is = omega (arith, ints);
-      met_is = ap (λ n. c.args.self.met + n) met;
-      gaps_are = ap (λ n. c.args.self.gap_seconds + n) gap;
-    }
+    let apart : FitsSigned w64 (c.args.change.0 +ℤ pos apart_limit) = omega (arith, ints) in
+    let next : FitsSigned w64 (c.args.change.0 +ℤ pos apart_limit +ℤ pos 1) = omega (arith, ints) in
+    simp to_z-of_z (rw (met, gap))
