@@ -8,8 +8,7 @@ use Rattle.croner_base.specs.Calm.{IsInReach}
 use Rattle.croner_base.specs.Table.{first_instant, last_instant, offset_at, offset_limit, is_table_second}
 use Rattle.croner_base.specs.TableZone.{clock, table_zone, table_moment}
 use Rattle.croner_base.specs.Zone.{IsMoved, later, at_instant}
-use Rattle.croner_base.proofs.tables.TableOffsets.{offset_within}
-use Rattle.croner_base.proofs.tables.TableReadings.{calm_offsets}
+use Rattle.croner_base.proofs.tables.TableOffsets.{calm_offset}
 use Rattle.croner_base.proofs.tables.TableTests.{both_parts, le_of, instant_test}
 use Rattle.croncheck_command.specs.declared.changes.Change.{Change}
 use Rattle.croncheck_command.specs.Private.Found.{IsAsked}
@@ -27,7 +26,7 @@ near_plain i x h = (omega (arith, ints, h), omega (arith, ints, h))
 -- a clock is at most a day away from UTC
 pub near_utc : (t : ClockTable) (i : ℤ) → ((i -ℤ pos 86_400) ≤ℤ (table_zone t).reads i) × ((table_zone t).reads i ≤ℤ (i +ℤ pos 86_400))
 unfolding clock
-near_utc t i = near_plain i (offset_at t.first_offset t.changes.items i) (offset_within t.first_offset t.changes.items i (calm_offsets t.first_offset t.changes.items t.calm))
+near_utc t i = near_plain i (offset_at t.first_offset t.changes.items i) (calm_offset t.first_offset t.changes.items i t.calm)
 
 pub asked_reach : (t : ClockTable) (i : ℤ) → IsAsked i → IsInReach ((table_zone t).reads i)
 asked_reach t i asked = let near = near_utc t i in (omega (arith, ints, near.0, asked), omega (arith, ints, near.1, asked))

@@ -13,8 +13,7 @@ use Rattle.croner_base.specs.TableZone.{clock, table_zone}
 use Rattle.croner_base.specs.ZonedZone.{is_near_year}
 use Rattle.croner_base.proofs.calendar.JiffSeconds.{first_near, last_near, near_second}
 use Rattle.croner_base.proofs.tables.TableTests.{both_parts, le_of, instant_bounds, instant_test}
-use Rattle.croner_base.proofs.tables.TableOffsets.{offset_within}
-use Rattle.croner_base.proofs.tables.TableReadings.{calm_offsets}
+use Rattle.croner_base.proofs.tables.TableOffsets.{calm_offset}
 
 pub less_of : (a b : ℤ) → a <ℤ b → int_cmp a b ≡ Less
 less_of a b h = grind (arith, ints)
@@ -41,7 +40,7 @@ near_bounds c h = let p = both_parts _ _ h in near_second c (le_of _ _ p.0) (le_
 shows_near : (t : ClockTable) (i : ℤ) → ((i -ℤ pos offset_limit) ≤ℤ (table_zone t).reads i) × ((table_zone t).reads i ≤ℤ (i +ℤ pos offset_limit))
 unfolding clock
 shows_near t i =
-    let o = offset_within t.first_offset t.changes.items i (calm_offsets t.first_offset t.changes.items t.calm) in
+    let o = calm_offset t.first_offset t.changes.items i t.calm in
     (omega (arith, ints, o), omega (arith, ints, o))
 
 -- before the instants of the table

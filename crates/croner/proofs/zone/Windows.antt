@@ -17,8 +17,7 @@ use Rattle.croner_base.specs.TableZone.{clock, table_zone}
 use Rattle.croner_base.specs.Zone.{Zone, Moment}
 use Rattle.croner_base.specs.ZonedZone.{zoned_zone, nearest_timestamp}
 use Rattle.croner_base.specs.ZoneTable.{ahead_at, nearest_in}
-use Rattle.croner_base.proofs.tables.TableOffsets.{offset_within}
-use Rattle.croner_base.proofs.tables.TableReadings.{calm_offsets}
+use Rattle.croner_base.proofs.tables.TableOffsets.{calm_offset}
 use Rattle.croner_base.proofs.tables.TableTests.{lt_test}
 use Rattle.croner_base.proofs.clocks.ZonedMoments.{zone_reads-held}
 use Rattle.croner.specs.crontable.TableItems.{BeginsTableRest, item_instants}
@@ -159,7 +158,7 @@ own_nearest first last i low high =
 table_bound : (table : ClockTable) (i : ℤ) → ((i -ℤ pos offset_limit) ≤ℤ (table_zone table).reads i) × ((table_zone table).reads i ≤ℤ (i +ℤ pos offset_limit))
 unfolding clock
 table_bound table i =
-    let o = offset_within table.first_offset table.changes.items i (calm_offsets table.first_offset table.changes.items table.calm) in
+    let o = calm_offset table.first_offset table.changes.items i table.calm in
     (omega (arith, signed_arith, o), omega (arith, signed_arith, o))
 
 -- before a window the zone shows less than a day before what is well in it

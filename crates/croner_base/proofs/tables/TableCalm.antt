@@ -1,5 +1,5 @@
 -- The clock of a calm table is calm, and holds what a search needs.
-use Rattle.std.proofs.Common.{◌≡◌, ◌⊎◌, inl, inr, sym, ap, ◌∙◌, subst, Bool, true, false, refl, arith, ◌||◌, zero, suc, ◌+◌, ◌≤◌, ℤ, pos, neg_ℤ, ◌+ℤ◌, ◌-ℤ◌, ◌<ℤ◌, ◌≤ℤ◌, int_lt, unsigned_abs, if◌then◌else◌, List, [], ◌∷◌, length, Some, None, IsSome}
+use Rattle.std.proofs.Common.{◌≡◌, ◌⊎◌, inl, inr, sym, ap, ◌∙◌, subst, Bool, true, false, refl, arith, zero, suc, ◌+◌, ◌≤◌, ℤ, pos, neg_ℤ, ◌+ℤ◌, ◌-ℤ◌, ◌<ℤ◌, ◌≤ℤ◌, int_lt, unsigned_abs, if◌then◌else◌, List, [], ◌∷◌, length, Some, None, IsSome}
 use Rattle.std.proofs.lemmas.Int.{by_lt_z}
 use Rattle.std.proofs.lemmas.Bool.Decides.{Decides-or}
 use Rattle.std.specs.List.{All}
@@ -13,7 +13,7 @@ use Rattle.croner_base.specs.Zone.{Zone, reading}
 use Rattle.croner_base.specs.Calm.{IsChange, IsMet, IsSearched, IsCalm, NamesAll, Rises, HoldsAround, jump, gap_seconds}
 use Rattle.croner_base.specs.ZonedZone.{is_near_year, first_timestamp, last_timestamp}
 use Rattle.croner_base.specs.Table.{Known, known_after, known_at_first, all_follow, offset_at, is_met, met_at, gap_at, is_calm_table, offset_limit}
-use Rattle.croner_base.specs.TableZone.{clock, clock_reads, instants_of, table_zone, table_moment}
+use Rattle.croner_base.specs.TableZone.{clock, clock_reads, table_zone, table_moment}
 use Rattle.croner_base.proofs.tables.TableTests.{IsSmallStep, step_parts, between, lt_test, lt_false, instant_test}
 use Rattle.croner_base.proofs.tables.TableCheck.{first_follows, calm_parts}
 use Rattle.croner_base.proofs.tables.TableOffsets.{calm_offset, calm_between, stays}
@@ -117,41 +117,20 @@ few_all z o cs (d ∷ ds) agree h r met =
     let f = few_in z (d -ℤ pos 1) (known_at_first o) cs (d ∷ ds) (omega arith, omega arith) (λ i le. agree i) (above_first d ds r.0) h r met in
     (omega (arith, f.0), omega (arith, f.1))
 
-jump_plain : (d x y : ℤ) → ((d +ℤ x) -ℤ ((d -ℤ pos 1) +ℤ y)) -ℤ pos 1 ≡ x -ℤ y
-jump_plain d x y = omega (arith, signed_arith)
-
-jump_is : (o : ℤ) (cs : List (ℤ × ℤ)) (d : ℤ) → jump (clock o cs) d ≡ offset_at o cs d -ℤ offset_at o cs (d -ℤ pos 1)
-unfolding clock
-jump_is o cs d = jump_plain d (offset_at o cs d) (offset_at o cs (d -ℤ pos 1))
-
-change_moves : (o : ℤ) (cs : List (ℤ × ℤ)) (d : ℤ) → IsChange (clock o cs) d → IsOffsetChange o cs d
-unfolding clock
-change_moves o cs d h e = h (plain_change _ _ d _ _ refl refl e)
-
-clock_reads_is : (o : ℤ) (cs : List (ℤ × ℤ)) (i : ℤ) → (clock o cs).reads i ≡ clock_reads o cs i
-unfolding clock
-clock_reads_is o cs i = refl
-
 exact_by : (z : Zone) (w : ℤ) (b : Bool) (x r : Resolution ℤ) → (if b then Some x else None) ≡ Some r → NamesAll z w x → NamesAll z w r
 exact_by z w true x r e n = let same : x ≡ r = cc in subst (λ (y : Resolution ℤ). NamesAll z w y) same n
 exact_by z w false x r e n = absurd (cc)
 
-exact_all : (o : ℤ) (cs : List (ℤ × ℤ)) (c : CivilDateTime) (r : Resolution ℤ) → is_calm_table o cs ≡ true → (clock o cs).resolves c ≡ Some r → NamesAll (clock o cs) (wall_second c) r
-unfolding clock
-exact_all o cs c r h e =
-    exact_by (clock o cs) (wall_second c) (is_near_year c.date.year) (instants_of o cs (wall_second c)) r e (names_instants o cs (wall_second c) h)
-
 pub clock_calm : (o : ℤ) (cs : List (ℤ × ℤ)) → is_calm_table o cs ≡ true → IsCalm (clock o cs)
+unfolding clock
 clock_calm o cs h =
     let p = calm_parts o cs h in
+    let moves : (d : ℤ) → IsChange (clock o cs) d → IsOffsetChange o cs d = λ d m e. m (plain_change _ _ d _ _ refl refl e) in
     record {
-      exact = λ c r e. exact_all o cs c r h e;
-      small = λ d m. let s = moved_by (known_at_first o) cs d p.1 (change_moves o cs d m) in (
-        omega (arith, signed_arith, s.0, jump_is o cs d),
-        omega (arith, signed_arith, s.1, jump_is o cs d),
-      );
-      apart = λ d e m n lt. far_apart o cs d e h (change_moves o cs d m) (change_moves o cs e n) lt;
-      few = λ ds r m. few_all (clock o cs) o cs ds (clock_reads_is o cs) p.1 r m;
+      exact = λ c r e. exact_by (clock o cs) (wall_second c) (is_near_year c.date.year) _ r e (names_instants o cs (wall_second c) h);
+      small = λ d m. let s = moved_by (known_at_first o) cs d p.1 (moves d m) in (omega (arith, signed_arith, s.0), omega (arith, signed_arith, s.1));
+      apart = λ d e m n lt. far_apart o cs d e h (moves d m) (moves e n) lt;
+      few = λ ds r m. few_all (clock o cs) o cs ds (λ i. refl) p.1 r m;
     }
 
 -- what a search needs held

@@ -10,11 +10,10 @@ use Rattle.croner_base.specs.Civil.{wall_second}
 use Rattle.croner_base.specs.Calm.{NamesAll}
 use Rattle.croner_base.specs.Zone.{Names, IsResolved, IsUnheld, IsMoved}
 use Rattle.croner_base.specs.ZonedZone.{is_near_year}
-use Rattle.croner_base.specs.Table.{first_instant, last_instant, is_table_second}
+use Rattle.croner_base.specs.Table.{is_table_second}
 use Rattle.croner_base.specs.TableZone.{clock, instants_of, table_zone, table_moment}
 use Rattle.croner_base.specs.Private.TableSteps.{AreOn, seconds_of}
 use Rattle.croner_base.proofs.tables.TableReadings.{names_instants}
-use Rattle.croner_base.proofs.tables.TableTests.{between_false}
 
 -- a second of another year is not held
 pub unheld : (t : ClockTable) (c : CivilDateTime) → is_near_year c.date.year ≡ false → IsUnheld false (table_zone t) c InvalidDate
@@ -47,7 +46,3 @@ moved t x n e same = (rw (same, e), rw (← e) x.held)
 pub not_moved : (t : TableTime) (n : ℤ) → is_table_second (t.second +ℤ n) ≡ false → IsMoved table_moment (table_moment t) n None
 unfolding clock
 not_moved t n h = h
-
--- a sum past the range of an i64 is no instant
-pub too_far : (i : ℤ) → (first_instant ≤ℤ i → i ≤ℤ last_instant → ⊥) → is_table_second i ≡ false
-too_far i h = between_false first_instant last_instant i h

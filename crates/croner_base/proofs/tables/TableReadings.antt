@@ -1,6 +1,6 @@
 -- What the clock of a calm table reads, and which instants read a wall second.
 use Rattle.std.proofs.Common.{◌≡◌, ◌↔◌, ◌⊎◌, inl, inr, ◌∙◌, ap, true, false, refl, arith, ℕ, zero, suc, ◌<◌, ◌≤◌, ℤ, pos, ◌+ℤ◌, ◌-ℤ◌, ◌<ℤ◌, ◌≤ℤ◌, int_le, List, [], ◌∷◌, length, get_or}
-use Rattle.std.proofs.lemmas.Int.{by_lt_z}
+use Rattle.std.proofs.lemmas.Int.{ints, by_lt_z}
 use Rattle.jiff_core.proofs.SignedLemmas.{signed_arith}
 use Rattle.croner_base.specs.declared.time.value.Resolution.{Resolution}
 use Rattle.croner_base.specs.declared.time.value.Resolution.TheVariants.{Single, Ambiguous, Gap}
@@ -12,7 +12,7 @@ use Rattle.croner_base.specs.Private.TableSteps.{offset_past, IsCountUntil}
 use Rattle.croner_base.specs.TableZone.{clock, clock_reads, instants_around, instants_of}
 use Rattle.croner_base.proofs.tables.TableCheck.{first_follows, calm_parts}
 use Rattle.croner_base.proofs.tables.TableOffsets.{offset_within, stays}
-use Rattle.croner_base.proofs.tables.TableTests.{le_of, le_test, le_false, lt_test, lt_false, lt_tells, gt_of, offset_bounds}
+use Rattle.croner_base.proofs.tables.TableTests.{le_of, le_test, le_false, lt_test, lt_false, lt_tells, offset_bounds}
 
 -- each change lies late enough, and its offset is at most a day
 each_change : (k : Known) (cs : List (ℤ × ℤ)) (j : ℕ) (d : ℤ × ℤ) → j < length cs → all_follow k cs ≡ true → (k.earliest ≤ℤ (get_or cs j d).0) × (is_offset (get_or cs j d).1 ≡ true)
@@ -44,7 +44,7 @@ at_or_before_first o cs i d h j k le lt up =
 -- the point between the changes at or before an instant and the others
 pub count_until : (cs : List (ℤ × ℤ)) (i : ℤ) (n : ℕ) → n ≤ length cs → ((k : ℕ) (d : ℤ × ℤ) → 0 ≤ k → k < n → int_le (get_or cs k d).0 i ≡ true) → ((k : ℕ) (d : ℤ × ℤ) → n ≤ k → k < length cs → int_le (get_or cs k d).0 i ≡ false) → IsCountUntil cs i n
 count_until [] i n le p q = omega arith
-count_until (c ∷ cs) i zero le p q = gt_of c.0 i (q 0 c (omega arith) (omega arith))
+count_until (c ∷ cs) i zero le p q = let past = q 0 c (omega arith) (omega arith) in grind (arith, ints, past)
 count_until (c ∷ cs) i (suc n) le p q = (
   le_of c.0 i (p 0 c (omega arith) (omega arith)),
   count_until cs i n (omega arith) (λ k d a l. p (suc k) d (omega arith) (omega arith)) (λ k d a l. q (suc k) d (omega arith) (omega arith)),

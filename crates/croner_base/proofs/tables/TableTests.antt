@@ -33,9 +33,6 @@ le_false a b h = grind (arith, ints)
 pub lt_false : (a b : ℤ) → b ≤ℤ a → int_lt a b ≡ false
 lt_false a b h = grind (arith, ints)
 
-pub gt_of : (a b : ℤ) → int_le a b ≡ false → b <ℤ a
-gt_of a b h = grind (arith, ints)
-
 -- each test with what it tells
 pub le_tells : (a b : ℤ) → ((int_le a b ≡ true) × (a ≤ℤ b)) ⊎ ((int_le a b ≡ false) × (b <ℤ a))
 le_tells a b = by_lt_z b a (λ gt. inr (le_false a b gt, gt)) (λ le. inl (le_test a b le, le))
@@ -72,9 +69,6 @@ instant_test i = between_test first_instant last_instant i
 -- an offset of at most a day
 pub offset_bounds : (o : ℤ) → is_offset o ≡ true → (neg_ℤ (pos offset_limit) ≤ℤ o) × (o ≤ℤ pos offset_limit)
 offset_bounds o = (between (neg_ℤ (pos offset_limit)) (pos offset_limit) o).0
-
-pub offset_test : (o : ℤ) → neg_ℤ (pos offset_limit) ≤ℤ o → o ≤ℤ pos offset_limit → is_offset o ≡ true
-offset_test o = between_test (neg_ℤ (pos offset_limit)) (pos offset_limit) o
 
 -- what a change does to the clock
 abbrev pub IsSmallStep : ℤ → ℤ → Type 0

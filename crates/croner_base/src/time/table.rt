@@ -230,7 +230,11 @@ impl<'t> TableTime<'t> {
 
     // Of two seconds, those at which the clock reads a wall second: the one by the offset before a change if it lies before the
     // change, and the one by the offset after it if it doesn't.
-    fn around(change: i64, by_old: TableTime<'t>, by_new: TableTime<'t>) -> Resolution<TableTime<'t>>
+    fn around(
+        change: i64,
+        by_old: TableTime<'t>,
+        by_new: TableTime<'t>,
+    ) -> Resolution<TableTime<'t>>
         ensures value { seconds_of result ≡ instants_around change by_old.entry.second by_new.entry.second }
         ensures table { (t : ClockTable) → by_old.entry.table.now ≡ t → by_new.entry.table.now ≡ t → AreOn t result }
     {

@@ -1,7 +1,8 @@
 use Rattle.std.proofs.Common.{◌∙◌, sym, arith, ◌+ℤ◌, FitsSigned, w64}
 use Rattle.std.proofs.lemmas.Int.{ints, to_z-of_z}
-use Rattle.croner_base.proofs.tables.TableTests.{instant_bounds}
-use Rattle.croner_base.proofs.tables.TableMoments.{moved, not_moved, too_far}
+use Rattle.croner_base.specs.Table.{first_instant, last_instant}
+use Rattle.croner_base.proofs.tables.TableTests.{instant_bounds, between_false}
+use Rattle.croner_base.proofs.tables.TableMoments.{moved, not_moved}
 use Rattle.croner_base.proofs.time.table.TableTimeCronDateTime.checked_add_seconds.Goals as goal
 
 pub returns-in-None-clause-value : goal.returns-in-None-clause-value
@@ -11,7 +12,7 @@ returns-in-None-clause-value c =
     let i = instant_bounds t.second t.held in
     let g : FitsSigned w64 t.second = omega (arith, ints, i) in
     let past = simp to_z-of_z at c.in-None.ensures in
-    not_moved t c.args.seconds (too_far (t.second +ℤ c.args.seconds) (λ low high. past (omega (arith, ints, low, high))))
+    not_moved t c.args.seconds (between_false first_instant last_instant (t.second +ℤ c.args.seconds) (λ low high. past (omega (arith, ints, low, high))))
 
 pub returns-then-is_instant-clause-value : goal.returns-then-is_instant-clause-value
 returns-then-is_instant-clause-value c =

@@ -1,4 +1,4 @@
-use Rattle.std.proofs.Common.{refl, arith, FitsSigned, w64}
+use Rattle.std.proofs.Common.{arith, FitsSigned, w64}
 use Rattle.std.proofs.lemmas.Int.{ints, to_z-of_z}
 use Rattle.croner_base.proofs.calendar.JiffSeconds.{near_second}
 use Rattle.croner_base.proofs.tables.TableMoments.{unheld, resolved_to}

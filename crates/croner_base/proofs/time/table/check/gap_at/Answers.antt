@@ -1,4 +1,4 @@
-use Rattle.std.proofs.Common.{rules, ◌≡◌, ◌∙◌, sym, arith, unsigned_abs, ◌-ℤ◌, FitsSigned, w32, w64}
+use Rattle.std.proofs.Common.{rules, ◌≡◌, ◌∙◌, sym, arith, unsigned_abs, ◌-ℤ◌, FitsSigned, w32}
 use Rattle.std.proofs.lemmas.Int.{ints, to_z-of_z}
 use Rattle.croner_base.specs.Table as Spec
 use Rattle.croner_base.proofs.tables.TableTests.{lt_test, step_parts}

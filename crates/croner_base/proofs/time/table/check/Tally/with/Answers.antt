@@ -1,19 +1,13 @@
-use Rattle.std.proofs.Common.{rules, ◌≡◌, ◌∙◌, sym, refl, arith, pos, ◌+ℤ◌, FitsSigned, w32, w64}
+use Rattle.std.proofs.Common.{rules, ◌∙◌, sym, refl, arith, pos, ◌+ℤ◌, FitsSigned, w32, w64}
 use Rattle.std.proofs.lemmas.Int.{ints, to_z-of_z}
 use Rattle.croner_base.specs.Limits.{apart_limit}
 use Rattle.croner_base.proofs.time.table.check.Tally.with.Goals as goal
 
-pub invariant_of-result : goal.invariant_of-result
-invariant_of-result c =
-    let f : FitsSigned w64 c.args.change.0 = search rules in
+pub invariant_of-result-clause-offset_in : goal.invariant_of-result-clause-offset_in
+invariant_of-result-clause-offset_in c =
     let g : FitsSigned w32 c.args.change.1 = search rules in
     let within = simp to_z-of_z at c.is_offset.ensures in
-    record {
-      offset_in = simp to_z-of_z (sym within ∙ c.if-not-is_offset.false);
-      earliest_in = omega (arith, ints);
-      met_in = omega arith;
-      gaps_in = omega arith;
-    }
+    simp to_z-of_z (sym within ∙ c.if-not-is_offset.false)
 
 pub returns-clause-some : goal.returns-clause-some
 returns-clause-some c =
