@@ -1,14 +1,14 @@
 -- Counting and listing by the ones of words.
 use Rattle.std.proofs.Common.{◌≡◌, ◌≢◌, ℕ, zero, suc, ◌+◌, ◌-◌, ◌*◌, ◌%◌, ◌^◌, ◌<◌, ◌≤◌, Bool, true, eqb, cond, not, ◌&&◌, ◌||◌, leb, ltb, List, [], ◌∷◌, ◌++◌, append_assoc, length, get_or, bit_and, bit_or, count_ones, refl, ap, sym, ◌∙◌, arith, subst, ◌⊎◌, inl, inr, max, min}
 use Rattle.std.specs.Int.{bit_at}
-use Rattle.std.specs.Int.Bits.{and_zero_r, or_add_and}
+use Rattle.std.specs.Int.Bits.{or_add_and}
 use Rattle.std.specs.List.{filter, list_any, range_with_len}
 use Rattle.std.proofs.lemmas.Bool.{cases_lt, cases_Bool}
 use Rattle.std.proofs.lemmas.List.{append-nil, length-append}
 use Rattle.std.proofs.lemmas.List.Elements.{filter-append}
 use Rattle.std.proofs.lemmas.Bool.Decides.{nat_tests}
 use Rattle.std.proofs.lemmas.Nat.{and_le_l, and_le_r}
-use Rattle.std.proofs.lemmas.Nat.Bits.{bit_at_and, bit_at_or, bit_at-lt, bit_at-zero, same_from_bits}
+use Rattle.std.proofs.lemmas.Nat.Bits.{bit_at_and, bit_at_or, bit_at-lt, same_from_bits}
 use Rattle.croner_base.specs.Private.words.Counts.{ShowsMarked, ShowsFrom, is_from, values_in, marked_from}
 use Rattle.croner_base.specs.Field.{room, has_any}
 use Rattle.croner_base.specs.Private.words.Marked.{Marked, is_set}
@@ -16,23 +16,14 @@ use Rattle.croner_base.specs.Private.words.Masks.{MasksFrom, MasksTo}
 use Rattle.croner_base.specs.Private.words.Rows.{rows_below, width}
 use Rattle.croner_base.proofs.fields.CountedValues.{count_from, any_counted}
 use Rattle.croner_base.proofs.fields.ModifierSets.{has_bit}
-use Rattle.croner_base.proofs.words.ModifiersInTurn.{low_none, low_all, low_more}
+use Rattle.croner_base.proofs.words.ModifiersInTurn.{low_none, low_more}
 use Rattle.croner_base.proofs.words.WordSearch.{masked_off}
-use Rattle.croner_base.proofs.words.RowPlaces.{count_low, rows_below-suc, rows_below-zero, value_within}
+use Rattle.croner_base.proofs.words.RowPlaces.{count_low, rows_below-suc, rows_below-zero, past_max, value_within}
 
 -- ---- one word: the first k modifiers have been looked at
 
-pub any_none : (f : Marked) (bits i : ℕ) → ShowsMarked f (bits % 2 ^ 0) i 0
-any_none f bits i b h here =
-    let z : bits % 2 ^ 0 ≡ 0 = omega arith in
-    ap (λ x. eqb x 1) (bit_at-zero b)
-    ∙ sym (ap (λ n. not (eqb n 0)) (ap (bit_and (get_or f.marks (i * 64 + b) 0)) z ∙ and_zero_r (get_or f.marks (i * 64 + b) 0)))
-
 pub any_skip : (f : Marked) (bits i found k : ℕ) → bit_at bits k ≢ 1 → ShowsMarked f (bits % 2 ^ k) i found → ShowsMarked f (bits % 2 ^ (k + 1)) i found
 any_skip f bits i found k off shows = subst (λ n. ShowsMarked f n i found) (sym (low_none bits k off)) shows
-
-pub any_all : (f : Marked) (bits i found k : ℕ) → k ≡ 8 → bits < 256 → ShowsMarked f (bits % 2 ^ k) i found → ShowsMarked f bits i found
-any_all f bits i found k e byte shows = subst (λ n. ShowsMarked f n i found) (ap (λ j. bits % 2 ^ j) e ∙ low_all bits byte) shows
 
 either_one : (x y : ℕ) → x < 2 → y < 2 → eqb (max x y) 1 ≡ (eqb x 1 || not (eqb y 0))
 either_one x y h i = grind (arith, nat_tests)
@@ -63,7 +54,7 @@ shows_from f bits first i word from to marked masks_from masks_to within b h =
     elim (cases_lt (i * 64 + b) first) [
       | inl low ↦ outside (i * 64 + b) (bit_at (bit_and (bit_and word from) to) b) (omega (arith, bit, masked_off from i b _ masks_from h (λ above. absurd (omega arith)))) (inl low)
       | inr above ↦ elim (cases_lt (i * 64 + b) (room f.max)) [
-        | inr le ↦ outside (i * 64 + b) (bit_at (bit_and (bit_and word from) to) b) (omega (arith, bit, masked_off to i b _ masks_to h (λ below. absurd (omega (arith, past (i * 64 + b) f.max i within le))))) (inr le)
+        | inr le ↦ outside (i * 64 + b) (bit_at (bit_and (bit_and word from) to) b) (omega (arith, bit, masked_off to i b _ masks_to h (λ below. absurd (omega (arith, past_max (i * 64 + b) f.max i within le))))) (inr le)
         | inl here ↦
             let on : bit_at (bit_and (bit_and word from) to) b ≡ bit_at word b = omega (arith, bit, masks_from.on b h above, masks_to.on b h (value_within (i * 64 + b) f.max here), bit_at-lt word b) in
             let both : (leb first (i * 64 + b) && ltb (i * 64 + b) (room f.max)) ≡ true = grind (arith, nat_tests) in
@@ -71,9 +62,6 @@ shows_from f bits first i word from to marked masks_from masks_to within b h =
       ]
     ]
   where
-    past : (v m i : ℕ) → i < width m → room m ≤ v → m < v
-    past v m i some le = let r : 0 < room m = omega arith in grind (arith, nat_tests)
-
     outside : (v n : ℕ) → n ≡ 0 → (v < first) ⊎ (room f.max ≤ v) → eqb n 1 ≡ is_from first bits f v
     outside v n z (inl low) = grind (arith, nat_tests)
     outside v n z (inr high) = grind (arith, nat_tests)

@@ -55,9 +55,6 @@ none_differ found x y e = (
 abbrev pub SameUnless : List ℕ → List ℕ → ℕ → ℕ → Type 0
 SameUnless xs ys n found = found ≡ 0 → (i : ℕ) → i < n → get_or xs i 0 ≡ get_or ys i 0
 
-pub same_none : (xs ys : List ℕ) → SameUnless xs ys 0 0
-same_none xs ys _ i h = absurd (omega arith)
-
 pub same_one_more : (xs ys : List ℕ) (n found : ℕ) → SameUnless xs ys n found → SameUnless xs ys (n + 1) (bit_or found (bit_xor (get_or xs n 0) (get_or ys n 0)))
 same_one_more xs ys n found same none i h =
     let both = none_differ found (get_or xs n 0) (get_or ys n 0) none in
@@ -78,9 +75,6 @@ IsShared f g v = (v < room f.max) × (v < room g.max)
 pub record ShowsBelow (f g : Marked) (i found k : ℕ) : Type 0 where
   pub same : (b j : ℕ) → b < 64 → j < k → IsShared f g (i * 64 + b) → bit_at found b ≡ 0 → bit_at (get_or f.marks (i * 64 + b) 0) j ≡ bit_at (get_or g.marks (i * 64 + b) 0) j
   pub differs : (b : ℕ) → b < 64 → IsShared f g (i * 64 + b) → bit_at found b ≡ 1 → get_or f.marks (i * 64 + b) 0 ≢ get_or g.marks (i * 64 + b) 0
-
-pub shows_none : (f g : Marked) (i : ℕ) → ShowsBelow f g i 0 0
-shows_none f g i = record { same = λ b j h lt both z. absurd (omega arith); differs = λ b h both one. absurd (omega (arith, bit_at-zero b)) }
 
 pub shows_more : (f g : Marked) (i found k x y : ℕ) → ShowsBelow f g i found k → ShowsWord f k i x → ShowsWord g k i y → ShowsBelow f g i (bit_or found (bit_xor x y)) (k + 1)
 shows_more f g i found k x y shows wx wy =

@@ -1,10 +1,9 @@
 -- The sets of modifiers as binary numbers, one write a number.
-use Rattle.std.proofs.Common.{◌≡◌, ℕ, zero, suc, ◌+◌, ◌*◌, ◌^◌, ◌<◌, ◌≤◌, cond, eqb, Bool, List, [], ◌∷◌, ◌++◌, length, get_or, bit_and, refl, ap, sym, ◌∙◌, arith, inl, inr}
+use Rattle.std.proofs.Common.{◌≡◌, ℕ, zero, suc, ◌+◌, ◌*◌, ◌^◌, ◌<◌, cond, eqb, Bool, List, [], ◌∷◌, ◌++◌, length, get_or, bit_and, refl, ap, sym, ◌∙◌, arith, inl, inr}
 use Rattle.std.specs.Hash as fed
 use Rattle.std.specs.Int.{bit_at}
 use Rattle.std.specs.List.{flat_map, range_with_len}
 use Rattle.std.proofs.lemmas.Bool.{cases_lt}
-use Rattle.std.proofs.lemmas.Bool.Decides.{nat_tests}
 use Rattle.std.proofs.lemmas.List.{append-nil, get_or_past}
 use Rattle.std.proofs.lemmas.Grind.{flat_map-append}
 use Rattle.std.proofs.lemmas.Nat.{and_le_l}
@@ -15,7 +14,7 @@ use Rattle.croner_base.specs.Private.words.Masks.{MasksTo}
 use Rattle.croner_base.specs.Private.words.Rows.{width, number_of}
 use Rattle.croner_base.specs.Written.{digits_of, set_writes, sets_writes}
 use Rattle.croner_base.proofs.words.WordSearch.{masked_off}
-use Rattle.croner_base.proofs.words.RowPlaces.{value_within}
+use Rattle.croner_base.proofs.words.RowPlaces.{past_max, value_within}
 use Rattle.croner_base.proofs.words.Counting.{range_more}
 use Rattle.croner_base.proofs.words.Sums.{ShowsWord, number_of-lt, number_of-bit}
 
@@ -39,11 +38,8 @@ pub masked_digits : (f : Marked) (k i word mask : ℕ) → length f.marks ≡ ro
 masked_digits f k i word mask long within fits shows masks = same_from_bits_below 64 _ _ (omega (arith, and_le_l word mask)) (digits_of-lt f.marks k (i * 64) 64) (λ b h.
     bit_at_and word mask b ∙ elim (cases_lt (i * 64 + b) (room f.max)) [
       | inl here ↦ omega (arith, shows b h here, masks.on b h (value_within (i * 64 + b) f.max here), bit_at-lt word b, digits_of-bit f.marks k (i * 64) 64 b h)
-      | inr past ↦ omega (arith, masked_off mask i b _ masks h (λ below. absurd (omega (arith, above (i * 64 + b) f.max i within past))), digits_of-bit f.marks k (i * 64) 64 b h, ap (λ n. bit_at n k) (get_or_past f.marks (i * 64 + b) 0 (omega (arith, long))), bit_at-zero k)
+      | inr past ↦ omega (arith, masked_off mask i b _ masks h (λ below. absurd (omega (arith, past_max (i * 64 + b) f.max i within past))), digits_of-bit f.marks k (i * 64) 64 b h, ap (λ n. bit_at n k) (get_or_past f.marks (i * 64 + b) 0 (omega (arith, long))), bit_at-zero k)
     ])
-  where
-    above : (v m i : ℕ) → i < width m → room m ≤ v → m < v
-    above v m i some le = let r : 0 < room m = omega arith in grind (arith, nat_tests)
 
 -- ---- one write after another
 

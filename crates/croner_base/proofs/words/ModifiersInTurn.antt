@@ -1,5 +1,5 @@
 -- Several modifiers, one after another: the first k of the bits are bits % 2 ^ k.
-use Rattle.std.proofs.Common.{◌≡◌, ◌≢◌, ℕ, ◌+◌, ◌*◌, ◌/◌, ◌%◌, ◌^◌, ◌<◌, ◌≤◌, bit_and, refl, ap, sym, ◌∙◌, arith, subst, inl, inr, max}
+use Rattle.std.proofs.Common.{◌≡◌, ◌≢◌, ℕ, ◌+◌, ◌*◌, ◌/◌, ◌%◌, ◌^◌, ◌<◌, ◌≤◌, bit_and, ap, sym, ◌∙◌, arith, subst, inl, inr, max}
 use Rattle.std.specs.Int.{bit_at}
 use Rattle.std.proofs.lemmas.Bool.{cases_eq, cases_lt}
 use Rattle.std.proofs.lemmas.Nat.{mod-pow-add, mod_below, pow_pos}
@@ -39,15 +39,6 @@ pub bit_supported : (s bits k : ℕ) → bit_and s bits ≡ bits → bit_at bits
 bit_supported s bits k all one = omega (arith, bit_at_and s bits k, ap (λ n. bit_at n k) all, bit_at-lt s k)
 
 -- ---- turned one after another
-
-pub turns-none : (to : ℕ) (f : Marked) (bits first last : ℕ) → Turns to f f (bits % 2 ^ 0) first last
-turns-none to f bits first last = record {
-  max = refl;
-  supported = refl;
-  length = refl;
-  inside = λ v k above below one. absurd (omega (arith, low_bits_past bits 0 k (omega arith)));
-  kept = λ v k outside. refl;
-}
 
 pub turns-skip : (to : ℕ) (old new : Marked) (bits first last k : ℕ) → bit_at bits k ≢ 1 → Turns to old new (bits % 2 ^ k) first last → Turns to old new (bits % 2 ^ (k + 1)) first last
 turns-skip to old new bits first last k off done = subst (λ n. Turns to old new n first last) (sym (low_none bits k off)) done

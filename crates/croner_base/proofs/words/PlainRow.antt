@@ -1,18 +1,15 @@
 -- The plain row and the plain values.
-use Rattle.std.proofs.Common.{◌≡◌, ◌≢◌, ℕ, ◌+◌, ◌*◌, ◌/◌, ◌%◌, ◌<◌, ◌≤◌, false, not, eqb, List, [], get_or, take, Option, None, Some, MatchOption, bit_and, ap, sym, ◌∙◌, arith, inl, inr, min}
+use Rattle.std.proofs.Common.{◌≡◌, ◌≢◌, ℕ, ◌*◌, ◌/◌, ◌%◌, ◌<◌, ◌≤◌, false, not, eqb, List, [], get_or, take, bit_and, ap, sym, ◌∙◌, arith}
 use Rattle.std.specs.Int.{bit_at}
-use Rattle.std.proofs.lemmas.Bool.{cases_lt}
 use Rattle.std.proofs.lemmas.Bool.Decides.{nat_tests}
 use Rattle.std.proofs.lemmas.List.{get_or-take}
 use Rattle.std.proofs.lemmas.Nat.{mul-le}
 use Rattle.std.proofs.lemmas.Nat.Bits.{and_pow, bit_at-lt, bit_at-zero}
 use Rattle.croner_base.specs.Field.{room}
-use Rattle.croner_base.specs.Private.words.Counts.{ShowsMarked}
 use Rattle.croner_base.specs.Private.words.Marked.{Marked, is_set}
-use Rattle.croner_base.specs.Private.words.Next.{NoneFrom, IsLeast, NoneTo, IsGreatest}
 use Rattle.croner_base.specs.Private.words.Rows.{width, in_row, rows_below, marks_in}
-use Rattle.croner_base.proofs.words.RowPlaces.{row_before, rows_below-zero, word_within, value_within}
-use Rattle.croner_base.proofs.words.Sums.{ShowsWord, mark_at-one, mark_at-none, sums_of-bit, sums_of-past}
+use Rattle.croner_base.proofs.words.RowPlaces.{row_before, rows_below-zero, word_within}
+use Rattle.croner_base.proofs.words.Sums.{mark_at-one, mark_at-none, sums_of-bit, sums_of-past}
 
 -- ---- the row
 
@@ -48,34 +45,3 @@ no_plain_row words max s v off here =
 
 pub none_past : (words : List ℕ) (max s v : ℕ) → room max ≤ v → is_set 1 (marks_in words max s) v ≡ false
 none_past words max s v past = ap (λ n. not (eqb (bit_and n 1) 0)) (sums_of-past words max s v past)
-
-pub shows_plain : (f : Marked) (bits i word : ℕ) → bits ≡ 1 → ShowsWord f 0 i word → ShowsMarked f bits i word
-shows_plain f bits i word e is b h here = ap (λ n. eqb n 1) (is b h here) ∙ is_plain f (i * 64 + b) ∙ ap (λ n. is_set n f (i * 64 + b)) (sym e)
-
--- ---- from the row to the values
-
--- the row shows which values are plain
-pub record ShowsPlain (row : List ℕ) (f : Marked) : Type 0 where
-  pub past : (v : ℕ) → room f.max ≤ v → is_set 1 f v ≡ false
-  pub plain : (v : ℕ) → v < room f.max → in_row row v ≡ is_set 1 f v
-
-not_shown : (row : List ℕ) (f : Marked) (v : ℕ) → ShowsPlain row f → (v < room f.max → in_row row v ≡ false) → is_set 1 f v ≡ false
-not_shown row f v shows h = elim (cases_lt v (room f.max)) [ inl lt ↦ sym (shows.plain v lt) ∙ h lt | inr le ↦ shows.past v le ]
-
-pub least_none : (row : List ℕ) (f : Marked) (from : ℕ) → ShowsPlain row f → NoneFrom (in_row row) from → NoneFrom (is_set 1 f) from
-least_none row f from shows none v above = not_shown row f v shows (λ _. none v above)
-
-pub least_past : (row : List ℕ) (f : Marked) (from least : ℕ) → ShowsPlain row f → IsLeast (in_row row) from least → room f.max ≤ least → NoneFrom (is_set 1 f) from
-least_past row f from least shows is past v above = not_shown row f v shows (λ lt. is.first v above (omega arith))
-
-in_room : (v max : ℕ) → v ≤ max → max ≢ 0 → v < room max
-in_room v max h ne = grind (arith, nat_tests)
-
-pub greatest_found : (row : List ℕ) (f : Marked) (to : ℕ) (r : Option ℕ) → ShowsPlain row f → f.max ≢ 0
-    → MatchOption r (NoneTo (in_row row) (min to f.max)) (λ g. IsGreatest (in_row row) (min to f.max) g) → MatchOption r (NoneTo (is_set 1 f) to) (λ g. IsGreatest (is_set 1 f) to g)
-greatest_found row f to None shows some none = λ v below. not_shown row f v shows (λ lt. none v (omega (arith, value_within v f.max lt)))
-greatest_found row f to (Some g) shows some is = record {
-  is_asked = omega (arith, is.is_asked);
-  passes = sym (shows.plain g (in_room g f.max (omega (arith, is.is_asked)) some)) ∙ is.passes;
-  first = λ v below above. not_shown row f v shows (λ lt. is.first v (omega (arith, value_within v f.max lt)) above);
-}

@@ -20,6 +20,10 @@ width_small max h = let r : room max ≤ 65536 = room_small max h in omega arith
 pub value_within : (v max : ℕ) → v < room max → v ≤ max
 value_within v max h = grind (arith, nat_tests)
 
+-- a value past the room is past the maximum
+pub past_max : (v max i : ℕ) → i < width max → room max ≤ v → max < v
+past_max v max i some past = let r : 0 < room max = omega arith in grind (arith, nat_tests)
+
 ones_of_digit : (d : ℕ) → d < 2 → count_ones d ≡ d
 ones_of_digit zero h = omega (arith, ones_le_self 0)
 ones_of_digit (suc zero) h = elim (cases_eq (count_ones 1) 0) [

@@ -45,10 +45,6 @@ pub row-off : (ws : List ℕ) (start v : ℕ) → start + v / 64 < length ws
 row-off ws start v within = row-one 0 ws start v _ within (bit_at_clear_same w64 (get_or ws (start + v / 64) 0) (v % 64) (omega arith))
     (λ b h ne. bit_at_clear_other w64 (get_or ws (start + v / 64) 0) (v % 64) (omega arith) b h ne)
 
--- the words before word n are done
-pub row-none : (ws : List ℕ) (start first stop n : ℕ) → n * 64 ≤ first → TurnsRow 1 ws ws start first (min (n * 64) stop)
-row-none ws start first stop n le = record { inside = λ i b h above below. absurd (omega arith); kept = λ p b h outside. refl }
-
 -- the words with a mask's bits in one of them
 abbrev with_mask : List ℕ → ℕ → ℕ → List ℕ
 with_mask ws p mask = set ws p (bit_or (get_or ws p 0) mask)

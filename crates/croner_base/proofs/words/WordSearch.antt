@@ -1,5 +1,5 @@
 -- Looking for a value word by word.
-use Rattle.std.proofs.Common.{◌≡◌, true, false, eqb, eq-eqb, ◌∷◌, [], ℕ, suc, ◌+◌, ◌-◌, ◌*◌, ◌/◌, ◌%◌, ◌^◌, ◌<◌, ◌≤◌, List, length, get_or, bit_and, ap, ◌∙◌, arith, subst, inl, inr, w64}
+use Rattle.std.proofs.Common.{◌≡◌, true, false, eqb, eq-eqb, ℕ, suc, ◌+◌, ◌-◌, ◌*◌, ◌/◌, ◌%◌, ◌^◌, ◌<◌, ◌≤◌, List, length, get_or, bit_and, ap, ◌∙◌, arith, subst, inl, inr, w64}
 use Rattle.std.specs.Int.{bit_at, trailing_zeros, leading_zeros}
 use Rattle.std.proofs.lemmas.Bool.{cases_eq, cases_lt, ne_eqb}
 use Rattle.std.proofs.lemmas.List.{get_or_past}
@@ -8,7 +8,7 @@ use Rattle.std.proofs.lemmas.Nat.Bits.{bit_at_and, bit_at-lt, bit_at-zero, bit_a
 use native.Mathlib.Nat.{pow-suc}
 use Rattle.croner_base.specs.Private.words.Rows.{in_row}
 use Rattle.croner_base.specs.Private.words.Masks.{Masks, MasksFrom, MasksTo}
-use Rattle.croner_base.specs.Private.words.Next.{NoneFrom, IsLeast, NoneTo, IsGreatest}
+use Rattle.croner_base.specs.Private.words.Next.{NoneFrom, IsLeast, IsGreatest}
 
 -- ---- masks
 
@@ -18,25 +18,27 @@ masked_off mask i b looked masks h off = elim (cases_eq (bit_at mask b) 1) [
   | inr ne ↦ omega (arith, bit_at-lt mask b)
 ]
 
-pub first_mask : (from i : ℕ) → from / 64 ≡ i → MasksFrom ((2 ^ 64 - 1) * 2 ^ (from % 64) % 2 ^ 64) from i
-first_mask from i place =
-    let e = ones_shl 64 (from % 64) (omega arith) in
+-- the values of word i from one of its bits on
+pub first_mask : (from i shift : ℕ) → from ≡ i * 64 + shift → shift < 64 → MasksFrom ((2 ^ 64 - 1) * 2 ^ shift % 2 ^ 64) from i
+first_mask from i shift place within =
+    let e = ones_shl 64 shift (omega arith) in
     record {
-      on = λ b h le. ap (λ m. bit_at m b) e ∙ bit_at_mask_inside (from % 64) 64 b (omega arith) h;
-      only = λ b h one. elim (cases_lt b (from % 64)) [
-        | inl lt ↦ absurd (omega (arith, ap (λ m. bit_at m b) e, bit_at_mask_below (from % 64) 64 b lt))
+      on = λ b h le. ap (λ m. bit_at m b) e ∙ bit_at_mask_inside shift 64 b (omega arith) h;
+      only = λ b h one. elim (cases_lt b shift) [
+        | inl lt ↦ absurd (omega (arith, ap (λ m. bit_at m b) e, bit_at_mask_below shift 64 b lt))
         | inr le ↦ omega arith
       ];
     }
 
-pub last_mask : (to i : ℕ) → to / 64 ≡ i → MasksTo ((2 ^ 64 - 1) / 2 ^ (63 - to % 64)) to i
-last_mask to i place =
-    let e = ones_shr 64 (63 - to % 64) (omega arith) in
+-- and those up to one
+pub last_mask : (to i shift : ℕ) → to + shift ≡ i * 64 + 63 → shift < 64 → MasksTo ((2 ^ 64 - 1) / 2 ^ shift) to i
+last_mask to i shift place within =
+    let e = ones_shr 64 shift (omega arith) in
     record {
-      on = λ b h le. ap (λ m. bit_at m b) e ∙ bit_at_ones (64 - (63 - to % 64)) b (omega arith);
-      only = λ b h one. elim (cases_lt (to % 64) b) [
-        | inl lt ↦ absurd (omega (arith, ap (λ m. bit_at m b) e, bit_at_ones_above (64 - (63 - to % 64)) b (omega arith)))
-        | inr le ↦ omega arith
+      on = λ b h le. ap (λ m. bit_at m b) e ∙ bit_at_ones (64 - shift) b (omega arith);
+      only = λ b h one. elim (cases_lt b (64 - shift)) [
+        | inr past ↦ absurd (omega (arith, ap (λ m. bit_at m b) e, bit_at_ones_above (64 - shift) b past))
+        | inl lt ↦ omega arith
       ];
     }
 
@@ -83,19 +85,19 @@ word_of_none row from i mask before masks none v above below = elim (cases_lt v 
   | inr le ↦ none_left row i mask v _ masks (omega arith) above (bit_of_none _ (v % 64) none)
 ]
 
-pub word_of_least : (row : List ℕ) (from i mask : ℕ) → HasNone row from (i * 64) → MasksFrom mask from i → 0 < left_of row i mask → left_of row i mask < 2 ^ 64
-    → IsLeast (in_row row) from (i * 64 + trailing_zeros w64 (left_of row i mask))
-word_of_least row from i mask before masks some fits =
+pub word_of_least : (row : List ℕ) (from i mask least : ℕ) → HasNone row from (i * 64) → MasksFrom mask from i → 0 < left_of row i mask → left_of row i mask < 2 ^ 64
+    → i * 64 + trailing_zeros w64 (left_of row i mask) ≡ least → IsLeast (in_row row) from least
+word_of_least row from i mask least before masks some fits e =
     let t = bit_at-trailing_zeros w64 (left_of row i mask) some fits in
     let found = left row i mask (trailing_zeros w64 (left_of row i mask)) _ masks t.0 t.1 in
-    record {
+    subst (IsLeast (in_row row) from) e (record {
       is_asked = found.0;
       passes = found.1;
       first = λ v above below. elim (cases_lt v (i * 64)) [
         | inl earlier ↦ before v above earlier
         | inr le ↦ none_left row i mask v _ masks (omega (arith, t.0)) above (t.2 (v % 64) (omega (arith, t.0)))
       ];
-    }
+    })
 
 -- past the row there is none
 pub past_row : (row : List ℕ) (from i : ℕ) → HasNone row from (i * 64) → length row ≤ i → NoneFrom (in_row row) from
@@ -103,25 +105,6 @@ past_row row from i before h v above = elim (cases_lt v (i * 64)) [
   | inl lt ↦ before v above lt
   | inr le ↦ ap (λ n. eqb n 1) (ap (λ w. bit_at w (v % 64)) (get_or_past row (v / 64) 0 (omega arith)) ∙ bit_at-zero (v % 64))
 ]
-
--- a row of one word
-only_first : (from : ℕ) → from < 64 → MasksFrom ((2 ^ 64 - 1) * 2 ^ from % 2 ^ 64) from 0
-only_first from small =
-    let e : from % 64 ≡ from = omega arith in
-    subst (λ n. MasksFrom ((2 ^ 64 - 1) * 2 ^ n % 2 ^ 64) from 0) e (first_mask from 0 (omega arith))
-
--- its values from one on
-abbrev on_from : ℕ → ℕ → ℕ
-on_from word from = bit_and word ((2 ^ 64 - 1) * 2 ^ from % 2 ^ 64)
-
-pub none_in_word : (word from : ℕ) → from < 64 → on_from word from ≡ 0 → NoneFrom (in_row (word ∷ [])) from
-none_in_word word from small none =
-    past_row (word ∷ []) from 1 (word_of_none (word ∷ []) from 0 _ (λ v above below. absurd (omega arith)) (only_first from small) none) (omega arith)
-
-pub least_of_word : (word from : ℕ) → from < 64 → 0 < on_from word from → on_from word from < 2 ^ 64 → IsLeast (in_row (word ∷ [])) from (trailing_zeros w64 (on_from word from))
-least_of_word word from small some fits =
-    let e : 0 * 64 + trailing_zeros w64 (on_from word from) ≡ trailing_zeros w64 (on_from word from) = omega arith in
-    subst (IsLeast (in_row (word ∷ [])) from) e (word_of_least (word ∷ []) from 0 _ (λ v above below. absurd (omega arith)) (only_first from small) some fits)
 
 -- ---- downwards
 
@@ -144,11 +127,11 @@ top_bit n j le lt =
     quotient_one : (n m : ℕ) → 0 < m → m ≤ n → n < m * 2 → n / m ≡ 1
     quotient_one n m pos le lt = let e : n ≡ 1 * m + (n - m) = omega arith in ap (λ x. x / m) e ∙ div-mul-add 1 m (n - m) (omega arith)
 
-pub word_of_greatest : (row : List ℕ) (to i mask : ℕ) → HasNoneDown row ((i + 1) * 64) to → MasksTo mask to i → 0 < left_of row i mask → left_of row i mask < 2 ^ 64
-    → IsGreatest (in_row row) to (i * 64 + 63 - leading_zeros w64 (left_of row i mask))
-word_of_greatest row to i mask behind masks some fits =
+pub word_of_greatest : (row : List ℕ) (to i mask greatest : ℕ) → HasNoneDown row ((i + 1) * 64) to → MasksTo mask to i → 0 < left_of row i mask → left_of row i mask < 2 ^ 64
+    → i * 64 + 63 - leading_zeros w64 (left_of row i mask) ≡ greatest → IsGreatest (in_row row) to greatest
+word_of_greatest row to i mask greatest behind masks some fits is =
     let t = leading_top 64 (left_of row i mask) some fits in
-    let e : i * 64 + t.0 ≡ i * 64 + 63 - leading_zeros w64 (left_of row i mask) = omega (arith, t.1) in
+    let e : i * 64 + t.0 ≡ greatest = omega (arith, t.1) in
     let found = left row i mask t.0 _ masks (omega (arith, t.1)) (top_bit _ t.0 t.2 t.3) in
     subst (IsGreatest (in_row row) to) e (record {
       is_asked = found.0;
@@ -158,22 +141,3 @@ word_of_greatest row to i mask behind masks some fits =
         | inl near ↦ none_left row i mask v _ masks (omega arith) below (bit_at_above _ (suc t.0) (v % 64) t.3 (omega arith))
       ];
     })
-
--- a row of one word
-only_last : (to : ℕ) → to < 64 → MasksTo ((2 ^ 64 - 1) / 2 ^ (63 - to)) to 0
-only_last to small =
-    let e : to % 64 ≡ to = omega arith in
-    subst (λ n. MasksTo ((2 ^ 64 - 1) / 2 ^ (63 - n)) to 0) e (last_mask to 0 (omega arith))
-
--- its values up to one
-abbrev up_to : ℕ → ℕ → ℕ
-up_to word to = bit_and word ((2 ^ 64 - 1) / 2 ^ (63 - to))
-
-pub none_up_in_word : (word to : ℕ) → to < 64 → up_to word to ≡ 0 → NoneTo (in_row (word ∷ [])) to
-none_up_in_word word to small none v below =
-    word_of_none_down (word ∷ []) to 0 _ (λ v below above. absurd (omega arith)) (only_last to small) none v below (omega arith)
-
-pub greatest_of_word : (word to : ℕ) → to < 64 → 0 < up_to word to → up_to word to < 2 ^ 64 → IsGreatest (in_row (word ∷ [])) to (63 - leading_zeros w64 (up_to word to))
-greatest_of_word word to small some fits =
-    let e : 0 * 64 + 63 - leading_zeros w64 (up_to word to) ≡ 63 - leading_zeros w64 (up_to word to) = omega arith in
-    subst (IsGreatest (in_row (word ∷ [])) to) e (word_of_greatest (word ∷ []) to 0 _ (λ v below above. absurd (omega arith)) (only_last to small) some fits)

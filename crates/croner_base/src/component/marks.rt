@@ -194,6 +194,7 @@ impl Marks {
     }
 
     // Marks the values from `first` to `last` with modifier `k`, whose bit is 2 to the power `k`.
+    #[tactic(auto, using(crate::proofs::words::RowPlaces::has_row))]
     fn set_between(&mut self, first: u16, last: u16, k: u8)
         requires order { first ≤ last }
         requires within { last < room self.old.max }

@@ -13,6 +13,7 @@ use super::words::WORD_BITS;
 
 /// How many supported modifiers stand below modifier `k`.
 #[inline(always)]
+#[tactic(auto, using(crate::proofs::words::RowPlaces::count_below))]
 fn rows_below(supported: u8, k: u8) -> u8
     requires { k < 8 }
     ensures { result ≡ rows_below supported k }
@@ -22,6 +23,7 @@ fn rows_below(supported: u8, k: u8) -> u8
 }
 
 /// How many rows there are.
+#[tactic(auto, using(crate::proofs::words::RowPlaces::count_all))]
 pub fn rows(supported: u8) -> u8
     ensures { result ≡ rows_below supported 8 }
 {

@@ -1,13 +1,6 @@
 use Rattle.std.proofs.Common.{arith, ◌<◌}
-use Rattle.croner_base.proofs.words.Differing.{shows_none, shows_more, shows_all}
+use Rattle.croner_base.proofs.words.Differing.{shows_more, shows_all}
 use Rattle.croner_base.proofs.component.marks.Marks.differences.Goals as goal
-
-pub loop-k-init : goal.loop-k-init
-loop-k-init c = record {
-  shows = shows_none c.args.self.now c.args.other.now c.args.i;
-  first_small = λ h. absurd (omega arith);
-  second_small = λ h. absurd (omega arith);
-}
 
 pub loop-k-preserved : goal.loop-k-preserved
 loop-k-preserved c = record {

@@ -1,17 +1,10 @@
-use Rattle.std.proofs.Common.{arith, ◌≡◌, ◌<◌, ap, sym, ◌∙◌, subst}
+use Rattle.std.proofs.Common.{arith, ◌≡◌, ap, sym, ◌∙◌}
 use Rattle.std.specs.Int.{bit_at}
 use Rattle.std.proofs.lemmas.Nat.Bits.{shr_and_one}
-use Rattle.croner_base.specs.Field.{room}
-use Rattle.croner_base.proofs.words.ModifiersInTurn.{turns-none, turns-skip, turns-more, bit_supported}
+use Rattle.croner_base.proofs.words.ModifiersInTurn.{turns-skip, turns-more, bit_supported}
 use Rattle.croner_base.proofs.words.TurnedMarks.{turns-all, gains}
 use Rattle.croner_base.proofs.component.marks.Marks.set_range.Goals as goal
 use Rattle.croner_base.proofs.component.marks.Marks.set_range.Goals.{then-bits-k-eq1, else-bits-k-eq1}
-
-pub loop-k-init : goal.loop-k-init
-loop-k-init c = turns-none 1 c.args.self.now c.args.bits c.args.first c.args.last
-
-pub set_between-requires-clause-within : goal.set_between-requires-clause-within
-set_between-requires-clause-within c = subst (λ m. c.args.last < room m) (sym c.loop-k.invariant.max) c.requires.within
 
 pub set_between-requires-clause-is_supported : goal.set_between-requires-clause-is_supported
 set_between-requires-clause-is_supported c =

@@ -1,14 +1,11 @@
-use Rattle.std.proofs.Common.{arith, ◌≡◌, sym, ◌∙◌}
+use Rattle.std.proofs.Common.{◌≡◌, sym, ◌∙◌}
 use Rattle.std.specs.Int.{bit_at}
 use Rattle.std.proofs.lemmas.Nat.Bits.{shr_and_one}
 use Rattle.croner_base.specs.Private.words.Rows.{marks_in}
-use Rattle.croner_base.proofs.words.Counting.{any_none, any_skip, any_more, any_all}
+use Rattle.croner_base.proofs.words.Counting.{any_skip, any_more}
 use Rattle.croner_base.proofs.words.Sums.{sums_of-bit}
 use Rattle.croner_base.proofs.component.marks.rows.any.Goals as goal
 use Rattle.croner_base.proofs.component.marks.rows.any.Goals.{then-bits-k-eq1, else-bits-k-eq1}
-
-pub loop-k-init : goal.loop-k-init
-loop-k-init c = any_none (marks_in c.args.words.now c.args.max c.args.supported) c.args.bits c.args.i
 
 pub loop-k-preserved : goal.loop-k-preserved
 loop-k-preserved c = elim c.if-bits-k-eq1.branch [
@@ -19,6 +16,3 @@ loop-k-preserved c = elim c.if-bits-k-eq1.branch [
   | else-bits-k-eq1 w ↦
       rw w.found-is (any_skip (marks_in c.args.words.now c.args.max c.args.supported) _ _ _ c.loop-k.k (λ e. w.if-bits-k-eq1.false (shr_and_one c.args.bits c.loop-k.k ∙ e)) c.loop-k.invariant)
 ]
-
-pub returns : goal.returns
-returns c = any_all (marks_in c.args.words.now c.args.max c.args.supported) _ _ _ c.loop-k.k (omega arith) c.ranges.bits.fits c.loop-k.invariant

@@ -1,13 +1,10 @@
-use Rattle.std.proofs.Common.{arith, ◌≡◌, length, ap, sym, ◌∙◌, refl}
+use Rattle.std.proofs.Common.{arith, ◌≡◌, length, ap, sym, ◌∙◌}
 use Rattle.std.specs.Int.{bit_at}
 use Rattle.std.proofs.lemmas.Nat.Bits.{shr_and_one}
-use Rattle.croner_base.proofs.words.ModifiersInTurn.{turns-none, turns-skip, turns-more, bit_supported}
+use Rattle.croner_base.proofs.words.ModifiersInTurn.{turns-skip, turns-more, bit_supported}
 use Rattle.croner_base.proofs.words.TurnedMarks.{turns-all, one-turned}
 use Rattle.croner_base.proofs.component.marks.rows.turn_each.Goals as goal
 use Rattle.croner_base.proofs.component.marks.rows.turn_each.Goals.{then-bits-k-eq1, else-bits-k-eq1}
-
-pub loop-k-init : goal.loop-k-init
-loop-k-init c = record { rows = refl; done = turns-none _ _ _ _ _ }
 
 pub turn-requires-clause-is_supported : goal.turn-requires-clause-is_supported
 turn-requires-clause-is_supported c =

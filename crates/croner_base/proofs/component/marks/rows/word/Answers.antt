@@ -5,9 +5,6 @@ use Rattle.croner_base.specs.Private.words.Rows.{width}
 use Rattle.croner_base.proofs.words.Sums.{mark_at-one, mark_at-none}
 use Rattle.croner_base.proofs.component.marks.rows.word.Goals as goal
 
-pub bounds-words-place : goal.bounds-words-place
-bounds-words-place c = omega (arith, c.requires.rows, c.place.ensures.there (sym (shr_and_one c.args.supported c.args.k) ∙ c.if-supported-k-eq1.true))
-
 pub returns-then-supported-k-eq1 : goal.returns-then-supported-k-eq1
 returns-then-supported-k-eq1 c = λ b h.
     let one : bit_at c.args.supported c.args.k ≡ 1 = sym (shr_and_one c.args.supported c.args.k) ∙ c.if-supported-k-eq1.true in

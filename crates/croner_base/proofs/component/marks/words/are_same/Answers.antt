@@ -1,10 +1,7 @@
 use Rattle.std.proofs.Common.{arith}
 use Rattle.std.proofs.lemmas.Bool.{eqb-true}
-use Rattle.croner_base.proofs.words.Differing.{same_none, same_one_more, same_lists}
+use Rattle.croner_base.proofs.words.Differing.{same_one_more, same_lists}
 use Rattle.croner_base.proofs.component.marks.words.are_same.Goals as goal
-
-pub loop-i-init : goal.loop-i-init
-loop-i-init c = same_none c.args.words.now c.args.others.now
 
 pub loop-i-preserved : goal.loop-i-preserved
 loop-i-preserved c = same_one_more c.args.words.now c.args.others.now c.loop-i.i c.loop-i.differing c.loop-i.invariant
