@@ -4,8 +4,8 @@ use Rattle.std.specs.Int.{bit_at}
 use Rattle.std.specs.Int.Bits.{or_add_and}
 use Rattle.std.specs.List.{filter, list_any, range_with_len}
 use Rattle.std.proofs.lemmas.Bool.{cases_lt, cases_Bool}
-use Rattle.std.proofs.lemmas.List.{append-nil, length-append}
-use Rattle.std.proofs.lemmas.List.Elements.{filter-append}
+use Rattle.std.proofs.lemmas.List.{append-nil, length-append, map-id}
+use Rattle.std.proofs.lemmas.List.FromFn.{filter_of_map_range_with_len_more}
 use Rattle.std.proofs.lemmas.Bool.Decides.{nat_tests}
 use Rattle.std.proofs.lemmas.Nat.{and_le_l, and_le_r}
 use Rattle.std.proofs.lemmas.Nat.Bits.{bit_at_and, bit_at_or, bit_at-lt, same_from_bits}
@@ -68,13 +68,8 @@ shows_from f bits first i word from to marked masks_from masks_to within b h =
 
 -- ---- the values of words in turn
 
-pub range_more : (a n : ℕ) → range_with_len a (suc n) ≡ range_with_len a n ++ (a + n) ∷ []
-range_more a zero = let e : a ≡ a + 0 = omega arith in ap (λ x. x ∷ []) e
-range_more a (suc n) = let e : (a + 1) + n ≡ a + suc n = omega arith in ap (λ l. a ∷ l) (range_more (a + 1) n ∙ ap (λ x. range_with_len (a + 1) n ++ x ∷ []) e)
-
 filter_more : (p : ℕ → Bool) (a n v : ℕ) → a + n ≡ v → filter p (range_with_len a (suc n)) ≡ filter p (range_with_len a n) ++ cond (p v) (v ∷ []) []
-filter_more p a n v e = subst (λ x. filter p (range_with_len a (suc n)) ≡ filter p (range_with_len a n) ++ cond (p x) (x ∷ []) []) e
-    (ap (filter p) (range_more a n) ∙ filter-append p (range_with_len a n) ((a + n) ∷ []))
+filter_more p a n v e = let s : suc n ≡ n + 1 = omega arith in ap (λ m. filter p (range_with_len a m)) s ∙ simp map-id at (filter_of_map_range_with_len_more p (λ x. x) a n v e)
 
 -- the values that pass from the first on, below n and r
 abbrev pub values_to : (ℕ → Bool) → ℕ → ℕ → ℕ → List ℕ

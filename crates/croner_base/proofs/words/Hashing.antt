@@ -4,7 +4,8 @@ use Rattle.std.specs.Hash as fed
 use Rattle.std.specs.Int.{bit_at}
 use Rattle.std.specs.List.{flat_map, range_with_len}
 use Rattle.std.proofs.lemmas.Bool.{cases_lt}
-use Rattle.std.proofs.lemmas.List.{append-nil, get_or_past}
+use Rattle.std.proofs.lemmas.List.{append-nil, get_or_past, map-id}
+use Rattle.std.proofs.lemmas.List.FromFn.{map-range_with_len_more}
 use Rattle.std.proofs.lemmas.Grind.{flat_map-append}
 use Rattle.std.proofs.lemmas.Nat.{and_le_l}
 use Rattle.std.proofs.lemmas.Nat.Bits.{bit_at_and, bit_at-lt, bit_at-zero, same_from_bits_below}
@@ -15,8 +16,7 @@ use Rattle.croner_base.specs.Private.words.Rows.{width, number_of}
 use Rattle.croner_base.specs.Written.{digits_of, set_writes, sets_writes}
 use Rattle.croner_base.proofs.words.WordSearch.{masked_off}
 use Rattle.croner_base.proofs.words.RowPlaces.{past_max, value_within}
-use Rattle.croner_base.proofs.words.Counting.{range_more}
-use Rattle.croner_base.proofs.words.Sums.{ShowsWord, number_of-lt, number_of-bit}
+use Rattle.croner_base.proofs.words.Sums.{AreBits, ShowsWord, number_of-lt, number_of-bit}
 
 -- ---- the digits
 
@@ -25,30 +25,24 @@ unfolding digits_of number_of
 digits_of-number marks k first zero = refl
 digits_of-number marks k first (suc n) = ap (λ d. d + bit_at (get_or marks (first + n) 0) k * 2 ^ n) (digits_of-number marks k first n)
 
-digits_of-lt : (marks : List ℕ) (k first n : ℕ) → digits_of marks k first n < 2 ^ n
-digits_of-lt marks k first n = omega (arith, digits_of-number marks k first n, number_of-lt (λ b. bit_at (get_or marks (first + b) 0) k) n (λ b. bit_at-lt (get_or marks (first + b) 0) k))
-
-digits_of-bit : (marks : List ℕ) (k first n b : ℕ) → b < n → bit_at (digits_of marks k first n) b ≡ bit_at (get_or marks (first + b) 0) k
-digits_of-bit marks k first n b h = ap (λ x. bit_at x b) (digits_of-number marks k first n) ∙ number_of-bit (λ b. bit_at (get_or marks (first + b) 0) k) n b (λ b. bit_at-lt (get_or marks (first + b) 0) k) h
-
 -- a word without the bits past the maximum
 pub masked_digits : (f : Marked) (k i word mask : ℕ) → length f.marks ≡ room f.max → i < width f.max → word < 2 ^ 64
     → ShowsWord f k i word → MasksTo mask f.max i
     → bit_and word mask ≡ digits_of f.marks k (i * 64) 64
-masked_digits f k i word mask long within fits shows masks = same_from_bits_below 64 _ _ (omega (arith, and_le_l word mask)) (digits_of-lt f.marks k (i * 64) 64) (λ b h.
-    bit_at_and word mask b ∙ elim (cases_lt (i * 64 + b) (room f.max)) [
-      | inl here ↦ omega (arith, shows b h here, masks.on b h (value_within (i * 64 + b) f.max here), bit_at-lt word b, digits_of-bit f.marks k (i * 64) 64 b h)
-      | inr past ↦ omega (arith, masked_off mask i b _ masks h (λ below. absurd (omega (arith, past_max (i * 64 + b) f.max i within past))), digits_of-bit f.marks k (i * 64) 64 b h, ap (λ n. bit_at n k) (get_or_past f.marks (i * 64 + b) 0 (omega (arith, long))), bit_at-zero k)
-    ])
+masked_digits f k i word mask long within fits shows masks =
+    let bit : ℕ → ℕ = λ b. bit_at (get_or f.marks (i * 64 + b) 0) k in
+    let are : AreBits bit = λ b. bit_at-lt (get_or f.marks (i * 64 + b) 0) k in
+    same_from_bits_below 64 _ _ (omega (arith, and_le_l word mask)) (number_of-lt bit 64 are) (λ b h. bit_at_and word mask b ∙ elim (cases_lt (i * 64 + b) (room f.max)) [
+      | inl here ↦ omega (arith, shows b h here, masks.on b h (value_within (i * 64 + b) f.max here), bit_at-lt word b, number_of-bit bit 64 b are h)
+      | inr past ↦ omega (arith, masked_off mask i b _ masks h (λ below. absurd (omega (arith, past_max (i * 64 + b) f.max i within past))), number_of-bit bit 64 b are h, ap (λ n. bit_at n k) (get_or_past f.marks (i * 64 + b) 0 (omega (arith, long))), bit_at-zero k)
+    ]) ∙ sym (digits_of-number f.marks k (i * 64) 64)
 
 -- ---- one write after another
 
 from_zero : (F : ℕ → List (List ℕ)) (n : ℕ) → flat_map F (range_with_len 0 n) ++ F n ≡ flat_map F (range_with_len 0 (n + 1))
 from_zero F n =
-    let e : suc n ≡ n + 1 = omega arith in
-    let from : n ≡ 0 + n = omega arith in
     ap (λ l. flat_map F (range_with_len 0 n) ++ l) (sym (append-nil (F n))) ∙ sym (flat_map-append F (range_with_len 0 n) (n ∷ []))
-    ∙ ap (flat_map F) (ap (λ x. range_with_len 0 n ++ x ∷ []) from ∙ sym (range_more 0 n) ∙ ap (range_with_len 0) e)
+    ∙ sym (ap (flat_map F) (simp map-id at (map-range_with_len_more (λ x. x) 0 n n (omega arith))))
 
 pub set_writes-none : (marks : List ℕ) (k : ℕ) → [] ≡ set_writes marks 0 k
 unfolding set_writes

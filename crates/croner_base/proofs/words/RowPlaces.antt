@@ -25,12 +25,7 @@ pub past_max : (v max i : ℕ) → i < width max → room max ≤ v → max < v
 past_max v max i some past = let r : 0 < room max = omega arith in grind (arith, nat_tests)
 
 ones_of_digit : (d : ℕ) → d < 2 → count_ones d ≡ d
-ones_of_digit zero h = omega (arith, ones_le_self 0)
-ones_of_digit (suc zero) h = elim (cases_eq (count_ones 1) 0) [
-  | inl e ↦ absurd (omega (arith, zero_from_ones 1 e))
-  | inr ne ↦ omega (arith, ones_le_self 1)
-]
-ones_of_digit (suc (suc d)) h = absurd (omega arith)
+ones_of_digit d h = grind (arith, ones_le_self d, zero_from_ones d)
 
 pub count_low : (s k : ℕ) → count_ones (s % 2 ^ k) ≡ rows_below s k
 unfolding rows_below

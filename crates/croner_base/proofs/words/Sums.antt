@@ -4,6 +4,7 @@ use Rattle.std.specs.Int.{bit_at}
 use Rattle.std.proofs.lemmas.Bool.{cases_eq, cases_lt}
 use Rattle.std.proofs.lemmas.List.{ext_get_or, get_or_past, length-replicate}
 use Rattle.std.proofs.lemmas.List.FromFn.{length-map-range_with_len, get_or-map-range_with_len}
+use Rattle.std.proofs.lemmas.Nat.{mul-le}
 use Rattle.std.proofs.lemmas.Nat.Bits.{shr_and_one, bit_at-lt, bit_at_lowest, bit_at-zero, bit_at_cat_low, bit_at_cat_high, same_from_bits_below}
 use Rattle.std.proofs.Math.Pow.{pow_mono}
 use native.Mathlib.Nat.{pow-suc}
@@ -25,9 +26,7 @@ unfolding number_of
 number_of-more bit n = let e : n + 1 ≡ suc n = omega arith in ap (number_of bit) e ∙ omega arith
 
 digit-le : (m p : ℕ) → m < 2 → m * p ≤ p
-digit-le zero p h = omega arith
-digit-le (suc zero) p h = omega arith
-digit-le (suc (suc m)) p h = absurd (omega arith)
+digit-le m p h = omega (arith, mul-le m p 1 p (omega arith) (omega arith))
 
 pub number_of-lt : (bit : ℕ → ℕ) (n : ℕ) → AreBits bit → number_of bit n < 2 ^ n
 unfolding number_of

@@ -3,7 +3,7 @@ use Rattle.std.proofs.Common.{◌≡◌, true, false, eqb, eq-eqb, ℕ, suc, ◌
 use Rattle.std.specs.Int.{bit_at, trailing_zeros, leading_zeros}
 use Rattle.std.proofs.lemmas.Bool.{cases_eq, cases_lt, ne_eqb}
 use Rattle.std.proofs.lemmas.List.{get_or_past}
-use Rattle.std.proofs.lemmas.Nat.{leading_top, pow_pos, div-mul-add}
+use Rattle.std.proofs.lemmas.Nat.{leading_top, pow_pos, le-div, div_below}
 use Rattle.std.proofs.lemmas.Nat.Bits.{bit_at_and, bit_at-lt, bit_at-zero, bit_at-trailing_zeros, ones_shl, ones_shr, bit_at_ones, bit_at_ones_above, bit_at_above, bit_at_mask_inside, bit_at_mask_below}
 use native.Mathlib.Nat.{pow-suc}
 use Rattle.croner_base.specs.Private.words.Rows.{in_row}
@@ -120,12 +120,8 @@ word_of_none_down row to i mask behind masks none v below above = elim (cases_lt
 
 pub top_bit : (n j : ℕ) → 2 ^ j ≤ n → n < 2 ^ suc j → bit_at n j ≡ 1
 top_bit n j le lt =
-    let twice : n < 2 ^ j * 2 = omega (arith, pow-suc 2 j) in
-    let one : n / 2 ^ j ≡ 1 = quotient_one n (2 ^ j) (pow_pos j) le twice in
+    let one : n / 2 ^ j ≡ 1 = omega (arith, le-div 1 n (2 ^ j) (pow_pos j) (omega arith), div_below n (2 ^ j) 2 (pow_pos j) (omega (arith, pow-suc 2 j))) in
     ap (λ x. x % 2) one
-  where
-    quotient_one : (n m : ℕ) → 0 < m → m ≤ n → n < m * 2 → n / m ≡ 1
-    quotient_one n m pos le lt = let e : n ≡ 1 * m + (n - m) = omega arith in ap (λ x. x / m) e ∙ div-mul-add 1 m (n - m) (omega arith)
 
 pub word_of_greatest : (row : List ℕ) (to i mask greatest : ℕ) → HasNoneDown row ((i + 1) * 64) to → MasksTo mask to i → 0 < left_of row i mask → left_of row i mask < 2 ^ 64
     → i * 64 + 63 - leading_zeros w64 (left_of row i mask) ≡ greatest → IsGreatest (in_row row) to greatest
