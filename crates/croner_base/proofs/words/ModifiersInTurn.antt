@@ -28,12 +28,12 @@ bit_supported s bits k all one = omega (arith, bit_at_and s bits k, ap (λ n. bi
 
 -- ---- turned one after another
 
-pub turns-skip : (to : ℕ) (old new : Marked) (bits first last k : ℕ) → bit_at bits k ≢ 1 → Turns to old new (bits % 2 ^ k) first last → Turns to old new (bits % 2 ^ (k + 1)) first last
-turns-skip to old new bits first last k off done = subst (λ n. Turns to old new n first last) (sym (low_none bits k off)) done
+pub turns_skip : (to : ℕ) (old new : Marked) (bits first last k : ℕ) → bit_at bits k ≢ 1 → Turns to old new (bits % 2 ^ k) first last → Turns to old new (bits % 2 ^ (k + 1)) first last
+turns_skip to old new bits first last k off done = subst (λ n. Turns to old new n first last) (sym (low_none bits k off)) done
 
-pub turns-more : (to : ℕ) (old mid new : Marked) (bits first last k : ℕ) → bit_at bits k ≡ 1 → Turns to old mid (bits % 2 ^ k) first last → Turns to mid new (2 ^ k) first last
+pub turns_more : (to : ℕ) (old mid new : Marked) (bits first last k : ℕ) → bit_at bits k ≡ 1 → Turns to old mid (bits % 2 ^ k) first last → Turns to mid new (2 ^ k) first last
     → Turns to old new (bits % 2 ^ (k + 1)) first last
-turns-more to old mid new bits first last k one done more = record {
+turns_more to old mid new bits first last k one done more = record {
   max = more.max ∙ done.max;
   supported = more.supported ∙ done.supported;
   length = more.length ∙ done.length;

@@ -9,7 +9,7 @@ use Rattle.croner_base.specs.Field.{room}
 use Rattle.croner_base.specs.Private.words.Marked.{Marked, is_set}
 use Rattle.croner_base.specs.Private.words.Rows.{width, in_row, rows_below, marks_in}
 use Rattle.croner_base.proofs.words.RowPlaces.{row_before, rows_below-zero, word_within}
-use Rattle.croner_base.proofs.words.Sums.{mark_at-one, mark_at-none, sums_of-bit, sums_of-past}
+use Rattle.croner_base.proofs.words.Sums.{mark_one, mark_none, sums_bit, sums_past}
 
 -- ---- the row
 
@@ -36,12 +36,12 @@ plain_row words max s v one here =
     let within : v / 64 < width max = word_within v max here in
     let none : rows_below s 0 * width max ≡ 0 = ap (λ n. n * width max) (rows_below-zero s) ∙ omega arith in
     ap (λ n. eqb n 1) (ap (λ w. bit_at w (v % 64)) (get_or-take (width max) words (v / 64) 0 within)
-    ∙ mark_at-one words (width max) s 0 v (v / 64) one (omega arith)
-    ∙ sym (sums_of-bit words max s v 0 here (omega arith))) ∙ is_plain (marks_in words max s) v
+    ∙ mark_one words (width max) s 0 v (v / 64) one (omega arith)
+    ∙ sym (sums_bit words max s v 0 here (omega arith))) ∙ is_plain (marks_in words max s) v
 
 pub no_plain_row : (words : List ℕ) (max s v : ℕ) → bit_at s 0 ≢ 1 → v < room max → in_row [] v ≡ is_set 1 (marks_in words max s) v
 no_plain_row words max s v off here =
-    ap (λ n. eqb n 1) (bit_at-zero (v % 64) ∙ sym (sums_of-bit words max s v 0 here (omega arith) ∙ mark_at-none words (width max) s 0 v off)) ∙ is_plain (marks_in words max s) v
+    ap (λ n. eqb n 1) (bit_at-zero (v % 64) ∙ sym (sums_bit words max s v 0 here (omega arith) ∙ mark_none words (width max) s 0 v off)) ∙ is_plain (marks_in words max s) v
 
 pub none_past : (words : List ℕ) (max s v : ℕ) → room max ≤ v → is_set 1 (marks_in words max s) v ≡ false
-none_past words max s v past = ap (λ n. not (eqb (bit_and n 1) 0)) (sums_of-past words max s v past)
+none_past words max s v past = ap (λ n. not (eqb (bit_and n 1) 0)) (sums_past words max s v past)

@@ -47,18 +47,18 @@ number_of-bit bit (suc n) i are h =
 
 -- ---- marks by the bits of the words
 
-pub mark_at-one : (words : List ℕ) (wide s k v p : ℕ) → bit_at s k ≡ 1 → p ≡ rows_below s k * wide + v / 64 → bit_at (get_or words p 0) (v % 64) ≡ mark_at words wide s k v
+pub mark_one : (words : List ℕ) (wide s k v p : ℕ) → bit_at s k ≡ 1 → p ≡ rows_below s k * wide + v / 64 → bit_at (get_or words p 0) (v % 64) ≡ mark_at words wide s k v
 unfolding mark_at
-mark_at-one words wide s k v p one e = rw (e, one) (omega arith)
+mark_one words wide s k v p one e = rw (e, one) (omega arith)
 
-pub mark_at-none : (words : List ℕ) (wide s k v : ℕ) → bit_at s k ≢ 1 → mark_at words wide s k v ≡ 0
+pub mark_none : (words : List ℕ) (wide s k v : ℕ) → bit_at s k ≢ 1 → mark_at words wide s k v ≡ 0
 unfolding mark_at
-mark_at-none words wide s k v off = let z : bit_at s k ≡ 0 = omega (arith, bit_at-lt s k) in rw z (omega arith)
+mark_none words wide s k v off = let z : bit_at s k ≡ 0 = omega (arith, bit_at-lt s k) in rw z (omega arith)
 
 pub mark_at-lt : (words : List ℕ) (wide s k v : ℕ) → mark_at words wide s k v < 2
 mark_at-lt words wide s k v = elim (cases_eq (bit_at s k) 1) [
-  | inl one ↦ omega (arith, mark_at-one words wide s k v (rows_below s k * wide + v / 64) one refl, bit_at-lt (get_or words (rows_below s k * wide + v / 64) 0) (v % 64))
-  | inr off ↦ omega (arith, mark_at-none words wide s k v off)
+  | inl one ↦ omega (arith, mark_one words wide s k v (rows_below s k * wide + v / 64) one refl, bit_at-lt (get_or words (rows_below s k * wide + v / 64) 0) (v % 64))
+  | inr off ↦ omega (arith, mark_none words wide s k v off)
 ]
 
 -- ---- one sum, modifier by modifier
@@ -83,17 +83,17 @@ sum_below-more words wide s k v d h e =
 
 -- ---- the list
 
-pub length-sums_of : (words : List ℕ) (max supported : ℕ) → length (sums_of words max supported) ≡ room max
+pub sums_long : (words : List ℕ) (max supported : ℕ) → length (sums_of words max supported) ≡ room max
 unfolding sums_of
-length-sums_of words max supported = length-map-range_with_len (sum_below words (width max) supported 8) 0 (room max)
+sums_long words max supported = length-map-range_with_len (sum_below words (width max) supported 8) 0 (room max)
 
 pub get_or-sums_of : (words : List ℕ) (max supported v : ℕ) → v < room max → get_or (sums_of words max supported) v 0 ≡ sum_below words (width max) supported 8 v
 unfolding sums_of
 get_or-sums_of words max supported v h = get_or-map-range_with_len (sum_below words (width max) supported 8) 0 (room max) v v 0 h (omega arith)
 
 -- the bits of one sum are the bits of the words
-pub sums_of-bit : (words : List ℕ) (max supported v k : ℕ) → v < room max → k < 8 → bit_at (get_or (sums_of words max supported) v 0) k ≡ mark_at words (width max) supported k v
-sums_of-bit words max supported v k h low =
+pub sums_bit : (words : List ℕ) (max supported v k : ℕ) → v < room max → k < 8 → bit_at (get_or (sums_of words max supported) v 0) k ≡ mark_at words (width max) supported k v
+sums_bit words max supported v k h low =
     ap (λ x. bit_at x k) (get_or-sums_of words max supported v h) ∙ number_of-bit (λ j. mark_at words (width max) supported j v) 8 k (λ j. mark_at-lt words (width max) supported j v) low
 
 -- word i has the marks with modifier k
@@ -101,16 +101,16 @@ abbrev pub ShowsWord : Marked → ℕ → ℕ → ℕ → Type 0
 ShowsWord f k i word = (b : ℕ) → b < 64 → i * 64 + b < room f.max → bit_at word b ≡ bit_at (get_or f.marks (i * 64 + b) 0) k
 
 pub word_shows : (words : List ℕ) (max rows k i word : ℕ) → k < 8 → ((b : ℕ) → b < 64 → bit_at word b ≡ mark_at words (width max) rows k (i * 64 + b)) → ShowsWord (marks_in words max rows) k i word
-word_shows words max rows k i word low bits b h here = bits b h ∙ sym (sums_of-bit words max rows (i * 64 + b) k here low)
+word_shows words max rows k i word low bits b h here = bits b h ∙ sym (sums_bit words max rows (i * 64 + b) k here low)
 
 -- a sum past the list is none
-pub sums_of-past : (words : List ℕ) (max s v : ℕ) → room max ≤ v → get_or (sums_of words max s) v 0 ≡ 0
-sums_of-past words max s v h = get_or_past (sums_of words max s) v 0 (omega (arith, length-sums_of words max s))
+pub sums_past : (words : List ℕ) (max s v : ℕ) → room max ≤ v → get_or (sums_of words max s) v 0 ≡ 0
+sums_past words max s v h = get_or_past (sums_of words max s) v 0 (omega (arith, sums_long words max s))
 
-pub sums_of-small : (words : List ℕ) (max s v : ℕ) → get_or (sums_of words max s) v 0 < 256
-sums_of-small words max s v = elim (cases_lt v (room max)) [
+pub sums_small : (words : List ℕ) (max s v : ℕ) → get_or (sums_of words max s) v 0 < 256
+sums_small words max s v = elim (cases_lt v (room max)) [
   | inl lt ↦ omega (arith, get_or-sums_of words max s v lt, number_of-lt (λ j. mark_at words (width max) s j v) 8 (λ j. mark_at-lt words (width max) s j v))
-  | inr le ↦ omega (arith, sums_of-past words max s v le)
+  | inr le ↦ omega (arith, sums_past words max s v le)
 ]
 
 -- ---- no word has a bit, and no value a mark
@@ -123,16 +123,16 @@ none_at zero i = refl
 none_at (suc n) zero = refl
 none_at (suc n) (suc i) = none_at n i
 
-pub sums_of-none : (n max s : ℕ) → sums_of (blank n) max s ≡ blank (room max)
-sums_of-none n max s = ext_get_or 0 _ _ (length-sums_of (blank n) max s ∙ sym (length-replicate (room max) 0)) (λ v lt.
-    let here : v < room max = omega (arith, lt, length-sums_of (blank n) max s) in
-    same_from_bits_below 8 _ _ (sums_of-small (blank n) max s v) (omega (arith, none_at (room max) v)) (λ k low.
-    sums_of-bit (blank n) max s v k here low ∙ none_marked v k ∙ sym (ap (λ x. bit_at x k) (none_at (room max) v) ∙ bit_at-zero k)))
+pub sums_none : (n max s : ℕ) → sums_of (blank n) max s ≡ blank (room max)
+sums_none n max s = ext_get_or 0 _ _ (sums_long (blank n) max s ∙ sym (length-replicate (room max) 0)) (λ v lt.
+    let here : v < room max = omega (arith, lt, sums_long (blank n) max s) in
+    same_from_bits_below 8 _ _ (sums_small (blank n) max s v) (omega (arith, none_at (room max) v)) (λ k low.
+    sums_bit (blank n) max s v k here low ∙ none_marked v k ∙ sym (ap (λ x. bit_at x k) (none_at (room max) v) ∙ bit_at-zero k)))
   where
     none_marked : (v k : ℕ) → mark_at (blank n) (width max) s k v ≡ 0
     none_marked v k = elim (cases_eq (bit_at s k) 1) [
-      | inr off ↦ mark_at-none (blank n) (width max) s k v off
-      | inl one ↦ sym (mark_at-one (blank n) (width max) s k v _ one refl) ∙ ap (λ w. bit_at w (v % 64)) (none_at n _) ∙ bit_at-zero (v % 64)
+      | inr off ↦ mark_none (blank n) (width max) s k v off
+      | inl one ↦ sym (mark_one (blank n) (width max) s k v _ one refl) ∙ ap (λ w. bit_at w (v % 64)) (none_at n _) ∙ bit_at-zero (v % 64)
     ]
 
 -- marks of these sums

@@ -11,7 +11,7 @@ use Rattle.croner_base.specs.Private.words.Rows.{width, rows_below, mark_at, sum
 use Rattle.croner_base.proofs.words.ModifiersInTurn.{low_all}
 use Rattle.croner_base.proofs.words.RowPlaces.{same_place, word_within}
 use Rattle.croner_base.proofs.words.WordSearch.{masked_off}
-use Rattle.croner_base.proofs.words.Sums.{mark_at-one, mark_at-none, sums_of-bit, sums_of-past, sums_of-small, length-sums_of}
+use Rattle.croner_base.proofs.words.Sums.{mark_one, mark_none, sums_bit, sums_past, sums_small, sums_long}
 
 -- ---- one word of a row
 
@@ -35,23 +35,23 @@ row-one to ws start v x within bit others = record {
 abbrev digit_of : ℕ → ℕ
 digit_of v = 1 * 2 ^ (v % 64) % 2 ^ 64
 
-pub row-on : (ws : List ℕ) (start v : ℕ) → start + v / 64 < length ws
+pub row_on : (ws : List ℕ) (start v : ℕ) → start + v / 64 < length ws
     → TurnsRow 1 ws (set ws (start + v / 64) (bit_or (get_or ws (start + v / 64) 0) (digit_of v))) start v (v + 1)
-row-on ws start v within = row-one 1 ws start v _ within (bit_at_set_same w64 (get_or ws (start + v / 64) 0) (v % 64) (omega arith))
+row_on ws start v within = row-one 1 ws start v _ within (bit_at_set_same w64 (get_or ws (start + v / 64) 0) (v % 64) (omega arith))
     (λ b h ne. bit_at_set_other w64 (get_or ws (start + v / 64) 0) (v % 64) (omega arith) b ne)
 
-pub row-off : (ws : List ℕ) (start v : ℕ) → start + v / 64 < length ws
+pub row_off : (ws : List ℕ) (start v : ℕ) → start + v / 64 < length ws
     → TurnsRow 0 ws (set ws (start + v / 64) (bit_and (get_or ws (start + v / 64) 0) (bit_not w64 (digit_of v)))) start v (v + 1)
-row-off ws start v within = row-one 0 ws start v _ within (bit_at_clear_same w64 (get_or ws (start + v / 64) 0) (v % 64) (omega arith))
+row_off ws start v within = row-one 0 ws start v _ within (bit_at_clear_same w64 (get_or ws (start + v / 64) 0) (v % 64) (omega arith))
     (λ b h ne. bit_at_clear_other w64 (get_or ws (start + v / 64) 0) (v % 64) (omega arith) b h ne)
 
 -- the words with a mask's bits in one of them
 abbrev with_mask : List ℕ → ℕ → ℕ → List ℕ
 with_mask ws p mask = set ws p (bit_or (get_or ws p 0) mask)
 
-pub row-more : (xs ys : List ℕ) (start first last n from to : ℕ) → TurnsRow 1 xs ys start first (min (n * 64) (last + 1)) → MasksFrom from first n → MasksTo to last n
+pub row_more : (xs ys : List ℕ) (start first last n from to : ℕ) → TurnsRow 1 xs ys start first (min (n * 64) (last + 1)) → MasksFrom from first n → MasksTo to last n
     → start + n < length ys → TurnsRow 1 xs (with_mask ys (start + n) (bit_and from to)) start first (min ((n + 1) * 64) (last + 1))
-row-more xs ys start first last n from to done masks_from masks_to within = record {
+row_more xs ys start first last n from to done masks_from masks_to within = record {
   inside = λ i b h above below. elim (cases_eq i n) [
     | inl e ↦ subst (λ j. bit_at (get_or (with_mask ys (start + n) (bit_and from to)) (start + j) 0) b ≡ 1) (sym e)
         (omega (arith, bit b, masks_from.on b h (omega arith), masks_to.on b h (omega arith), bit_at-lt (get_or ys (start + n) 0) b))
@@ -79,44 +79,44 @@ row-more xs ys start first last n from to done masks_from masks_to within = reco
 
 -- ---- what that does to the marks
 
-pub turns-row : (to : ℕ) (old new : List ℕ) (max s k first last : ℕ) → bit_at s k ≡ 1 → k < 8 → last < room max → TurnsRow to old new (rows_below s k * width max) first (last + 1)
+pub turns_row : (to : ℕ) (old new : List ℕ) (max s k first last : ℕ) → bit_at s k ≡ 1 → k < 8 → last < room max → TurnsRow to old new (rows_below s k * width max) first (last + 1)
     → Turns to (marks_in old max s) (marks_in new max s) (2 ^ k) first last
-turns-row to old new max s k first last one low there done = record {
+turns_row to old new max s k first last one low there done = record {
   max = refl;
   supported = refl;
-  length = length-sums_of new max s ∙ sym (length-sums_of old max s);
+  length = sums_long new max s ∙ sym (sums_long old max s);
   inside = λ v j above below asked. elim (cases_eq j k) [
     | inr ne ↦ absurd (omega (arith, bit_at-pow_other k j ne))
     | inl e ↦
         let on : bit_at s j ≡ 1 = ap (bit_at s) e ∙ one in
         let row : rows_below s j * width max + v / 64 ≡ rows_below s k * width max + v / 64 = ap (λ i. rows_below s i * width max + v / 64) e in
-        sums_of-bit new max s v j (omega arith) (omega arith) ∙ sym (mark_at-one new (width max) s j v _ on (sym row)) ∙ done.inside (v / 64) (v % 64) (omega arith) (omega arith) (omega arith)
+        sums_bit new max s v j (omega arith) (omega arith) ∙ sym (mark_one new (width max) s j v _ on (sym row)) ∙ done.inside (v / 64) (v % 64) (omega arith) (omega arith) (omega arith)
   ];
   kept = λ v j outside. elim (cases_lt v (room max)) [
-    | inr past ↦ ap (λ n. bit_at n j) (sums_of-past new max s v past ∙ sym (sums_of-past old max s v past))
+    | inr past ↦ ap (λ n. bit_at n j) (sums_past new max s v past ∙ sym (sums_past old max s v past))
     | inl here ↦ elim (cases_lt j 8) [
-      | inr high ↦ bit_at_above _ 8 j (sums_of-small new max s v) high ∙ sym (bit_at_above _ 8 j (sums_of-small old max s v) high)
-      | inl is ↦ sums_of-bit new max s v j here is ∙ same v j here outside ∙ sym (sums_of-bit old max s v j here is)
+      | inr high ↦ bit_at_above _ 8 j (sums_small new max s v) high ∙ sym (bit_at_above _ 8 j (sums_small old max s v) high)
+      | inl is ↦ sums_bit new max s v j here is ∙ same v j here outside ∙ sym (sums_bit old max s v j here is)
     ]
   ];
 }
   where
     same : (v j : ℕ) → v < room max → (first ≤ v → v ≤ last → bit_at (2 ^ k) j ≢ 1) → mark_at new (width max) s j v ≡ mark_at old (width max) s j v
     same v j here outside = elim (cases_eq (bit_at s j) 1) [
-      | inr off ↦ mark_at-none new (width max) s j v off ∙ sym (mark_at-none old (width max) s j v off)
+      | inr off ↦ mark_none new (width max) s j v off ∙ sym (mark_none old (width max) s j v off)
       | inl on ↦
-          sym (mark_at-one new (width max) s j v _ on refl)
+          sym (mark_one new (width max) s j v _ on refl)
           ∙ done.kept (rows_below s j * width max + v / 64) (v % 64) (omega arith) (λ i e above below.
           let t = same_place s j k (width max) (v / 64) i on one (word_within v max here) (omega arith) e in
           outside (omega (arith, t.1)) (omega (arith, t.1)) (ap (bit_at (2 ^ k)) t.0 ∙ bit_at-pow_same k))
-          ∙ mark_at-one old (width max) s j v _ on refl
+          ∙ mark_one old (width max) s j v _ on refl
     ]
 
 -- ---- the same as numbers
 
 -- the first eight modifiers are all
-pub turns-all : (to : ℕ) (old new : Marked) (bits first last k : ℕ) → k ≡ 8 → bits < 256 → Turns to old new (bits % 2 ^ k) first last → Turns to old new bits first last
-turns-all to old new bits first last k e byte done = subst (λ n. Turns to old new n first last) (ap (λ j. bits % 2 ^ j) e ∙ low_all bits byte) done
+pub turns_all : (to : ℕ) (old new : Marked) (bits first last k : ℕ) → k ≡ 8 → bits < 256 → Turns to old new (bits % 2 ^ k) first last → Turns to old new bits first last
+turns_all to old new bits first last k e byte done = subst (λ n. Turns to old new n first last) (ap (λ j. bits % 2 ^ j) e ∙ low_all bits byte) done
 
 pub gains : (old new : Marked) (bits first last : ℕ) → Turns 1 old new bits first last → GainsRange old new bits first last
 gains old new bits first last done = record {
@@ -150,8 +150,8 @@ pub one-turned : (on : Bool) (old new : List ℕ) (max s bits v : ℕ) → v < r
     → sums_of new max s ≡ set (sums_of old max s) v (turned on (get_or (sums_of old max s) v 0) bits)
 one-turned on old new max s bits v here byte done =
     let y : ℕ = turned on (get_or (sums_of old max s) v 0) bits in
-    let there : v < length (sums_of old max s) = omega (arith, length-sums_of old max s) in
-    let small = sums_of-small old max s v in
+    let there : v < length (sums_of old max s) = omega (arith, sums_long old max s) in
+    let small = sums_small old max s v in
     ext_get_or 0 _ _ (done.length ∙ sym (length-set (sums_of old max s) v y)) (λ u lt. elim (cases_eq u v) [
       | inr ne ↦ same_from_bits _ _ (λ k. done.kept u k (λ above below. absurd (ne (omega arith)))) ∙ sym (get_or-set_other (sums_of old max s) v u y 0 ne)
       | inl e ↦ subst (λ i. get_or (sums_of new max s) i 0 ≡ get_or (set (sums_of old max s) v y) i 0) (sym e)

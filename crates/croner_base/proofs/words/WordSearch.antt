@@ -46,6 +46,12 @@ last_mask to i shift place within =
 pub whole_mask : (i : ℕ) (looked : ℕ → Type 0) → ((b : ℕ) → b < 64 → looked (i * 64 + b)) → Masks (2 ^ 64 - 1) i looked
 whole_mask i looked all = record { on = λ b h is. bit_at_ones 64 b h; only = λ b h one. all b h }
 
+pub whole_from : (from i : ℕ) → from ≤ i * 64 → MasksFrom (2 ^ 64 - 1) from i
+whole_from from i le = whole_mask i _ (λ b h. omega arith)
+
+pub whole_to : (to i : ℕ) → i * 64 + 63 ≤ to → MasksTo (2 ^ 64 - 1) to i
+whole_to to i le = whole_mask i _ (λ b h. omega arith)
+
 -- ---- one masked word
 
 in_word : (row : List ℕ) (i v : ℕ) → v / 64 ≡ i → in_row row v ≡ eqb (bit_at (get_or row i 0) (v % 64)) 1

@@ -57,6 +57,7 @@ impl Drop for Marks {
 
 impl Marks {
     /// Nothing marked, with room for all marks.
+    #[tactic(auto, using(crate::proofs::words::Sums::sums_none, crate::proofs::words::RowPlaces::one_each))]
     pub fn new(alloc: Global, max: u16, supported: u8) -> Result<Self, AllocError>
         ensures { IfOk result (λ m. m ≡ nothing_set max supported) }
     {
@@ -94,6 +95,7 @@ impl Marks {
     }
 
     /// The greatest value that may be marked.
+    #[tactic(auto, using(crate::proofs::words::Sums::sums_long))]
     pub fn max(&self) -> u16
         ensures value { result ≡ self.now.max }
         ensures places { length self.now.marks ≡ room self.now.max }
@@ -180,6 +182,7 @@ impl Marks {
     }
 
     /// Marks the values from `first` to `last` with each modifier of `bits`.
+    #[tactic(auto, using(crate::proofs::words::ModifiersInTurn::bit_supported, std::proofs::lemmas::Nat::Bits::shr_and_one))]
     pub fn set_range(&mut self, first: u16, last: u16, bits: u8)
         requires order { first ≤ last }
         requires within { last < room self.old.max }
@@ -241,6 +244,7 @@ impl Marks {
     }
 
     #[inline(always)]
+    #[tactic(auto, using(crate::proofs::words::PlainRow::none_past))]
     fn plain(&self) -> &[u64]
         ensures size { length result.now ≤ 1024 }
         ensures full { 0 < length result.now → self.now.max < length result.now * word_bits }
@@ -255,6 +259,7 @@ impl Marks {
     }
 
     #[inline(always)]
+    #[tactic(auto, using(crate::proofs::words::Sums::sums_small, crate::proofs::words::Sums::word_shows))]
     fn word(&self, k: u8, i: usize) -> u64
         requires modifier { k < 8 }
         requires within { i < width self.now.max }

@@ -13,6 +13,7 @@ use std::cmp::Ordering;
 
 impl Marks {
     /// Compares the sums from value 0 on; where one ends first, it is the lesser.
+    #[tactic(auto, using(crate::proofs::words::Differing::cmp_at, crate::proofs::words::Differing::cmp_lengths))]
     pub fn cmp_marks(&self, other: &Marks) -> Ordering
         ensures { result ≡ slice_cmp nat_cmp self.now.marks other.now.marks }
     {
@@ -22,6 +23,7 @@ impl Marks {
         }
     }
 
+    #[tactic(auto, using(crate::proofs::words::Sums::sums_long))]
     fn len(&self) -> usize
         ensures room { result ≡ room self.now.max }
         ensures marks { result ≡ length self.now.marks }
@@ -29,6 +31,7 @@ impl Marks {
         rows::room(self.max)
     }
 
+    #[tactic(auto, using(crate::proofs::words::Sums::sums_long))]
     fn sum(&self, value: u16) -> u8
         requires { value < room self.now.max }
         ensures within { value < length self.now.marks }
@@ -41,6 +44,7 @@ impl Marks {
         }
     }
 
+    #[tactic(auto, using(crate::proofs::words::Differing::same_more, crate::proofs::words::Differing::same_first, crate::proofs::words::Differing::first_differs))]
     fn first_difference(&self, other: &Marks) -> Option<u16>
         ensures { MatchOption result (SameSums self.now other.now) (λ value. IsFirstDifference self.now other.now value) }
     {
@@ -74,6 +78,7 @@ impl Marks {
             && are_same(&self.on_heap, &other.on_heap)
     }
 
+    #[tactic(auto, using(crate::proofs::words::Differing::shows_more, crate::proofs::words::Differing::shows_all))]
     fn differences(&self, other: &Marks, i: usize) -> u64
         requires here { i < width self.now.max }
         requires there { i < width other.now.max }

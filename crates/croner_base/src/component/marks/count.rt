@@ -17,6 +17,7 @@ use std::alloc::{AllocError, Global};
 impl Marks {
     /// How many values from the given one on have one of the modifiers of `bits`.
     #[inline(always)]
+    #[tactic(auto, using(crate::proofs::words::Counting::count_only))]
     pub fn count_from(&self, first: u16, bits: u8) -> usize
         ensures { result ≡ length (marked_from first bits self.now) }
     {
@@ -31,6 +32,7 @@ impl Marks {
     }
 
     /// The values from the given one on that have one of the modifiers of `bits`, in ascending order.
+    #[tactic(auto, using(crate::proofs::words::Counting::list_step))]
     pub fn list_from(&self, alloc: Global, first: u16, bits: u8) -> Result<Vec<u16>, AllocError>
         ensures { IfOk result (λ values. values.items ≡ marked_from first bits self.now) }
     {
@@ -54,6 +56,7 @@ impl Marks {
 
     // The values of word `i`, from the given one on, that have one of the modifiers of `bits`.
     #[inline(always)]
+    #[tactic(auto, using(crate::proofs::words::Counting::shows_from))]
     fn marked(&self, first: u16, bits: u8, i: usize) -> u64
         requires here { i < width self.now.max }
         requires from { first / word_bits ≤ i }
@@ -79,6 +82,7 @@ impl Marks {
     }
 }
 
+#[tactic(auto, using(crate::proofs::words::Counting::values_all))]
 fn push_values(values: &mut Vec<u16>, word: u64, i: usize) -> Result<(), AllocError>
     requires { i < 1024 }
     ensures { OnOk result (values.new.items ≡ values.old.items ++ values_in word i) }

@@ -32,6 +32,7 @@ impl Marks {
     }
 
     // Word i of modifier k, without the bits past the maximum.
+    #[tactic(auto, using(crate::proofs::words::Hashing::masked_digits, crate::proofs::words::Sums::sums_long))]
     fn digits(&self, k: u8, i: usize) -> u64
         requires modifier { k < 8 }
         requires within { i < width self.now.max }

@@ -38,6 +38,7 @@ fn least_in_word(word: u64, value: u16) -> Option<u16>
 
 /// The least value of a row of any length from the given one on.
 #[inline(never)]
+#[tactic(auto, using(crate::proofs::words::WordSearch::first_mask, crate::proofs::words::WordSearch::whole_from, crate::proofs::words::WordSearch::word_of_none))]
 fn least_in_words(row: &[u64], value: u16) -> Option<u16>
     requires { length row.now ≤ 1024 }
     ensures { MatchOption result (NoneFrom (in_row row.now) value) (λ least. IsLeast (in_row row.now) value least) }
@@ -81,6 +82,7 @@ fn greatest_in_word(word: u64, value: u16) -> Option<u16>
 
 /// The greatest value of a row of any length up to the given one.
 #[inline(never)]
+#[tactic(auto, using(crate::proofs::words::WordSearch::last_mask, crate::proofs::words::WordSearch::whole_to, crate::proofs::words::WordSearch::word_of_none_down))]
 fn greatest_in_words(row: &[u64], value: u16) -> Option<u16>
     requires { value < length row.now * word_bits }
     ensures { MatchOption result (NoneTo (in_row row.now) value) (λ greatest. IsGreatest (in_row row.now) value greatest) }
@@ -102,6 +104,7 @@ fn greatest_in_words(row: &[u64], value: u16) -> Option<u16>
 }
 
 /// The values from the given one on, in word `i`.
+#[tactic(auto, using(crate::proofs::words::WordSearch::first_mask, crate::proofs::words::WordSearch::whole_from))]
 pub fn mask_from(value: u16, i: usize) -> u64
     requires { value / word_bits ≤ i }
     ensures { MasksFrom result value i }
@@ -114,6 +117,7 @@ pub fn mask_from(value: u16, i: usize) -> u64
 }
 
 /// The values up to the given one, in word `i`.
+#[tactic(auto, using(crate::proofs::words::WordSearch::last_mask, crate::proofs::words::WordSearch::whole_to))]
 pub fn mask_to(value: u16, i: usize) -> u64
     requires { i ≤ value / word_bits }
     ensures { MasksTo result value i }

@@ -50,6 +50,7 @@ fn copied_to_heap(alloc: Global, words: &[u64]) -> Result<Vec<u64>, AllocError>
 
 /// Whether the words are the same. All are looked at, so that several can be at once.
 #[inline(always)]
+#[tactic(auto, using(crate::proofs::words::Differing::same_one_more, crate::proofs::words::Differing::same_lists))]
 pub fn are_same(words: &[u64], others: &[u64]) -> bool
     ensures { IsTrue result → words.now ≡ others.now }
 {

@@ -1,8 +1,8 @@
-use Rattle.std.proofs.Common.{arith, ◌++◌, true, false, ap, sym, ◌∙◌, eq-eqb}
+use Rattle.std.proofs.Common.{true, false, ap, sym, ◌∙◌, eq-eqb}
 use Rattle.std.proofs.lemmas.Bool.{ne_eqb}
 use Rattle.std.proofs.lemmas.List.{append-nil}
 use Rattle.std.proofs.lemmas.Nat.Bits.{shr_and_one}
-use Rattle.croner_base.proofs.words.Counting.{values_all, values_more}
+use Rattle.croner_base.proofs.words.Counting.{values_more}
 use Rattle.croner_base.proofs.component.marks.count.push_values.Goals as goal
 use Rattle.croner_base.proofs.component.marks.count.push_values.Goals.{then-word-b-eq1+in_ok-push, else-word-b-eq1}
 
@@ -15,6 +15,3 @@ loop-b-preserved c = elim c.if-word-b-eq1.branch [
       values_more _ _ c.loop-b.b _ _ _ false (ne_eqb _ 1 (λ e. w.if-word-b-eq1.false (shr_and_one c.args.word c.loop-b.b ∙ e)))
       c.loop-b.invariant (ap (λ v. v.items) w.values-is ∙ sym (append-nil _))
 ]
-
-pub returns : goal.returns
-returns c = c.loop-b.invariant ∙ ap (λ l. c.args.values.now.items ++ l) (values_all c.args.word c.args.i c.loop-b.b (omega arith))

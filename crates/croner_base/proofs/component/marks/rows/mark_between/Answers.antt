@@ -2,7 +2,7 @@ use Rattle.std.proofs.Common.{arith, ◌≡◌, ◌+◌, ◌<◌, ◌*◌, ◌/�
 use Rattle.croner_base.specs.Private.words.Masks.{TurnsRow}
 use Rattle.croner_base.specs.Private.words.Rows.{width, rows_below}
 use Rattle.croner_base.proofs.words.RowPlaces.{place_within, word_within}
-use Rattle.croner_base.proofs.words.TurnedMarks.{turns-row}
+use Rattle.croner_base.proofs.words.TurnedMarks.{turns_row}
 use Rattle.croner_base.proofs.component.marks.rows.mark_between.Goals as goal
 
 pub mark_between-requires-clause-within : goal.mark_between-requires-clause-within
@@ -13,5 +13,5 @@ mark_between-requires-clause-within c =
 pub returns-clause-marked : goal.returns-clause-marked
 returns-clause-marked c =
     let start : c.place.result ≡ rows_below c.args.supported c.args.k * width c.args.max = omega (arith, c.place.ensures.value) in
-    turns-row 1 _ _ _ _ _ _ _ c.requires.is_supported c.requires.modifier c.requires.within
+    turns_row 1 _ _ _ _ _ _ _ c.requires.is_supported c.requires.modifier c.requires.within
     (subst (λ p. TurnsRow 1 c.args.words.now c.mark_between.new.words p c.args.first (c.args.last + 1)) start c.mark_between.ensures.marked)
