@@ -1,5 +1,5 @@
 -- Counting and listing by the ones of words.
-use Rattle.std.proofs.Common.{◌≡◌, ◌≢◌, ℕ, zero, suc, ◌+◌, ◌-◌, ◌*◌, ◌%◌, ◌^◌, ◌<◌, ◌≤◌, Bool, true, eqb, cond, not, ◌&&◌, ◌||◌, leb, ltb, List, [], ◌∷◌, ◌++◌, append_assoc, length, get_or, bit_and, bit_or, count_ones, refl, ap, sym, ◌∙◌, arith, subst, ◌⊎◌, inl, inr, max, min}
+use Rattle.std.proofs.Common.{◌≡◌, ◌≢◌, ℕ, zero, suc, ◌+◌, ◌-◌, ◌*◌, ◌/◌, ◌%◌, ◌^◌, ◌<◌, ◌≤◌, Bool, true, eqb, cond, not, ◌&&◌, ◌||◌, leb, ltb, List, [], ◌∷◌, ◌++◌, append_assoc, length, get_or, bit_and, bit_or, count_ones, refl, ap, sym, ◌∙◌, arith, subst, ◌⊎◌, inl, inr, max, min}
 use Rattle.std.specs.Int.{bit_at}
 use Rattle.std.specs.Int.Bits.{or_add_and}
 use Rattle.std.specs.List.{filter, list_any, range_with_len}
@@ -8,7 +8,7 @@ use Rattle.std.proofs.lemmas.List.{append-nil, length-append, map-id}
 use Rattle.std.proofs.lemmas.List.FromFn.{filter_of_map_range_with_len_more}
 use Rattle.std.proofs.lemmas.Bool.Decides.{nat_tests}
 use Rattle.std.proofs.lemmas.Nat.{and_le_l, and_le_r}
-use Rattle.std.proofs.lemmas.Nat.Bits.{bit_at_and, bit_at_or, bit_at-lt, same_from_bits}
+use Rattle.std.proofs.lemmas.Nat.Bits.{shr_and_one, bit_at_and, bit_at_or, bit_at-lt, same_from_bits}
 use Rattle.croner_base.specs.Private.words.Counts.{ShowsMarked, ShowsFrom, is_from, values_in, marked_from}
 use Rattle.croner_base.specs.Field.{room, has_any}
 use Rattle.croner_base.specs.Private.words.Marked.{Marked, is_set}
@@ -22,13 +22,13 @@ use Rattle.croner_base.proofs.words.RowPlaces.{count_low, rows_below-suc, rows_b
 
 -- ---- one word: the first k modifiers have been looked at
 
-pub any_skip : (f : Marked) (bits i found k : ℕ) → bit_at bits k ≢ 1 → ShowsMarked f (bits % 2 ^ k) i found → ShowsMarked f (bits % 2 ^ (k + 1)) i found
+pub any_skip : (f : Marked) (bits i found k : ℕ) → bit_and (bits / 2 ^ k) 1 ≢ 1 → ShowsMarked f (bits % 2 ^ k) i found → ShowsMarked f (bits % 2 ^ (k + 1)) i found
 any_skip f bits i found k off shows = subst (λ n. ShowsMarked f n i found) (sym (low_none bits k off)) shows
 
 either_one : (x y : ℕ) → x < 2 → y < 2 → eqb (max x y) 1 ≡ (eqb x 1 || not (eqb y 0))
 either_one x y h i = grind (arith, nat_tests)
 
-has_any-more : (x bits k : ℕ) → bit_at bits k ≡ 1 → has_any x (bits % 2 ^ (k + 1)) ≡ (has_any x (bits % 2 ^ k) || has_any x (2 ^ k))
+has_any-more : (x bits k : ℕ) → bit_and (bits / 2 ^ k) 1 ≡ 1 → has_any x (bits % 2 ^ (k + 1)) ≡ (has_any x (bits % 2 ^ k) || has_any x (2 ^ k))
 has_any-more x bits k one =
     ap (λ n. not (eqb n 0)) (same_from_bits _ (bit_or (bit_and x (bits % 2 ^ k)) (bit_and x (2 ^ k))) (λ i.
     omega (arith, bit_at_and x (bits % 2 ^ (k + 1)) i, low_more bits k i one, bit_at_or (bit_and x (bits % 2 ^ k)) (bit_and x (2 ^ k)) i, bit_at_and x (bits % 2 ^ k) i, bit_at_and x (2 ^ k) i)))
@@ -37,7 +37,7 @@ has_any-more x bits k one =
     either_some : (a b : ℕ) → not (eqb (bit_or a b) 0) ≡ (not (eqb a 0) || not (eqb b 0))
     either_some a b = grind (arith, nat_tests, or_add_and a b, and_le_l a b, and_le_r a b)
 
-pub any_more : (f : Marked) (bits i found k word : ℕ) → bit_at bits k ≡ 1 → ShowsMarked f (bits % 2 ^ k) i found
+pub any_more : (f : Marked) (bits i found k word : ℕ) → bit_and (bits / 2 ^ k) 1 ≡ 1 → ShowsMarked f (bits % 2 ^ k) i found
     → ((b : ℕ) → b < 64 → i * 64 + b < room f.max → bit_at word b ≡ bit_at (get_or f.marks (i * 64 + b) 0) k) → ShowsMarked f (bits % 2 ^ (k + 1)) i (bit_or found word)
 any_more f bits i found k word one shows is b h here =
     ap (λ x. eqb x 1) (bit_at_or found word b) ∙ either_one _ _ (bit_at-lt found b) (bit_at-lt word b)
@@ -99,12 +99,12 @@ below_more word i b =
     let low : (i * 64 + b) - i * 64 ≡ b = omega arith in
     filter_more (λ v. eqb (bit_at word (v - i * 64)) 1) (i * 64) b (i * 64 + b) refl ∙ ap (λ x. values_below word i b ++ cond (eqb (bit_at word x) 1) ((i * 64 + b) ∷ []) []) low
 
-pub values_more : (word i b : ℕ) (old now more : List ℕ) (hit : Bool) → eqb (bit_at word b) 1 ≡ hit
+pub values_more : (word i b : ℕ) (old now more : List ℕ) (hit : Bool) → eqb (bit_and (word / 2 ^ b) 1) 1 ≡ hit
     → now ≡ old ++ values_below word i b → more ≡ now ++ cond hit ((i * 64 + b) ∷ []) [] → more ≡ old ++ values_below word i (b + 1)
 values_more word i b old now more hit test done is =
     let e : suc b ≡ b + 1 = omega arith in
     is ∙ ap (λ l. l ++ cond hit ((i * 64 + b) ∷ []) []) done ∙ append_assoc old (values_below word i b) (cond hit ((i * 64 + b) ∷ []) [])
-    ∙ ap (λ l. old ++ l) (ap (λ t. values_below word i b ++ cond t ((i * 64 + b) ∷ []) []) (sym test) ∙ sym (below_more word i b) ∙ ap (values_below word i) e)
+    ∙ ap (λ l. old ++ l) (ap (λ t. values_below word i b ++ cond t ((i * 64 + b) ∷ []) []) (sym test ∙ ap (λ n. eqb n 1) (shr_and_one word b)) ∙ sym (below_more word i b) ∙ ap (values_below word i) e)
 
 -- a word has as many values as ones
 ones_below : (word i d : ℕ) → length (values_below word i d) ≡ rows_below word d

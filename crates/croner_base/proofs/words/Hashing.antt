@@ -44,29 +44,20 @@ from_zero F n =
     ap (λ l. flat_map F (range_with_len 0 n) ++ l) (sym (append-nil (F n))) ∙ sym (flat_map-append F (range_with_len 0 n) (n ∷ []))
     ∙ sym (ap (flat_map F) (simp map-id at (map-range_with_len_more (λ x. x) 0 n n (omega arith))))
 
-pub set_writes-none : (marks : List ℕ) (k : ℕ) → [] ≡ set_writes marks 0 k
-unfolding set_writes
-set_writes-none marks k = refl
-
 pub set_writes-more : (marks : List ℕ) (i k : ℕ) → set_writes marks i k ++ fed.u64 (digits_of marks k (i * 64) 64) ≡ set_writes marks (i + 1) k
 unfolding set_writes
 set_writes-more marks i k = from_zero (λ j. fed.u64 (digits_of marks k (j * 64) 64)) i
 
 -- the sets of the first k modifiers that are supported
-unfoldable pub sets_below : List ℕ → ℕ → ℕ → ℕ → List (List ℕ)
+abbrev pub sets_below : List ℕ → ℕ → ℕ → ℕ → List (List ℕ)
 sets_below marks groups supported k = flat_map (λ j. cond (eqb (bit_at supported j) 1) (set_writes marks groups j) []) (range_with_len 0 k)
-
-pub sets_below-none : (marks : List ℕ) (groups supported : ℕ) → [] ≡ sets_below marks groups supported 0
-unfolding sets_below
-sets_below-none marks groups supported = refl
 
 pub sets_below-more : (marks : List ℕ) (groups supported k : ℕ) (is : Bool) → eqb (bit_at supported k) 1 ≡ is
     → sets_below marks groups supported k ++ cond is (set_writes marks groups k) [] ≡ sets_below marks groups supported (k + 1)
-unfolding sets_below
 sets_below-more marks groups supported k is e =
     ap (λ t. flat_map (λ j. cond (eqb (bit_at supported j) 1) (set_writes marks groups j) []) (range_with_len 0 k) ++ cond t (set_writes marks groups k) []) (sym e)
     ∙ from_zero (λ j. cond (eqb (bit_at supported j) 1) (set_writes marks groups j) []) k
 
 pub sets_below-all : (marks : List ℕ) (max supported k : ℕ) → k ≡ 8 → sets_below marks (width max) supported k ≡ sets_writes marks max supported
-unfolding sets_below sets_writes
+unfolding sets_writes
 sets_below-all marks max supported k e = ap (λ n. flat_map (λ j. cond (eqb (bit_at supported j) 1) (set_writes marks (width max) j) []) (range_with_len 0 n)) e

@@ -1,37 +1,37 @@
 -- Several modifiers, one after another: the first k of the bits are bits % 2 ^ k.
-use Rattle.std.proofs.Common.{◌≡◌, ◌≢◌, ℕ, ◌+◌, ◌*◌, ◌%◌, ◌^◌, ◌<◌, bit_and, ap, sym, ◌∙◌, arith, subst, inl, inr, max}
+use Rattle.std.proofs.Common.{◌≡◌, ◌≢◌, ℕ, ◌+◌, ◌*◌, ◌/◌, ◌%◌, ◌^◌, ◌<◌, bit_and, ap, sym, ◌∙◌, arith, subst, inl, inr, max}
 use Rattle.std.specs.Int.{bit_at}
 use Rattle.std.proofs.lemmas.Bool.{cases_eq}
 use Rattle.std.proofs.lemmas.Nat.{mod-pow-add, mod_below, or_shifted, pow_pos}
-use Rattle.std.proofs.lemmas.Nat.Bits.{bit_at_and, bit_at_or, bit_at-lt}
+use Rattle.std.proofs.lemmas.Nat.Bits.{shr_and_one, bit_at_and, bit_at_or, bit_at-lt}
 use Rattle.croner_base.specs.Private.words.Marked.{Marked, Turns}
 
-low_step : (n k digit : ℕ) → bit_at n k ≡ digit → n % 2 ^ (k + 1) ≡ digit * 2 ^ k + n % 2 ^ k
-low_step n k digit is = let e : k + 1 ≡ 1 + k = omega arith in ap (λ j. n % 2 ^ j) e ∙ mod-pow-add n 1 k ∙ ap (λ b. b * 2 ^ k + n % 2 ^ k) is
+low_step : (n k digit : ℕ) → bit_and (n / 2 ^ k) 1 ≡ digit → n % 2 ^ (k + 1) ≡ digit * 2 ^ k + n % 2 ^ k
+low_step n k digit is = let e : k + 1 ≡ 1 + k = omega arith in ap (λ j. n % 2 ^ j) e ∙ mod-pow-add n 1 k ∙ ap (λ b. b * 2 ^ k + n % 2 ^ k) (sym (shr_and_one n k) ∙ is)
 
-pub low_none : (n k : ℕ) → bit_at n k ≢ 1 → n % 2 ^ (k + 1) ≡ n % 2 ^ k
-low_none n k h = low_step n k 0 (omega (arith, bit_at-lt n k)) ∙ omega arith
+pub low_none : (n k : ℕ) → bit_and (n / 2 ^ k) 1 ≢ 1 → n % 2 ^ (k + 1) ≡ n % 2 ^ k
+low_none n k h = low_step n k 0 (omega (arith, shr_and_one n k, bit_at-lt n k)) ∙ omega arith
 
 pub low_all : (n : ℕ) → n < 256 → n % 2 ^ 8 ≡ n
 low_all n h = omega arith
 
 -- one more bit is the bit of that modifier
-pub low_more : (n k i : ℕ) → bit_at n k ≡ 1 → bit_at (n % 2 ^ (k + 1)) i ≡ max (bit_at (n % 2 ^ k) i) (bit_at (2 ^ k) i)
+pub low_more : (n k i : ℕ) → bit_and (n / 2 ^ k) 1 ≡ 1 → bit_at (n % 2 ^ (k + 1)) i ≡ max (bit_at (n % 2 ^ k) i) (bit_at (2 ^ k) i)
 low_more n k i one =
     let e : 1 * 2 ^ k ≡ 2 ^ k = omega arith in
     ap (λ m. bit_at m i) (low_step n k 1 one ∙ sym (or_shifted 1 k (n % 2 ^ k) (mod_below n (2 ^ k) (pow_pos k)))) ∙ bit_at_or (1 * 2 ^ k) (n % 2 ^ k) i
     ∙ ap (λ m. max (bit_at m i) (bit_at (n % 2 ^ k) i)) e ∙ omega arith
 
 -- the supported modifiers have each of the bits
-pub bit_supported : (s bits k : ℕ) → bit_and s bits ≡ bits → bit_at bits k ≡ 1 → bit_at s k ≡ 1
-bit_supported s bits k all one = omega (arith, bit_at_and s bits k, ap (λ n. bit_at n k) all, bit_at-lt s k)
+pub bit_supported : (s bits k : ℕ) → bit_and s bits ≡ bits → bit_and (bits / 2 ^ k) 1 ≡ 1 → bit_at s k ≡ 1
+bit_supported s bits k all one = omega (arith, shr_and_one bits k, bit_at_and s bits k, ap (λ n. bit_at n k) all, bit_at-lt s k)
 
 -- ---- turned one after another
 
-pub turns_skip : (to : ℕ) (old new : Marked) (bits first last k : ℕ) → bit_at bits k ≢ 1 → Turns to old new (bits % 2 ^ k) first last → Turns to old new (bits % 2 ^ (k + 1)) first last
+pub turns_skip : (to : ℕ) (old new : Marked) (bits first last k : ℕ) → bit_and (bits / 2 ^ k) 1 ≢ 1 → Turns to old new (bits % 2 ^ k) first last → Turns to old new (bits % 2 ^ (k + 1)) first last
 turns_skip to old new bits first last k off done = subst (λ n. Turns to old new n first last) (sym (low_none bits k off)) done
 
-pub turns_more : (to : ℕ) (old mid new : Marked) (bits first last k : ℕ) → bit_at bits k ≡ 1 → Turns to old mid (bits % 2 ^ k) first last → Turns to mid new (2 ^ k) first last
+pub turns_more : (to : ℕ) (old mid new : Marked) (bits first last k : ℕ) → bit_and (bits / 2 ^ k) 1 ≡ 1 → Turns to old mid (bits % 2 ^ k) first last → Turns to mid new (2 ^ k) first last
     → Turns to old new (bits % 2 ^ (k + 1)) first last
 turns_more to old mid new bits first last k one done more = record {
   max = more.max ∙ done.max;

@@ -17,9 +17,9 @@ use Rattle.croner_base.specs.Private.words.Rows.{width, rows_below, mark_at, num
 abbrev pub AreBits : (ℕ → ℕ) → Type 0
 AreBits bit = (i : ℕ) → bit i < 2
 
-pub number_of-zero : (bit : ℕ → ℕ) → 0 ≡ number_of bit 0
+pub number_of_none : (bit : ℕ → ℕ) → number_of bit 0 ≡ 0
 unfolding number_of
-number_of-zero bit = refl
+number_of_none bit = refl
 
 pub number_of-more : (bit : ℕ → ℕ) (n : ℕ) → number_of bit (n + 1) ≡ bit n * 2 ^ n + number_of bit n
 unfolding number_of
@@ -61,25 +61,25 @@ mark_at-lt words wide s k v = elim (cases_eq (bit_at s k) 1) [
   | inr off ↦ omega (arith, mark_none words wide s k v off)
 ]
 
+-- a bit of a word of a row that is there
+pub word_one : (words : List ℕ) (wide s k i b p : ℕ) → bit_and (s / 2 ^ k) 1 ≡ 1 → b < 64 → p ≡ rows_below s k * wide + i → bit_at (get_or words p 0) b ≡ mark_at words wide s k (i * 64 + b)
+word_one words wide s k i b p is h e =
+    let low : b ≡ (i * 64 + b) % 64 = omega arith in
+    ap (bit_at (get_or words p 0)) low ∙ mark_one words wide s k (i * 64 + b) p (sym (shr_and_one s k) ∙ is) (omega arith)
+
 -- ---- one sum, modifier by modifier
 
--- the digit of a value in its word
-pub digit_is : (words : List ℕ) (wide s k v i word : ℕ) → i ≡ v / 64 → ((b : ℕ) → b < 64 → bit_at word b ≡ mark_at words wide s k (i * 64 + b))
-    → bit_and (word / 2 ^ (v % 64)) 1 ≡ mark_at words wide s k v
-digit_is words wide s k v i word place shows =
-    let at : i * 64 + v % 64 ≡ v = omega (arith, place) in
-    shr_and_one word (v % 64) ∙ shows (v % 64) (omega arith) ∙ ap (mark_at words wide s k) at
-
 -- a digit that is shifted to its place
-pub sum_below-more : (words : List ℕ) (wide s k v d : ℕ) → k < 8 → d ≡ mark_at words wide s k v
-    → (sum_below words wide s k v + d * 2 ^ k % 256 ≡ sum_below words wide s (k + 1) v) × (sum_below words wide s k v + d * 2 ^ k % 256 < 256)
-sum_below-more words wide s k v d h e =
+pub sum_more : (words : List ℕ) (wide s k v i word sum : ℕ) → k < 8 → i ≡ v / 64 → ((b : ℕ) → b < 64 → bit_at word b ≡ mark_at words wide s k (i * 64 + b)) → sum ≡ sum_below words wide s k v
+    → (sum + bit_and (word / 2 ^ (v % 64)) 1 * 2 ^ k % 256 ≡ sum_below words wide s (k + 1) v) × (sum + bit_and (word / 2 ^ (v % 64)) 1 * 2 ^ k % 256 < 256)
+sum_more words wide s k v i word sum h place shows is =
+    let at : i * 64 + v % 64 ≡ v = omega (arith, place) in
+    let e : bit_and (word / 2 ^ (v % 64)) 1 ≡ mark_at words wide s k v = shr_and_one word (v % 64) ∙ shows (v % 64) (omega arith) ∙ ap (mark_at words wide s k) at in
     let twice : 2 ^ suc k ≤ 2 ^ 8 = pow_mono {j = 8} (omega arith) in
-    let more = number_of-more (λ j. mark_at words wide s j v) k in
-    let product : d * 2 ^ k ≡ mark_at words wide s k v * 2 ^ k = ap (λ m. m * 2 ^ k) e in
-    let low : d * 2 ^ k ≤ 2 ^ k = digit-le d (2 ^ k) (omega (arith, mark_at-lt words wide s k v)) in
+    let product = ap (λ m. m * 2 ^ k) e in
+    let low = digit-le (mark_at words wide s k v) (2 ^ k) (mark_at-lt words wide s k v) in
     let small = number_of-lt (λ j. mark_at words wide s j v) k (λ j. mark_at-lt words wide s j v) in
-    (omega (arith, twice, more, product, low, pow-suc 2 k), omega (arith, twice, low, small, pow-suc 2 k))
+    (omega (arith, is, twice, number_of-more (λ j. mark_at words wide s j v) k, product, low, pow-suc 2 k), omega (arith, is, twice, product, low, small, pow-suc 2 k))
 
 -- ---- the list
 
@@ -87,14 +87,14 @@ pub sums_long : (words : List ℕ) (max supported : ℕ) → length (sums_of wor
 unfolding sums_of
 sums_long words max supported = length-map-range_with_len (sum_below words (width max) supported 8) 0 (room max)
 
-pub get_or-sums_of : (words : List ℕ) (max supported v : ℕ) → v < room max → get_or (sums_of words max supported) v 0 ≡ sum_below words (width max) supported 8 v
+pub sums_at : (words : List ℕ) (max supported v : ℕ) → v < room max → get_or (sums_of words max supported) v 0 ≡ sum_below words (width max) supported 8 v
 unfolding sums_of
-get_or-sums_of words max supported v h = get_or-map-range_with_len (sum_below words (width max) supported 8) 0 (room max) v v 0 h (omega arith)
+sums_at words max supported v h = get_or-map-range_with_len (sum_below words (width max) supported 8) 0 (room max) v v 0 h (omega arith)
 
 -- the bits of one sum are the bits of the words
 pub sums_bit : (words : List ℕ) (max supported v k : ℕ) → v < room max → k < 8 → bit_at (get_or (sums_of words max supported) v 0) k ≡ mark_at words (width max) supported k v
 sums_bit words max supported v k h low =
-    ap (λ x. bit_at x k) (get_or-sums_of words max supported v h) ∙ number_of-bit (λ j. mark_at words (width max) supported j v) 8 k (λ j. mark_at-lt words (width max) supported j v) low
+    ap (λ x. bit_at x k) (sums_at words max supported v h) ∙ number_of-bit (λ j. mark_at words (width max) supported j v) 8 k (λ j. mark_at-lt words (width max) supported j v) low
 
 -- word i has the marks with modifier k
 abbrev pub ShowsWord : Marked → ℕ → ℕ → ℕ → Type 0
@@ -109,7 +109,7 @@ sums_past words max s v h = get_or_past (sums_of words max s) v 0 (omega (arith,
 
 pub sums_small : (words : List ℕ) (max s v : ℕ) → get_or (sums_of words max s) v 0 < 256
 sums_small words max s v = elim (cases_lt v (room max)) [
-  | inl lt ↦ omega (arith, get_or-sums_of words max s v lt, number_of-lt (λ j. mark_at words (width max) s j v) 8 (λ j. mark_at-lt words (width max) s j v))
+  | inl lt ↦ omega (arith, sums_at words max s v lt, number_of-lt (λ j. mark_at words (width max) s j v) 8 (λ j. mark_at-lt words (width max) s j v))
   | inr le ↦ omega (arith, sums_past words max s v le)
 ]
 

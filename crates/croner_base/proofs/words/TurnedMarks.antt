@@ -115,11 +115,11 @@ turns_row to old new max s k first last one low there done = record {
 -- ---- the same as numbers
 
 -- the first eight modifiers are all
-pub turns_all : (to : ℕ) (old new : Marked) (bits first last k : ℕ) → k ≡ 8 → bits < 256 → Turns to old new (bits % 2 ^ k) first last → Turns to old new bits first last
+turns_all : (to : ℕ) (old new : Marked) (bits first last k : ℕ) → k ≡ 8 → bits < 256 → Turns to old new (bits % 2 ^ k) first last → Turns to old new bits first last
 turns_all to old new bits first last k e byte done = subst (λ n. Turns to old new n first last) (ap (λ j. bits % 2 ^ j) e ∙ low_all bits byte) done
 
-pub gains : (old new : Marked) (bits first last : ℕ) → Turns 1 old new bits first last → GainsRange old new bits first last
-gains old new bits first last done = record {
+pub gains : (old new : Marked) (bits first last k : ℕ) → k ≡ 8 → bits < 256 → Turns 1 old new (bits % 2 ^ k) first last → GainsRange old new bits first last
+gains old new bits first last k e byte below = let done = turns_all 1 old new bits first last k e byte below in record {
   max = done.max;
   supported = done.supported;
   length = done.length;
@@ -146,9 +146,10 @@ turned-other false x bits k small byte off = elim (cases_lt k 8) [
   | inr high ↦ omega (arith, bit_at_and x (255 - bits) k, bit_at_above x 8 k small high)
 ]
 
-pub one-turned : (on : Bool) (old new : List ℕ) (max s bits v : ℕ) → v < room max → bits < 256 → Turns (digit on) (marks_in old max s) (marks_in new max s) bits v v
+pub one_turned : (on : Bool) (old new : List ℕ) (max s bits v k : ℕ) → v < room max → k ≡ 8 → bits < 256 → Turns (digit on) (marks_in old max s) (marks_in new max s) (bits % 2 ^ k) v v
     → sums_of new max s ≡ set (sums_of old max s) v (turned on (get_or (sums_of old max s) v 0) bits)
-one-turned on old new max s bits v here byte done =
+one_turned on old new max s bits v k here is byte below =
+    let done = turns_all (digit on) (marks_in old max s) (marks_in new max s) bits v v k is byte below in
     let y : ℕ = turned on (get_or (sums_of old max s) v 0) bits in
     let there : v < length (sums_of old max s) = omega (arith, sums_long old max s) in
     let small = sums_small old max s v in

@@ -182,7 +182,7 @@ impl Marks {
     }
 
     /// Marks the values from `first` to `last` with each modifier of `bits`.
-    #[tactic(auto, using(crate::proofs::words::ModifiersInTurn::bit_supported, std::proofs::lemmas::Nat::Bits::shr_and_one))]
+    #[tactic(auto, using(crate::proofs::words::ModifiersInTurn::bit_supported))]
     pub fn set_range(&mut self, first: u16, last: u16, bits: u8)
         requires order { first ≤ last }
         requires within { last < room self.old.max }

@@ -44,7 +44,7 @@ impl Marks {
         }
     }
 
-    #[tactic(auto, using(crate::proofs::words::Differing::same_more, crate::proofs::words::Differing::same_first, crate::proofs::words::Differing::first_differs))]
+    #[tactic(auto, using(crate::proofs::words::Differing::same_more, crate::proofs::words::Differing::same_first))]
     fn first_difference(&self, other: &Marks) -> Option<u16>
         ensures { MatchOption result (SameSums self.now other.now) (λ value. IsFirstDifference self.now other.now value) }
     {

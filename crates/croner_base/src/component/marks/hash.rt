@@ -22,6 +22,7 @@ impl Marks {
         }
     }
 
+    #[tactic(auto, unfolding(crate::specs::Written::set_writes))]
     fn hash_set<H: Hasher>(&self, k: u8, state: &mut H)
         requires { k < 8 }
         ensures { state.new ≡ fold H.write state.old (set_writes self.now.marks (width self.now.max) k) }

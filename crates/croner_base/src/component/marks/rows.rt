@@ -60,7 +60,7 @@ pub fn place(max: u16, supported: u8, k: u8, i: usize) -> usize
 
 /// Word `i` of the modifier's row, and 0 where it isn't supported.
 #[inline(always)]
-#[tactic(auto, using(crate::proofs::words::Sums::mark_none, std::proofs::lemmas::Nat::Bits::shr_and_one))]
+#[tactic(auto, using(crate::proofs::words::Sums::word_one, crate::proofs::words::Sums::mark_none, std::proofs::lemmas::Nat::Bits::shr_and_one))]
 pub fn word(words: &[u64], max: u16, supported: u8, k: u8, i: usize) -> u64
     requires modifier { k < 8 }
     requires within { i < width max }
@@ -110,7 +110,7 @@ pub fn any(words: &[u64], max: u16, supported: u8, bits: u8, i: usize) -> u64
 
 /// The row of the plain values, and no word where they aren't supported.
 #[inline(always)]
-#[tactic(auto, using(crate::proofs::words::PlainRow::plain_is_one, crate::proofs::words::PlainRow::plain_is_none, crate::proofs::words::PlainRow::plain_row, crate::proofs::words::PlainRow::no_plain_row))]
+#[tactic(auto, using(crate::proofs::words::PlainRow::plain_row, crate::proofs::words::PlainRow::no_plain_row))]
 pub fn plain(words: &[u64], max: u16, supported: u8) -> &[u64]
     requires { length words.now ≡ rows_below supported 8 * width max }
     ensures size { length result.now ≤ 1024 }
@@ -125,6 +125,7 @@ pub fn plain(words: &[u64], max: u16, supported: u8) -> &[u64]
 }
 
 /// The sum of the bits of the value's modifiers.
+#[tactic(auto, using(crate::proofs::words::Sums::number_of_none, crate::proofs::words::Sums::sums_at))]
 pub fn sum(words: &[u64], max: u16, supported: u8, value: u16) -> u8
     requires within { value < room max }
     requires rows { length words.now ≡ rows_below supported 8 * width max }
@@ -140,7 +141,7 @@ pub fn sum(words: &[u64], max: u16, supported: u8, value: u16) -> u8
 }
 
 /// Marks the value with each modifier of `bits`, or takes each off it.
-#[tactic(auto, using(crate::proofs::words::ModifiersInTurn::bit_supported, std::proofs::lemmas::Nat::Bits::shr_and_one))]
+#[tactic(auto, using(crate::proofs::words::ModifiersInTurn::bit_supported, crate::proofs::words::TurnedMarks::one_turned))]
 pub fn turn_each(words: &mut [u64], max: u16, supported: u8, bits: u8, value: u16, on: bool)
     requires are_supported { bit_and supported bits ≡ bits }
     requires within { value < room max }

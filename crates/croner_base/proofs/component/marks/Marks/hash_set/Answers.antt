@@ -3,11 +3,8 @@ use Rattle.std.specs.Hash as fed
 use Rattle.std.specs.Hash.{fed_then}
 use Rattle.std.specs.List.{fold}
 use Rattle.croner_base.specs.Written.{digits_of, set_writes}
-use Rattle.croner_base.proofs.words.Hashing.{set_writes-none, set_writes-more}
+use Rattle.croner_base.proofs.words.Hashing.{set_writes-more}
 use Rattle.croner_base.proofs.component.marks.Marks.hash_set.Goals as goal
-
-pub loop-i-init : goal.loop-i-init
-loop-i-init g c = ap (fold g.H.Hasher.write c.args.state.now) (set_writes-none c.args.self.now.marks c.args.k)
 
 pub loop-i-preserved : goal.loop-i-preserved
 loop-i-preserved g c =

@@ -7,12 +7,9 @@ use Rattle.std.proofs.lemmas.List.{append-nil}
 use Rattle.std.proofs.lemmas.Nat.Bits.{shr_and_one}
 use Rattle.croner_base.specs.Private.words.Rows.{width}
 use Rattle.croner_base.specs.Written.{set_writes}
-use Rattle.croner_base.proofs.words.Hashing.{sets_below, sets_below-none, sets_below-more, sets_below-all}
+use Rattle.croner_base.proofs.words.Hashing.{sets_below, sets_below-more, sets_below-all}
 use Rattle.croner_base.proofs.component.marks.Marks.hash_sets.Goals as goal
 use Rattle.croner_base.proofs.component.marks.Marks.hash_sets.Goals.{then-self-k-eq1, else-self-k-eq1}
-
-pub loop-k-init : goal.loop-k-init
-loop-k-init g c = ap (fold g.H.Hasher.write c.args.state.now) (sets_below-none c.args.self.now.marks (width c.args.self.now.max) c.args.self.now.supported)
 
 pub loop-k-preserved : goal.loop-k-preserved
 loop-k-preserved g c =

@@ -1,19 +1,14 @@
-use Rattle.std.proofs.Common.{arith, ◌≡◌, sym, ◌∙◌}
-use Rattle.std.specs.Int.{bit_at}
-use Rattle.std.proofs.lemmas.Nat.Bits.{shr_and_one}
+use Rattle.std.proofs.Common.{arith}
 use Rattle.croner_base.proofs.words.ModifiersInTurn.{turns_skip, turns_more}
-use Rattle.croner_base.proofs.words.TurnedMarks.{turns_all, gains}
+use Rattle.croner_base.proofs.words.TurnedMarks.{gains}
 use Rattle.croner_base.proofs.component.marks.Marks.set_range.Goals as goal
 use Rattle.croner_base.proofs.component.marks.Marks.set_range.Goals.{then-bits-k-eq1, else-bits-k-eq1}
 
 pub loop-k-preserved : goal.loop-k-preserved
 loop-k-preserved c = elim c.if-bits-k-eq1.branch [
-  | then-bits-k-eq1 w ↦
-      let one : bit_at c.args.bits c.loop-k.k ≡ 1 = sym (shr_and_one c.args.bits c.loop-k.k) ∙ w.if-bits-k-eq1.true in
-      rw w.self-is (turns_more 1 _ _ _ _ _ _ c.loop-k.k one c.loop-k.invariant w.set_between.ensures)
-  | else-bits-k-eq1 w ↦
-      rw w.self-is (turns_skip 1 _ _ _ _ _ c.loop-k.k (λ e. w.if-bits-k-eq1.false (shr_and_one c.args.bits c.loop-k.k ∙ e)) c.loop-k.invariant)
+  | then-bits-k-eq1 w ↦ rw w.self-is (turns_more 1 _ _ _ _ _ _ c.loop-k.k w.if-bits-k-eq1.true c.loop-k.invariant w.set_between.ensures)
+  | else-bits-k-eq1 w ↦ rw w.self-is (turns_skip 1 _ _ _ _ _ c.loop-k.k w.if-bits-k-eq1.false c.loop-k.invariant)
 ]
 
 pub returns : goal.returns
-returns c = gains _ _ _ _ _ (turns_all 1 _ _ _ _ _ c.loop-k.k (omega arith) c.ranges.bits.fits c.loop-k.invariant)
+returns c = gains _ _ _ _ _ c.loop-k.k (omega arith) c.ranges.bits.fits c.loop-k.invariant

@@ -1,6 +1,4 @@
-use Rattle.std.proofs.Common.{◌≡◌, sym, ◌∙◌}
-use Rattle.std.specs.Int.{bit_at}
-use Rattle.std.proofs.lemmas.Nat.Bits.{shr_and_one}
+use Rattle.std.proofs.Common.{sym, ◌∙◌}
 use Rattle.croner_base.specs.Private.words.Rows.{marks_in}
 use Rattle.croner_base.proofs.words.Counting.{any_skip, any_more}
 use Rattle.croner_base.proofs.words.Sums.{sums_bit}
@@ -10,9 +8,7 @@ use Rattle.croner_base.proofs.component.marks.rows.any.Goals.{then-bits-k-eq1, e
 pub loop-k-preserved : goal.loop-k-preserved
 loop-k-preserved c = elim c.if-bits-k-eq1.branch [
   | then-bits-k-eq1 w ↦
-      let one : bit_at c.args.bits c.loop-k.k ≡ 1 = sym (shr_and_one c.args.bits c.loop-k.k) ∙ w.if-bits-k-eq1.true in
-      rw w.found-is (any_more (marks_in c.args.words.now c.args.max c.args.supported) _ _ _ c.loop-k.k _ one c.loop-k.invariant
+      rw w.found-is (any_more (marks_in c.args.words.now c.args.max c.args.supported) _ _ _ c.loop-k.k _ w.if-bits-k-eq1.true c.loop-k.invariant
       (λ b h here. w.word-found.ensures b h ∙ sym (sums_bit c.args.words.now c.args.max c.args.supported _ c.loop-k.k here c.loop-k-test.true)))
-  | else-bits-k-eq1 w ↦
-      rw w.found-is (any_skip (marks_in c.args.words.now c.args.max c.args.supported) _ _ _ c.loop-k.k (λ e. w.if-bits-k-eq1.false (shr_and_one c.args.bits c.loop-k.k ∙ e)) c.loop-k.invariant)
+  | else-bits-k-eq1 w ↦ rw w.found-is (any_skip (marks_in c.args.words.now c.args.max c.args.supported) _ _ _ c.loop-k.k w.if-bits-k-eq1.false c.loop-k.invariant)
 ]
