@@ -22,6 +22,7 @@ use Rattle.croner_base.proofs.words.RowPlaces.{count_low, rows_below-suc, rows_b
 
 -- ---- one word: the first k modifiers have been looked at
 
+-- a modifier that is not asked for changes nothing
 pub any_skip : (f : Marked) (bits i found k : ℕ) → bit_and (bits / 2 ^ k) 1 ≢ 1 → ShowsMarked f (bits % 2 ^ k) i found → ShowsMarked f (bits % 2 ^ (k + 1)) i found
 any_skip f bits i found k off shows = subst (λ n. ShowsMarked f n i found) (sym (low_none bits k off)) shows
 
@@ -37,6 +38,7 @@ has_any-more x bits k one =
     either_some : (a b : ℕ) → not (eqb (bit_or a b) 0) ≡ (not (eqb a 0) || not (eqb b 0))
     either_some a b = grind (arith, nat_tests, or_add_and a b, and_le_l a b, and_le_r a b)
 
+-- and the row of one that is adds its values
 pub any_more : (f : Marked) (bits i found k word : ℕ) → bit_and (bits / 2 ^ k) 1 ≡ 1 → ShowsMarked f (bits % 2 ^ k) i found
     → ((b : ℕ) → b < 64 → i * 64 + b < room f.max → bit_at word b ≡ bit_at (get_or f.marks (i * 64 + b) 0) k) → ShowsMarked f (bits % 2 ^ (k + 1)) i (bit_or found word)
 any_more f bits i found k word one shows is b h here =
@@ -69,7 +71,9 @@ shows_from f bits first i word from to marked masks_from masks_to within b h =
 -- ---- the values of words in turn
 
 filter_more : (p : ℕ → Bool) (a n v : ℕ) → a + n ≡ v → filter p (range_with_len a (suc n)) ≡ filter p (range_with_len a n) ++ cond (p v) (v ∷ []) []
-filter_more p a n v e = let s : suc n ≡ n + 1 = omega arith in ap (λ m. filter p (range_with_len a m)) s ∙ simp map-id at (filter_of_map_range_with_len_more p (λ x. x) a n v e)
+filter_more p a n v e =
+    let s : suc n ≡ n + 1 = omega arith in
+    ap (λ m. filter p (range_with_len a m)) s ∙ simp map-id at (filter_of_map_range_with_len_more p (λ x. x) a n v e)
 
 -- the values that pass from the first on, below n and r
 abbrev pub values_to : (ℕ → Bool) → ℕ → ℕ → ℕ → List ℕ
@@ -90,6 +94,7 @@ to_more p first r n = elim (cases_Bool (leb first n && ltb n r)) [
 abbrev pub values_below : ℕ → ℕ → ℕ → List ℕ
 values_below word i n = filter (λ v. eqb (bit_at word (v - i * 64)) 1) (range_with_len (i * 64) n)
 
+-- the first 64 bits are all
 pub values_all : (word i n : ℕ) → n ≡ 64 → values_below word i n ≡ values_in word i
 unfolding values_in
 values_all word i n e = ap (values_below word i) e
@@ -99,12 +104,14 @@ below_more word i b =
     let low : (i * 64 + b) - i * 64 ≡ b = omega arith in
     filter_more (λ v. eqb (bit_at word (v - i * 64)) 1) (i * 64) b (i * 64 + b) refl ∙ ap (λ x. values_below word i b ++ cond (eqb (bit_at word x) 1) ((i * 64 + b) ∷ []) []) low
 
+-- one more bit adds its value or none
 pub values_more : (word i b : ℕ) (old now more : List ℕ) (hit : Bool) → eqb (bit_and (word / 2 ^ b) 1) 1 ≡ hit
     → now ≡ old ++ values_below word i b → more ≡ now ++ cond hit ((i * 64 + b) ∷ []) [] → more ≡ old ++ values_below word i (b + 1)
 values_more word i b old now more hit test done is =
     let e : suc b ≡ b + 1 = omega arith in
     is ∙ ap (λ l. l ++ cond hit ((i * 64 + b) ∷ []) []) done ∙ append_assoc old (values_below word i b) (cond hit ((i * 64 + b) ∷ []) [])
-    ∙ ap (λ l. old ++ l) (ap (λ t. values_below word i b ++ cond t ((i * 64 + b) ∷ []) []) (sym test ∙ ap (λ n. eqb n 1) (shr_and_one word b)) ∙ sym (below_more word i b) ∙ ap (values_below word i) e)
+    ∙ ap (λ l. old ++ l) (ap (λ t. values_below word i b ++ cond t ((i * 64 + b) ∷ []) []) (sym test ∙ ap (λ n. eqb n 1) (shr_and_one word b))
+    ∙ sym (below_more word i b) ∙ ap (values_below word i) e)
 
 -- a word has as many values as ones
 ones_below : (word i d : ℕ) → length (values_below word i d) ≡ rows_below word d
@@ -133,6 +140,7 @@ list_word f bits first i word (suc d) h shows =
     ∙ append_assoc old (values_below word i d) (next (is_from first bits f (i * 64 + d)))
     ∙ ap (λ l. old ++ l) (ap (λ t. values_below word i d ++ next t) (sym (shows d (omega arith))) ∙ sym (below_more word i d))
 
+-- the values of one more word come next
 pub list_step : (f : Marked) (bits first i word : ℕ) → ShowsFrom f bits first i word
     → values_to (is_set bits f) first (room f.max) ((i + 1) * 64) ≡ values_to (is_set bits f) first (room f.max) (i * 64) ++ values_in word i
 list_step f bits first i word shows = one_word 64 refl
@@ -143,6 +151,7 @@ list_step f bits first i word shows = one_word 64 refl
         ap (values_to (is_set bits f) first (room f.max)) to ∙ list_word f bits first i word n (omega arith) shows
         ∙ ap (λ l. values_to (is_set bits f) first (room f.max) (i * 64) ++ l) (values_all word i n e)
 
+-- and their number is that of its ones
 pub count_step : (f : Marked) (bits first i word : ℕ) → ShowsFrom f bits first i word → word < 2 ^ 64
     → length (values_to (is_set bits f) first (room f.max) ((i + 1) * 64)) ≡ length (values_to (is_set bits f) first (room f.max) (i * 64)) + count_ones word
 count_step f bits first i word shows fits =

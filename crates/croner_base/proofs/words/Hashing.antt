@@ -34,7 +34,13 @@ masked_digits f k i word mask long within fits shows masks =
     let are : AreBits bit = λ b. bit_at-lt (get_or f.marks (i * 64 + b) 0) k in
     same_from_bits_below 64 _ _ (omega (arith, and_le_l word mask)) (number_of-lt bit 64 are) (λ b h. bit_at_and word mask b ∙ elim (cases_lt (i * 64 + b) (room f.max)) [
       | inl here ↦ omega (arith, shows b h here, masks.on b h (value_within (i * 64 + b) f.max here), bit_at-lt word b, number_of-bit bit 64 b are h)
-      | inr past ↦ omega (arith, masked_off mask i b _ masks h (λ below. absurd (omega (arith, past_max (i * 64 + b) f.max i within past))), number_of-bit bit 64 b are h, ap (λ n. bit_at n k) (get_or_past f.marks (i * 64 + b) 0 (omega (arith, long))), bit_at-zero k)
+      | inr past ↦ omega (
+        arith,
+        masked_off mask i b _ masks h (λ below. absurd (omega (arith, past_max (i * 64 + b) f.max i within past))),
+        number_of-bit bit 64 b are h,
+        ap (λ n. bit_at n k) (get_or_past f.marks (i * 64 + b) 0 (omega (arith, long))),
+        bit_at-zero k,
+      )
     ]) ∙ sym (digits_of-number f.marks k (i * 64) 64)
 
 -- ---- one write after another
@@ -44,6 +50,7 @@ from_zero F n =
     ap (λ l. flat_map F (range_with_len 0 n) ++ l) (sym (append-nil (F n))) ∙ sym (flat_map-append F (range_with_len 0 n) (n ∷ []))
     ∙ sym (ap (flat_map F) (simp map-id at (map-range_with_len_more (λ x. x) 0 n n (omega arith))))
 
+-- one more word of a set
 pub set_writes-more : (marks : List ℕ) (i k : ℕ) → set_writes marks i k ++ fed.u64 (digits_of marks k (i * 64) 64) ≡ set_writes marks (i + 1) k
 unfolding set_writes
 set_writes-more marks i k = from_zero (λ j. fed.u64 (digits_of marks k (j * 64) 64)) i
@@ -52,12 +59,14 @@ set_writes-more marks i k = from_zero (λ j. fed.u64 (digits_of marks k (j * 64)
 abbrev pub sets_below : List ℕ → ℕ → ℕ → ℕ → List (List ℕ)
 sets_below marks groups supported k = flat_map (λ j. cond (eqb (bit_at supported j) 1) (set_writes marks groups j) []) (range_with_len 0 k)
 
+-- one more modifier, with its set where it is supported
 pub sets_below-more : (marks : List ℕ) (groups supported k : ℕ) (is : Bool) → eqb (bit_at supported k) 1 ≡ is
     → sets_below marks groups supported k ++ cond is (set_writes marks groups k) [] ≡ sets_below marks groups supported (k + 1)
 sets_below-more marks groups supported k is e =
     ap (λ t. flat_map (λ j. cond (eqb (bit_at supported j) 1) (set_writes marks groups j) []) (range_with_len 0 k) ++ cond t (set_writes marks groups k) []) (sym e)
     ∙ from_zero (λ j. cond (eqb (bit_at supported j) 1) (set_writes marks groups j) []) k
 
+-- the first eight modifiers are all
 pub sets_below-all : (marks : List ℕ) (max supported k : ℕ) → k ≡ 8 → sets_below marks (width max) supported k ≡ sets_writes marks max supported
 unfolding sets_writes
 sets_below-all marks max supported k e = ap (λ n. flat_map (λ j. cond (eqb (bit_at supported j) 1) (set_writes marks (width max) j) []) (range_with_len 0 n)) e

@@ -9,9 +9,11 @@ use Rattle.croner_base.specs.Private.words.Marked.{Marked, Turns}
 low_step : (n k digit : ℕ) → bit_and (n / 2 ^ k) 1 ≡ digit → n % 2 ^ (k + 1) ≡ digit * 2 ^ k + n % 2 ^ k
 low_step n k digit is = let e : k + 1 ≡ 1 + k = omega arith in ap (λ j. n % 2 ^ j) e ∙ mod-pow-add n 1 k ∙ ap (λ b. b * 2 ^ k + n % 2 ^ k) (sym (shr_and_one n k) ∙ is)
 
+-- a bit that is not there adds nothing
 pub low_none : (n k : ℕ) → bit_and (n / 2 ^ k) 1 ≢ 1 → n % 2 ^ (k + 1) ≡ n % 2 ^ k
 low_none n k h = low_step n k 0 (omega (arith, shr_and_one n k, bit_at-lt n k)) ∙ omega arith
 
+-- the first eight bits are all
 pub low_all : (n : ℕ) → n < 256 → n % 2 ^ 8 ≡ n
 low_all n h = omega arith
 
@@ -28,11 +30,14 @@ bit_supported s bits k all one = omega (arith, shr_and_one bits k, bit_at_and s 
 
 -- ---- turned one after another
 
-pub turns_skip : (to : ℕ) (old new : Marked) (bits first last k : ℕ) → bit_and (bits / 2 ^ k) 1 ≢ 1 → Turns to old new (bits % 2 ^ k) first last → Turns to old new (bits % 2 ^ (k + 1)) first last
+-- a modifier that is not asked for is left as it is
+pub turns_skip : (to : ℕ) (old new : Marked) (bits first last k : ℕ) → bit_and (bits / 2 ^ k) 1 ≢ 1 → Turns to old new (bits % 2 ^ k) first last
+    → Turns to old new (bits % 2 ^ (k + 1)) first last
 turns_skip to old new bits first last k off done = subst (λ n. Turns to old new n first last) (sym (low_none bits k off)) done
 
-pub turns_more : (to : ℕ) (old mid new : Marked) (bits first last k : ℕ) → bit_and (bits / 2 ^ k) 1 ≡ 1 → Turns to old mid (bits % 2 ^ k) first last → Turns to mid new (2 ^ k) first last
-    → Turns to old new (bits % 2 ^ (k + 1)) first last
+-- and one that is asked for is turned
+pub turns_more : (to : ℕ) (old mid new : Marked) (bits first last k : ℕ) → bit_and (bits / 2 ^ k) 1 ≡ 1 → Turns to old mid (bits % 2 ^ k) first last
+    → Turns to mid new (2 ^ k) first last → Turns to old new (bits % 2 ^ (k + 1)) first last
 turns_more to old mid new bits first last k one done more = record {
   max = more.max ∙ done.max;
   supported = more.supported ∙ done.supported;

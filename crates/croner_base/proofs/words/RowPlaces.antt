@@ -8,15 +8,18 @@ use Rattle.std.proofs.lemmas.Bool.Decides.{nat_tests}
 use Rattle.croner_base.specs.Field.{room}
 use Rattle.croner_base.specs.Private.words.Rows.{rows_below, width}
 
+-- a value that is kept is in a word of its row
 pub word_within : (v max : ℕ) → v < room max → v / 64 < width max
 word_within v max h = omega arith
 
+-- a row has at most 1,024 words
 pub width_small : (max : ℕ) → max < 65536 → width max ≤ 1024
 width_small max h = let r : room max ≤ 65536 = room_small max h in omega arith
   where
     room_small : (m : ℕ) → m < 65536 → room m ≤ 65536
     room_small m h = grind (arith, nat_tests)
 
+-- a value that is kept is at most the maximum
 pub value_within : (v max : ℕ) → v < room max → v ≤ max
 value_within v max h = grind (arith, nat_tests)
 
@@ -27,6 +30,7 @@ past_max v max i some past = let r : 0 < room max = omega arith in grind (arith,
 ones_of_digit : (d : ℕ) → d < 2 → count_ones d ≡ d
 ones_of_digit d h = grind (arith, ones_le_self d, zero_from_ones d)
 
+-- the ones below a place are the rows below it
 pub count_low : (s k : ℕ) → count_ones (s % 2 ^ k) ≡ rows_below s k
 unfolding rows_below
 count_low s zero = ap count_ones (let z : s % 2 ^ 0 ≡ 0 = omega arith in z) ∙ ones_of_digit 0 (omega arith)
@@ -39,6 +43,7 @@ count_low s (suc k) =
     ∙ ap (λ n. n + rows_below s k) (ones_of_digit (s / 2 ^ k % 2) (bit_at-lt s k))
     ∙ omega arith
 
+-- the same with the mask that the code makes
 pub count_below : (s k : ℕ) → k < 8 → count_ones (bit_and s (1 * 2 ^ k % 256 - 1)) ≡ rows_below s k
 count_below s k h = ap (λ m. count_ones (bit_and s (m - 1))) (one_shl k 8 h) ∙ ap count_ones (and_mask s k) ∙ count_low s k
 
@@ -65,10 +70,12 @@ row_before s k n one h =
     let e : (n - suc k) + suc k ≡ n = omega arith in
     omega (arith, grows s (suc k) (n - suc k), ap (rows_below s) e, rows_below-suc s k)
 
+-- a word of a supported modifier is among the words
 pub place_within : (s k wide a : ℕ) → bit_at s k ≡ 1 → k < 8 → a < wide → rows_below s k * wide + a < rows_below s 8 * wide
 place_within s k wide a one h b =
     omega (arith, mul-add-lt (rows_below s k) wide a (rows_below s 8) (omega (arith, row_before s k 8 one h)) b)
 
+-- and its place is small
 pub place_fits : (s k wide a : ℕ) → k < 8 → wide ≤ 1024 → a < 1024 → rows_below s k * wide + a < 16384
 place_fits s k wide a h w b = omega (arith, mul-le (rows_below s k) wide 8 1024 (omega (arith, rows_below-le s k)) w)
 
@@ -87,6 +94,7 @@ same_place s j k wide a b oj ok p q e =
       t.1,
     )
 
+-- all ones are all rows
 pub count_all : (s : ℕ) → s < 256 → count_ones s ≡ rows_below s 8
 count_all s h = let e : s % 2 ^ 8 ≡ s = omega arith in sym (ap count_ones e) ∙ count_low s 8
 

@@ -17,10 +17,12 @@ use Rattle.croner_base.specs.Private.words.Rows.{width, rows_below, mark_at, num
 abbrev pub AreBits : (ℕ → ℕ) → Type 0
 AreBits bit = (i : ℕ) → bit i < 2
 
+-- no bit
 pub number_of_none : (bit : ℕ → ℕ) → number_of bit 0 ≡ 0
 unfolding number_of
 number_of_none bit = refl
 
+-- one more bit
 pub number_of-more : (bit : ℕ → ℕ) (n : ℕ) → number_of bit (n + 1) ≡ bit n * 2 ^ n + number_of bit n
 unfolding number_of
 number_of-more bit n = let e : n + 1 ≡ suc n = omega arith in ap (number_of bit) e ∙ omega arith
@@ -28,11 +30,13 @@ number_of-more bit n = let e : n + 1 ≡ suc n = omega arith in ap (number_of bi
 digit-le : (m p : ℕ) → m < 2 → m * p ≤ p
 digit-le m p h = omega (arith, mul-le m p 1 p (omega arith) (omega arith))
 
+-- n bits are below 2 ^ n
 pub number_of-lt : (bit : ℕ → ℕ) (n : ℕ) → AreBits bit → number_of bit n < 2 ^ n
 unfolding number_of
 number_of-lt bit zero are = omega arith
 number_of-lt bit (suc n) are = omega (arith, pow-suc 2 n, number_of-lt bit n are, digit-le (bit n) (2 ^ n) (are n))
 
+-- the bits of that number
 pub number_of-bit : (bit : ℕ → ℕ) (n i : ℕ) → AreBits bit → i < n → bit_at (number_of bit n) i ≡ bit i
 unfolding number_of
 number_of-bit bit zero i are h = absurd (omega arith)
@@ -47,14 +51,17 @@ number_of-bit bit (suc n) i are h =
 
 -- ---- marks by the bits of the words
 
+-- the mark of a supported modifier is a bit of its row
 pub mark_one : (words : List ℕ) (wide s k v p : ℕ) → bit_at s k ≡ 1 → p ≡ rows_below s k * wide + v / 64 → bit_at (get_or words p 0) (v % 64) ≡ mark_at words wide s k v
 unfolding mark_at
 mark_one words wide s k v p one e = rw (e, one) (omega arith)
 
+-- one that is not supported has no mark
 pub mark_none : (words : List ℕ) (wide s k v : ℕ) → bit_at s k ≢ 1 → mark_at words wide s k v ≡ 0
 unfolding mark_at
 mark_none words wide s k v off = let z : bit_at s k ≡ 0 = omega (arith, bit_at-lt s k) in rw z (omega arith)
 
+-- a mark is a bit
 pub mark_at-lt : (words : List ℕ) (wide s k v : ℕ) → mark_at words wide s k v < 2
 mark_at-lt words wide s k v = elim (cases_eq (bit_at s k) 1) [
   | inl one ↦ omega (arith, mark_one words wide s k v (rows_below s k * wide + v / 64) one refl, bit_at-lt (get_or words (rows_below s k * wide + v / 64) 0) (v % 64))
@@ -62,7 +69,8 @@ mark_at-lt words wide s k v = elim (cases_eq (bit_at s k) 1) [
 ]
 
 -- a bit of a word of a row that is there
-pub word_one : (words : List ℕ) (wide s k i b p : ℕ) → bit_and (s / 2 ^ k) 1 ≡ 1 → b < 64 → p ≡ rows_below s k * wide + i → bit_at (get_or words p 0) b ≡ mark_at words wide s k (i * 64 + b)
+pub word_one : (words : List ℕ) (wide s k i b p : ℕ) → bit_and (s / 2 ^ k) 1 ≡ 1 → b < 64 → p ≡ rows_below s k * wide + i
+    → bit_at (get_or words p 0) b ≡ mark_at words wide s k (i * 64 + b)
 word_one words wide s k i b p is h e =
     let low : b ≡ (i * 64 + b) % 64 = omega arith in
     ap (bit_at (get_or words p 0)) low ∙ mark_one words wide s k (i * 64 + b) p (sym (shr_and_one s k) ∙ is) (omega arith)
@@ -70,8 +78,8 @@ word_one words wide s k i b p is h e =
 -- ---- one sum, modifier by modifier
 
 -- a digit that is shifted to its place
-pub sum_more : (words : List ℕ) (wide s k v i word sum : ℕ) → k < 8 → i ≡ v / 64 → ((b : ℕ) → b < 64 → bit_at word b ≡ mark_at words wide s k (i * 64 + b)) → sum ≡ sum_below words wide s k v
-    → (sum + bit_and (word / 2 ^ (v % 64)) 1 * 2 ^ k % 256 ≡ sum_below words wide s (k + 1) v) × (sum + bit_and (word / 2 ^ (v % 64)) 1 * 2 ^ k % 256 < 256)
+pub sum_more : (words : List ℕ) (wide s k v i word sum : ℕ) → k < 8 → i ≡ v / 64 → ((b : ℕ) → b < 64 → bit_at word b ≡ mark_at words wide s k (i * 64 + b))
+    → sum ≡ sum_below words wide s k v → (sum + bit_and (word / 2 ^ (v % 64)) 1 * 2 ^ k % 256 ≡ sum_below words wide s (k + 1) v) × (sum + bit_and (word / 2 ^ (v % 64)) 1 * 2 ^ k % 256 < 256)
 sum_more words wide s k v i word sum h place shows is =
     let at : i * 64 + v % 64 ≡ v = omega (arith, place) in
     let e : bit_and (word / 2 ^ (v % 64)) 1 ≡ mark_at words wide s k v = shr_and_one word (v % 64) ∙ shows (v % 64) (omega arith) ∙ ap (mark_at words wide s k) at in
@@ -83,10 +91,12 @@ sum_more words wide s k v i word sum h place shows is =
 
 -- ---- the list
 
+-- there is a sum for each value
 pub sums_long : (words : List ℕ) (max supported : ℕ) → length (sums_of words max supported) ≡ room max
 unfolding sums_of
 sums_long words max supported = length-map-range_with_len (sum_below words (width max) supported 8) 0 (room max)
 
+-- and it is the sum of its marks
 pub sums_at : (words : List ℕ) (max supported v : ℕ) → v < room max → get_or (sums_of words max supported) v 0 ≡ sum_below words (width max) supported 8 v
 unfolding sums_of
 sums_at words max supported v h = get_or-map-range_with_len (sum_below words (width max) supported 8) 0 (room max) v v 0 h (omega arith)
@@ -100,6 +110,7 @@ sums_bit words max supported v k h low =
 abbrev pub ShowsWord : Marked → ℕ → ℕ → ℕ → Type 0
 ShowsWord f k i word = (b : ℕ) → b < 64 → i * 64 + b < room f.max → bit_at word b ≡ bit_at (get_or f.marks (i * 64 + b) 0) k
 
+-- a word with the marks of a modifier shows the bits of the sums
 pub word_shows : (words : List ℕ) (max rows k i word : ℕ) → k < 8 → ((b : ℕ) → b < 64 → bit_at word b ≡ mark_at words (width max) rows k (i * 64 + b)) → ShowsWord (marks_in words max rows) k i word
 word_shows words max rows k i word low bits b h here = bits b h ∙ sym (sums_bit words max rows (i * 64 + b) k here low)
 
@@ -107,6 +118,7 @@ word_shows words max rows k i word low bits b h here = bits b h ∙ sym (sums_bi
 pub sums_past : (words : List ℕ) (max s v : ℕ) → room max ≤ v → get_or (sums_of words max s) v 0 ≡ 0
 sums_past words max s v h = get_or_past (sums_of words max s) v 0 (omega (arith, sums_long words max s))
 
+-- each sum is a byte
 pub sums_small : (words : List ℕ) (max s v : ℕ) → get_or (sums_of words max s) v 0 < 256
 sums_small words max s v = elim (cases_lt v (room max)) [
   | inl lt ↦ omega (arith, sums_at words max s v lt, number_of-lt (λ j. mark_at words (width max) s j v) 8 (λ j. mark_at-lt words (width max) s j v))
@@ -123,6 +135,7 @@ none_at zero i = refl
 none_at (suc n) zero = refl
 none_at (suc n) (suc i) = none_at n i
 
+-- where no word has a bit, each sum is 0
 pub sums_none : (n max s : ℕ) → sums_of (blank n) max s ≡ blank (room max)
 sums_none n max s = ext_get_or 0 _ _ (sums_long (blank n) max s ∙ sym (length-replicate (room max) 0)) (λ v lt.
     let here : v < room max = omega (arith, lt, sums_long (blank n) max s) in

@@ -35,11 +35,13 @@ row-one to ws start v x within bit others = record {
 abbrev digit_of : ℕ → ℕ
 digit_of v = 1 * 2 ^ (v % 64) % 2 ^ 64
 
+-- a bit that is put on
 pub row_on : (ws : List ℕ) (start v : ℕ) → start + v / 64 < length ws
     → TurnsRow 1 ws (set ws (start + v / 64) (bit_or (get_or ws (start + v / 64) 0) (digit_of v))) start v (v + 1)
 row_on ws start v within = row-one 1 ws start v _ within (bit_at_set_same w64 (get_or ws (start + v / 64) 0) (v % 64) (omega arith))
     (λ b h ne. bit_at_set_other w64 (get_or ws (start + v / 64) 0) (v % 64) (omega arith) b ne)
 
+-- and one that is taken off
 pub row_off : (ws : List ℕ) (start v : ℕ) → start + v / 64 < length ws
     → TurnsRow 0 ws (set ws (start + v / 64) (bit_and (get_or ws (start + v / 64) 0) (bit_not w64 (digit_of v)))) start v (v + 1)
 row_off ws start v within = row-one 0 ws start v _ within (bit_at_clear_same w64 (get_or ws (start + v / 64) 0) (v % 64) (omega arith))
@@ -49,6 +51,7 @@ row_off ws start v within = row-one 0 ws start v _ within (bit_at_clear_same w64
 abbrev with_mask : List ℕ → ℕ → ℕ → List ℕ
 with_mask ws p mask = set ws p (bit_or (get_or ws p 0) mask)
 
+-- one more word of a range
 pub row_more : (xs ys : List ℕ) (start first last n from to : ℕ) → TurnsRow 1 xs ys start first (min (n * 64) (last + 1)) → MasksFrom from first n → MasksTo to last n
     → start + n < length ys → TurnsRow 1 xs (with_mask ys (start + n) (bit_and from to)) start first (min ((n + 1) * 64) (last + 1))
 row_more xs ys start first last n from to done masks_from masks_to within = record {
@@ -79,6 +82,7 @@ row_more xs ys start first last n from to done masks_from masks_to within = reco
 
 -- ---- what that does to the marks
 
+-- a row that is turned turns the modifier of its values
 pub turns_row : (to : ℕ) (old new : List ℕ) (max s k first last : ℕ) → bit_at s k ≡ 1 → k < 8 → last < room max → TurnsRow to old new (rows_below s k * width max) first (last + 1)
     → Turns to (marks_in old max s) (marks_in new max s) (2 ^ k) first last
 turns_row to old new max s k first last one low there done = record {
@@ -118,6 +122,7 @@ turns_row to old new max s k first last one low there done = record {
 turns_all : (to : ℕ) (old new : Marked) (bits first last k : ℕ) → k ≡ 8 → bits < 256 → Turns to old new (bits % 2 ^ k) first last → Turns to old new bits first last
 turns_all to old new bits first last k e byte done = subst (λ n. Turns to old new n first last) (ap (λ j. bits % 2 ^ j) e ∙ low_all bits byte) done
 
+-- each modifier in turn: the values of the range gain all bits
 pub gains : (old new : Marked) (bits first last k : ℕ) → k ≡ 8 → bits < 256 → Turns 1 old new (bits % 2 ^ k) first last → GainsRange old new bits first last
 gains old new bits first last k e byte below = let done = turns_all 1 old new bits first last k e byte below in record {
   max = done.max;
@@ -146,6 +151,7 @@ turned-other false x bits k small byte off = elim (cases_lt k 8) [
   | inr high ↦ omega (arith, bit_at_and x (255 - bits) k, bit_at_above x 8 k small high)
 ]
 
+-- and one value has the sum that is turned
 pub one_turned : (on : Bool) (old new : List ℕ) (max s bits v k : ℕ) → v < room max → k ≡ 8 → bits < 256 → Turns (digit on) (marks_in old max s) (marks_in new max s) (bits % 2 ^ k) v v
     → sums_of new max s ≡ set (sums_of old max s) v (turned on (get_or (sums_of old max s) v 0) bits)
 one_turned on old new max s bits v k here is byte below =

@@ -12,6 +12,7 @@ use Rattle.croner_base.specs.Private.words.Next.{NoneFrom, IsLeast, IsGreatest}
 
 -- ---- masks
 
+-- a value that is not looked for has no bit in the mask
 pub masked_off : (mask i b : ℕ) (looked : ℕ → Type 0) → Masks mask i looked → b < 64 → (looked (i * 64 + b) → ⊥) → bit_at mask b ≡ 0
 masked_off mask i b looked masks h off = elim (cases_eq (bit_at mask b) 1) [
   | inl one ↦ absurd (off (masks.only b h one))
@@ -46,6 +47,7 @@ last_mask to i shift place within =
 pub whole_mask : (i : ℕ) (looked : ℕ → Type 0) → ((b : ℕ) → b < 64 → looked (i * 64 + b)) → Masks (2 ^ 64 - 1) i looked
 whole_mask i looked all = record { on = λ b h is. bit_at_ones 64 b h; only = λ b h one. all b h }
 
+-- from a value of an earlier word on, and up to one of a later word, all are looked for
 pub whole_from : (from i : ℕ) → from ≤ i * 64 → MasksFrom (2 ^ 64 - 1) from i
 whole_from from i le = whole_mask i _ (λ b h. omega arith)
 
@@ -85,12 +87,14 @@ bit_of_none n b e = ap (λ m. bit_at m b) e ∙ bit_at-zero b
 abbrev pub HasNone : List ℕ → ℕ → ℕ → Type 0
 HasNone row from to = (v : ℕ) → from ≤ v → v < to → in_row row v ≡ false
 
+-- a word with nothing left has no value that is looked for
 pub word_of_none : (row : List ℕ) (from i mask : ℕ) → HasNone row from (i * 64) → MasksFrom mask from i → left_of row i mask ≡ 0 → HasNone row from ((i + 1) * 64)
 word_of_none row from i mask before masks none v above below = elim (cases_lt v (i * 64)) [
   | inl lt ↦ before v above lt
   | inr le ↦ none_left row i mask v _ masks (omega arith) above (bit_of_none _ (v % 64) none)
 ]
 
+-- and one with something left has the least
 pub word_of_least : (row : List ℕ) (from i mask least : ℕ) → HasNone row from (i * 64) → MasksFrom mask from i → 0 < left_of row i mask → left_of row i mask < 2 ^ 64
     → i * 64 + trailing_zeros w64 (left_of row i mask) ≡ least → IsLeast (in_row row) from least
 word_of_least row from i mask least before masks some fits e =
@@ -118,17 +122,20 @@ past_row row from i before h v above = elim (cases_lt v (i * 64)) [
 abbrev pub HasNoneDown : List ℕ → ℕ → ℕ → Type 0
 HasNoneDown row from to = (v : ℕ) → v ≤ to → from ≤ v → in_row row v ≡ false
 
+-- a word with nothing left has no value that is looked for
 pub word_of_none_down : (row : List ℕ) (to i mask : ℕ) → HasNoneDown row ((i + 1) * 64) to → MasksTo mask to i → left_of row i mask ≡ 0 → HasNoneDown row (i * 64) to
 word_of_none_down row to i mask behind masks none v below above = elim (cases_lt v ((i + 1) * 64)) [
   | inr le ↦ behind v below le
   | inl lt ↦ none_left row i mask v _ masks (omega arith) below (bit_of_none _ (v % 64) none)
 ]
 
+-- the highest bit of a number is 1
 pub top_bit : (n j : ℕ) → 2 ^ j ≤ n → n < 2 ^ suc j → bit_at n j ≡ 1
 top_bit n j le lt =
     let one : n / 2 ^ j ≡ 1 = omega (arith, le-div 1 n (2 ^ j) (pow_pos j) (omega arith), div_below n (2 ^ j) 2 (pow_pos j) (omega (arith, pow-suc 2 j))) in
     ap (λ x. x % 2) one
 
+-- and a word with something left has the greatest
 pub word_of_greatest : (row : List ℕ) (to i mask greatest : ℕ) → HasNoneDown row ((i + 1) * 64) to → MasksTo mask to i → 0 < left_of row i mask → left_of row i mask < 2 ^ 64
     → i * 64 + 63 - leading_zeros w64 (left_of row i mask) ≡ greatest → IsGreatest (in_row row) to greatest
 word_of_greatest row to i mask greatest behind masks some fits is =

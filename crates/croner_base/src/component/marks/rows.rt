@@ -141,7 +141,7 @@ pub fn sum(words: &[u64], max: u16, supported: u8, value: u16) -> u8
 }
 
 /// Marks the value with each modifier of `bits`, or takes each off it.
-#[tactic(auto, using(crate::proofs::words::ModifiersInTurn::bit_supported, crate::proofs::words::TurnedMarks::one_turned))]
+#[tactic(auto, using(crate::proofs::words::ModifiersInTurn::bit_supported))]
 pub fn turn_each(words: &mut [u64], max: u16, supported: u8, bits: u8, value: u16, on: bool)
     requires are_supported { bit_and supported bits ≡ bits }
     requires within { value < room max }

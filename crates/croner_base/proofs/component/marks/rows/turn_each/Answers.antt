@@ -1,5 +1,6 @@
-use Rattle.std.proofs.Common.{length, ap, ◌∙◌}
+use Rattle.std.proofs.Common.{arith, length, ap, ◌∙◌}
 use Rattle.croner_base.proofs.words.ModifiersInTurn.{turns_skip, turns_more}
+use Rattle.croner_base.proofs.words.TurnedMarks.{one_turned}
 use Rattle.croner_base.proofs.component.marks.rows.turn_each.Goals as goal
 use Rattle.croner_base.proofs.component.marks.rows.turn_each.Goals.{then-bits-k-eq1, else-bits-k-eq1}
 
@@ -14,3 +15,6 @@ loop-k-preserved c = elim c.if-bits-k-eq1.branch [
     done = rw w.words-is (turns_skip _ _ _ _ _ _ c.loop-k.k w.if-bits-k-eq1.false c.loop-k.invariant.done);
   }
 ]
+
+pub returns-clause-turned : goal.returns-clause-turned
+returns-clause-turned c = one_turned c.args.on _ _ _ _ _ _ c.loop-k.k c.requires.within (omega arith) c.ranges.bits.fits c.loop-k.invariant.done
