@@ -1,5 +1,5 @@
 -- Gaps: the search for their two sides, and how many passes a walk can take, in gaps and in one repeated range.
-use Rattle.std.proofs.Common.{◌≡◌, ℕ, zero, suc, ◌-◌, ◌*◌, ◌+◌, ◌≤◌, ◌<◌, ℤ, pos, ◌+ℤ◌, ◌-ℤ◌, ◌<ℤ◌, ◌≤ℤ◌, negsuc, ◌⊎◌, arith, refl, sym, ◌∙◌, inl, inr, ap, subst, Bool, Option, Some, None, IsSome, Ok, Err, List, [], ◌∷◌, ◌++◌, int_lt, if◌then◌else◌, unsigned_abs, true}
+use Rattle.std.proofs.Common.{◌≡◌, ℕ, zero, suc, ◌-◌, ◌*◌, ◌+◌, ◌≤◌, ◌<◌, ℤ, pos, ◌+ℤ◌, ◌-ℤ◌, ◌<ℤ◌, ◌≤ℤ◌, negsuc, ◌⊎◌, arith, refl, sym, ◌∙◌, inl, inr, ap, subst, Bool, Option, Some, None, Ok, Err, List, [], ◌∷◌, ◌++◌, int_lt, if◌then◌else◌, unsigned_abs, true}
 use Rattle.std.proofs.lemmas.Int.{ints}
 use Rattle.std.specs.List.{All}
 use Rattle.std.proofs.lemmas.List.Elements.{All-nil, All-cons, All-head, All-tail, All-append, All-weaker}
@@ -8,67 +8,36 @@ use Rattle.croner_base.specs.declared.time.civil.CivilDateTime.{CivilDateTime}
 use Rattle.croner_base.specs.declared.time.value.Resolution.TheVariants.{Single, Ambiguous, Gap}
 use Rattle.croner_base.specs.declared.errors.CronError.{CronError}
 use Rattle.croner_base.specs.Civil.{wall_second}
-use Rattle.croner_base.specs.Zone.{Zone, Moment, IsResolved}
+use Rattle.croner_base.specs.Zone.{Zone, Moment, Names, IsResolved}
 use Rattle.croner_base.specs.Calm.{IsCalm, IsSearched, IsMet, Rises, gap_seconds, jump}
 use Rattle.croner_base.specs.Limits.{gap_limit, fold_limit, apart_limit, first_searched}
-use Rattle.croner.specs.search.Premises.{HasOneInstantEach}
 use Rattle.croner.specs.Private.search.Held.{HoldsYears, IsBackendError}
 use Rattle.croner.specs.search.Limit.{IsWithin}
 use Rattle.croner.specs.declared.search.gap.Around.{Around}
 use Rattle.croner.specs.Private.search.Gaps.{IsSkipped, IsFirstShown, IsBeyond, IsAround, HasGapSide, CrossesGap}
 use Rattle.croner.specs.Private.search.Halves.{Break}
-use Rattle.croner.specs.Private.search.Walk.{UnreadTo, HasGapEnd, HasGapFront, pass_limit, Onward, Paces}
-use Rattle.croner.proofs.zone.Ahead.{Direction, Forward, Backward, along, Precedes, Reaches, offset_from, along-offset, one_on, both_next, either, same_or_ahead}
-use Rattle.croner.proofs.zone.ZoneOrder.{Exactly, calm_of, exact_of, Calm, cases_lt_z, far, crossing, after_break, below_before, above_after, change_of_break, nonnegative, put_back}
+use Rattle.croner.specs.Private.search.Walk.{First, UnreadTo, HasGapEnd, HasGapFront, pass_limit, Onward, Paces}
+use Rattle.croner.proofs.zone.Ahead.{Direction, Forward, Backward, along, Precedes, Reaches, offset_from, along-offset, one_on, both_next, either, same_or_ahead, precedes_unless}
+use Rattle.croner.proofs.zone.ZoneOrder.{Exactly, calm_of, exact_of, Calm, cases_lt_z, climbs, crossing, behind_next, line_past, below_before, above_after, change_of_break, nonnegative, put_back, there_and_back}
 use Rattle.croner.proofs.zone.Walks.{first_of_one, first_of_two}
 
 -- ---- each wall second is passed somewhere
-
-not_read : (a b : ℤ) → (a ≡ b → ⊥) → (a <ℤ b) ⊎ (b <ℤ a)
-not_read a b other = elim (cases_lt_z a b) [ inl lt ↦ inl lt | inr le ↦ elim (cases_lt_z b a) [ inl gt ↦ inr gt | inr ge ↦ absurd (other (omega (arith, ints))) ] ]
 
 up_above : (z : ℤ) → z ≤ℤ pos (up z)
 up_above (pos n) = omega (arith, ints)
 up_above (negsuc n) = omega (arith, ints)
 
-module _ (reads : ℤ → ℤ) (calm : Calm reads) where
-  grows : (n : ℕ) (i : ℤ) → (reads i +ℤ pos n) ≤ℤ reads (i +ℤ pos ((fold_limit + 1) * n))
-  grows zero i = let same : reads (i +ℤ pos ((fold_limit + 1) * 0)) ≡ reads i = ap reads (omega (arith, ints)) in omega (arith, ints)
-  grows (suc n) i = omega (arith, ints, grows n i, far reads calm (i +ℤ pos ((fold_limit + 1) * n)) (i +ℤ pos ((fold_limit + 1) * suc n)) (omega (arith, ints)))
-
-  -- far enough on in a direction the clock shows w or past it
-  passed : (direction : Direction) (w : ℤ) → (j : ℤ) × Reaches direction (pos 0) j × Reaches direction w (reads j)
-  passed Forward w =
-      let z = w -ℤ reads (pos 0) in
-      let j : ℤ = pos 0 +ℤ pos ((fold_limit + 1) * up z) in
-      (j, omega (arith, ints), omega (arith, ints, up_above z, grows (up z) (pos 0)))
-  passed Backward w =
-      let z = reads (pos 0) -ℤ w in
-      let j : ℤ = pos 0 -ℤ pos ((fold_limit + 1) * up z) in
-      let same : reads (j +ℤ pos ((fold_limit + 1) * up z)) ≡ reads (pos 0) = ap reads (omega (arith, ints)) in
-      (j, omega (arith, ints), omega (arith, ints, up_above z, grows (up z) j))
-
-  -- a second that nothing reads lies in a gap
-  pub unread_is_in_gap : (w : ℤ) → Exactly reads w Gap → (p : ℤ) × (reads p <ℤ w) × (w <ℤ reads (p +ℤ pos 1))
-  unread_is_in_gap w none =
-      let (i, under, low) = passed Backward w in
-      let (j, over, high) = passed Forward w in
-      let unread : (x : ℤ) → (reads x <ℤ w) ⊎ (w <ℤ reads x) = λ x. not_read (reads x) w (none x) in
-      elim (unread i) [
-        | inr above ↦ absurd (omega (arith, ints))
-        | inl below ↦
-            let (p, lt, reached) = crossing reads w i j (omega (arith, ints)) below high in
-            elim (unread (p +ℤ pos 1)) [ inl less ↦ absurd (omega (arith, ints)) | inr past ↦ (p, lt, past) ]
-      ]
-
--- ---- in every zone
-
-not_one_each : (zone : Zone) (skipped : CivilDateTime) → zone.resolves skipped ≡ Some Gap → HasOneInstantEach zone → ⊥
-not_one_each zone skipped named each =
-    let some : IsSome (zone.resolves skipped) = rw named refl in
-    let (i, single) = each skipped some in
-    let never : Some Gap ≡ Some (Single i) = sym named ∙ single in
-    cc
+-- a second that nothing reads lies in a gap: far enough back the clock shows less, and far enough on more
+pub unread_is_in_gap : (reads : ℤ → ℤ) → Calm reads → (w : ℤ) → Exactly reads w Gap → (p : ℤ) × (reads p <ℤ w) × (w <ℤ reads (p +ℤ pos 1))
+unread_is_in_gap reads calm w none =
+    let under : ℕ = up (reads (pos 0) -ℤ w) + 1 in
+    let over : ℕ = up (w -ℤ reads (pos 0)) in
+    let i : ℤ = pos 0 -ℤ pos (under * apart_limit) in
+    let same : reads (i +ℤ pos (under * apart_limit)) ≡ reads (pos 0) = ap reads (omega (arith, ints)) in
+    let low : reads i <ℤ w = omega (arith, ints, climbs reads calm under i, up_above (reads (pos 0) -ℤ w)) in
+    let high : w ≤ℤ reads (pos 0 +ℤ pos (over * apart_limit)) = omega (arith, ints, climbs reads calm over (pos 0), up_above (w -ℤ reads (pos 0))) in
+    let (p, lt, reached) = crossing reads w i (pos 0 +ℤ pos (over * apart_limit)) (omega (arith, ints)) low high in
+    (p, lt, precedes_unless Forward w (reads (p +ℤ pos 1)) (λ le. none (p +ℤ pos 1) (omega (arith, ints))))
 
 -- ---- one gap
 
@@ -77,18 +46,17 @@ module _ (reads : ℤ → ℤ) (calm : Calm reads) where
   one_gap : (w v : ℤ) → Exactly reads w Gap → Exactly reads v Gap → v ≤ℤ (w +ℤ pos apart_limit) → (u : ℤ) → w ≤ℤ u → u ≤ℤ v → (x : ℤ) → reads x ≡ u → ⊥
   one_gap w v none none2 near u from to x e =
       let (p, below, above) = unread_is_in_gap reads calm w none in
-      let (q, below2, above2) = unread_is_in_gap reads calm v none2 in
       let breaks : Break reads p = λ (same : reads (p +ℤ pos 1) ≡ reads p +ℤ pos 1). omega (arith, ints) in
-      let breaks2 : Break reads q = λ (same : reads (q +ℤ pos 1) ≡ reads q +ℤ pos 1). omega (arith, ints) in
-      let low : p <ℤ x = elim (cases_lt_z p x) [ inl lt ↦ lt | inr le ↦ absurd (omega (arith, ints, below_before reads calm p x breaks le)) ] in
-      let high : x ≤ℤ q = elim (cases_lt_z q x) [ inl lt ↦ absurd (omega (arith, ints, above_after reads calm q x breaks2 lt)) | inr le ↦ le ] in
-      let far = calm.apart p q breaks breaks2 (omega (arith, ints)) in
-      let m : ℤ = p +ℤ pos (apart_limit + 1) in
-      let line = after_break reads calm p (p +ℤ pos 1) m breaks (omega (arith, ints)) (omega (arith, ints)) (omega (arith, ints)) in
-      omega (arith, ints, below_before reads calm q m breaks2 (omega (arith, ints)))
+      let past : p <ℤ x = precedes_unless Forward p x (λ le. omega (arith, ints, below_before reads calm p x breaks le)) in
+      let on = above_after reads calm p x breaks past in
+      let q : ℤ = p +ℤ pos 1 in
+      let k : ℤ = q +ℤ (v -ℤ reads q) in
+      let line = line_past reads calm Forward q q k (behind_next reads p breaks) (omega (arith, ints)) (omega (arith, ints)) (omega (arith, ints)) in
+      none2 k (omega (arith, ints))
 
   -- so between a second in a gap and the first in the direction that is read, nothing is
-  side_unread : (direction : Direction) (skipped : ℤ) (inside : ℕ) → Exactly reads skipped Gap → Exactly reads (offset_from direction skipped inside) Gap → inside < gap_limit → UnreadTo direction reads skipped (offset_from direction skipped (inside + 1))
+  side_unread : (direction : Direction) (skipped : ℤ) (inside : ℕ) → Exactly reads skipped Gap → Exactly reads (offset_from direction skipped inside) Gap
+      → inside < gap_limit → UnreadTo direction reads skipped (offset_from direction skipped (inside + 1))
   side_unread Forward skipped inside none none2 near =
       λ u from to x e. one_gap skipped (skipped +ℤ pos inside) none none2 (omega (arith, ints)) u from (omega (arith, ints)) x e
   side_unread Backward skipped inside none none2 near =
@@ -98,12 +66,10 @@ module _ (reads : ℤ → ℤ) (calm : Calm reads) where
   side_ends : (direction : Direction) (skipped : ℤ) → Exactly reads skipped Gap → Exactly reads (offset_from direction skipped gap_limit) Gap → ⊥
   side_ends Forward skipped none none2 =
       let (p, below, above) = unread_is_in_gap reads calm skipped none in
-      let small = calm.forth p in
-      one_gap skipped (skipped +ℤ pos gap_limit) none none2 (omega (arith, ints)) (reads (p +ℤ pos 1)) (omega (arith, ints)) (omega (arith, ints)) (p +ℤ pos 1) refl
+      one_gap skipped (skipped +ℤ pos gap_limit) none none2 (omega (arith, ints)) _ (omega (arith, ints)) (omega (arith, ints, calm.forth p)) (p +ℤ pos 1) refl
   side_ends Backward skipped none none2 =
       let (p, below, above) = unread_is_in_gap reads calm skipped none in
-      let small = calm.forth p in
-      one_gap (skipped -ℤ pos gap_limit) skipped none2 none (omega (arith, ints)) (reads p) (omega (arith, ints)) (omega (arith, ints)) p refl
+      one_gap (skipped -ℤ pos gap_limit) skipped none2 none (omega (arith, ints)) _ (omega (arith, ints, calm.forth p)) (omega (arith, ints)) p refl
 
 -- ---- what the backend answers
 
@@ -111,21 +77,15 @@ pub next_skipped : (z : Zone) (w : ℤ) (c : CivilDateTime) → wall_second c �
 next_skipped z w c at named = λ calm x e. exact_of z calm c Gap named x (e ∙ sym at)
 
 module _ {T : Type 0} (moment : T → Moment) (z : Zone) (c : CivilDateTime) where
+  shown : (t : T) → Names moment z (wall_second c) t → (IsCalm z → First z.reads (wall_second c) (moment t).instant) → IsFirstShown moment z (c, t)
+  shown t names first = record { zone_is = names.zone_is; whole = names.whole; first = first; at = λ calm. names.reads_it }
+
   pub shown_one : (t : T) → IsResolved moment z c (Single t) → IsFirstShown moment z (c, t)
-  shown_one t (names, named) = record {
-    zone_is = names.zone_is;
-    whole = names.whole;
-    first = λ calm. first_of_one z.reads (calm_of z calm) (wall_second c) (moment t).instant (exact_of z calm c (Single (moment t).instant) named);
-    at = λ calm. (exact_of z calm c (Single (moment t).instant) named).0;
-  }
+  shown_one t (names, named) = shown t names (λ calm. first_of_one z.reads (calm_of z calm) _ _ (exact_of z calm c (Single (moment t).instant) named))
 
   pub shown_two : (t l : T) → IsResolved moment z c (Ambiguous t l) → IsFirstShown moment z (c, t)
-  shown_two t l (names, later, order, named) = record {
-    zone_is = names.zone_is;
-    whole = names.whole;
-    first = λ calm. first_of_two z.reads (calm_of z calm) (wall_second c) (moment t).instant (moment l).instant (exact_of z calm c (Ambiguous (moment t).instant (moment l).instant) named);
-    at = λ calm. (exact_of z calm c (Ambiguous (moment t).instant (moment l).instant) named).1;
-  }
+  shown_two t l (names, later, order, named) =
+      shown t names (λ calm. first_of_two z.reads (calm_of z calm) _ _ _ (exact_of z calm c (Ambiguous (moment t).instant (moment l).instant) named))
 
 -- ---- the side of the gap
 
@@ -133,16 +93,14 @@ module _ {T : Type 0} (moment : T → Moment) (lack : Bool) (direction : Directi
   pub side_found : (limit : ℕ) (around : Around T) (found : CivilDateTime × T) → IsAround moment lack direction z (wall_second skipped) around
       → around.outside ≤ around.inside + 1 → around.answer ≡ Ok found → HasGapSide moment direction limit z (wall_second skipped) (Some found)
   side_found limit around found is tight answered =
-      let ordered = is.ordered in
-      let near = is.near in
       let w = wall_second skipped in
-      let outside : around.outside ≡ around.inside + 1 = omega arith in
+      let outside : around.outside ≡ around.inside + 1 = omega (arith, is.ordered) in
       let (at, shown) = subst (IsBeyond moment lack z (offset_from direction w around.outside)) answered is.beyond in
       let next = sym (at ∙ ap (offset_from direction w) outside) in (
         omega (arith, ints, ap (along direction) at, along-offset direction w around.outside),
         shown,
         λ calm.
-            let none = side_unread z.reads (calm_of z calm) direction w around.inside (exact_of z calm skipped Gap named) (is.skipped calm) (omega arith) in
+            let none = side_unread z.reads (calm_of z calm) direction w around.inside (exact_of z calm skipped Gap named) (is.skipped calm) (omega (arith, is.near)) in
             subst (UnreadTo direction z.reads w) next none,
       )
 
@@ -172,7 +130,7 @@ gap_end_or_none moment lack z skipped named (Some found) (past, shown, unread) =
   past,
   shown.zone_is,
   shown.whole,
-  not_one_each z skipped named,
+  λ each. let (i, single) = each skipped (rw named refl) in let never : Some Gap ≡ Some (Single i) = sym named ∙ single in cc,
   λ calm. record { past = past; unread = unread calm; first = shown.first calm; at = shown.at calm },
 )
 
@@ -191,15 +149,12 @@ far_side Backward reads q = reads q
 -- passes more in the last of them. Whatever gap lies ahead is this one, or comes after them all
 pub record Paced (direction : Direction) (z : Zone) (s wall : ℤ) (k : ℕ) : Type 0 where
   pub gaps : List ℤ
-  pub rises : Rises gaps
-  pub met : All (IsMet z) gaps
+  pub met : Rises gaps × All (IsMet z) gaps
   pub rest : ℕ
   pub room : (q : ℤ) → Precedes direction wall (far_side direction z.reads q)
       → All (λ d. Precedes direction d (q +ℤ pos 1)) gaps ⊎ (up (way direction wall (far_side direction z.reads q)) ≤ rest)
-  pub slack : ℕ
-  pub margin : slack ≤ fold_limit
-  pub below : slack ≤ up (way direction (z.reads s) wall)
-  pub counted : k + rest ≤ gap_seconds z gaps + slack
+  pub few : k + rest ≤ gap_seconds z gaps + fold_limit
+  pub counted : k + rest ≤ gap_seconds z gaps + up (way direction (z.reads s) wall)
 
 up_less : (a b : ℤ) → a ≤ℤ b → up a ≤ up b
 up_less (pos a) (pos b) h = omega (arith, ints)
@@ -240,9 +195,8 @@ gap_of (negsuc n) = omega arith
 
 own_seconds : (z : Zone) (q : ℤ) → up (z.reads (q +ℤ pos 1) -ℤ z.reads q -ℤ pos 1) ≤ gap_seconds z ((q +ℤ pos 1) ∷ [])
 own_seconds z q =
-    let back : z.reads (q +ℤ pos 1 -ℤ pos 1) ≡ z.reads q = ap z.reads (omega (arith, ints)) in
-    let same : jump z (q +ℤ pos 1) ≡ z.reads (q +ℤ pos 1) -ℤ z.reads q -ℤ pos 1 = ap (λ (r : ℤ). z.reads (q +ℤ pos 1) -ℤ r -ℤ pos 1) back in
-    omega (arith, gap_of (jump z (q +ℤ pos 1)), ap up same)
+    let same = ap (λ (r : ℤ). up (z.reads (q +ℤ pos 1) -ℤ r -ℤ pos 1)) (there_and_back z.reads q) in
+    omega (arith, gap_of (jump z (q +ℤ pos 1)), same)
 
 -- ---- one gap
 
@@ -268,11 +222,9 @@ in_gap Forward reads q w next (below, above) onward = (above, (onward.within q b
 in_gap Backward reads q w next (below, above) onward = (omega (arith, ints), omega (arith, ints, (onward.within q below above).0), omega (arith, ints))
 
 is_met : (z : Zone) → Calm z.reads → (q w : ℤ) → IsIn z.reads q w → IsSearched w → IsMet z (q +ℤ pos 1)
-is_met z calm q w (below, above) years =
-    let back : z.reads (q +ℤ pos 1 -ℤ pos 1) ≡ z.reads q = ap z.reads (omega (arith, ints)) in
-    let small = calm.forth q in
-    let low = years.0 in
-    let high = years.1 in (
+is_met z calm q w (below, above) (low, high) =
+    let back = there_and_back z.reads q in
+    let small = calm.forth q in (
       change_of_break z q (in_breaks z.reads q w (below, above)),
       elim (cases_lt_z (z.reads q) first_searched) [
         | inr le ↦ inr (omega (arith, ints), omega (arith, ints))
@@ -285,17 +237,31 @@ is_met z calm q w (below, above) years =
 pub paced_start : (direction : Direction) (z : Zone) (s wall : ℤ) → Paced direction z s wall 0
 paced_start direction z s wall = record {
   gaps = [];
-  rises = tt;
-  met = All-nil (IsMet z);
+  met = (tt, All-nil (IsMet z));
   rest = 0;
   room = λ q ahead. inl (All-nil (λ d. Precedes direction d (q +ℤ pos 1)));
-  slack = 0;
-  margin = omega arith;
-  below = omega arith;
+  few = omega arith;
   counted = omega arith;
 }
 
 module _ (direction : Direction) (z : Zone) (is_calm : IsCalm z) (s wall w next : ℤ) (k : ℕ) (paced : Paced direction z s wall k) (on : Reaches direction wall w) where
+  -- with no gap more
+  paced_by : Precedes direction w next → k + 1 + (paced.rest - 1) ≤ gap_seconds z paced.gaps + fold_limit
+      → k + 1 + (paced.rest - 1) ≤ gap_seconds z paced.gaps + up (way direction (z.reads s) next) → Paced direction z s next (k + 1)
+  paced_by further few counted = record {
+    gaps = paced.gaps;
+    met = paced.met;
+    rest = paced.rest - 1;
+    room = λ p past. elim (paced.room p (omega (arith, ints))) [
+      | inl all ↦ inl all
+      | inr le ↦
+          let far : ℤ = far_side direction z.reads p in
+          inr (omega (arith, up_more (way direction next far) (way direction wall far) (omega (arith, ints)) (omega (arith, ints))))
+    ];
+    few = few;
+    counted = counted;
+  }
+
   -- a pass in a gap, which moves on by a second or more and not past the gap's far side
   paced_gap : Exactly z.reads w Gap → IsSearched w → Onward direction z.reads w next → Paced direction z s next (k + 1)
   paced_gap unread years onward =
@@ -307,42 +273,33 @@ module _ (direction : Direction) (z : Zone) (is_calm : IsCalm z) (s wall w next 
       let further = onward.on in
       let more = up_less (way direction (z.reads s) wall) (way direction (z.reads s) next) (omega (arith, ints)) in
       elim (paced.room q (omega (arith, ints))) [
-        | inr last ↦ record {
-          gaps = paced.gaps;
-          rises = paced.rises;
-          met = paced.met;
-          rest = paced.rest - 1;
-          room = λ p past. elim (paced.room p (omega (arith, ints))) [
-            | inl all ↦ inl all
-            | inr le ↦ inr (omega (arith, up_more (way direction next (far_side direction z.reads p)) (way direction wall (far_side direction z.reads p)) (omega (arith, ints)) (omega (arith, ints))))
-          ];
-          slack = paced.slack;
-          margin = paced.margin;
-          below = omega (arith, paced.below);
-          counted = omega (arith, paced.counted, up_more (way direction next far) (way direction wall far) (omega (arith, ints)) (omega (arith, ints)));
-        }
-        | inl all ↦ record {
-          gaps = added direction (q +ℤ pos 1) paced.gaps;
-          rises = rises_added direction (q +ℤ pos 1) paced.gaps paced.rises all;
-          met = all_added direction (IsMet z) (q +ℤ pos 1) paced.gaps (is_met z calm q w inside years) paced.met;
-          rest = up (way direction next far);
-          room = λ p past. elim (either direction p q) [
-            | inl before ↦ absurd (omega (arith, ints, before_gap direction z.reads calm p q w inside before))
-            | inr from ↦ elim (same_or_ahead direction q p from) [
-              | inl same ↦ inr (subst (λ (r : ℤ). up (way direction next (far_side direction z.reads r)) ≤ up (way direction next far)) same (omega arith))
-              | inr after ↦
-                  let lt = both_next direction q p after in
-                  let Before : ℤ → ℤ → Type 0 = λ r d. Precedes direction d (r +ℤ pos 1) in
-                  inl (all_added direction (Before p) (q +ℤ pos 1) paced.gaps lt (All-weaker (Before q) (Before p) (λ d early. omega (arith, ints)) paced.gaps all))
-            ]
-          ];
-          slack = paced.slack;
-          margin = paced.margin;
-          below = omega (arith, paced.below);
-          counted =
-              let less = up_more (way direction next far) (z.reads (q +ℤ pos 1) -ℤ z.reads q -ℤ pos 1) (omega (arith, ints)) (omega (arith, ints)) in
-              omega (arith, paced.counted, own_seconds z q, seconds_added z direction (q +ℤ pos 1) paced.gaps);
-        }
+        | inr last ↦
+            let left = up_more (way direction next far) (way direction wall far) (omega (arith, ints)) (omega (arith, ints)) in
+            paced_by further (omega (arith, paced.few)) (omega (arith, paced.counted))
+        | inl all ↦
+            let less = up_more (way direction next far) (z.reads (q +ℤ pos 1) -ℤ z.reads q -ℤ pos 1) (omega (arith, ints)) (omega (arith, ints)) in
+            let own = own_seconds z q in
+            let sum = seconds_added z direction (q +ℤ pos 1) paced.gaps in
+            record {
+              gaps = added direction (q +ℤ pos 1) paced.gaps;
+              met = (
+                rises_added direction (q +ℤ pos 1) paced.gaps paced.met.0 all,
+                all_added direction (IsMet z) (q +ℤ pos 1) paced.gaps (is_met z calm q w inside years) paced.met.1,
+              );
+              rest = up (way direction next far);
+              room = λ p past. elim (either direction p q) [
+                | inl before ↦ absurd (omega (arith, ints, before_gap direction z.reads calm p q w inside before))
+                | inr from ↦ elim (same_or_ahead direction q p from) [
+                  | inl same ↦ inr (subst (λ (r : ℤ). up (way direction next (far_side direction z.reads r)) ≤ up (way direction next far)) same (omega arith))
+                  | inr after ↦
+                      let Before : ℤ → ℤ → Type 0 = λ r d. Precedes direction d (r +ℤ pos 1) in
+                      let lt = both_next direction q p after in
+                      inl (all_added direction (Before p) (q +ℤ pos 1) paced.gaps lt (All-weaker (Before q) (Before p) (λ d early. omega (arith, ints)) paced.gaps all))
+                ]
+              ];
+              few = omega (arith, paced.few);
+              counted = omega (arith, paced.counted);
+            }
       ]
 
   -- a pass at a second whose nearer instant is behind: that lies near what the start shows, since the clock is put back by little
@@ -350,25 +307,11 @@ module _ (direction : Direction) (z : Zone) (is_calm : IsCalm z) (s wall w next 
   paced_behind e from behind at moved =
       let same = ap (along direction) at in
       let turn = put_back z.reads (calm_of z is_calm) direction e s behind (omega (arith, ints)) in
-      let near : way direction (z.reads s) w <ℤ pos fold_limit = omega (arith, ints, turn) in
       let one = ap (along direction) moved ∙ along-offset direction w 1 in
       let a = up_less (way direction (z.reads s) wall) (way direction (z.reads s) w) (omega (arith, ints)) in
       let b = nonnegative (way direction (z.reads s) w) (omega (arith, ints)) in
       let c = nonnegative (way direction (z.reads s) next) (omega (arith, ints)) in
-      record {
-        gaps = paced.gaps;
-        rises = paced.rises;
-        met = paced.met;
-        rest = paced.rest;
-        room = λ p past. elim (paced.room p (omega (arith, ints))) [
-          | inl all ↦ inl all
-          | inr le ↦ inr (omega (arith, up_less (way direction next (far_side direction z.reads p)) (way direction wall (far_side direction z.reads p)) (omega (arith, ints))))
-        ];
-        slack = paced.slack + 1;
-        margin = omega (arith, ints, paced.below, paced.margin);
-        below = omega (arith, ints, paced.below, paced.margin);
-        counted = omega (arith, paced.counted);
-      }
+      paced_by (omega (arith, ints)) (omega (arith, ints, paced.counted, turn)) (omega (arith, ints, paced.counted))
 
   pub paced_on : Reaches direction (z.reads s) w → IsSearched w → Paces direction z.reads s w next → Paced direction z s next (k + 1)
   paced_on from years paces =
@@ -376,4 +319,4 @@ module _ (direction : Direction) (z : Zone) (is_calm : IsCalm z) (s wall w next 
 
 -- a walk in a calm zone ends before its limit of passes
 pub paced_ends : (direction : Direction) (z : Zone) → IsCalm z → (s wall : ℤ) (k : ℕ) → Paced direction z s wall k → k < pass_limit
-paced_ends direction z calm s wall k paced = omega (arith, paced.counted, paced.margin, (calm.few paced.gaps paced.rises paced.met).1)
+paced_ends direction z calm s wall k paced = omega (arith, paced.few, (calm.few paced.gaps paced.met.0 paced.met.1).1)

@@ -1,5 +1,5 @@
 -- The edge between the two halves of a repeated range, and which runs lie in the span of a search.
-use Rattle.std.proofs.Common.{◌≡◌, ℕ, ◌+◌, ◌≤◌, ◌<◌, ℤ, pos, ◌+ℤ◌, ◌-ℤ◌, ◌*ℤ◌, ◌<ℤ◌, ◌≤ℤ◌, arith, refl, sym, ◌∙◌, inl, inr, ap, subst, Bool, true, false, IsTrue, ◌↔◌, Some, Result, IfOk, not}
+use Rattle.std.proofs.Common.{◌≡◌, ℕ, ◌+◌, ◌≤◌, ◌<◌, ℤ, pos, ◌*ℤ◌, ◌<ℤ◌, arith, refl, sym, ◌∙◌, inl, inr, ap, subst, Bool, true, false, IsTrue, ◌↔◌, Some, Result, IfOk, not}
 use Rattle.std.proofs.lemmas.Bool.{false≢true}
 use Rattle.std.proofs.lemmas.Int.{ints}
 use Rattle.croner_base.specs.declared.errors.CronError.{CronError}
@@ -13,12 +13,8 @@ use Rattle.croner.specs.search.Limit.{IsWithin, InSpan}
 use Rattle.croner.specs.search.Premises.{IsCalmStart, StartsCalm}
 use Rattle.croner.specs.Private.search.Halves.{edge_limit, HasTwin, EdgeOf, moment_from, IsEdge}
 use Rattle.croner.specs.Private.search.Held.{HoldsSecond}
-use Rattle.croner.proofs.zone.Ahead.{Direction, Forward, Backward, opposite_way, along, Precedes, Reaches, offset_from, one_on, along-offset, along-opposite, either, offset_within, opposite, opposite-reaches, reaches-equal, reaches-same, same_or_ahead, zero_on}
-use Rattle.croner.proofs.zone.ZoneOrder.{Exactly, calm_of, exact_of, Calm, cases_lt_z, put_back, not_twice, steady, edge_breaks, edge_line, edge_past, reads_on}
-
-next_offset : (direction : Direction) (s : ℤ) (k n : ℕ) → n ≡ k + 1 → offset_from direction s n ≡ one_on direction (offset_from direction s k)
-next_offset Forward s k n e = omega (arith, ints)
-next_offset Backward s k n e = omega (arith, ints)
+use Rattle.croner.proofs.zone.Ahead.{Direction, Forward, Backward, opposite_way, along, Precedes, Reaches, offset_from, along-offset, along-opposite, either, offset_within, opposite, precedes_unless, opposite-reaches, reaches-equal, reaches-same, same_or_ahead, zero_on}
+use Rattle.croner.proofs.zone.ZoneOrder.{Exactly, calm_of, exact_of, Calm, cases_lt_z, put_back, not_twice, steady, edge_breaks, edge_line, past_break, reads_on}
 
 -- ---- the half that an instant is on
 
@@ -38,8 +34,7 @@ exactly_here z i c r calm e is = subst (λ (w : ℤ). Exactly z.reads w r) e (ex
 
 -- a whole second lies where its nanoseconds do
 pub along-nanos : (direction : Direction) (m : Moment) → m.fraction ≡ 0 → along direction (nanos_of m) ≡ along direction m.instant *ℤ pos 1_000_000_000
-along-nanos Forward m whole = omega (arith, ints)
-along-nanos Backward m whole = omega (arith, ints)
+along-nanos direction m whole = grind (arith, ints)
 
 pub order_whole : (direction : Direction) (a b : Moment) → a.fraction ≡ 0 → b.fraction ≡ 0
     → Precedes direction (nanos_of a) (nanos_of b) ↔ Precedes direction a.instant b.instant
@@ -53,22 +48,17 @@ not_test : (b : Bool) (P : Type 0) → IsTrue b ↔ P → IsTrue (not b) ↔ (P 
 not_test true P test = (λ t. absurd (cc), λ n. absurd (n (test.0 refl)))
 not_test false P test = (λ t p. false≢true (test.1 p), λ n. refl)
 
--- the tests of an instant whose second two instants show, and what the clock says of them
-module _ (direction : Direction) (m l : Moment) (c : CivilDateTime) (e : ℤ) (b : Bool) where
-  pub test_forward : direction ≡ Forward → wall_second c ≡ reading m → m.zone.resolves c ≡ Some (Ambiguous e l.instant) → l.fraction ≡ 0
-      → (IsTrue b ↔ nanos_of m <ℤ nanos_of l) → IsCalmStart m.zone m.fraction → IsTrue b ↔ HasTwin direction m.zone.reads m.instant
-  test_forward forward at is whole test start =
-      let order = order_whole Forward m l start.whole whole in
-      let twin = (twins m.zone.reads m.instant e l.instant (exactly_here m.zone m.instant c (Ambiguous e l.instant) start.calm at is)).0 in
-      rw forward (λ t. twin.0 (order.0 (test.0 t)), λ t. test.1 (order.1 (twin.1 t)))
-
-  pub test_backward : direction ≡ Backward → wall_second c ≡ reading m → m.zone.resolves c ≡ Some (Ambiguous e l.instant) → l.fraction ≡ 0
-      → (IsTrue b ↔ nanos_of m <ℤ nanos_of l) → IsCalmStart m.zone m.fraction → IsTrue (not b) ↔ HasTwin direction m.zone.reads m.instant
-  test_backward backward at is whole test start =
-      let order = order_whole Forward m l start.whole whole in
-      let more = not_test b (nanos_of m <ℤ nanos_of l) test in
-      let twin = (twins m.zone.reads m.instant e l.instant (exactly_here m.zone m.instant c (Ambiguous e l.instant) start.calm at is)).1 in
-      rw backward (λ t. twin.0 (λ lt. more.0 t (order.1 lt)), λ t. more.1 (λ lt. twin.1 t (order.0 lt)))
+-- the tests of an instant whose second two instants show, by whether it comes before the later, and what the clock says of them
+pub test_two : (m l : Moment) (c : CivilDateTime) (e : ℤ) (b : Bool) → wall_second c ≡ reading m → m.zone.resolves c ≡ Some (Ambiguous e l.instant) → l.fraction ≡ 0
+    → (IsTrue b ↔ nanos_of m <ℤ nanos_of l) → IsCalmStart m.zone m.fraction
+    → (IsTrue b ↔ HasTwin Forward m.zone.reads m.instant) × (IsTrue (not b) ↔ HasTwin Backward m.zone.reads m.instant)
+test_two m l c e b at is whole test start =
+    let order = order_whole Forward m l start.whole whole in
+    let more = not_test b (nanos_of m <ℤ nanos_of l) test in
+    let (ahead, behind) = twins m.zone.reads m.instant e l.instant (exactly_here m.zone m.instant c (Ambiguous e l.instant) start.calm at is) in (
+      (λ t. ahead.0 (order.0 (test.0 t)), λ h. test.1 (order.1 (ahead.1 h))),
+      (λ t. behind.0 (λ lt. more.0 t (order.1 lt)), λ h. more.1 (λ lt. behind.1 h (order.0 lt))),
+    )
 
 pub test_one : (direction : Direction) (m : Moment) (c : CivilDateTime) (t : ℤ) → wall_second c ≡ reading m → m.zone.resolves c ≡ Some (Single t)
     → IsCalmStart m.zone m.fraction → IsTrue false ↔ HasTwin direction m.zone.reads m.instant
@@ -89,8 +79,8 @@ behind_test direction start instant next b whole whole2 at test =
     let order = order_whole direction start next whole (ap (λ (m : Moment). m.fraction) at ∙ whole2) in
     let more = not_test b (Precedes direction (nanos_of start) (nanos_of next)) test in
     let on = ap (λ (m : Moment). along direction m.instant) at ∙ along-offset direction instant.instant 1 in (
-      λ t. elim (either direction instant.instant start.instant) [ inl lt ↦ lt | inr le ↦ absurd (more.0 t (order.1 (omega (arith, ints)))) ],
-      λ h. more.1 (λ k. let lt = order.0 k in omega (arith, ints)),
+      λ t. precedes_unless direction instant.instant start.instant (λ le. more.0 t (order.1 (omega (arith, ints)))),
+      λ h. more.1 (λ k. omega (arith, ints, order.0 k)),
     )
 
 -- a test at a moved moment, said of the start's own zone
@@ -102,25 +92,18 @@ test_moved direction m there n test same found =
 
 -- ---- what the backend holds near the start
 
-pub offset_near : (direction : Direction) (s : ℤ) (n : ℕ) → n ≤ edge_limit → IsNear s (offset_from direction s n)
-offset_near direction s n h = let d = offset_within direction s n in (omega (arith, ints), omega (arith, ints))
-
-reads_near : (direction : Direction) (reads : ℤ → ℤ) → Calm reads → (s : ℤ) (n : ℕ) → n ≤ edge_limit → IsNear (reads s) (reads (offset_from direction s n))
-reads_near direction reads calm s n h =
-    let d = offset_within direction s n in
-    let r = steady reads calm s (offset_from direction s n) (omega (arith, ints)) (omega (arith, ints)) in
-    (omega (arith, ints), omega (arith, ints))
-
 pub holds_there : (direction : Direction) (m : Moment) (n : ℕ) → n ≤ edge_limit → m.zone.holds (offset_from direction m.instant n) ≡ false → HoldsAround m → ⊥
 holds_there direction m n h stuck holds =
-    false≢true (sym stuck ∙ holds.near_instants (offset_from direction m.instant n) (offset_near direction m.instant n h))
+    let d = offset_within direction m.instant n in
+    false≢true (sym stuck ∙ holds.near_instants (offset_from direction m.instant n) (omega (arith, ints), omega (arith, ints)))
 
-pub holds_second_there : (direction : Direction) (m there : Moment) (n : ℕ) → n ≤ edge_limit → there ≡ moment_from direction m n → (HoldsSecond there.zone (reading there) → ⊥) → IsCalmStart m.zone m.fraction → HoldsAround m → ⊥
+pub holds_second_there : (direction : Direction) (m there : Moment) (n : ℕ) → n ≤ edge_limit → there ≡ moment_from direction m n
+    → (HoldsSecond there.zone (reading there) → ⊥) → IsCalmStart m.zone m.fraction → HoldsAround m → ⊥
 holds_second_there direction m there n h same stuck start holds =
-    let Stuck : Moment → Type 0 = λ x. HoldsSecond x.zone (reading x) → ⊥ in
-    let here : Stuck (moment_from direction m n) = subst Stuck same stuck in
-    let near = reads_near direction m.zone.reads (calm_of m.zone start.calm) m.instant n h in
-    here (λ c at. holds.near c (subst (IsNear (reading m)) (sym at) near))
+    let d = offset_within direction m.instant n in
+    let r = steady m.zone.reads (calm_of m.zone start.calm) m.instant (offset_from direction m.instant n) (omega (arith, ints)) (omega (arith, ints)) in
+    subst (λ (x : Moment). HoldsSecond x.zone (reading x) → ⊥) same stuck
+    (λ c at. holds.near c (subst (IsNear (reading m)) (sym at) (omega (arith, ints), omega (arith, ints))))
 
 -- ---- the bisection
 
@@ -178,7 +161,7 @@ edge_found moment direction m inside outside t found close at =
         from = omega (arith, ints);
         near = omega (arith, ints, along-offset direction m.instant (apart_limit + 1));
         breaks = edge_breaks direction m.zone.reads (calm_of m.zone start.calm) (offset_from direction m.instant inside) e
-            (here ∙ next_offset direction m.instant inside outside (omega arith)) (found.within start twin)
+            (omega (arith, ints, along-offset direction m.instant inside)) (found.within start twin)
             (λ other. found.beyond start (subst (HasTwin direction m.zone.reads) here other));
       },
       (outside, n, here),
@@ -201,7 +184,8 @@ span_alone direction reads calm i within alone = λ j le.
     ]
 
 -- on the half that the search meets last: the nearest instant of the other half
-span_across : (direction : Direction) (reads : ℤ → ℤ) → Calm reads → (i e : ℤ) → EdgeOf (opposite_way direction) reads i e → IsWithin direction (reads i) → IsWithin direction (reads e) → InSpan direction reads i
+span_across : (direction : Direction) (reads : ℤ → ℤ) → Calm reads → (i e : ℤ) → EdgeOf (opposite_way direction) reads i e
+    → IsWithin direction (reads i) → IsWithin direction (reads e) → InSpan direction reads i
 span_across direction reads calm i e edge within across = λ j le.
     let back = opposite_way direction in
     let from : Reaches back i j = omega (arith, ints, along-opposite direction i, along-opposite direction j) in
@@ -209,7 +193,7 @@ span_across direction reads calm i e edge within across = λ j le.
       | inl before ↦
           let line = edge_line back reads calm i e i j edge (reaches-same back i) from before in
           within_less direction (reads j) (reads i) (opposite-reaches direction (reads i) (reads j) (omega (arith, ints))) within
-      | inr on ↦ within_less direction (reads j) (reads e) (opposite-reaches direction (reads e) (reads j) (edge_past back reads calm i e j edge on)) across
+      | inr on ↦ within_less direction (reads j) (reads e) (opposite-reaches direction (reads e) (reads j) (past_break reads calm back e j edge.breaks on)) across
     ]
 
 -- what the code's test says of a moment

@@ -1,12 +1,11 @@
 -- What a search answers from its two walks, one from the start and one from the edge of the other half, and what its limit means.
-use Rattle.std.proofs.Common.{◌≡◌, ℕ, ◌≤◌, ℤ, pos, ◌+ℤ◌, ◌-ℤ◌, ◌*ℤ◌, ◌<ℤ◌, ◌≤ℤ◌, ◌⊎◌, arith, refl, sym, ◌∙◌, inl, inr, ap, subst, Bool, true, false, Some, IsTrue, ◌↔◌}
+use Rattle.std.proofs.Common.{◌≡◌, ℤ, pos, ◌+ℤ◌, ◌-ℤ◌, ◌⊎◌, arith, refl, sym, ◌∙◌, inl, inr, ap, subst, Bool, true, false, Some}
 use Rattle.std.proofs.lemmas.Bool.{false≢true}
 use Rattle.std.proofs.lemmas.Int.{ints}
 use Rattle.croner_base.specs.declared.errors.CronError.{CronError}
 use Rattle.croner_base.specs.declared.errors.CronError.TheVariants.{TimeSearchLimitExceeded}
 use Rattle.croner_base.specs.Zone.{Zone, Moment, reading, nanos_of}
 use Rattle.croner_base.specs.Calm.{IsCalm, IsNear}
-use Rattle.croner_base.specs.Limits.{gap_limit}
 use Rattle.croner.specs.search.Runs.{Timetable, Job, job_in, Run, StartCounts, Nearest, Counts}
 use Rattle.croner.specs.search.Limit.{IsWithin, InSpan, NoneInSpan, IsPast}
 use Rattle.croner.specs.search.Premises.{IsSearchable, IsCalmStart, StartsCalm}
@@ -16,10 +15,10 @@ use Rattle.croner.specs.Private.search.Held.{HoldsYears, HoldsSecond, IsBackendE
 use Rattle.croner.specs.Private.search.Walk.{RunOf, WalkedFrom, OutFrom, IsWalked, IsWalkRefused}
 use Rattle.croner.specs.Private.search.Halves.{EdgeOf, HasTwin, CountsBoth, HasOtherHalf, IsHalfRefused, moment_from}
 use Rattle.croner.proofs.zone.ErrorsKept.{backend_error}
-use Rattle.croner.proofs.zone.Ahead.{Direction, Forward, Backward, opposite_way, along, Precedes, Reaches, offset_from, one_on, along-behind, along-offset, either, offset_within, reaches-equal, reaches-same, same_or_ahead}
-use Rattle.croner.proofs.zone.ZoneOrder.{calm_of, Calm, edge_line, edge_past, reads_on}
+use Rattle.croner.proofs.zone.Ahead.{Direction, Forward, Backward, opposite_way, along, Precedes, Reaches, offset_from, one_on, along-behind, either, offset_within, reaches-equal, reaches-same, reaches_unless}
+use Rattle.croner.proofs.zone.ZoneOrder.{calm_of, Calm, edge_line, past_break, reads_on}
 use Rattle.croner.proofs.zone.HalfEdges.{order_whole, within_less}
-use Rattle.croner.proofs.zone.Walks.{own_run_of, own_of_run, run_is_on, run_has_second, second_gives_run, is_run, counts_ahead, counts_reaches, true_or_false, begun, Seen, start_near, start_past, start_at, each_reads, first_of_run}
+use Rattle.croner.proofs.zone.Walks.{own_run_of, own_of_run, run_is_on, run_has_second, second_gives_run, is_run, counts_ahead, counts_reaches, true_or_false, begun, Seen, start_near, start_ahead, start_past, start_at, each_reads, first_of_run}
 
 -- a run of what its clock shows or of a later second counts as a start
 run_starts : (direction : Direction) (job : Job) (w i : ℤ) → job.timetable.scheduled w → RunOf job w i → Reaches direction (job.zone.reads i) w → StartCounts direction job i
@@ -71,17 +70,13 @@ module _ (direction : Direction) (inclusive : Bool) (job : Job) (calm : Calm job
       let (w, own, of, on) = second_on direction job calm both i (is_run direction inclusive job s i counts) in
       elim (either direction i e) [
         | inr past ↦
-            let line = edge_past direction job.zone.reads calm s e i edge past in
-            inr (past, (w, omega (arith, ints), own, of, elim (same_or_ahead direction e i past) [ inl at ↦ inr (refl, sym at) | inr lt ↦ inl lt ]))
+            let line = past_break job.zone.reads calm direction e i edge.breaks past in
+            inr (past, (w, omega (arith, ints), own, of, start_ahead direction true e i past))
         | inl before ↦
             let ahead : Precedes direction s i → Precedes direction (job.zone.reads s) (job.zone.reads i) = λ past.
             let line = edge_line direction job.zone.reads calm s e s i edge (reaches-same direction s) (omega (arith, ints)) before in omega (arith, ints) in
             inl (before, (w, visited direction inclusive job s i w counts ahead on, own, of, counts_ahead direction inclusive job s i counts))
       ]
-
-  -- a walk's answer is no later than what it sees
-  least : (t : ℤ) → WalkedFrom direction inclusive job s t → (j : ℤ) → Seen direction inclusive job s j → Reaches direction t j
-  least t walked j (w, from, own, of, ahead) = walked.nearest w j from own of ahead
 
 -- where the other half does not count, as for a fixed-time job forward, or lies behind
 seen_alone : (direction : Direction) (inclusive : Bool) (job : Job) → Calm job.zone.reads → (s i : ℤ)
@@ -130,8 +125,7 @@ holds_here m h = λ c at. h.held.near c (subst (IsNear (reading m)) (sym at) (om
 
 reaches_so : (direction : Direction) (a b : Moment) → a.fraction ≡ 0 → b.fraction ≡ 0 → (Precedes direction (nanos_of a) (nanos_of b) → ⊥)
     → Reaches direction b.instant a.instant
-reaches_so direction a b f g never =
-    elim (either direction a.instant b.instant) [ inl lt ↦ absurd (never ((order_whole direction a b f g).1 lt)) | inr le ↦ le ]
+reaches_so direction a b f g never = reaches_unless direction b.instant a.instant (λ lt. never ((order_whole direction a b f g).1 lt))
 
 pub second_error : (lack : Bool) (start : Moment) (z : Zone) (e : CronError) → z ≡ start.zone → IsBackendError lack (IsCalm z → HoldsYears z → ⊥) e
     → IsBackendError lack (IsSearchable start → ⊥) e
@@ -169,8 +163,10 @@ module _ {T : Type 0} (moment : T → Moment) (direction : Direction) (inclusive
   first_counts : (t : T) → Answers t → StartsCalm start → Counts direction inclusive job start.instant (moment t).instant
   first_counts t walked h = walked_counts direction inclusive job start.instant (moment t).instant (walked.walked h)
 
-  first_least : (t : T) → Answers t → StartsCalm start → (j : ℤ) → Seen direction inclusive job start.instant j → Reaches direction (moment t).instant j
-  first_least t walked h j seen = least direction inclusive job (calm_of start.zone h.calm) start.instant (moment t).instant (walked.walked h) j seen
+  -- a walk's answer is no later than what it sees
+  least : (counts_itself : Bool) (from : Moment) (t : T) → IsWalked moment direction counts_itself job from t → IsCalmStart start.zone from.fraction
+      → (j : ℤ) → Seen direction counts_itself job from.instant j → Reaches direction (moment t).instant j
+  least counts_itself from t walked h j (w, visits, own, of, ahead) = (walked.walked h).nearest w j visits own of ahead
 
   first_unseen : Out → StartsCalm start → (i : ℤ) → InSpan direction start.zone.reads i → Seen direction inclusive job start.instant i → ⊥
   first_unseen out h i span seen = unseen direction inclusive job (calm_of start.zone h.calm) start.instant (out h) i (span i (reaches-same direction i)) seen
@@ -181,7 +177,7 @@ module _ {T : Type 0} (moment : T → Moment) (direction : Direction) (inclusive
       (λ h. record {
         counts = first_counts t walked h;
         nearest = λ j counts.
-            first_least t walked h j (seen_alone direction inclusive job (calm_of start.zone h.calm) start.instant j (alone h) counts);
+            least inclusive start t walked h j (seen_alone direction inclusive job (calm_of start.zone h.calm) start.instant j (alone h) counts);
       })
 
   pub limit_alone : Alone → Out → NoneLeft
@@ -207,7 +203,7 @@ module _ {T : Type 0} (moment : T → Moment) (direction : Direction) (inclusive
     answers_here u walked = subst (λ (z : Zone). IsWalked moment direction true (job_in z timetable) (moment edge) u) half.0 walked
 
     second_least : (u : T) → AnswersThere u → StartsCalm start → (j : ℤ) → Seen direction true job e j → Reaches direction (moment u).instant j
-    second_least u there h j seen = least direction true job (calm_of start.zone h.calm) e (moment u).instant ((answers_here u there).walked (calm_there h)) j seen
+    second_least u there h j seen = least true (moment edge) u (answers_here u there) (calm_there h) j seen
 
     second_unseen : OutThere → StartsCalm start → (i : ℤ) → InSpan direction start.zone.reads i → Seen direction true job e i → ⊥
     second_unseen out h i span seen =
@@ -231,7 +227,7 @@ module _ {T : Type 0} (moment : T → Moment) (direction : Direction) (inclusive
         found_by inclusive start t left walked
         (λ h. record {
           counts = first_counts t walked h;
-          nearest = by_halves (Reaches direction (moment t).instant) h (λ j from before seen. first_least t walked h j seen) (far h);
+          nearest = by_halves (Reaches direction (moment t).instant) h (λ j from before seen. least inclusive start t walked h j seen) (far h);
         })
 
     -- the answer of the walk from the edge, where nothing before the edge is nearer
@@ -264,13 +260,13 @@ module _ {T : Type 0} (moment : T → Moment) (direction : Direction) (inclusive
         → IsFound direction inclusive timetable start (moment u)
     second_nearer left t u nearer walked there =
         let lt = (order_whole direction (moment u) (moment t) (answers_here u there).whole walked.whole).0 nearer in
-        second_by left u there (λ h j from before seen. omega (arith, ints, first_least t walked h j seen))
+        second_by left u there (λ h j from before seen. omega (arith, ints, least inclusive start t walked h j seen))
 
     pub second_none : (t : T) → (Precedes direction (nanos_of (moment t)) (nanos_of (moment edge)) → ⊥) → Answers t → OutThere → NoneLeft
     second_none t past walked out h = λ i span counts.
         let le = reaches_so direction (moment t) (moment edge) walked.whole (calm_there h).whole past in
         by_halves (λ j. InSpan direction start.zone.reads j → ⊥) h
-        (λ j from before seen inside. omega (arith, ints, first_least t walked h j seen)) (λ j on seen inside. second_unseen out h j inside seen) i counts span
+        (λ j from before seen inside. omega (arith, ints, least inclusive start t walked h j seen)) (λ j on seen inside. second_unseen out h j inside seen) i counts span
 
     -- ---- after the first walk's limit
 
@@ -282,9 +278,7 @@ module _ {T : Type 0} (moment : T → Moment) (direction : Direction) (inclusive
     -- the last instant of the half that the start is on
     module _ (own : T) (back : Direction) (way : back ≡ opposite_way direction) (moved : moment own ≡ moment_from back (moment edge) 1) where
       own_behind : along direction e ≡ along direction (moment own).instant +ℤ pos 1
-      own_behind =
-          along-behind direction (moment own).instant e (ap (λ (m : Moment). m.instant) moved ∙ ap (λ (d : Direction). one_on d e) way)
-          ∙ along-offset direction (moment own).instant 1
+      own_behind = along-behind direction (moment own).instant e (ap (λ (m : Moment). m.instant) moved ∙ ap (λ (d : Direction). one_on d e) way)
 
       own_reads : reading (moment own) ≡ start.zone.reads (moment own).instant
       own_reads = ap (λ (z : Zone). z.reads (moment own).instant) (ap (λ (m : Moment). m.zone) moved ∙ half.0)

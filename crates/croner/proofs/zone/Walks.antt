@@ -5,20 +5,19 @@ use Rattle.std.proofs.lemmas.Bool.{false≢true}
 use Rattle.croner_base.specs.declared.time.value.Resolution.TheVariants.{Single, Ambiguous, Gap}
 use Rattle.croner_base.specs.Zone.{Moment, Zone, Names}
 use Rattle.croner_base.specs.declared.time.civil.CivilDateTime.{CivilDateTime}
-use Rattle.croner_base.specs.declared.errors.CronError.{CronError}
 use Rattle.croner_base.specs.Civil.{wall_second}
 use Rattle.croner_base.specs.Calm.{IsCalm, IsSearched}
 use Rattle.croner.specs.Private.search.Halves.{Break}
 use Rattle.croner.specs.Private.search.Walk.{First, RunOf, NoneOf, WalkedFrom, walk_start, UnreadTo, GapEnd, NearerOf, ChosenOf, Walking, IsOneOf, Onward, Paces, CannotMove, IsWalked, OutFrom, HasGapEnd, HasGapFront}
-use Rattle.croner.specs.search.Runs.{Job, Run, OwnRun, StartCounts, Counts, Ahead}
+use Rattle.croner.specs.search.Runs.{Job, Run, OwnRun, Counts, Ahead}
 use Rattle.croner.specs.search.Limit.{NoneAhead}
 use Rattle.croner.specs.search.Premises.{IsCalmStart}
 use Rattle.croner.specs.Private.search.Gaps.{GoesPast}
-use Rattle.croner.specs.Private.search.Held.{HoldsYears, IsBackendError}
+use Rattle.croner.specs.Private.search.Held.{HoldsYears}
 use Rattle.croner.specs.Private.search.Schedule.{NextScheduled, NoneScheduled}
 use Rattle.croner.specs.Private.search.Wall.{IsLastYear}
-use Rattle.croner.proofs.zone.ZoneOrder.{Calm, cases_lt_z, below_before, steady, Exactly, calm_of, exact_of, first_if_least, firsts_in_order, first_over_gap, last_is_ahead, nearest_in_order}
-use Rattle.croner.proofs.zone.Ahead.{Direction, Forward, Backward, Reaches, reaches-equal, Precedes, one_on, along-offset, either, not_both, same_or_ahead, along, both_ways, offset_within, reaches-same}
+use Rattle.croner.proofs.zone.ZoneOrder.{Calm, cases_lt_z, same_or_not, below_before, steady, Exactly, calm_of, exact_of, first_if_least, firsts_in_order, first_over_gap, last_is_ahead, nearest_in_order}
+use Rattle.croner.proofs.zone.Ahead.{Direction, Forward, Backward, Reaches, reaches-equal, Precedes, one_on, along-offset, either, not_both, same_or_ahead, along, both_ways, offset_within, reaches-same, reaches_unless}
 use Rattle.croner.proofs.zone.WallSeconds.{IsFar, last_year_far}
 
 pub true_or_false : (b : Bool) → (b ≡ true) ⊎ (b ≡ false)
@@ -50,38 +49,34 @@ module _ (job : Job) (calm : Calm job.zone.reads) where
         | inr (fixed, (w, below, above, own), date) ↦ (w, own, inr (fixed, gap_end_is_first job.zone.reads calm w i below above, inr date), omega (arith, ints))
       ]
 
-pub own_of_first : (job : Job) (w i : ℤ) → job.timetable.scheduled w → First job.zone.reads w i → job.zone.reads i ≡ w → OwnRun job i
-own_of_first job w i own first e =
-    (subst job.timetable.scheduled (sym e) own, λ fixed j h same. let k = first.before j h in let never : ⊥ = omega (arith, ints) in never)
+pub each_reads : (job : Job) (w i : ℤ) → job.timetable.fixed_time ≡ false → RunOf job w i → job.zone.reads i ≡ w
+each_reads job w i each of = elim of [ inl (f, e) ↦ e | inr (fixed, first, date) ↦ absurd (cc) ]
+
+pub first_of_run : (job : Job) (w i : ℤ) → job.timetable.fixed_time ≡ true → RunOf job w i → First job.zone.reads w i
+first_of_run job w i fixed of = elim of [ inl (f, e) ↦ absurd (cc) | inr (f, first, date) ↦ first ]
 
 pub own_of_run : (job : Job) (w i : ℤ) → job.timetable.scheduled w → RunOf job w i → job.zone.reads i ≡ w → OwnRun job i
-own_of_run job w i own run e =
-    elim run [
-      | inl (each, same) ↦ (subst job.timetable.scheduled (sym e) own, λ (fixed : job.timetable.fixed_time ≡ true). let never : true ≡ false = sym fixed ∙ each in absurd (cc))
-      | inr (fixed, first, date) ↦ own_of_first job w i own first e
-    ]
+own_of_run job w i own run e = (subst job.timetable.scheduled (sym e) own, λ fixed j h same. omega (arith, ints, (first_of_run job w i fixed run).before j h))
 
 pub run_is_on : (job : Job) (w i : ℤ) → RunOf job w i → w ≤ℤ job.zone.reads i
 run_is_on job w i run = elim run [ inl (each, e) ↦ omega (arith, ints) | inr (fixed, first, date) ↦ first.reached ]
 
 pub second_gives_run : (job : Job) (w i : ℤ) → job.timetable.scheduled w → RunOf job w i → Run job i
-second_gives_run job w i own (inl run) = inl (own_of_run job w i own (inl run) run.1)
-second_gives_run job w i own (inr (fixed, first, inl e)) = inl (own_of_first job w i own first e)
-second_gives_run job w i own (inr (fixed, first, inr date)) =
-    let on = first.reached in
-    elim (cases_lt_z w (job.zone.reads i)) [
-      | inr le ↦ inl (own_of_first job w i own first (omega (arith, ints)))
-      | inl lt ↦ inr (fixed, (w, first.before (i -ℤ pos 1) (omega (arith, ints)), lt, own), date)
+second_gives_run job w i own run =
+    elim (same_or_not (job.zone.reads i) w) [
+      | inl e ↦ inl (own_of_run job w i own run e)
+      | inr other ↦ elim run [
+        | inl (each, e) ↦ absurd (other e)
+        | inr (fixed, first, inl e) ↦ absurd (other e)
+        | inr (fixed, first, inr date) ↦ inr (fixed, (w, first.before (i -ℤ pos 1) (omega (arith, ints)), omega (arith, ints, first.reached), own), date)
+      ]
     ]
 
 -- what counts is a run
-start_runs : (direction : Direction) (job : Job) (s : ℤ) → StartCounts direction job s → Run job s
-start_runs Forward job s own = inl own
-start_runs Backward job s run = run
-
 pub is_run : (direction : Direction) (inclusive : Bool) (job : Job) (s i : ℤ) → Counts direction inclusive job s i → Run job i
-is_run direction inclusive job s i counts =
-    elim counts [ inl (past, run) ↦ run | inr (is, e, start) ↦ subst (Run job) (sym e) (start_runs direction job s start) ]
+is_run direction inclusive job s i (inl (past, run)) = run
+is_run Forward inclusive job s i (inr (is, e, own)) = subst (Run job) (sym e) (inl own)
+is_run Backward inclusive job s i (inr (is, e, run)) = subst (Run job) (sym e) run
 
 pub counts_ahead : (direction : Direction) (inclusive : Bool) (job : Job) (s i : ℤ) → Counts direction inclusive job s i → Ahead direction inclusive s i
 counts_ahead direction inclusive job s i counts = elim counts [ inl (past, run) ↦ inl past | inr (is, e, start) ↦ inr (is, e) ]
@@ -132,12 +127,6 @@ start_at direction false r w e h = absurd (cc)
 pub ahead_reaches : (direction : Direction) (inclusive : Bool) (s i : ℤ) → Ahead direction inclusive s i → Reaches direction s i
 ahead_reaches direction inclusive s i ahead = elim ahead [ inl lt ↦ omega (arith, ints) | inr (is, e) ↦ reaches-equal direction s i (sym e) ]
 
-pub each_reads : (job : Job) (w i : ℤ) → job.timetable.fixed_time ≡ false → RunOf job w i → job.zone.reads i ≡ w
-each_reads job w i each of = elim of [ inl (f, e) ↦ e | inr (fixed, first, date) ↦ absurd (cc) ]
-
-pub first_of_run : (job : Job) (w i : ℤ) → job.timetable.fixed_time ≡ true → RunOf job w i → First job.zone.reads w i
-first_of_run job w i fixed of = elim of [ inl (f, e) ↦ absurd (cc) | inr (f, first, date) ↦ first ]
-
 first_is_one : (reads : ℤ → ℤ) (w i j : ℤ) → First reads w i → First reads w j → i ≡ j
 first_is_one reads w i j a b =
     omega (arith, ints, firsts_in_order Forward reads w w i j (omega (arith, ints)) a b, firsts_in_order Forward reads w w j i (omega (arith, ints)) b a)
@@ -157,11 +146,10 @@ module _ (direction : Direction) (inclusive : Bool) (job : Job) (calm : Calm job
   ahead_of t w from e le =
       elim (same_or_ahead direction s t le) [
         | inr lt ↦ inl lt
-        | inl same ↦
-            elim (start_ahead direction inclusive (job.zone.reads s) w from) [
-              | inl lt ↦ absurd (omega (arith, ints, reaches-equal direction w (job.zone.reads s) (sym e ∙ ap job.zone.reads (sym same))))
-              | inr (is, at) ↦ inr (is, sym same)
-            ]
+        | inl same ↦ elim (start_ahead direction inclusive (job.zone.reads s) w from) [
+          | inl lt ↦ absurd (omega (arith, ints, reaches-equal direction w (job.zone.reads s) (sym e ∙ ap job.zone.reads (sym same))))
+          | inr (is, at) ↦ inr (is, sym same)
+        ]
       ]
 
   -- a run of the second that the walk has come to is its answer, where no run of this second or a later one is nearer
@@ -300,17 +288,13 @@ one_behind moment false Backward s e l h = h.1
 -- past a second that is not read, and past no second that is
 onward_across : (direction : Direction) (reads : ℤ → ℤ) (skipped side : ℤ) → Precedes direction skipped side → UnreadTo direction reads skipped side
     → Onward direction reads skipped side
-onward_across direction reads skipped side on unread =
-    record {
-      on = on;
-      within = λ p below above. (
-        elim (cases_lt_z side (reads p)) [ inr le ↦ le | inl lt ↦ absurd (unread (reads p) (grind (arith, ints)) (grind (arith, ints)) p refl) ],
-        elim (cases_lt_z (reads (p +ℤ pos 1)) side) [
-          | inr le ↦ le
-          | inl lt ↦ absurd (unread (reads (p +ℤ pos 1)) (grind (arith, ints)) (grind (arith, ints)) (p +ℤ pos 1) refl)
-        ],
-      );
-    }
+onward_across direction reads skipped side on unread = record {
+  on = on;
+  within = λ p below above. (
+    reaches_unless Forward (reads p) side (λ lt. unread (reads p) (grind (arith, ints)) (grind (arith, ints)) p refl),
+    reaches_unless Forward side (reads (p +ℤ pos 1)) (λ lt. unread (reads (p +ℤ pos 1)) (grind (arith, ints)) (grind (arith, ints)) (p +ℤ pos 1) refl),
+  );
+}
 
 onward_one : (direction : Direction) (reads : ℤ → ℤ) (skipped wall : ℤ) → wall ≡ one_on direction skipped → Exactly reads skipped Gap → Onward direction reads skipped wall
 onward_one direction reads skipped wall e unread =

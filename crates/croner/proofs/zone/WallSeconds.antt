@@ -13,7 +13,7 @@ use Rattle.croner_base.proofs.calendar.DayNumbers.{day_number-next_year}
 use Rattle.croner_base.proofs.calendar.Chronology.{year_reached}
 use Rattle.croner_base.proofs.calendar.JiffSeconds.{wall_second-parts}
 use Rattle.croner_pattern.specs.Meaning.{Meaning}
-use Rattle.croner_pattern.specs.NextSecond.{has_room, edge_day, IsMove, IsOpen, IsOnSchedule, IsNearest, NoneOn, FindsNearest}
+use Rattle.croner_pattern.specs.NextSecond.{has_room, edge_day, IsMove, IsOpen, IsOnSchedule, IsNearest, FindsNearest}
 use Rattle.croner_pattern.specs.Schedule.{IsScheduled, DateMatches, is_scheduled, is_date_matching, is_fixed_time}
 use Rattle.croner_pattern.specs.Shapes.{has_field_shapes}
 use Rattle.croner_pattern.specs.Private.Cursor.{IsMatchingTime}
@@ -90,16 +90,6 @@ last_year_far Backward c e =
 
 -- ---- the civil search
 
--- the nearest of date-times is the nearest of wall seconds
-next_second : (m : Meaning) (dir : Direction) (from c : CivilDateTime) → IsNearest wall_second (IsOnSchedule m) dir (wall_second from) c → NextScheduled dir (IsScheduled m) (wall_second from) (wall_second c)
-next_second m dir from c n = record {
-  on = n.on;
-  is = record { shown = c; shows = refl; matches = n.is };
-  none = λ v r p is.
-      not_both dir v (wall_second c) p
-      (subst (Reaches dir (wall_second c)) is.shows (n.first is.shown (subst (Reaches dir (wall_second from)) (sym is.shows) r) is.matches));
-}
-
 -- the day of a covered second lies before the edge, or there backward for a fixed-time job
 covered_day : (dir : Direction) (fixed : Bool) (y : CivilDateTime) → IsCovered dir fixed (wall_second y)
     → Reaches dir (day_of_date y.date) (edge_day dir) × (Precedes dir (day_of_date y.date) (edge_day dir) ⊎ (fixed ≡ true))
@@ -124,10 +114,10 @@ fixed_move m from y shapes fixed is =
     }
 
 -- a covered second is open: from a year without room none lies before the edge
-open_covered : (m : Meaning) (dir : Direction) (fixed : Bool) (from y : CivilDateTime) → has_field_shapes m ≡ true → (fixed ≡ true → is_fixed_time m ≡ true)
-    → Reaches dir (wall_second from) (wall_second y) → is_scheduled m y ≡ true → IsCovered dir fixed (wall_second y) → IsOpen m dir from y
-open_covered m dir fixed from y shapes f r is covered =
-    let (reach, near) = covered_day dir fixed y covered in
+open_covered : (m : Meaning) (dir : Direction) (from y : CivilDateTime) → has_field_shapes m ≡ true → Reaches dir (wall_second from) (wall_second y)
+    → is_scheduled m y ≡ true → IsCovered dir (is_fixed_time m) (wall_second y) → IsOpen m dir from y
+open_covered m dir from y shapes r is covered =
+    let (reach, near) = covered_day dir (is_fixed_time m) y covered in
     let day = day_of_date y.date in
     record {
       scheduled = is;
@@ -139,29 +129,30 @@ open_covered m dir fixed from y shapes f r is covered =
       ];
       move = λ lacks. elim near [
         | inl before ↦ absurd (not_both dir day (edge_day dir) before (reaches-trans dir (edge_day dir) (day_of_date from.date) day (no_room-past dir from.date lacks) (reach-date dir from y r)))
-        | inr is_fixed ↦ let p = scheduled_parts m y is in fixed_move m from y shapes (f is_fixed) p.time
+        | inr is_fixed ↦ let p = scheduled_parts m y is in fixed_move m from y shapes is_fixed p.time
       ];
     }
-
-none_covered : (m : Meaning) (dir : Direction) (fixed : Bool) (from : CivilDateTime) → has_field_shapes m ≡ true → (fixed ≡ true → is_fixed_time m ≡ true)
-    → NoneOn wall_second (IsOpen m dir from) dir (wall_second from) → NoneScheduled dir fixed (IsScheduled m) (wall_second from)
-none_covered m dir fixed from shapes f none w r covered is =
-    let reach = subst (Reaches dir (wall_second from)) (sym is.shows) r in
-    none is.shown reach (open_covered m dir fixed from is.shown shapes f reach is.matches (subst (IsCovered dir fixed) (sym is.shows) covered))
 
 -- what the civil search answers
 pub search_answer : (m : Meaning) (dir : Direction) (from : CivilDateTime) (r : Option CivilDateTime) → has_field_shapes m ≡ true
     → FindsNearest wall_second (IsOpen m dir from) dir (wall_second from) r → IfSome r (IsNearest wall_second (IsOnSchedule m) dir (wall_second from))
     → MatchOption r (NoneScheduled dir (is_fixed_time m) (IsScheduled m) (wall_second from)) (λ w. NextScheduled dir (IsScheduled m) (wall_second from) (wall_second w))
-search_answer m dir from None shapes f n = none_covered m dir (is_fixed_time m) from shapes (λ e. e) f
-search_answer m dir from (Some w) shapes f n = next_second m dir from w n
-
-same_day : (a b : CivilDateTime) → wall_second a ≡ wall_second b → day_of_date a.date ≡ day_of_date b.date
-same_day a b h =
-    omega (arith, signed_arith, wall_second-parts a, wall_second-parts b, seconds_bound a.time, seconds_bound b.time)
+search_answer m dir from None shapes f n = λ w r covered is.
+    let reach = subst (Reaches dir (wall_second from)) (sym is.shows) r in
+    f is.shown reach (open_covered m dir from is.shown shapes reach is.matches (subst (IsCovered dir (is_fixed_time m)) (sym is.shows) covered))
+search_answer m dir from (Some c) shapes f n = record {
+  on = n.on;
+  is = record { shown = c; shows = refl; matches = n.is };
+  none = λ v r p is.
+      not_both dir v (wall_second c) p
+      (subst (Reaches dir (wall_second c)) is.shows (n.first is.shown (subst (Reaches dir (wall_second from)) (sym is.shows) r) is.matches));
+}
 
 pub date_answer : (m : Meaning) (c : CivilDateTime) (b : Bool) → b ≡ is_date_matching m c.date → IsTrue b ↔ DateMatches m (wall_second c)
 date_answer m c b e = (
   λ t. record { shown = c; shows = refl; matches = sym e ∙ t },
-  λ d. e ∙ same_match m c.date d.shown.date (same_date c.date d.shown.date (same_day c d.shown (sym d.shows))) d.matches,
+  λ d.
+      let same : day_of_date c.date ≡ day_of_date d.shown.date =
+      omega (arith, signed_arith, d.shows, wall_second-parts c, wall_second-parts d.shown, seconds_bound c.time, seconds_bound d.shown.time) in
+      e ∙ same_match m c.date d.shown.date (same_date c.date d.shown.date same) d.matches,
 )

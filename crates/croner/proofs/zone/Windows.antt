@@ -1,8 +1,8 @@
 -- Two clocks that show the same in a window have the same runs well in it, and so have listings over them.
-use Rattle.std.proofs.Common.{◌≡◌, ◌∙◌, inl, inr, refl, sym, ap, subst, arith, Bool, true, false, ℕ, zero, suc, length, get_or, length-append, ℤ, pos, ◌+ℤ◌, ◌-ℤ◌, ◌<ℤ◌, ◌≤ℤ◌, int_lt, List, [], ◌∷◌, ◌++◌}
+use Rattle.std.proofs.Common.{◌≡◌, ◌∙◌, inl, inr, refl, sym, ap, subst, arith, Bool, false, ℕ, zero, suc, length, get_or, length-append, ℤ, pos, ◌+ℤ◌, ◌-ℤ◌, ◌<ℤ◌, ◌≤ℤ◌, int_lt, List, [], ◌∷◌, ◌++◌}
 use Rattle.std.proofs.lemmas.Int.{ints, by_lt_z}
 use Rattle.std.proofs.lemmas.List.{get_or-map, get_or_append_left, length-map, map-append}
-use Rattle.std.proofs.lemmas.List.Elements.{All-head, All-tail, All-weaker, All-contains, Contains-append_left, Contains-append_right, Contains-append_cases}
+use Rattle.std.proofs.lemmas.List.Elements.{All-weaker, All-contains, Contains-append_left, Contains-append_right, Contains-append_cases}
 use Rattle.std.specs.List.{All, AllPairs, Contains}
 use Rattle.jiff_core.specs.Timestamp.{IsOffsetSeconds, nanos_of_seconds}
 use Rattle.jiff_core.proofs.SignedLemmas.{signed_arith}
@@ -24,10 +24,10 @@ use Rattle.croner.specs.crontable.TableItems.{BeginsTableRest, item_instants}
 use Rattle.croner.specs.crontable.TableListing.{TableStanding, IsLeftAt, IsTableLeft, counts_table_position}
 use Rattle.croner.specs.crontable.Tables.{ArePlaces}
 use Rattle.croner.specs.iterator.Listing.{BeginsWhere, Standing, IsLeft, counts_position}
-use Rattle.croner.specs.laws.Zones.{day_margin, IsAtMostADayAhead, IsWellIn, IsClockOf, IsOnClockOf, in_zone, table_in_zone}
-use Rattle.croner.specs.search.Limit.{InSpan, NoneInSpan}
+use Rattle.croner.specs.laws.Zones.{day_margin, IsWellIn, IsClockOf, IsOnClockOf, in_zone, table_in_zone}
+use Rattle.croner.specs.search.Limit.{InSpan}
 use Rattle.croner.specs.search.PatternJob.{timetable_of}
-use Rattle.croner.specs.search.Runs.{Timetable, job_in, OwnRun, CarriedRun, Run, StartCounts, Counts, NearestWhere}
+use Rattle.croner.specs.search.Runs.{Timetable, job_in, OwnRun, CarriedRun, Run, Counts, NearestWhere}
 use Rattle.croner.proofs.zone.Ahead.{Direction, Forward, Backward, Precedes, Reaches, either}
 use Rattle.croner.proofs.zone.Walks.{counts_reaches}
 
@@ -54,10 +54,7 @@ module _ (tz : TimeZone) (first last : ℤ) where
     pub below : (i k : ℤ) → i <ℤ first → IsWellIn tz first last k → (z.reads i <ℤ z.reads k) × (t.reads i <ℤ t.reads k)
 
   alike_back : (z t : Zone) → Alike z t → Alike t z
-  alike_back z t h = record {
-    same = λ i low high. sym (h.same i low high);
-    below = λ i k early inside. let b = h.below i k early inside in (b.1, b.0);
-  }
+  alike_back z t h = record { same = λ i low high. sym (h.same i low high); below = λ i k early inside. let b = h.below i k early inside in (b.1, b.0) }
 
   module _ (z t : Zone) (timetable : Timetable) (a : Alike z t) where
     own_run : (i : ℤ) → IsWellIn tz first last i → OwnRun (job_in t timetable) i → OwnRun (job_in z timetable) i
@@ -79,14 +76,11 @@ module _ (tz : TimeZone) (first last : ℤ) where
         let carried : CarriedRun (job_in z timetable) i = rw (here, before) h in
         inr carried
 
-    start_counts : (direction : Direction) (s : ℤ) → IsWellIn tz first last s → StartCounts direction (job_in t timetable) s → StartCounts direction (job_in z timetable) s
-    start_counts Forward s inside h = own_run s inside h
-    start_counts Backward s inside h = run s inside h
-
     counts : (direction : Direction) (inclusive : Bool) (s i : ℤ) → IsWellIn tz first last s → IsWellIn tz first last i
         → Counts direction inclusive (job_in t timetable) s i → Counts direction inclusive (job_in z timetable) s i
     counts direction inclusive s i hs hi (inl h) = inl (h.0, run i hi h.1)
-    counts direction inclusive s i hs hi (inr h) = inr (h.0, h.1, start_counts direction s hs h.2)
+    counts Forward inclusive s i hs hi (inr h) = inr (h.0, h.1, own_run s hs h.2)
+    counts Backward inclusive s i hs hi (inr h) = inr (h.0, h.1, run s hs h.2)
 
   -- well in a window the same instants count, and from the start on
   pub record SameWell (direction : Direction) (s : ℤ) (own other : ℤ → Type 0) : Type 0 where
@@ -120,21 +114,20 @@ module _ (tz : TimeZone) (first last : ℤ) where
     pub behind : (i : ℤ) → last <ℤ i → t.reads last ≤ℤ t.reads i
 
   pub span : (direction : Direction) (z t : Zone) (i : ℤ) → Alike z t → GoesOn t → IsWellIn tz first last i → InSpan direction z.reads i → InSpan direction t.reads i
-  span Forward z t i a g inside h = λ j le. by_lt_z j first
-      (λ early.
+  span Forward z t i a g inside h =
       let low = two_days_in i inside in
-      let f = h first (omega (arith, signed_arith)) in
-      let s = a.same first (omega (arith, signed_arith)) (omega (arith, signed_arith, low, inside.1)) in
-      omega (arith, signed_arith, f, s, g.before j early))
-      (λ from. let s = a.same j from (omega (arith, signed_arith, le, inside.1)) in let w = h j le in omega (arith, signed_arith, s, w))
+      λ j le. by_lt_z j first
+      (λ early.
+      let shown = a.same first (omega (arith, ints)) (omega (arith, ints, inside.1)) in
+      omega (arith, ints, h first (omega (arith, ints)), shown, g.before j early))
+      (λ from. omega (arith, ints, h j le, a.same j from (omega (arith, ints, inside.1))))
   span Backward z t i a g inside h =
       let low = two_days_in i inside in
       λ j le. by_lt_z last j
       (λ late.
-      let f = h last (omega (arith, signed_arith, inside.1)) in
-      let s = a.same last (omega (arith, signed_arith, low, inside.1)) (omega (arith, signed_arith)) in
-      omega (arith, signed_arith, f, s, g.behind j late))
-      (λ to. let s = a.same j (omega (arith, signed_arith, le, low)) to in let w = h j le in omega (arith, signed_arith, s, w))
+      let shown = a.same last (omega (arith, ints, inside.1)) (omega (arith, ints)) in
+      omega (arith, ints, h last (omega (arith, ints, inside.1)), shown, g.behind j late))
+      (λ to. omega (arith, ints, h j le, a.same j (omega (arith, ints)) to))
 
 -- every offset of jiff is less than 26 hours
 offset_bound : (tz : TimeZone) (n : ℤ) → IsOffsetSeconds (offset_at tz n)
@@ -149,10 +142,7 @@ int_lt-false : (a b : ℤ) → b ≤ℤ a → int_lt a b ≡ false
 int_lt-false a b h = grind (arith, ints)
 
 own_nearest : (first last i : ℤ) → first ≤ℤ i → i ≤ℤ last → nearest_in first last i ≡ i
-own_nearest first last i low high =
-    let a = int_lt-false i first low in
-    let b = int_lt-false last i high in
-    rw (a, b) refl
+own_nearest first last i low high = rw (int_lt-false i first low, int_lt-false last i high) refl
 
 -- a table's own offsets are at most a day
 table_bound : (table : ClockTable) (i : ℤ) → ((i -ℤ pos offset_limit) ≤ℤ (table_zone table).reads i) × ((table_zone table).reads i ≤ℤ (i +ℤ pos offset_limit))
@@ -195,13 +185,12 @@ alike tz first last table c = record {
 pub goes_on : (tz : TimeZone) (first last : ℤ) (t : Zone) → IsClockOf tz first last t → GoesOn tz first last t
 goes_on tz first last t c = record {
   before = λ i early.
-      let is = shows_by tz first last i first t c (let a = lt_test i first early in rw a refl) in
+      let is = shows_by tz first last i first t c (rw (lt_test i first early) refl) in
       let at = shows_by tz first last first first t c (own_nearest first last first (omega (arith, signed_arith)) c.window.order) in
       omega (arith, signed_arith, is, at, early);
   behind = λ i late.
       let a = int_lt-false i first (omega (arith, signed_arith, late, c.window.order)) in
-      let b = lt_test last i late in
-      let is = shows_by tz first last i last t c (rw (a, b) refl) in
+      let is = shows_by tz first last i last t c (rw (a, lt_test last i late) refl) in
       let at = shows_by tz first last last last t c (own_nearest first last last c.window.order (omega (arith, signed_arith))) in
       omega (arith, signed_arith, is, at, late);
 }

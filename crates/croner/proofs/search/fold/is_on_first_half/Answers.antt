@@ -1,15 +1,17 @@
-use Rattle.croner.proofs.zone.HalfEdges.{test_forward, test_backward, test_one, test_gap}
+use Rattle.croner.proofs.zone.HalfEdges.{test_two, test_one, test_gap}
 use Rattle.croner.proofs.search.fold.is_on_first_half.Goals as goal
 
 pub returns-in-Forward-clause-value : goal.returns-in-Forward-clause-value
-returns-in-Forward-clause-value g c =
+returns-in-Forward-clause-value g c = λ start.
     let named = rw c.in-Ambiguous.is at c.in_ok-later.ensures in
-    test_forward c.args.direction (g.T.CronDateTime.moment c.args.instant.now) (g.T.CronDateTime.moment c.in-Ambiguous.later) c.args.shown _ _ c.in-Forward.is c.requires named.value.3 named.value.1.whole c.precedes-is_earlier.ensures
+    let at = g.T.CronDateTime.moment in
+    rw c.in-Forward.is (test_two (at c.args.instant.now) (at c.in-Ambiguous.later) c.args.shown _ _ c.requires named.value.3 named.value.1.whole c.precedes-is_earlier.ensures start).0
 
 pub returns-in-Ambiguous-clause-value : goal.returns-in-Ambiguous-clause-value
-returns-in-Ambiguous-clause-value g c =
+returns-in-Ambiguous-clause-value g c = λ start.
     let named = rw c.in-Ambiguous.is at c.in_ok-later.ensures in
-    test_backward c.args.direction (g.T.CronDateTime.moment c.args.instant.now) (g.T.CronDateTime.moment c.in-Ambiguous.later) c.args.shown _ _ c.in-Backward.is c.requires named.value.3 named.value.1.whole c.precedes-is_earlier.ensures
+    let at = g.T.CronDateTime.moment in
+    rw c.in-Backward.is (test_two (at c.args.instant.now) (at c.in-Ambiguous.later) c.args.shown _ _ c.requires named.value.3 named.value.1.whole c.precedes-is_earlier.ensures start).1
 
 pub returns-in-Single-clause-value : goal.returns-in-Single-clause-value
 returns-in-Single-clause-value g c =
