@@ -11,7 +11,7 @@ use Rattle.croner_base.specs.Calm.{IsChange}
 use Rattle.croner_base.specs.Table.{offset_at}
 use Rattle.croner_base.specs.TableZone.{clock, table_zone}
 use Rattle.croner_base.specs.Zone.{Zone}
-use Rattle.croner_base.proofs.tables.TableOffsets.{calm_between}
+use Rattle.croner_base.proofs.tables.TableOffsets.{calm_changes_once}
 use Rattle.croncheck_command.specs.Changes.{IsJump, IsWatched, AreChanges}
 use Rattle.croncheck_command.specs.declared.changes.Change.{Change}
 use Rattle.croncheck_command.specs.Private.Found.{IsSpan, IsWithin, ahead, IsStill, IsTurn, IsOnlyJump, AreJumps}
@@ -30,7 +30,7 @@ ahead_is t i = plain i (offset_at t.first_offset t.changes.items i)
 
 pub steady : (t : ClockTable) → IsSteady (ahead (table_zone t))
 steady t x i y low high near =
-    elim (calm_between t.first_offset t.changes.items x i y t.calm low high (omega (arith, ints, near))) [
+    elim (calm_changes_once t.first_offset t.changes.items x i y t.calm low high (omega (arith, ints, near))) [
       | inl e ↦ inl (ahead_is t i ∙ e ∙ sym (ahead_is t x))
       | inr e ↦ inr (ahead_is t i ∙ e ∙ sym (ahead_is t y))
     ]

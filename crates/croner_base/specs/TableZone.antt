@@ -27,7 +27,8 @@ instants_around change by_old by_new =
 
 -- the instants that read a wall second, of a calm table. Offsets are at most a day, so a change that lies more than a
 -- day before the second is past at all of them. Of the others the first decides: the next one lies more than two days
--- after it, so at none of them has it come. That it is exactly these is proved (the law `table_is_calm`)
+-- after it, so at none of them has it come. Where all are past, the last offset decides. A lemma says that it is
+-- exactly these
 abbrev pub instants_of : ℤ → List (ℤ × ℤ) → ℤ → Resolution ℤ
 instants_of offset [] w = Single (w -ℤ offset)
 instants_of offset (c ∷ cs) w =

@@ -4,7 +4,7 @@ use Rattle.jiff_core.specs.Calendar.{days_of_months}
 use Rattle.croner_base.specs.declared.time.value.Resolution.TheVariants.{Single, Ambiguous, Gap}
 use Rattle.croner_base.specs.Calendar.{day_number, year_start, days_since_zero, day_seconds}
 use Rattle.croner_base.specs.Limits.{first_searched, last_searched, gap_limit, fold_limit, apart_limit}
-use Rattle.croner_base.specs.Table.{offset_limit, is_calm_table, met_at, gap_at}
+use Rattle.croner_base.specs.Table.{offset_limit, is_calm_table, met_at, met_count, met_gaps}
 use Rattle.croner_base.specs.TableZone.{clock_reads, instants_of}
 
 -- the days that are asked about: in 2024 the last Sundays of March and October, and a day of 2011
@@ -41,9 +41,9 @@ one_second : (instants_of (pos 7_200) ((pos 0, pos 7_199) ∷ []) (pos 7_199) �
     × (instants_of (pos 7_200) ((pos 0, pos 7_199) ∷ []) (pos 7_200) ≡ Single (pos 1))
 one_second = (refl, refl, refl)
 
--- a second a day behind a change, and one more: the change is past, and names the same
-a_day_behind : (instants_of (pos 0) ((pos 0, pos 3_600) ∷ []) (pos 86_400) ≡ Single (pos 82_800))
-    × (instants_of (pos 0) ((pos 0, pos 3_600) ∷ []) (pos 86_401) ≡ Single (pos 82_801))
+-- a wall second a day behind a change is looked for around it, the next one by the offset after it alone: each is read once
+a_day_behind : (instants_of (pos 0) ((pos 0, pos 3_600) ∷ []) (pos offset_limit) ≡ Single (pos 82_800))
+    × (instants_of (pos 0) ((pos 0, pos 3_600) ∷ []) (pos (offset_limit + 1)) ≡ Single (pos 82_801))
 a_day_behind = (refl, refl)
 
 -- offsets of the limit either way, and past it
@@ -108,5 +108,5 @@ first_met : (met_at (pos 0) (first_searched, neg_ℤ (pos 60)) ≡ 0) × (met_at
 first_met = (refl, refl)
 
 -- only clocks that are moved forward skip seconds
-skipped : (gap_at (pos 3_600) (pos 1_711_846_800, pos 7_200) ≡ 3_600) × (gap_at (pos 7_200) (pos 1_729_990_800, pos 3_600) ≡ 0)
-skipped = (refl, refl)
+sums : (met_count (pos 3_600) paris ≡ 2) × (met_gaps (pos 3_600) paris ≡ 3_600)
+sums = (refl, refl)

@@ -1,5 +1,5 @@
 -- What the seconds of a table do as moments.
-use Rattle.std.proofs.Common.{◌≡◌, inl, inr, ap, sym, subst, true, false, refl, ℤ, ◌+ℤ◌, ◌≤ℤ◌, Some, None}
+use Rattle.std.proofs.Common.{◌≡◌, inl, inr, ap, sym, subst, true, false, refl, ℤ, ◌+ℤ◌, Some, None}
 use Rattle.croner_base.specs.declared.errors.CronError.TheVariants.{InvalidDate}
 use Rattle.croner_base.specs.declared.time.civil.CivilDateTime.{CivilDateTime}
 use Rattle.croner_base.specs.declared.time.table.ClockTable.{ClockTable}

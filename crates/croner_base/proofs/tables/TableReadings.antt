@@ -7,37 +7,40 @@ use Rattle.croner_base.specs.declared.time.value.Resolution.TheVariants.{Single,
 use Rattle.croner_base.specs.Calm.{NamesAll}
 use Rattle.croner_base.specs.Limits.{apart_limit}
 use Rattle.croner_base.specs.Zone.{Zone}
-use Rattle.croner_base.specs.Table.{Known, known_after, known_at_first, all_follow, offset_at, is_offset, is_calm_table, offset_limit}
+use Rattle.croner_base.specs.Table.{is_apart, are_changes, offset_at, is_offset, is_calm_table, offset_limit}
 use Rattle.croner_base.specs.Private.TableSteps.{offset_past, IsCountUntil}
 use Rattle.croner_base.specs.TableZone.{clock, clock_reads, instants_around, instants_of}
-use Rattle.croner_base.proofs.tables.TableCheck.{first_follows, calm_parts}
+use Rattle.croner_base.proofs.tables.TableCheck.{first_change, calm_parts}
 use Rattle.croner_base.proofs.tables.TableOffsets.{offset_within, stays}
-use Rattle.croner_base.proofs.tables.TableTests.{le_of, le_test, le_false, lt_test, lt_false, lt_tells, offset_bounds}
+use Rattle.croner_base.proofs.tables.TableTests.{lt_of, le_of, le_test, le_false, lt_test, lt_false, lt_tells, offset_bounds}
 
--- each change lies late enough, and its offset is at most a day
-each_change : (k : Known) (cs : List (ℤ × ℤ)) (j : ℕ) (d : ℤ × ℤ) → j < length cs → all_follow k cs ≡ true → (k.earliest ≤ℤ (get_or cs j d).0) × (is_offset (get_or cs j d).1 ≡ true)
-each_change k [] j d lt h = absurd (omega arith)
-each_change k (c ∷ cs) zero d lt h =
-    let n = (first_follows k c cs h).0 in
-    (n.late_enough, n.offset_in)
-each_change k (c ∷ cs) (suc j) d lt h =
-    let p = first_follows k c cs h in
-    let r = each_change (known_after k c) cs j d (omega arith) p.1 in
-    (omega (arith, signed_arith, p.0.late_enough, r.0), r.1)
+behind : (c : ℤ × ℤ) (cs : List (ℤ × ℤ)) (j : ℕ) (d : ℤ × ℤ) → j < length cs → is_apart c cs ≡ true → are_changes c.1 cs ≡ true → c.0 ≤ℤ (get_or cs j d).0
+behind c [] j d lt a h = absurd (omega arith)
+behind c (e ∷ es) zero d lt a h = let l = lt_of (c.0 +ℤ pos apart_limit) e.0 a in omega (arith, signed_arith, l)
+behind c (e ∷ es) (suc j) d lt a h =
+    let l = lt_of (c.0 +ℤ pos apart_limit) e.0 a in
+    let f = first_change c.1 e es h in
+    let r = behind e es j d (omega arith) f.apart f.rest in
+    omega (arith, signed_arith, l, r)
 
-ascending : (k : Known) (cs : List (ℤ × ℤ)) (i j : ℕ) (d : ℤ × ℤ) → i ≤ j → j < length cs → all_follow k cs ≡ true → (get_or cs i d).0 ≤ℤ (get_or cs j d).0
-ascending k [] i j d le lt h = absurd (omega arith)
-ascending k (c ∷ cs) zero zero d le lt h = omega (arith, signed_arith)
-ascending k (c ∷ cs) zero (suc j) d le lt h =
-    let r = each_change (known_after k c) cs j d (omega arith) (first_follows k c cs h).1 in
-    omega (arith, signed_arith, r.0)
-ascending k (c ∷ cs) (suc i) zero d le lt h = absurd (omega arith)
-ascending k (c ∷ cs) (suc i) (suc j) d le lt h = ascending (known_after k c) cs i j d (omega arith) (omega arith) (first_follows k c cs h).1
+ascending : (o : ℤ) (cs : List (ℤ × ℤ)) (i j : ℕ) (d : ℤ × ℤ) → i ≤ j → j < length cs → are_changes o cs ≡ true → (get_or cs i d).0 ≤ℤ (get_or cs j d).0
+ascending o [] i j d le lt h = absurd (omega arith)
+ascending o (c ∷ cs) zero zero d le lt h = omega (arith, signed_arith)
+ascending o (c ∷ cs) zero (suc j) d le lt h =
+    let f = first_change o c cs h in
+    behind c cs j d (omega arith) f.apart f.rest
+ascending o (c ∷ cs) (suc i) zero d le lt h = absurd (omega arith)
+ascending o (c ∷ cs) (suc i) (suc j) d le lt h = ascending c.1 cs i j d (omega arith) (omega arith) (first_change o c cs h).rest
+
+each_offset : (o : ℤ) (cs : List (ℤ × ℤ)) (j : ℕ) (d : ℤ × ℤ) → j < length cs → are_changes o cs ≡ true → is_offset (get_or cs j d).1 ≡ true
+each_offset o [] j d lt h = absurd (omega arith)
+each_offset o (c ∷ cs) zero d lt h = (first_change o c cs h).offset_in
+each_offset o (c ∷ cs) (suc j) d lt h = each_offset c.1 cs j d (omega arith) (first_change o c cs h).rest
 
 -- the changes rise, so those at or before an instant come first
 pub at_or_before_first : (o : ℤ) (cs : List (ℤ × ℤ)) (i : ℤ) (d : ℤ × ℤ) → is_calm_table o cs ≡ true → (j k : ℕ) → j ≤ k → k < length cs → int_le (get_or cs k d).0 i ≡ true → int_le (get_or cs j d).0 i ≡ true
 at_or_before_first o cs i d h j k le lt up =
-    let a = ascending (known_at_first o) cs j k d le lt (calm_parts o cs h).1 in
+    let a = ascending o cs j k d le lt (calm_parts o cs h).changes in
     let b = le_of (get_or cs k d).0 i up in
     le_test _ i (omega (arith, signed_arith, a, b))
 
@@ -80,11 +83,11 @@ resolved_last o (c ∷ cs) w (suc n) u e =
 
 -- each offset of a table is at most a day
 pub past_is_offset : (o : ℤ) (cs : List (ℤ × ℤ)) (n : ℕ) → is_calm_table o cs ≡ true → n ≤ length cs → is_offset (offset_past o cs n) ≡ true
-past_is_offset o cs zero h le = (calm_parts o cs h).0
-past_is_offset o cs (suc n) h le = (each_change (known_at_first o) cs n (pos 0, pos 0) (omega arith) (calm_parts o cs h).1).1
+past_is_offset o cs zero h le = (calm_parts o cs h).offset_in
+past_is_offset o cs (suc n) h le = each_offset o cs n (pos 0, pos 0) (omega arith) (calm_parts o cs h).changes
 
 pub each_is_offset : (o : ℤ) (cs : List (ℤ × ℤ)) (k : ℕ) (x : ℤ × ℤ) → is_calm_table o cs ≡ true → k < length cs → x ≡ get_or cs k x → is_offset x.1 ≡ true
-each_is_offset o cs k x h lt e = rw e (each_change (known_at_first o) cs k x lt (calm_parts o cs h).1).1
+each_is_offset o cs k x h lt e = rw e (each_offset o cs k x lt (calm_parts o cs h).changes)
 
 -- what the clock reads
 pub reads_by : (a r o : ℤ) (cs : List (ℤ × ℤ)) (i : ℤ) → r ≡ offset_at o cs i → a ≡ i +ℤ r → a ≡ clock_reads o cs i
@@ -101,17 +104,16 @@ ahead o c cs i h = let t = le_false c.0 i h in rw t
 abbrev ReadsAround : (ℤ → ℤ) → ℤ → ℤ → ℤ → ℤ → Type 0
 ReadsAround reads w d early late = (i : ℤ) → (reads i ≡ w) ↔ (((i ≡ early) × (early <ℤ d)) ⊎ ((i ≡ late) × (d ≤ℤ late)))
 
-around_first : (k : Known) (c : ℤ × ℤ) (cs : List (ℤ × ℤ)) (w : ℤ) → is_offset k.offset ≡ true → all_follow k (c ∷ cs) ≡ true → w ≤ℤ (c.0 +ℤ pos offset_limit)
-    → ReadsAround (clock_reads k.offset (c ∷ cs)) w c.0 (w -ℤ k.offset) (w -ℤ c.1)
-around_first k c cs w o h near i =
-    let p = first_follows k c cs h in
-    let b = offset_within k (c ∷ cs) i o h in
-    let a = offset_bounds c.1 p.0.offset_in in
+around_first : (o : ℤ) (c : ℤ × ℤ) (cs : List (ℤ × ℤ)) (w : ℤ) → is_offset o ≡ true → are_changes o (c ∷ cs) ≡ true → w ≤ℤ (c.0 +ℤ pos offset_limit) → ReadsAround (clock_reads o (c ∷ cs)) w c.0 (w -ℤ o) (w -ℤ c.1)
+around_first o c cs w in_bounds h near i =
+    let f = first_change o c cs h in
+    let b = offset_within o (c ∷ cs) i in_bounds h in
+    let a = offset_bounds c.1 f.offset_in in
     by_lt_z i c.0
-    (λ lt. let e = ahead k.offset c cs i lt in ((λ r. inl (omega (arith, signed_arith, r, e), omega (arith, signed_arith, r, e, lt))), λ h. omega (arith, signed_arith, h, e, lt)))
+    (λ lt. let e = ahead o c cs i lt in ((λ r. inl (omega (arith, signed_arith, r, e), omega (arith, signed_arith, r, e, lt))), λ h. omega (arith, signed_arith, h, e, lt)))
     (λ ge.
-    let e = passed k.offset c cs i ge in
-    let late : i ≤ℤ (c.0 +ℤ pos apart_limit) → offset_at k.offset (c ∷ cs) i ≡ c.1 = λ le. e ∙ stays k c cs i p.1 le in (
+    let e = passed o c cs i ge in
+    let late : i ≤ℤ (c.0 +ℤ pos apart_limit) → offset_at o (c ∷ cs) i ≡ c.1 = λ le. e ∙ stays c cs i f.apart le in (
       (λ r. let l = late (omega (arith, signed_arith, r, b, near)) in inr (omega (arith, signed_arith, r, l), omega (arith, signed_arith, r, l, ge))),
       λ h. let l = late (omega (arith, signed_arith, h, a, near, ge)) in omega (arith, signed_arith, h, l, ge),
     ))
@@ -140,24 +142,24 @@ names_alike y z w (Single a) same n = λ i. ((λ e. (n i).0 ((same i).1 e)), λ 
 names_alike y z w (Ambiguous a b) same n = (n.0, λ i. ((λ e. (n.1 i).0 ((same i).1 e)), λ e. (same i).0 ((n.1 i).1 e)))
 names_alike y z w Gap same n = λ i e. n i ((same i).1 e)
 
-names_from : (k : Known) (cs : List (ℤ × ℤ)) (w : ℤ) → is_offset k.offset ≡ true → all_follow k cs ≡ true → NamesAll (clock k.offset cs) w (instants_of k.offset cs w)
+names_from : (o : ℤ) (cs : List (ℤ × ℤ)) (w : ℤ) → is_offset o ≡ true → are_changes o cs ≡ true → NamesAll (clock o cs) w (instants_of o cs w)
 unfolding clock
-names_from k [] w o h = λ i. ((λ e. omega (arith, signed_arith, e)), λ e. omega (arith, signed_arith, e))
-names_from k (c ∷ cs) w o h = elim (lt_tells (c.0 +ℤ pos offset_limit) w) [
+names_from o [] w b h = λ i. ((λ e. omega (arith, signed_arith, e)), λ e. omega (arith, signed_arith, e))
+names_from o (c ∷ cs) w b h = elim (lt_tells (c.0 +ℤ pos offset_limit) w) [
   | inl far ↦
-      let p = first_follows k c cs h in
-      let same : (i : ℤ) → (clock_reads c.1 cs i ≡ w) ↔ (clock_reads k.offset (c ∷ cs) i ≡ w) = λ i.
-      let a = offset_within (known_after k c) cs i p.0.offset_in p.1 in
-      let b = offset_within k (c ∷ cs) i o h in (
-        (λ e. let q = passed k.offset c cs i (omega (arith, signed_arith, e, a, far.1)) in omega (arith, signed_arith, e, q)),
-        (λ e. let q = passed k.offset c cs i (omega (arith, signed_arith, e, b, far.1)) in omega (arith, signed_arith, e, q)),
-      ) in
-      rw far.0 (names_alike (clock c.1 cs) (clock k.offset (c ∷ cs)) w _ same (names_from (known_after k c) cs w p.0.offset_in p.1))
-  | inr here ↦ rw here.0 (names_around (clock k.offset (c ∷ cs)) w c.0 _ _ (around_first k c cs w o h here.1))
+      let f = first_change o c cs h in
+      let same : (i : ℤ) → (clock_reads c.1 cs i ≡ w) ↔ (clock_reads o (c ∷ cs) i ≡ w) = λ i.
+          let x = offset_within c.1 cs i f.offset_in f.rest in
+          let y = offset_within o (c ∷ cs) i b h in (
+            (λ e. let q = passed o c cs i (omega (arith, signed_arith, e, x, far.1)) in omega (arith, signed_arith, e, q)),
+            (λ e. let q = passed o c cs i (omega (arith, signed_arith, e, y, far.1)) in omega (arith, signed_arith, e, q)),
+          ) in
+      rw far.0 (names_alike (clock c.1 cs) (clock o (c ∷ cs)) w _ same (names_from c.1 cs w f.offset_in f.rest))
+  | inr here ↦ rw here.0 (names_around (clock o (c ∷ cs)) w c.0 _ _ (around_first o c cs w b h here.1))
 ]
 
 -- the resolution of a calm table names all instants of a second
 pub names_instants : (o : ℤ) (cs : List (ℤ × ℤ)) (w : ℤ) → is_calm_table o cs ≡ true → NamesAll (clock o cs) w (instants_of o cs w)
 names_instants o cs w h =
     let p = calm_parts o cs h in
-    names_from (known_at_first o) cs w p.0 p.1
+    names_from o cs w p.offset_in p.changes

@@ -6,12 +6,31 @@ use Rattle.croner_base.specs.declared.time.table.ClockTable.{ClockTable}
 use Rattle.croner_base.specs.declared.time.table.TableTime.{TableTime}
 use Rattle.croner_base.specs.declared.time.value.Resolution.{Resolution}
 use Rattle.croner_base.specs.declared.time.value.Resolution.TheVariants.{Single, Ambiguous, Gap}
-use Rattle.croner_base.specs.Limits.{most_changes, most_gap_seconds}
-use Rattle.croner_base.specs.Table.{Known, first_instant, last_instant, offset_limit, is_offset, is_step, met_at, gap_at}
+use Rattle.croner_base.specs.Limits.{apart_limit, most_changes, most_gap_seconds}
+use Rattle.croner_base.specs.Table.{first_instant, last_instant, offset_limit, is_offset, is_step, met_at, gap_at}
+
+-- what is known of a table after some of its changes
+pub record Known : Type 0 where
+  -- the offset in force then
+  pub offset : ℤ
+  -- the least instant at which the next change may lie: at first the first instant
+  pub earliest : ℤ
+  -- how many of the changes are met, and how many seconds the clock is moved forward at these
+  pub met : ℕ
+  pub gap_seconds : ℕ
 
 -- what a tally tells
 abbrev pub known_by : Tally → Known
 known_by t = record { offset = t.offset; earliest = t.earliest; met = t.met; gap_seconds = t.gap_seconds }
+
+-- what is known after one change more
+abbrev pub known_after : Known → ℤ × ℤ → Known
+known_after k c = record {
+  offset = c.1;
+  earliest = c.0 +ℤ pos apart_limit +ℤ pos 1;
+  met = k.met + met_at k.offset c;
+  gap_seconds = k.gap_seconds + gap_at k.offset c;
+}
 
 -- a change can be the next one
 pub record IsNextChange (k : Known) (c : ℤ × ℤ) : Type 0 where
@@ -27,7 +46,7 @@ abbrev pub offset_past : ℤ → List (ℤ × ℤ) → ℕ → ℤ
 offset_past offset cs zero = offset
 offset_past offset cs (suc n) = (slice_index_or cs n (pos 0, pos 0)).1
 
--- the first n changes are those at or before an instant
+-- the first n changes lie at or before an instant, and the next one after it: of ascending changes, all that do
 abbrev pub IsCountUntil : List (ℤ × ℤ) → ℤ → ℕ → Type 0
 IsCountUntil [] i n = n ≡ 0
 IsCountUntil (c ∷ cs) i zero = i <ℤ c.0

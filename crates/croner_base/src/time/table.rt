@@ -228,8 +228,8 @@ impl<'t> TableTime<'t> {
         Self::around(self.table.instant_of(passed), by_old, by_new)
     }
 
-    // Of two seconds, those at which the clock reads a wall second: the one by the offset before a change if it lies before the
-    // change, and the one by the offset after it if it doesn't.
+    // Of two seconds, those at which the clock reads a wall second: the one by the offset before a change if it lies before
+    // the change, and the one by the offset after it if it doesn't.
     fn around(
         change: i64,
         by_old: TableTime<'t>,

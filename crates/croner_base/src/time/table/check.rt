@@ -66,12 +66,12 @@ struct Tally {
 }
 
 impl Tally {
-    ghost use Rattle.croner_base.specs.Private.TableSteps.{known_by, IsNextChange};
+    ghost use Rattle.croner_base.specs.Private.TableSteps.{known_after, known_by, IsNextChange};
 
     // One change more, or nothing where the table is refused for it.
     fn with(self, change: (i64, i32)) -> Option<Tally>
         ensures some { IsSome result ↔ IsNextChange (known_by self) change }
-        ensures value { IfSome result (λ t. known_by t ≡ Spec.known_after (known_by self) change) }
+        ensures value { IfSome result (λ t. known_by t ≡ known_after (known_by self) change) }
     {
         let (second, offset) = change;
         if second < self.earliest || second > LAST_INSTANT {
@@ -131,7 +131,7 @@ fn gap_at(before: i32, change: (i64, i32)) -> u32
     ensures value { result ≡ Spec.gap_at before change }
     ensures bound { result ≤ gap_limit }
 {
-    let after = change.1;
+    let (_, after) = change;
     if is_met(before, change) && before < after {
         (after - before) as u32
     } else {
