@@ -20,16 +20,11 @@ paris_accepted : is_calm_table (pos 3_600) paris ≡ true
 unfolding is_calm_table
 paris_accepted = refl
 
--- half past two in the gap, at 2024-03-31T02:30:00
-paris_gap : instants_of (pos 3_600) paris (pos 19_813 *ℤ pos day_seconds +ℤ pos 9_000) ≡ Gap
-paris_gap = refl
-
--- half past two twice, at 2024-10-27T02:30:00, and three o'clock once
-paris_twice : instants_of (pos 3_600) paris (pos 20_023 *ℤ pos day_seconds +ℤ pos 9_000) ≡ Ambiguous (pos 1_729_989_000) (pos 1_729_992_600)
-paris_twice = refl
-
-paris_once : instants_of (pos 3_600) paris (pos 20_023 *ℤ pos day_seconds +ℤ pos 10_800) ≡ Single (pos 1_729_994_400)
-paris_once = refl
+-- half past two in the gap, at 2024-03-31T02:30:00; twice, at 2024-10-27T02:30:00; and three o'clock of that day once
+paris_resolved : (instants_of (pos 3_600) paris (pos 19_813 *ℤ pos day_seconds +ℤ pos 9_000) ≡ Gap)
+    × (instants_of (pos 3_600) paris (pos 20_023 *ℤ pos day_seconds +ℤ pos 9_000) ≡ Ambiguous (pos 1_729_989_000) (pos 1_729_992_600))
+    × (instants_of (pos 3_600) paris (pos 20_023 *ℤ pos day_seconds +ℤ pos 10_800) ≡ Single (pos 1_729_994_400))
+paris_resolved = (refl, refl, refl)
 
 -- the second before a change reads with the offset before it
 paris_around : (clock_reads (pos 3_600) paris (pos 1_711_846_799) ≡ pos 1_711_850_399) × (clock_reads (pos 3_600) paris (pos 1_711_846_800) ≡ pos 1_711_854_000)

@@ -2,6 +2,7 @@
 use Rattle.std.proofs.Common.{◌≡◌, ◌⊎◌, inl, inr, sym, ap, ◌∙◌, subst, Bool, true, false, refl, arith, zero, suc, ◌≤◌, ℤ, pos, neg_ℤ, ◌+ℤ◌, ◌-ℤ◌, ◌<ℤ◌, ◌≤ℤ◌, int_lt, unsigned_abs, if◌then◌else◌, List, [], ◌∷◌, length, Some, None, IsSome}
 use Rattle.std.proofs.lemmas.Int.{by_lt_z}
 use Rattle.std.proofs.lemmas.Bool.Decides.{Decides-or}
+use Rattle.std.proofs.lemmas.List.Elements.{All-tail}
 use Rattle.std.specs.List.{All}
 use Rattle.jiff_core.proofs.SignedLemmas.{signed_arith}
 use Rattle.croner_base.specs.declared.time.civil.CivilDateTime.{CivilDateTime}
@@ -69,9 +70,6 @@ skipped o c j h e =
     (λ lt. let a = lt_test (pos 0) (c.1 -ℤ o) (omega (arith, signed_arith, lt)) in let b = lt_test o c.1 lt in rw (e, a, b, h))
     (λ ge. let a = lt_false (pos 0) (c.1 -ℤ o) (omega (arith, signed_arith, ge)) in let b = lt_false o c.1 ge in rw (e, a, b, h))
 
-tail : (P : ℤ → Type 0) (d : ℤ) (ds : List ℤ) → All P (d ∷ ds) → All P ds
-tail P d ds h = λ k e l. h (suc k) e (omega arith)
-
 plain_change : (u v d x y : ℤ) → u ≡ d +ℤ x → v ≡ (d -ℤ pos 1) +ℤ y → x ≡ y → u ≡ v +ℤ pos 1
 plain_change u v d x y p q e = omega (arith, signed_arith)
 
@@ -81,8 +79,7 @@ above_first d ds h (suc k) e l = let a = h k e (omega arith) in omega (arith, si
 
 -- of a zone that reads as the table after f, the changes after f are counted
 few_in : (z : Zone) (f o : ℤ) (cs : List (ℤ × ℤ)) (ds : List ℤ) → ((i : ℤ) → f ≤ℤ i → z.reads i ≡ clock_reads o cs i) → All (λ e. f <ℤ e) ds → are_changes o cs ≡ true → Rises ds → All (IsMet z) ds → (length ds ≤ met_count o cs) × (gap_seconds z ds ≤ met_gaps o cs)
-few_in z f o [] [] agree above h r met = (omega arith, omega arith)
-few_in z f o (c ∷ cs) [] agree above h r met = (omega arith, omega arith)
+few_in z f o cs [] agree above h r met = (omega arith, omega arith)
 few_in z f o [] (d ∷ ds) agree above h r met =
     let a = above 0 d (omega arith) in
     let p : z.reads d ≡ d +ℤ o = agree d (omega (arith, signed_arith, a)) in
@@ -97,7 +94,7 @@ few_in z f o (c ∷ cs) (d ∷ ds) agree above h r met =
     elim (place o c cs d (λ e. m.0 (plain_change _ _ d _ _ p q e))) [
       | inl here ↦
           let w = at_change o c cs d n.apart here in
-          let rest = few_in z d c.1 cs ds (λ i le. agree i (omega (arith, signed_arith, a, le)) ∙ ap (λ (x : ℤ). i +ℤ x) (passed o c cs i (omega (arith, signed_arith, here, le)))) r.0 n.rest r.1 (tail (IsMet z) d ds met) in
+          let rest = few_in z d c.1 cs ds (λ i le. agree i (omega (arith, signed_arith, a, le)) ∙ ap (λ (x : ℤ). i +ℤ x) (passed o c cs i (omega (arith, signed_arith, here, le)))) r.0 n.rest r.1 (All-tail (IsMet z) d ds met) in
           let x : z.reads d ≡ c.0 +ℤ c.1 = p ∙ rw w.0 (omega (arith, signed_arith, here)) in
           let y : z.reads (d -ℤ pos 1) ≡ c.0 -ℤ pos 1 +ℤ o = q ∙ rw w.1 (omega (arith, signed_arith, here)) in
           let seen1 = seen o c (rw (x, y) at m.1) in

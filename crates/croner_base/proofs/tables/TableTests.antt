@@ -1,5 +1,5 @@
 -- What the tests of a table say.
-use Rattle.std.proofs.Common.{◌≡◌, ◌⊎◌, inl, inr, Bool, true, false, refl, arith, ◌&&◌, ℤ, pos, neg_ℤ, ◌-ℤ◌, ◌<ℤ◌, ◌≤ℤ◌, int_le, int_lt, int_eq}
+use Rattle.std.proofs.Common.{◌≡◌, ◌⊎◌, inl, inr, Bool, true, false, refl, arith, ◌&&◌, ℤ, pos, neg_ℤ, ◌-ℤ◌, ◌<ℤ◌, ◌≤ℤ◌, int_le, int_lt}
 use Rattle.std.specs.Bool.{Decides}
 use Rattle.std.proofs.lemmas.Bool.Decides.{Decides-and}
 use Rattle.std.proofs.lemmas.Int.{ints, by_lt_z}
@@ -39,15 +39,6 @@ le_tells a b = by_lt_z b a (λ gt. inr (le_false a b gt, gt)) (λ le. inl (le_te
 
 pub lt_tells : (a b : ℤ) → ((int_lt a b ≡ true) × (a <ℤ b)) ⊎ ((int_lt a b ≡ false) × (b ≤ℤ a))
 lt_tells a b = by_lt_z a b (λ lt. inl (lt_test a b lt, lt)) (λ ge. inr (lt_false a b ge, ge))
-
-pub eq_test : (a b : ℤ) → a ≡ b → int_eq a b ≡ true
-eq_test a b h = grind (arith, ints)
-
-pub eq_false : (a b : ℤ) → (a ≡ b → ⊥) → int_eq a b ≡ false
-eq_false a b h = grind (arith, ints)
-
-pub eq_tells : (a b : ℤ) → ((int_eq a b ≡ true) × (a ≡ b)) ⊎ (int_eq a b ≡ false)
-eq_tells a b = by_lt_z a b (λ lt. inr (grind (arith, ints))) (λ ge. by_lt_z b a (λ gt. inr (grind (arith, ints))) (λ le. let e : a ≡ b = omega (arith, ints, ge, le) in inl (eq_test a b e, e)))
 
 -- a number between two bounds
 pub between : (low high i : ℤ) → Decides (int_le low i && int_le i high) ((low ≤ℤ i) × (i ≤ℤ high))

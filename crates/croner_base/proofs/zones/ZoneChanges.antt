@@ -1,6 +1,6 @@
 -- The changes of an offset: over a stretch without one, at its end, and what the clock of all of them shows.
-use Rattle.std.proofs.Common.{◌≡◌, inl, inr, ℕ, zero, suc, ◌+◌, true, false, cond, refl, sym, ap, ◌∙◌, arith, ℤ, pos, ◌+ℤ◌, ◌-ℤ◌, ◌≤ℤ◌, ◌<ℤ◌, int_eq, int_le, int_lt, List, [], ◌∷◌, ◌++◌, append_assoc, append-nil, unsigned_abs}
-use Rattle.std.proofs.lemmas.Int.{by_lt_z}
+use Rattle.std.proofs.Common.{◌≡◌, ◌⊎◌, inl, inr, ℕ, zero, suc, ◌+◌, true, false, cond, refl, sym, ap, ◌∙◌, arith, ℤ, pos, ◌+ℤ◌, ◌-ℤ◌, ◌≤ℤ◌, ◌<ℤ◌, int_eq, int_le, int_lt, List, [], ◌∷◌, ◌++◌, append_assoc, append-nil, unsigned_abs}
+use Rattle.std.proofs.lemmas.Int.{ints, by_lt_z}
 use Rattle.jiff_core.proofs.SignedLemmas.{signed_arith}
 use Rattle.croner_base.specs.Table.{offset_at}
 use Rattle.jiff_tz.specs.declared.timezone.TimeZone.{TimeZone}
@@ -9,9 +9,19 @@ use Rattle.croner_base.specs.Private.ZoneSteps.{IsNextQuestion}
 use Rattle.croner_base.specs.TableZone.{HasParts, clock, table_zone}
 use Rattle.croner_base.specs.ZoneTable.{IsWindow, ahead_at, change_at, changes_after, window_changes, nearest_in}
 use Rattle.croner_base.specs.ZonedZone.{zone_reads}
-use Rattle.croner_base.proofs.tables.TableTests.{le_test, le_false, le_tells, lt_tells, lt_false, eq_test, eq_tells, eq_false}
+use Rattle.croner_base.proofs.tables.TableTests.{le_test, le_false, le_tells, lt_tells, lt_false}
 use Rattle.croner_base.proofs.clocks.ZonedMoments.{zone_reads-held}
 use Rattle.croner_base.proofs.zones.ZoneYears.{nonneg_abs}
+
+-- the test of two numbers
+eq_test : (a b : ℤ) → a ≡ b → int_eq a b ≡ true
+eq_test a b h = grind (arith, ints)
+
+eq_false : (a b : ℤ) → (a ≡ b → ⊥) → int_eq a b ≡ false
+eq_false a b h = grind (arith, ints)
+
+eq_tells : (a b : ℤ) → ((int_eq a b ≡ true) × (a ≡ b)) ⊎ (int_eq a b ≡ false)
+eq_tells a b = by_lt_z a b (λ lt. inr (grind (arith, ints))) (λ ge. by_lt_z b a (λ gt. inr (grind (arith, ints))) (λ le. let e : a ≡ b = omega (arith, ints, ge, le) in inl (eq_test a b e, e)))
 
 pub changes_zero : (f : ℤ → ℤ) (first : ℤ) → changes_after f first 0 ≡ []
 unfolding changes_after

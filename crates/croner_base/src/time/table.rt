@@ -1,5 +1,5 @@
 //! Clocks that are given by a table of offsets: what a clock is ahead of UTC, first and after each of its changes.
-ghost use Rattle.std.specs.Prelude.{◌≡◌, ◌↔◌, ◌<◌, ◌≤◌, IsTrue, IsOk, IfOk, IfErr, pos, ◌≤ℤ◌, int_le, false, vec_len, slice_index_or};
+ghost use Rattle.std.specs.Prelude.{◌≡◌, ◌↔◌, ◌<◌, ◌≤◌, IsTrue, IsOk, IfOk, IfErr, pos, ◌≤ℤ◌, ◌-ℤ◌, int_le, false, vec_len, slice_index_or};
 ghost use Rattle.std.proofs.Common.{ap};
 ghost use Rattle.croner_base.specs.Table as Spec;
 
@@ -127,7 +127,7 @@ pub struct TableTime<'t> {
 
 impl<'t> TableTime<'t> {
     ghost use Rattle.croner_base.specs.TableZone.{instants_around, instants_of, table_moment};
-    ghost use Rattle.croner_base.specs.Private.TableSteps.{AreOn, first_reading, first_resolved, last_reading, last_resolved, seconds_of};
+    ghost use Rattle.croner_base.specs.Private.TableSteps.{AreOn, first_reading, first_resolved, last_reading, last_resolved, offset_past, seconds_of};
     ghost use Rattle.croner_base.specs.Zone.{reading};
     ghost use Rattle.croner_base.specs.ZonedZone.{is_timestamp_second};
     ghost use Rattle.jiff_core.specs.Timestamp.{nanos_of_seconds};
@@ -220,11 +220,11 @@ impl<'t> TableTime<'t> {
         let passed = self
             .table
             .changes_until(wall - OFFSET_LIMIT_SECONDS as i64 - 1);
-        let by_old = self.at(wall - self.table.offset_past(passed));
+        let by_old = self.by_offset_past(passed, wall);
         if passed == self.table.changes.len() {
             return Resolution::Single(by_old);
         }
-        let by_new = self.at(wall - self.table.offset_past(passed + 1));
+        let by_new = self.by_offset_past(passed + 1, wall);
         Self::around(self.table.instant_of(passed), by_old, by_new)
     }
 
@@ -249,6 +249,17 @@ impl<'t> TableTime<'t> {
         } else {
             Resolution::Single(by_new)
         }
+    }
+
+    // The second that reads a wall second if the offset after so many changes is in force.
+    fn by_offset_past(&self, count: usize, wall: i64) -> TableTime<'t>
+        requires count { count ≤ vec_len self.now.table.now.changes }
+        requires low { first_resolved ≤ℤ wall }
+        requires high { wall ≤ℤ last_resolved }
+        ensures second { result.second ≡ wall -ℤ offset_past self.now.table.now.first_offset self.now.table.now.changes.items count }
+        ensures table { result.table.now ≡ self.now.table.now }
+    {
+        self.at(wall - self.table.offset_past(count))
     }
 
     // Another second on the same clock.
