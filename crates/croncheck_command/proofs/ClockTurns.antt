@@ -12,7 +12,7 @@ use Rattle.croner_base.specs.Table.{offset_at}
 use Rattle.croner_base.specs.TableZone.{clock, table_zone}
 use Rattle.croner_base.specs.Zone.{Zone}
 use Rattle.croner_base.proofs.tables.TableOffsets.{calm_changes_once}
-use Rattle.croncheck_command.specs.Changes.{IsJump, IsWatched, AreChanges}
+use Rattle.croncheck_command.specs.Changes.{IsJump, IsWatched, AreChanges, watched_seconds}
 use Rattle.croncheck_command.specs.declared.changes.Change.{Change}
 use Rattle.croncheck_command.specs.Private.Found.{IsSpan, IsWithin, ahead, IsStill, IsTurn, IsOnlyJump, AreJumps}
 
@@ -188,12 +188,12 @@ abbrev pub first_asked : ℤ → ℤ
 first_asked s = int_max s (neg_ℤ (pos 62_135_424_001))
 
 abbrev pub last_asked : ℤ → ℤ
-last_asked s = int_min (pos 95_617_411_199) (s +ℤ pos 32_140_800)
+last_asked s = int_min (pos 95_617_411_199) (s +ℤ pos watched_seconds)
 
 watched_is : (s i : ℤ) → IsWithin (first_asked s) (last_asked s) i → IsWatched s i
 watched_is s i h =
     let a = int_max_is s (neg_ℤ (pos 62_135_424_001)) in
-    let b = int_min_is (pos 95_617_411_199) (s +ℤ pos 32_140_800) in
+    let b = int_min_is (pos 95_617_411_199) (s +ℤ pos watched_seconds) in
     record {
       behind = omega (arith, ints, a, h.0);
       within = omega (arith, ints, b, h.1);
@@ -204,7 +204,7 @@ watched_is s i h =
 within_is : (s i : ℤ) → IsWatched s i → IsWithin (first_asked s) (last_asked s) i
 within_is s i w =
     let a = int_max_is s (neg_ℤ (pos 62_135_424_001)) in
-    let b = int_min_is (pos 95_617_411_199) (s +ℤ pos 32_140_800) in
+    let b = int_min_is (pos 95_617_411_199) (s +ℤ pos watched_seconds) in
     (omega (arith, ints, a, w.behind, w.from), omega (arith, ints, b, w.within, w.before))
 
 pub all_watched : (z : Zone) (s first last : ℤ) (cs : List Change) → first ≡ first_asked s → last ≡ last_asked s → AreJumps z first last cs → AreChanges z s cs

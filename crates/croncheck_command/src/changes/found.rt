@@ -32,15 +32,15 @@ pub fn changes_behind(
     ensures { IfOk result (λ changes. AreChangesFrom start.entry changes.items) }
 {
     let first = start.second().max(BEFORE_FIRST);
-    let last = LAST.min(year_behind(start));
+    let last = LAST.min(last_watched(start));
     if last <= first {
         return Ok(Vec::new(alloc));
     }
     changes_within(alloc, level, start, first, last)
 }
 
-// 372 days behind a start.
-fn year_behind(start: TableTime<'_>) -> i64
+// The last second of the 372 days behind a start.
+fn last_watched(start: TableTime<'_>) -> i64
     ensures { result ≡ start.entry.second +ℤ pos watched_seconds }
 {
     start.second() + WATCHED_SECONDS

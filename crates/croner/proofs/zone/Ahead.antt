@@ -24,7 +24,7 @@ along-shift Backward a b c = omega (arith, ints)
 pub both_next : (dir : Direction) (a b : ℤ) → Precedes dir a b → Precedes dir (a +ℤ pos 1) (b +ℤ pos 1)
 both_next dir a b h = grind (arith, ints)
 
--- a comes no later than b where b does not come before it, and before b where b comes later
+-- a comes no later than b where b does not come before it, and before b where b comes neither before it nor with it
 pub reaches_unless : (dir : Direction) (a b : ℤ) → (Precedes dir b a → ⊥) → Reaches dir a b
 reaches_unless dir a b never = elim (either dir b a) [ inl lt ↦ absurd (never lt) | inr le ↦ le ]
 

@@ -54,7 +54,7 @@ distance i j h = omega (arith, ints, nonnegative (j -ℤ i) (omega (arith, ints)
 abbrev pub IsLine : Direction → (ℤ → ℤ) → ℤ → ℤ → Type 0
 IsLine direction reads i j = along direction (reads j) -ℤ along direction (reads i) ≡ along direction j -ℤ along direction i
 
--- the clock is put back between i and j, right behind `edge` in the direction, and from i to j by little
+-- between i and j the clock changes, right before `edge` in the direction, and from i to j it is put back by little
 pub record Turned (direction : Direction) (reads : ℤ → ℤ) (i j : ℤ) : Type 0 where
   pub edge : ℤ
   pub low : Precedes direction i edge

@@ -149,11 +149,11 @@ names_from o (c ∷ cs) w b h = elim (lt_tells (c.0 +ℤ pos offset_limit) w) [
   | inl far ↦
       let f = first_change o c cs h in
       let same : (i : ℤ) → (clock_reads c.1 cs i ≡ w) ↔ (clock_reads o (c ∷ cs) i ≡ w) = λ i.
-          let x = offset_within c.1 cs i f.offset_in f.rest in
-          let y = offset_within o (c ∷ cs) i b h in (
-            (λ e. let q = passed o c cs i (omega (arith, signed_arith, e, x, far.1)) in omega (arith, signed_arith, e, q)),
-            (λ e. let q = passed o c cs i (omega (arith, signed_arith, e, y, far.1)) in omega (arith, signed_arith, e, q)),
-          ) in
+      let x = offset_within c.1 cs i f.offset_in f.rest in
+      let y = offset_within o (c ∷ cs) i b h in (
+        (λ e. let q = passed o c cs i (omega (arith, signed_arith, e, x, far.1)) in omega (arith, signed_arith, e, q)),
+        (λ e. let q = passed o c cs i (omega (arith, signed_arith, e, y, far.1)) in omega (arith, signed_arith, e, q)),
+      ) in
       rw far.0 (names_alike (clock c.1 cs) (clock o (c ∷ cs)) w _ same (names_from c.1 cs w f.offset_in f.rest))
   | inr here ↦ rw here.0 (names_around (clock o (c ∷ cs)) w c.0 _ _ (around_first o c cs w b h here.1))
 ]

@@ -55,7 +55,7 @@ pub rows_below-zero : (s : ℕ) → rows_below s 0 ≡ 0
 unfolding rows_below
 rows_below-zero s = refl
 
-pub rows_below-le : (s k : ℕ) → rows_below s k ≤ k
+rows_below-le : (s k : ℕ) → rows_below s k ≤ k
 unfolding rows_below
 rows_below-le s zero = omega arith
 rows_below-le s (suc k) = omega (arith, rows_below-le s k, bit_at-lt s k)

@@ -23,7 +23,7 @@ unfolding number_of
 number_of_none bit = refl
 
 -- one more bit
-pub number_of-more : (bit : ℕ → ℕ) (n : ℕ) → number_of bit (n + 1) ≡ bit n * 2 ^ n + number_of bit n
+number_of-more : (bit : ℕ → ℕ) (n : ℕ) → number_of bit (n + 1) ≡ bit n * 2 ^ n + number_of bit n
 unfolding number_of
 number_of-more bit n = let e : n + 1 ≡ suc n = omega arith in ap (number_of bit) e ∙ omega arith
 
@@ -62,7 +62,7 @@ unfolding mark_at
 mark_none words wide s k v off = let z : bit_at s k ≡ 0 = omega (arith, bit_at-lt s k) in rw z (omega arith)
 
 -- a mark is a bit
-pub mark_at-lt : (words : List ℕ) (wide s k v : ℕ) → mark_at words wide s k v < 2
+mark_at-lt : (words : List ℕ) (wide s k v : ℕ) → mark_at words wide s k v < 2
 mark_at-lt words wide s k v = elim (cases_eq (bit_at s k) 1) [
   | inl one ↦ omega (arith, mark_one words wide s k v (rows_below s k * wide + v / 64) one refl, bit_at-lt (get_or words (rows_below s k * wide + v / 64) 0) (v % 64))
   | inr off ↦ omega (arith, mark_none words wide s k v off)

@@ -16,9 +16,9 @@ use Rattle.croner_base.proofs.words.Sums.{mark_one, mark_none, sums_bit, sums_pa
 -- ---- one word of a row
 
 -- the bit of one value
-pub row-one : (to : ℕ) (ws : List ℕ) (start v x : ℕ) → start + v / 64 < length ws → bit_at x (v % 64) ≡ to
+row_one : (to : ℕ) (ws : List ℕ) (start v x : ℕ) → start + v / 64 < length ws → bit_at x (v % 64) ≡ to
     → ((b : ℕ) → b < 64 → b ≢ v % 64 → bit_at x b ≡ bit_at (get_or ws (start + v / 64) 0) b) → TurnsRow to ws (set ws (start + v / 64) x) start v (v + 1)
-row-one to ws start v x within bit others = record {
+row_one to ws start v x within bit others = record {
   inside = λ i b h above below.
       let word : v / 64 ≡ i = omega arith in
       let digit : v % 64 ≡ b = omega arith in
@@ -38,13 +38,13 @@ digit_of v = 1 * 2 ^ (v % 64) % 2 ^ 64
 -- a bit that is put on
 pub row_on : (ws : List ℕ) (start v : ℕ) → start + v / 64 < length ws
     → TurnsRow 1 ws (set ws (start + v / 64) (bit_or (get_or ws (start + v / 64) 0) (digit_of v))) start v (v + 1)
-row_on ws start v within = row-one 1 ws start v _ within (bit_at_set_same w64 (get_or ws (start + v / 64) 0) (v % 64) (omega arith))
+row_on ws start v within = row_one 1 ws start v _ within (bit_at_set_same w64 (get_or ws (start + v / 64) 0) (v % 64) (omega arith))
     (λ b h ne. bit_at_set_other w64 (get_or ws (start + v / 64) 0) (v % 64) (omega arith) b ne)
 
 -- and one that is taken off
 pub row_off : (ws : List ℕ) (start v : ℕ) → start + v / 64 < length ws
     → TurnsRow 0 ws (set ws (start + v / 64) (bit_and (get_or ws (start + v / 64) 0) (bit_not w64 (digit_of v)))) start v (v + 1)
-row_off ws start v within = row-one 0 ws start v _ within (bit_at_clear_same w64 (get_or ws (start + v / 64) 0) (v % 64) (omega arith))
+row_off ws start v within = row_one 0 ws start v _ within (bit_at_clear_same w64 (get_or ws (start + v / 64) 0) (v % 64) (omega arith))
     (λ b h ne. bit_at_clear_other w64 (get_or ws (start + v / 64) 0) (v % 64) (omega arith) b h ne)
 
 -- the words with a mask's bits in one of them

@@ -44,7 +44,7 @@ last_mask to i shift place within =
     }
 
 -- all values of a word are looked for
-pub whole_mask : (i : ℕ) (looked : ℕ → Type 0) → ((b : ℕ) → b < 64 → looked (i * 64 + b)) → Masks (2 ^ 64 - 1) i looked
+whole_mask : (i : ℕ) (looked : ℕ → Type 0) → ((b : ℕ) → b < 64 → looked (i * 64 + b)) → Masks (2 ^ 64 - 1) i looked
 whole_mask i looked all = record { on = λ b h is. bit_at_ones 64 b h; only = λ b h one. all b h }
 
 -- from a value of an earlier word on, and up to one of a later word, all are looked for

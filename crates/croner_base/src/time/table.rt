@@ -94,6 +94,7 @@ impl ClockTable {
     }
 
     // The offset in force at an instant.
+    #[tactic(auto, using(crate::proofs::tables::TableReadings::offset_by_count))]
     fn offset_at(&self, second: i64) -> i64
         ensures value { result ≡ Spec.offset_at self.now.first_offset self.now.changes.items second }
         ensures bound { IsTrue (Spec.is_offset result) }

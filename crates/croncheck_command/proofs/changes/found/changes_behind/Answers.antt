@@ -12,13 +12,13 @@ returns-then-last-first c =
     let z = table_zone c.args.start.table.now in
     let s = c.args.start.second in
     let second_fits : FitsSigned w64 c.second.result = search rules in
-    let year_fits : FitsSigned w64 c.year_behind.result = search rules in
+    let year_fits : FitsSigned w64 c.last_watched.result = search rules in
     let first_fits : FitsSigned w64 c.max-first.result = search rules in
     let last_fits : FitsSigned w64 c.min-last.result = search rules in
     let first : c.max-first.result ≡ first_asked s =
     c.max-first.ensures.value ∙ ap (λ (i : ℤ). int_max i (neg_ℤ (pos 62_135_424_001))) (to_z-of_z w64 c.second.result second_fits ∙ c.second.ensures.value) in
     let last : c.min-last.result ≡ last_asked s =
-    c.min-last.ensures.value ∙ ap (λ (i : ℤ). int_min (pos 95_617_411_199) i) (to_z-of_z w64 c.year_behind.result year_fits ∙ c.year_behind.ensures) in
+    c.min-last.ensures.value ∙ ap (λ (i : ℤ). int_min (pos 95_617_411_199) i) (to_z-of_z w64 c.last_watched.result year_fits ∙ c.last_watched.ensures) in
     let le = le_of (to_z w64 (of_z w64 c.min-last.result)) (to_z w64 (of_z w64 c.max-first.result)) c.if-last-first.true in
     let order : c.min-last.result ≤ℤ c.max-first.result = omega (arith, ints, le, to_z-of_z w64 c.max-first.result first_fits, to_z-of_z w64 c.min-last.result last_fits) in
     rw c.new.ensures.items (none_watched z s c.max-first.result c.min-last.result first last order)
@@ -28,7 +28,7 @@ returns c =
     let z = table_zone c.args.start.table.now in
     let s = c.args.start.second in
     let second_fits : FitsSigned w64 c.second.result = search rules in
-    let year_fits : FitsSigned w64 c.year_behind.result = search rules in
+    let year_fits : FitsSigned w64 c.last_watched.result = search rules in
     let first_fits : FitsSigned w64 c.max-first.result = search rules in
     let last_fits : FitsSigned w64 c.min-last.result = search rules in
     let first : to_z w64 (of_z w64 c.max-first.result) ≡ first_asked s =
@@ -36,6 +36,6 @@ returns c =
     ∙ ap (λ (i : ℤ). int_max i (neg_ℤ (pos 62_135_424_001))) (to_z-of_z w64 c.second.result second_fits ∙ c.second.ensures.value) in
     let last : to_z w64 (of_z w64 c.min-last.result) ≡ last_asked s =
     to_z-of_z w64 c.min-last.result last_fits ∙ c.min-last.ensures.value
-    ∙ ap (λ (i : ℤ). int_min (pos 95_617_411_199) i) (to_z-of_z w64 c.year_behind.result year_fits ∙ c.year_behind.ensures) in
+    ∙ ap (λ (i : ℤ). int_min (pos 95_617_411_199) i) (to_z-of_z w64 c.last_watched.result year_fits ∙ c.last_watched.ensures) in
     ok_watched (λ (v : Vec Change Global). v.items) z s (to_z w64 (of_z w64 c.max-first.result)) (to_z w64 (of_z w64 c.min-last.result)) c.changes_within.result first last
     c.changes_within.ensures
