@@ -40,11 +40,12 @@ calm_parts o cs h =
     let p = both_parts _ _ m.0 in
     record { offset_in = p.0; changes = p.1; few = leb-true _ _ m.1; few_seconds = leb-true _ _ g.1 }
 
--- the first change is late enough, and those from some place on keep the rules
+-- the first change, where there is one, lies at an instant or behind it
 abbrev is_late : ℤ → List (ℤ × ℤ) → Bool
 is_late e [] = true
 is_late e (c ∷ cs) = int_le e c.0
 
+-- the changes from some place on keep the rules, with what is known of those before
 abbrev pub goes_on : Known → List (ℤ × ℤ) → Bool
 goes_on k cs =
     is_late k.earliest cs && are_changes k.offset cs && nat_le (k.met + met_count k.offset cs) most_changes

@@ -1,6 +1,7 @@
 -- The changes of an offset: over a stretch without one, at its end, and what the clock of all of them shows.
-use Rattle.std.proofs.Common.{◌≡◌, ◌⊎◌, inl, inr, ℕ, zero, suc, ◌+◌, true, false, cond, refl, sym, ap, ◌∙◌, arith, ℤ, pos, ◌+ℤ◌, ◌-ℤ◌, ◌≤ℤ◌, ◌<ℤ◌, int_eq, int_le, int_lt, List, [], ◌∷◌, ◌++◌, append_assoc, append-nil, unsigned_abs}
-use Rattle.std.proofs.lemmas.Int.{ints, by_lt_z}
+use Rattle.std.proofs.Common.{◌≡◌, ◌⊎◌, inl, inr, ℕ, zero, suc, ◌+◌, Bool, true, false, cond, refl, sym, ap, ◌∙◌, arith, ℤ, pos, ◌+ℤ◌, ◌-ℤ◌, ◌≤ℤ◌, ◌<ℤ◌, int_eq, int_le, int_lt, List, [], ◌∷◌, ◌++◌, append_assoc, append-nil, unsigned_abs}
+use Rattle.std.proofs.lemmas.Bool.Decides.{Decides-int_eq}
+use Rattle.std.proofs.lemmas.Int.{by_lt_z}
 use Rattle.jiff_core.proofs.SignedLemmas.{signed_arith}
 use Rattle.croner_base.specs.Table.{offset_at}
 use Rattle.jiff_tz.specs.declared.timezone.TimeZone.{TimeZone}
@@ -9,19 +10,17 @@ use Rattle.croner_base.specs.Private.ZoneSteps.{IsNextQuestion}
 use Rattle.croner_base.specs.TableZone.{HasParts, clock, table_zone}
 use Rattle.croner_base.specs.ZoneTable.{IsWindow, ahead_at, change_at, changes_after, window_changes, nearest_in}
 use Rattle.croner_base.specs.ZonedZone.{zone_reads}
-use Rattle.croner_base.proofs.tables.TableTests.{le_test, le_false, le_tells, lt_tells, lt_false}
+use Rattle.croner_base.proofs.tables.TableTests.{not_true, le_test, le_false, le_tells, lt_tells, lt_false}
 use Rattle.croner_base.proofs.clocks.ZonedMoments.{zone_reads-held}
 use Rattle.croner_base.proofs.zones.ZoneYears.{nonneg_abs}
 
--- the test of two numbers
-eq_test : (a b : ℤ) → a ≡ b → int_eq a b ≡ true
-eq_test a b h = grind (arith, ints)
-
-eq_false : (a b : ℤ) → (a ≡ b → ⊥) → int_eq a b ≡ false
-eq_false a b h = grind (arith, ints)
-
+-- the test of two numbers with what it tells
 eq_tells : (a b : ℤ) → ((int_eq a b ≡ true) × (a ≡ b)) ⊎ (int_eq a b ≡ false)
-eq_tells a b = by_lt_z a b (λ lt. inr (grind (arith, ints))) (λ ge. by_lt_z b a (λ gt. inr (grind (arith, ints))) (λ le. let e : a ≡ b = omega (arith, ints, ge, le) in inl (eq_test a b e, e)))
+eq_tells a b = by (int_eq a b) refl
+  where
+    by : (t : Bool) → int_eq a b ≡ t → ((int_eq a b ≡ true) × (a ≡ b)) ⊎ (int_eq a b ≡ false)
+    by true e = inl (e, (Decides-int_eq a b).0 e)
+    by false e = inr e
 
 pub changes_zero : (f : ℤ → ℤ) (first : ℤ) → changes_after f first 0 ≡ []
 unfolding changes_after
@@ -41,7 +40,7 @@ changes_stay f first n (suc k) h =
     let a : ℤ = first +ℤ pos (suc (n + k)) in
     let here = h a (omega (arith, signed_arith)) (omega (arith, signed_arith)) in
     let before = h (a -ℤ pos 1) (omega (arith, signed_arith)) (omega (arith, signed_arith)) in
-    let test : int_eq (f a) (f (a -ℤ pos 1)) ≡ true = eq_test (f a) (f (a -ℤ pos 1)) (here ∙ sym before) in
+    let test : int_eq (f a) (f (a -ℤ pos 1)) ≡ true = (Decides-int_eq (f a) (f (a -ℤ pos 1))).1 (here ∙ sym before) in
     let none : change_at f a ≡ [] = rw test refl in
     ap (λ m. changes_after f first m) one ∙ changes_more f first (n + k) ∙ ap (λ l. changes_after f first (n + k) ++ l) none ∙ append-nil (changes_after f first (n + k))
     ∙ changes_stay f first n k (λ i low high. h i low (omega (arith, signed_arith, high)))
@@ -161,7 +160,7 @@ pub changes_kept : (tz : TimeZone) (first last a c x y : ℤ) → first ≤ℤ a
 changes_kept tz first last a c x y low q ex ey e =
     let f = ahead_at tz in
     let all : List (ℤ × ℤ) = window_changes tz first a in
-    let test : int_eq (f c) (f a) ≡ true = eq_test (f c) (f a) (sym ey ∙ e ∙ ex) in
+    let test : int_eq (f c) (f a) ≡ true = (Decides-int_eq (f c) (f a)).1 (sym ey ∙ e ∙ ex) in
     let none : cond (int_eq (f c) (f a)) [] ((c, f c) ∷ []) ≡ [] = rw test refl in
     let next = next_changes tz first last a c low q in
     let same : all ++ cond (int_eq (f c) (f a)) [] ((c, f c) ∷ []) ≡ all = ap (λ l. all ++ l) none ∙ append-nil all in
@@ -172,7 +171,7 @@ pub changes_added : (tz : TimeZone) (first last a c x y : ℤ) → first ≤ℤ 
 changes_added tz first last a c x y low q ex ey ne =
     let f = ahead_at tz in
     let all : List (ℤ × ℤ) = window_changes tz first a in
-    let test : int_eq (f c) (f a) ≡ false = eq_false (f c) (f a) (λ e. ne (ey ∙ e ∙ sym ex)) in
+    let test : int_eq (f c) (f a) ≡ false = not_true _ (λ h. ne (ey ∙ (Decides-int_eq (f c) (f a)).0 h ∙ sym ex)) in
     let one : cond (int_eq (f c) (f a)) [] ((c, f c) ∷ []) ≡ (c, f c) ∷ [] = rw test refl in
     let next = next_changes tz first last a c low q in
     let same : all ++ cond (int_eq (f c) (f a)) [] ((c, f c) ∷ []) ≡ all ++ (c, f c) ∷ [] = ap (λ l. all ++ l) one in

@@ -218,6 +218,7 @@ impl<'t> TableTime<'t> {
         ensures value { seconds_of result ≡ instants_of self.now.table.now.first_offset self.now.table.now.changes.items wall }
         ensures table { AreOn self.now.table.now result }
     {
+        // A change more than a day before it is past at each of them; of the others the first decides.
         let passed = self
             .table
             .changes_until(wall - OFFSET_LIMIT_SECONDS as i64 - 1);
@@ -229,8 +230,8 @@ impl<'t> TableTime<'t> {
         Self::around(self.table.instant_of(passed), by_old, by_new)
     }
 
-    // Of two seconds, those at which the clock reads a wall second: the one by the offset before a change if it lies before
-    // the change, and the one by the offset after it if it doesn't.
+    // Of two seconds, those at which the clock reads a wall second: the one by the offset before a change if it lies
+    // before the change, and the one by the offset after it if it doesn't.
     fn around(
         change: i64,
         by_old: TableTime<'t>,
