@@ -19,6 +19,7 @@ mod split;
 
 use crate::job::Cron;
 use croner_base::errors::CronError;
+use croner_pattern::pattern::CronPattern;
 pub use fault::{Expected, FaultKind, Hint, PatternFault, PatternField, Suggestion, ValueNames};
 use std::alloc::Global;
 use std::marker::Model;
@@ -136,6 +137,7 @@ impl Model for CronParser {
 }
 
 impl CronParser {
+    ghost use Rattle.croner_pattern.specs.Meaning.{meaning_of};
     ghost use Rattle.croner.specs.parser.Settings.{default_settings};
     ghost use Rattle.croner.specs.parser.Gives.{Gives};
     ghost use Rattle.croner.specs.parser.Grammar.{outcome};
@@ -170,21 +172,20 @@ impl CronParser {
         ensures { Gives job_of result (outcome self.now pattern.now) }
     {
         match self.parse_text(alloc, pattern) {
-            Ok(job) => Ok(job),
+            Ok(pattern) => Ok(Cron { pattern }),
             Err(refused) => Err(self.told(alloc, pattern, refused)),
         }
     }
 
     /// Reads a text: it is prepared and split into fields, and these are settled and read.
-    fn parse_text(&self, alloc: Global, given: &str) -> Result<Cron, CronError>
-        ensures { Gives job_of result (outcome self.now given.now) }
+    fn parse_text(&self, alloc: Global, given: &str) -> Result<CronPattern, CronError>
+        ensures { Gives meaning_of result (outcome self.now given.now) }
     {
         let prepared = self.prepare(alloc, given)?;
         let text = prepared.as_str();
         let written = self.split(alloc, text)?;
         let settled = self.settle(alloc, written)?;
-        let pattern = self.read(alloc, text, settled.fields(written), settled.and)?;
-        Ok(Cron { pattern })
+        self.read(alloc, text, settled.fields(written), settled.and)
     }
 
     /// A builder that stands at the default settings.

@@ -515,6 +515,7 @@ impl CronComponent {
         self.marks.low_word(bit)
     }
 
+    #[inline(always)]
     fn value_at(&self, pos: u16, bit: u8) -> Result<u16, CronError>
         ensures answer { SucceedsIff (can_mark self.now.shape pos bit) result }
         ensures ok { IfOk result (λ value. value ≡ pos - self.now.shape.offset) }

@@ -63,7 +63,7 @@ pub good_names : (name : List ℕ) (p : Piece) → name_of name ≡ Some p → i
 good_names name p e = good_first name p (place_of name 0 months) (place_of name 0 weekdays) refl refl e
 
 -- no name begins with a byte in front of the letters
-pub no_low_name : (name : List ℕ) → leb 65 (get_or name 0 0) ≡ false → name_of name ≡ None
+no_low_name : (name : List ℕ) → leb 65 (get_or name 0 0) ≡ false → name_of name ≡ None
 no_low_name name h = elim (names_of name) [
   | inl none ↦ none
   | inr some ↦
@@ -71,6 +71,10 @@ no_low_name name h = elim (names_of name) [
       let letter = (and_parts (leb 65 (get_or name 0 0)) _ (and_parts (ltb (get_or name 0 0) 128) _ parts.1).1).0 in
       absurd (false≢true (sym h ∙ letter))
 ]
+
+pub no_low_text : (text : List ℕ) → leb 65 (get_or text 0 0) ≡ false → HasNoName text
+no_low_text [] h = no_low_name [] h
+no_low_text (c ∷ t) h = no_low_name (take 3 (c ∷ t)) h
 
 -- a text has a name at its front only where it may be cut behind it
 pub no_name_between : (text : List ℕ) → IsUtf8 text → (IsCharBoundary text 3 → ⊥) → HasNoName text

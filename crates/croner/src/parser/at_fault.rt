@@ -111,7 +111,7 @@ impl CronParser {
         let text = among_stars(alloc, field, word)?;
         let parser = self.for_any_count();
         match parser.parse_text(alloc, text.as_str()) {
-            Ok(_job) => Ok(false),
+            Ok(_pattern) => Ok(false),
             Err(refused) => is_refused_as(kind, &refused),
         }
     }

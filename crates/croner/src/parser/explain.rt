@@ -32,7 +32,7 @@ impl CronParser {
         ensures { Explains self.now text.now result }
     {
         let refused = match self.parse_text(alloc, text) {
-            Ok(_job) => return Ok(None),
+            Ok(_pattern) => return Ok(None),
             Err(refused) => refused,
         };
         let Some(kind) = kind_of(&refused) else {

@@ -154,9 +154,6 @@ fn weekday_place(name: &str) -> Option<u8>
 fn number_of(name: &str, after_dash: bool, quartz: bool) -> Option<u8>
     ensures { MatchOption result (name_of name.now ≡ None) (λ n. IsShown quartz after_dash name.now n) }
 {
-    if !begins_with_letter(name) {
-        return None;
-    }
     if let Some(place) = month_place(name) {
         return Some(place + 1);
     }
@@ -219,6 +216,9 @@ fn push_piece<'t>(
     requires { 0 < length text.now }
     ensures { IfOk result (λ rest. AdvancesOrLost quartz after_dash text.now (string_bytes written.old) (string_bytes written.new) rest) }
 {
+    if !begins_with_letter(text) {
+        return push_char(written, text);
+    }
     if let Some((name, rest)) = text.split_at_checked(NAME_LENGTH) {
         if let Some(number) = number_of(name, after_dash, quartz) {
             push_number(written, number)?;
@@ -229,6 +229,7 @@ fn push_piece<'t>(
 }
 
 /// Writes the first character of a text, and answers the rest; nothing where it is a letter that stands for nothing.
+#[inline(always)]
 fn push_char<'t>(written: &mut String, text: &'t str) -> Result<Option<&'t str>, AllocError>
     requires { 0 < length text.now }
     ensures { IfOk result (λ rest. (quartz : Bool) → (after_dash : Bool) → HasNoName text.now

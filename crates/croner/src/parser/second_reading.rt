@@ -176,7 +176,7 @@ fn is_unit(word: &str) -> bool {
 /// Whether a text is a pattern where each count of fields is accepted.
 fn is_pattern(alloc: Global, parser: &CronParser, text: &str) -> Result<bool, CronError> {
     match parser.for_any_count().parse_text(alloc, text) {
-        Ok(_job) => Ok(true),
+        Ok(_pattern) => Ok(true),
         Err(CronError::OutOfMemory) => Err(CronError::OutOfMemory),
         Err(_) => Ok(false),
     }

@@ -1,16 +1,16 @@
 -- Bits of words that are turned on or off, and what that does to the marks.
-use Rattle.std.proofs.Common.{◌≡◌, ◌≢◌, ℕ, Bool, true, false, ◌+◌, ◌-◌, ◌*◌, ◌/◌, ◌%◌, ◌^◌, ◌<◌, ◌≤◌, List, length, get_or, set, bit_and, bit_or, refl, ap, sym, ◌∙◌, arith, subst, inl, inr, max, min, get_or-set_same, get_or-set_other, length-set, w8, w64}
+use Rattle.std.proofs.Common.{rules, ◌≡◌, ◌≢◌, ℕ, Bool, true, false, ◌+◌, ◌-◌, ◌*◌, ◌/◌, ◌%◌, ◌^◌, ◌<◌, ◌≤◌, ◌⊎◌, List, length, replicate, get_or, set, bit_and, bit_or, refl, ap, sym, ◌∙◌, arith, subst, inl, inr, max, min, get_or-set_same, get_or-set_other, length-set, w8, w64}
+use borrow.Rule.Slice.PartMut.{put_mid}
 use Rattle.std.specs.Int.{bit_at, bit_not}
 use Rattle.std.proofs.lemmas.Bool.{cases_eq, cases_lt}
-use Rattle.std.proofs.lemmas.List.{ext_get_or}
-use Rattle.std.proofs.lemmas.Nat.Bits.{bit_at_and, bit_at_or, bit_at-lt, bit_at-pow_same, bit_at-pow_other, bit_at_not, bit_at_set_same, bit_at_set_other, bit_at_clear_same, bit_at_clear_other, bit_at_above, same_from_bits}
+use Rattle.std.proofs.lemmas.List.{ext_get_or, places}
+use Rattle.std.proofs.lemmas.Nat.Bits.{bit_at_and, bit_at_or, bit_at-lt, bit_at-pow_same, bit_at-pow_other, bit_at_not, bit_at_set_same, bit_at_set_other, bit_at_clear_same, bit_at_clear_other, bit_at_above, bit_at_ones, same_from_bits}
 use Rattle.croner_base.specs.Field.{room}
 use Rattle.croner_base.specs.Private.words.Marked.{Marked, GainsRange, Turns, digit, turned}
-use Rattle.croner_base.specs.Private.words.Masks.{MasksFrom, MasksTo, TurnsRow}
+use Rattle.croner_base.specs.Private.words.Masks.{Masks, MasksFrom, MasksTo, TurnsRow}
 use Rattle.croner_base.specs.Private.words.Rows.{width, rows_below, mark_at, sums_of, marks_in}
 use Rattle.croner_base.proofs.words.ModifiersInTurn.{low_all}
 use Rattle.croner_base.proofs.words.RowPlaces.{same_place, word_within}
-use Rattle.croner_base.proofs.words.WordSearch.{masked_off}
 use Rattle.croner_base.proofs.words.Sums.{mark_one, mark_none, sums_bit, sums_past, sums_small, sums_long}
 
 -- ---- one word of a row
@@ -51,34 +51,85 @@ row_off ws start v within = row_one 0 ws start v _ within (bit_at_clear_same w64
 abbrev with_mask : List ℕ → ℕ → ℕ → List ℕ
 with_mask ws p mask = set ws p (bit_or (get_or ws p 0) mask)
 
+-- in word i the values of a range
+abbrev InRange : ℕ → ℕ → ℕ → Type 0
+InRange first last v = (first ≤ v) × (v ≤ last)
+
+-- both masks, in the first word
+both_masks : (from to first last n : ℕ) → MasksFrom from first n → MasksTo to last n → Masks (bit_and from to) n (InRange first last)
+both_masks from to first last n masks_from masks_to = record {
+  on = λ b h both. omega (arith, bit_at_and from to b, masks_from.on b h both.0, masks_to.on b h both.1);
+  only = λ b h is. (masks_from.only b h (omega (arith, bit_at_and from to b, bit_at-lt from b, bit_at-lt to b)), masks_to.only b h (omega (arith, bit_at_and from to b, bit_at-lt from b, bit_at-lt to b)));
+}
+
+-- and the last one alone behind it
+last_mask_alone : (to first last n : ℕ) → first ≤ n * 64 → MasksTo to last n → Masks to n (InRange first last)
+last_mask_alone to first last n behind masks = record { on = λ b h both. masks.on b h both.1; only = λ b h is. (omega arith, masks.only b h is) }
+
 -- one more word of a range
-pub row_more : (xs ys : List ℕ) (start first last n from to : ℕ) → TurnsRow 1 xs ys start first (min (n * 64) (last + 1)) → MasksFrom from first n → MasksTo to last n
-    → start + n < length ys → TurnsRow 1 xs (with_mask ys (start + n) (bit_and from to)) start first (min ((n + 1) * 64) (last + 1))
-row_more xs ys start first last n from to done masks_from masks_to within = record {
+row_more : (xs ys : List ℕ) (start first last n mask : ℕ) → TurnsRow 1 xs ys start first (min (n * 64) (last + 1)) → Masks mask n (InRange first last)
+    → start + n < length ys → TurnsRow 1 xs (with_mask ys (start + n) mask) start first (min ((n + 1) * 64) (last + 1))
+row_more xs ys start first last n mask done masks within = record {
   inside = λ i b h above below. elim (cases_eq i n) [
-    | inl e ↦ subst (λ j. bit_at (get_or (with_mask ys (start + n) (bit_and from to)) (start + j) 0) b ≡ 1) (sym e)
-        (omega (arith, bit b, masks_from.on b h (omega arith), masks_to.on b h (omega arith), bit_at-lt (get_or ys (start + n) 0) b))
+    | inl e ↦ subst (λ j. bit_at (get_or (with_mask ys (start + n) mask) (start + j) 0) b ≡ 1) (sym e)
+        (omega (arith, bit b, masks.on b h (omega arith, omega arith), bit_at-lt (get_or ys (start + n) 0) b))
     | inr ne ↦ ap (λ w. bit_at w b) (get_or-set_other ys (start + n) (start + i) _ 0 (λ e. ne (omega arith))) ∙ done.inside i b h above (omega arith)
   ];
   kept = λ p b h outside. elim (cases_eq p (start + n)) [
     | inr ne ↦ ap (λ w. bit_at w b) (get_or-set_other ys (start + n) p _ 0 ne) ∙ done.kept p b h (λ i e above below. outside i e above (omega arith))
-    | inl e ↦ subst (λ q. bit_at (get_or (with_mask ys (start + n) (bit_and from to)) q 0) b ≡ bit_at (get_or xs q 0) b) (sym e)
+    | inl e ↦ subst (λ q. bit_at (get_or (with_mask ys (start + n) mask) q 0) b ≡ bit_at (get_or xs q 0) b) (sym e)
         (same b h (λ above below. outside n e above (omega arith)) ∙ done.kept (start + n) b h (λ i at above below. absurd (omega arith)))
   ];
 }
   where
-    bit : (b : ℕ) → bit_at (get_or (with_mask ys (start + n) (bit_and from to)) (start + n) 0) b ≡ max (bit_at (get_or ys (start + n) 0) b) (min (bit_at from b) (bit_at to b))
-    bit b = ap (λ w. bit_at w b) (get_or-set_same ys (start + n) _ 0 within) ∙ bit_at_or (get_or ys (start + n) 0) (bit_and from to) b
-        ∙ ap (max (bit_at (get_or ys (start + n) 0) b)) (bit_at_and from to b)
+    bit : (b : ℕ) → bit_at (get_or (with_mask ys (start + n) mask) (start + n) 0) b ≡ max (bit_at (get_or ys (start + n) 0) b) (bit_at mask b)
+    bit b = ap (λ w. bit_at w b) (get_or-set_same ys (start + n) _ 0 within) ∙ bit_at_or (get_or ys (start + n) 0) mask b
 
-    same : (b : ℕ) → b < 64 → (first ≤ n * 64 + b → n * 64 + b ≤ last → ⊥) → bit_at (get_or (with_mask ys (start + n) (bit_and from to)) (start + n) 0) b ≡ bit_at (get_or ys (start + n) 0) b
-    same b h outside = elim (cases_lt (n * 64 + b) first) [
-      | inl lt ↦ omega (arith, bit b, masked_off from n b _ masks_from h (λ le. absurd (omega arith)))
-      | inr above ↦ elim (cases_lt last (n * 64 + b)) [
-        | inl past ↦ omega (arith, bit b, masked_off to n b _ masks_to h (λ le. absurd (omega arith)))
-        | inr below ↦ absurd (outside above below)
-      ]
+    same : (b : ℕ) → b < 64 → (first ≤ n * 64 + b → n * 64 + b ≤ last → ⊥) → bit_at (get_or (with_mask ys (start + n) mask) (start + n) 0) b ≡ bit_at (get_or ys (start + n) 0) b
+    same b h outside = elim (cases_eq (bit_at mask b) 1) [
+      | inl on ↦ let both = masks.only b h on in absurd (outside both.0 both.1)
+      | inr off ↦ omega (arith, bit b, bit_at-lt mask b)
     ]
+
+-- the first word of a range
+pub row_first : (xs : List ℕ) (start first last n from to : ℕ) → n ≡ first / 64 → MasksFrom from first n → MasksTo to last n → start + n < length xs
+    → TurnsRow 1 xs (with_mask xs (start + n) (bit_and from to)) start first (min ((n + 1) * 64) (last + 1))
+row_first xs start first last n from to e masks_from masks_to within =
+    let none : TurnsRow 1 xs xs start first (min (n * 64) (last + 1)) = record { inside = λ i b h above below. absurd (omega arith); kept = λ p b h outside. refl } in
+    row_more xs xs start first last n (bit_and from to) none (both_masks from to first last n masks_from masks_to) within
+
+-- and one behind it
+pub row_next : (xs ys : List ℕ) (start first last n to : ℕ) → first ≤ n * 64 → TurnsRow 1 xs ys start first (min (n * 64) (last + 1)) → MasksTo to last n
+    → start + n < length ys → TurnsRow 1 xs (with_mask ys (start + n) to) start first (min ((n + 1) * 64) (last + 1))
+row_next xs ys start first last n to behind done masks within = row_more xs ys start first last n to done (last_mask_alone to first last n behind masks) within
+
+-- the words between the first and the last are full
+pub row_filled : (xs ys mid : List ℕ) (start first last from to k : ℕ) → from < to → to * 64 ≤ last → first < (from + 1) * 64 → start + to < length ys → start + from + 1 + k ≡ start + to
+    → mid ≡ replicate k (2 ^ 64 - 1) → TurnsRow 1 xs ys start first (min ((from + 1) * 64) (last + 1)) → TurnsRow 1 xs (put_mid (start + from + 1) k ys mid) start first (min (to * 64) (last + 1))
+row_filled xs ys mid start first last from to k ahead behind low within long full done = record {
+  inside = λ i b h above below. elim (cases_lt from i) [
+    | inr le ↦ ap (λ w. bit_at w b) (outer (start + i) (inl (omega arith))) ∙ done.inside i b h above (omega arith)
+    | inl gt ↦ ap (λ w. bit_at w b) (inner (start + i) (omega arith) (omega arith)) ∙ bit_at_ones 64 b h
+  ];
+  kept = λ p b h outside. elim (cases_lt p (start + from + 1)) [
+    | inl lt ↦ ap (λ w. bit_at w b) (outer p (inl lt)) ∙ done.kept p b h (λ i e above below. outside i e above (omega arith))
+    | inr ge ↦ elim (cases_lt p (start + to)) [
+      | inl lt ↦ absurd (outside (p - start) (omega arith) (omega arith) (omega arith))
+      | inr past ↦ ap (λ w. bit_at w b) (outer p (inr past)) ∙ done.kept p b h (λ i e above below. absurd (omega arith))
+    ]
+  ];
+}
+  where
+    inner : (p : ℕ) → start + from < p → p < start + to → get_or (put_mid (start + from + 1) k ys mid) p 0 ≡ 2 ^ 64 - 1
+    inner p low high = rw full (search (rules, places))
+
+    outer : (p : ℕ) → (p < start + from + 1) ⊎ (start + to ≤ p) → get_or (put_mid (start + from + 1) k ys mid) p 0 ≡ get_or ys p 0
+    outer p (inl lt) = rw full (search (rules, places))
+    outer p (inr ge) = rw full (search (rules, places))
+
+-- and that is all, once the last word is reached
+pub row_done : (xs ys : List ℕ) (start first last n : ℕ) → last < (n + 1) * 64 → TurnsRow 1 xs ys start first (min ((n + 1) * 64) (last + 1)) → TurnsRow 1 xs ys start first (last + 1)
+row_done xs ys start first last n all done = subst (λ stop. TurnsRow 1 xs ys start first stop) (omega arith) done
 
 -- ---- what that does to the marks
 

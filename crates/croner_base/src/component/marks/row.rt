@@ -136,7 +136,12 @@ pub fn mark_between(words: &mut [u64], start: usize, first: u16, last: u16)
     ensures rows { length words.new ≡ length words.old }
     ensures marked { TurnsRow 1 words.old words.new start first (last + 1) }
 {
-    for i in usize::from(first / WORD_BITS)..usize::from(last / WORD_BITS) + 1 {
-        words[start + i] |= mask_from(first, i) & mask_to(last, i);
+    let from = usize::from(first / WORD_BITS);
+    let to = usize::from(last / WORD_BITS);
+    words[start + from] |= mask_from(first, from) & mask_to(last, from);
+    // Every value of a word between the two lies in the range.
+    if from < to {
+        words[start + from + 1..start + to].fill(u64::MAX);
+        words[start + to] |= mask_to(last, to);
     }
 }

@@ -1,9 +1,6 @@
 use Rattle.std.proofs.Common.{sym}
-use Rattle.croner.proofs.parser.Names.{month_shown, weekday_shown, no_low_name}
+use Rattle.croner.proofs.parser.Names.{month_shown, weekday_shown}
 use Rattle.croner.proofs.parser.prepare.number_of.Goals as goal
-
-pub returns-then-not-begins_with_letter : goal.returns-then-not-begins_with_letter
-returns-then-not-begins_with_letter c = no_low_name c.args.name.now (search Rattle.std.proofs.Common.rules)
 
 pub returns-in-Some : goal.returns-in-Some
 returns-in-Some c =
