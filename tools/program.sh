@@ -90,6 +90,20 @@ record_built() {
     { printf '%s\n' "$1" && program_file; } >"$stamp.new" && mv -f -- "$stamp.new" "$stamp"
 }
 
+# How many proofs rt may make side by side, where the caller has not said so: one for each processor, but no more than one for each
+# 4 GB of the machine's memory, and at least one.
+set_jobs() {
+    [ -z "${RT_JOBS:-}" ] || return 0
+    processors=$(nproc 2>/dev/null) || processors=1
+    RT_JOBS=$(awk -v jobs="$processors" '
+        /^MemTotal:/ { most = int($2 * 1024 / 4e9) }
+        END {
+            if (jobs > most) jobs = most
+            print (jobs < 1 ? 1 : jobs)
+        }' /proc/meminfo) || RT_JOBS=1
+    export RT_JOBS
+}
+
 # ---- a folder for temporary files, and a command behind, both gone when the script ends, also by a signal
 
 room='' is_behind=no
