@@ -23,7 +23,9 @@ const UNTIL: &str = "--until <DATETIME|@SECONDS>";
 /// The most runs of a line that are asked for.
 const MOST_RUNS: u32 = 1_000;
 
-const VERSION: &str = "4.0.3";
+/// What `--version` tells behind the program's name: this project's version, the crate whose patterns it reads, and the licence.
+const VERSION: &str = "0.4.0, patterns of croner 4.0.3
+MIT licence, in the file LICENSE";
 
 /// How the word of a moment is written.
 const MOMENT_FORM: &str = "write 2024-10-27T00:00:00 or @1729980000";
