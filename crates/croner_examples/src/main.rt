@@ -99,6 +99,17 @@ fn show_many(rt: &HostRuntime) -> anyhow::Result<()> {
     Scheduler::new(rt.alloc(), saturday).run(rt, changes)
 }
 
+// A job that comes at 23:00 runs at 13:00 from the next day on.
+fn show_late_job(rt: &HostRuntime) -> anyhow::Result<()> {
+    let noon = DateTime::new(2024, 6, 29, 12, 0, 0, 0)?;
+    let mut scheduler = Scheduler::new(rt.alloc(), noon);
+    scheduler.change(noon, added(rt, "new year", "0 0 1 1 *")?)?;
+    let late = DateTime::new(2024, 6, 29, 23, 0, 0, 0)?;
+    scheduler.run_until(rt, &late)?;
+    scheduler.change(late, added(rt, "lunch", "0 13 * * *")?)?;
+    scheduler.run_until(rt, &DateTime::new(2024, 6, 30, 13, 0, 0, 0)?)
+}
+
 // The snippets of the guide.
 fn show_guide(rt: &HostRuntime) -> anyhow::Result<()> {
     let first = DateTime::new(2024, 7, 1, 0, 0, 0, 0)?;
@@ -118,6 +129,7 @@ fn main(rt: HostRuntime) -> anyhow::Result<()> {
     show_own(&rt)?;
     show_own_time(&rt)?;
     show_many(&rt)?;
+    show_late_job(&rt)?;
     show_guide(&rt)?;
     wake_ups::main(rt)
 }

@@ -14,11 +14,29 @@ pub enum Change {
     Remove { place: usize },
 }
 
-/// Jobs with their names, and the last moment up to which they were run.
+/// What a job starts, and the moment up to which its runs are done.
+#[derive(Debug, Drop)]
+struct Program {
+    name: String,
+    done_until: DateTime,
+}
+
+impl Program {
+    /// Runs the program for a moment, unless that is done. A scheduler would start here what it is for.
+    fn run_once(&mut self, rt: &HostRuntime, due: DateTime) -> anyhow::Result<()> {
+        if self.done_until < due {
+            println!(rt; "{due}: {}", self.name)?;
+            self.done_until = due;
+        }
+        Ok(())
+    }
+}
+
+/// Jobs, the program of each at the job's place, and the last moment up to which they were run.
 #[derive(Debug, Drop)]
 pub struct Scheduler {
     table: CronTable,
-    names: Vec<String>,
+    programs: Vec<Program>,
     last: DateTime,
 }
 
@@ -27,22 +45,25 @@ impl Scheduler {
     pub fn new(alloc: Global, start: DateTime) -> Scheduler {
         Scheduler {
             table: CronTable::new(alloc),
-            names: Vec::new(alloc),
+            programs: Vec::new(alloc),
             last: start,
         }
     }
 
-    /// Makes a change. On an error the jobs stay as they were.
-    pub fn change(&mut self, change: Change) -> Result<(), CronError> {
+    /// Makes a change at a moment: a job that comes runs behind it. On an error the jobs stay as they were.
+    pub fn change(&mut self, moment: DateTime, change: Change) -> Result<(), CronError> {
         match change {
             Change::Add { name, cron } => {
-                self.names.reserve(1)?;
+                self.programs.reserve(1)?;
                 self.table.push(cron)?;
-                self.names.push(name)?;
+                self.programs.push(Program {
+                    name,
+                    done_until: moment,
+                })?;
             }
             Change::Remove { place } => {
-                if self.table.remove(place).is_some() && place < self.names.len() {
-                    self.names.remove(place);
+                if self.table.remove(place).is_some() && place < self.programs.len() {
+                    self.programs.remove(place);
                 }
             }
         }
@@ -51,21 +72,22 @@ impl Scheduler {
 
     /// Runs what is due up to a moment, in order of time.
     ///
-    /// The iterator borrows the table; it is made anew at the last moment at which jobs ran. A search that is refused is an error:
-    /// what was due before it has run, and the next call goes on there.
+    /// The iterator borrows the table; it is made anew at the last moment. A search or a start that is refused is an error: what was
+    /// started before it is not started again, and the next call goes on there.
     pub fn run_until(&mut self, rt: &HostRuntime, moment: &DateTime) -> anyhow::Result<()> {
         let mut runs = self.table.iter_after(self.last);
         for _item in 0..u64::MAX {
             let Some((due, places)) = next_due(&mut runs, moment) else {
                 break;
             };
-            start(rt, &self.names, due, places.as_slice())?;
+            start(rt, &mut self.programs, due, places.as_slice())?;
             self.last = due;
         }
-        match runs.fault() {
-            Some(fault) => Err(fault.clone()?.into()),
-            None => Ok(()),
+        if let Some(fault) = runs.fault() {
+            return Err(fault.clone()?.into());
         }
+        self.last = self.last.max(*moment);
+        Ok(())
     }
 
     /// Runs what is due up to each change's moment, and then makes the change.
@@ -76,7 +98,7 @@ impl Scheduler {
     ) -> anyhow::Result<()> {
         for (moment, change) in changes {
             self.run_until(rt, &moment)?;
-            self.change(change)?;
+            self.change(moment, change)?;
         }
         Ok(())
     }
@@ -94,16 +116,16 @@ fn next_due(
     Some((due, places))
 }
 
-/// Starts the jobs of some places. A scheduler would do here what each is for.
+/// Starts the programs of some places, each once for a moment.
 fn start(
     rt: &HostRuntime,
-    names: &[String],
+    programs: &mut [Program],
     due: DateTime,
     places: &[usize],
 ) -> anyhow::Result<()> {
     for place in places {
-        if let Some(name) = names.get(*place) {
-            println!(rt; "{due}: {name}")?;
+        if let Some(program) = programs.get_mut(*place) {
+            program.run_once(rt, due)?;
         }
     }
     Ok(())
