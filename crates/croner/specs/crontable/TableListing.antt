@@ -1,8 +1,9 @@
 -- The listing of a table's runs from a start: lists of instants with their places that begin it, and what an iterator has yet
 -- to give.
-use Rattle.std.specs.Prelude.{◌≡◌, ◌&&◌, ℕ, ℤ, Bool, true, false, List, Option, None, MatchOption}
+use Rattle.std.specs.Prelude.{◌≡◌, ◌&&◌, ℕ, ℤ, Bool, true, false, List, [], Option, None, MatchOption}
 use Rattle.croner_base.specs.Zone.{Moment}
 use Rattle.croner_base.specs.declared.errors.CronError.{CronError}
+use Rattle.croner_base.specs.declared.errors.CronError.TheVariants.{TimeSearchLimitExceeded}
 use Rattle.croner_base.specs.declared.time.Direction.{Direction}
 use Rattle.croner_pattern.specs.Meaning.{Meaning}
 use Rattle.std.specs.declared.alloc.Global.{Global}
@@ -63,11 +64,12 @@ pub record GivesTableItem (old : TableStanding) (item : Moment) (places : List �
   pub stands : new ≡ table_moved old item
   pub found : IsTableFound old.direction (counts_table_position old) old.patterns old.position item places
 
--- a call that gave no item: its search was refused, or memory for the item was wanting, which is a refusal too; the iterator
--- stands where it stood, and keeps what refused it unless that is the limit
+-- a call that gave no item: its search was refused, or memory for the item was wanting, which is a refusal too; over a table
+-- without patterns it is the limit. The iterator stands where it stood, and keeps what refused it unless that is the limit
 pub record GivesNoTableItem (old new : TableStanding) : Type 0 where
   pub refusal : CronError
   pub refused : IsTableRefused old.direction (counts_table_position old) old.patterns old.position refusal
+  pub none : old.patterns ≡ [] → refusal ≡ TimeSearchLimitExceeded
   pub stands : new ≡ record old { fault = fault_of refusal }
 
 -- what a call of `next` does

@@ -41,7 +41,7 @@ pub struct CronTableIterator<'t, T: CronDateTime> {
 }
 
 impl<'t, T: CronDateTime> CronTableIterator<'t, T> {
-    ghost use Rattle.std.specs.Prelude.{IfOk, OnOk, IfErr, option_map};
+    ghost use Rattle.std.specs.Prelude.{[], IfOk, OnOk, IfErr, option_map};
     ghost use Rattle.croner_base.specs.Zone.{reading};
     ghost use Rattle.croner.specs.search.Limit.{IsWithin};
     ghost use Rattle.croner.specs.crontable.TableListing.{table_standing_of, new_table_standing, counts_table_position, table_moved};
@@ -100,6 +100,7 @@ impl<'t, T: CronDateTime> CronTableIterator<'t, T> {
         ensures copied { IfOk result (λ r. T.moment r.1.0 ≡ T.moment r.0) }
         ensures refused { IfErr result (IsTableRefused self.old.direction (counts_table_position (table_standing_of T.moment self.old))
             (patterns_of self.old.table.now) (T.moment self.old.position)) }
+        ensures none { IfErr result (λ e. patterns_of self.old.table.now ≡ [] → e ≡ CronError.TimeSearchLimitExceeded) }
         ensures ahead { IfOk result (λ r. LieAhead T.moment self.new.direction (T.moment r.0) (heap_items self.new.kept.dues)) }
         ensures given { OnOk result (self.new.kept.found ≡ None) }
     {
