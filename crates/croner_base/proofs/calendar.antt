@@ -1,4 +1,5 @@
 -- Day numbers, dates and wall seconds: their order, their neighbours, and those of jiff's years.
+pub mod CalendarPeriods
 pub mod Chronology
 pub mod CivilSeconds
 pub mod DayNumbers

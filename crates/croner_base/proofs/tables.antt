@@ -1,6 +1,7 @@
 -- Clocks that are given by tables of offsets: which tables are calm, and what their clocks read.
 pub mod ExamplesTable
 pub mod TableCalm
+pub mod TableChanges
 pub mod TableCheck
 pub mod TableMoments
 pub mod TableOffsets

@@ -111,7 +111,7 @@ impl fmt::Display for Shown<'_> {
             let Some(c) = rest.next() else {
                 return Ok(());
             };
-            let shown = ShownCharacter { c };
+            let shown = ShownCharacter::of(c);
             write!(f, "{shown}")?;
             left -= 1;
         }
@@ -119,10 +119,20 @@ impl fmt::Display for Shown<'_> {
     }
 }
 
-/// A character as a message repeats it.
+/// A character as a message repeats it: as it is, but one that a terminal acts on, or that nobody sees, as `\t`, `\n`, `\r`
+/// or by its number, as `\u{1b}`.
 #[derive(Clone, Copy)]
-struct ShownCharacter {
+pub struct ShownCharacter {
     c: char,
+}
+
+impl ShownCharacter {
+    /// A character, as it is repeated.
+    pub fn of(c: char) -> ShownCharacter
+        ensures { result.c ≡ c }
+    {
+        ShownCharacter { c }
+    }
 }
 
 impl fmt::Display for ShownCharacter {

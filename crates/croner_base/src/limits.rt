@@ -20,6 +20,9 @@ pub const DAYS_PER_WEEK: u32 = 7;
 /// The seconds of a day on a wall clock.
 pub const SECONDS_PER_DAY: u32 = 86_400;
 
+/// The day number of -9999-01-01, the first date of `jiff`.
+pub(crate) const FIRST_DAY_NUMBER: i64 = -4_371_587;
+
 /// The days from 0000-01-01 to 1970-01-01.
 const DAYS_TO_EPOCH: i64 = 719_528;
 

@@ -1,8 +1,7 @@
 -- Dates, times and weekdays of wall seconds.
-use Rattle.std.proofs.Common.{◌≡◌, ◌∙◌, sym, arith, ℕ, ◌%◌, ℤ, pos, neg_ℤ, ◌+ℤ◌, ◌*ℤ◌, ◌≤ℤ◌}
+use Rattle.std.proofs.Common.{◌≡◌, ◌∙◌, sym, arith, ℕ, ◌%◌, ℤ, pos, neg_ℤ, ◌+ℤ◌, ◌≤ℤ◌}
 use Rattle.std.specs.Int.{int_div_euclid, int_rem_euclid}
 use Rattle.jiff_core.proofs.SignedLemmas.{signed_arith}
-use Rattle.jiff_core.specs.Calendar.{IsYear, days_from_civil}
 use Rattle.jiff_core.specs.Date.{epoch_day}
 use Rattle.jiff_core.specs.declared.civil.date.Date.{Date}
 use Rattle.croner_base.specs.declared.time.civil.CivilDate.{CivilDate}
@@ -11,7 +10,6 @@ use Rattle.croner_base.specs.declared.time.civil.CivilDateTime.{CivilDateTime}
 use Rattle.croner_base.specs.Calendar.{day_number, weekday_of_day, day_seconds}
 use Rattle.croner_base.specs.Civil.{HasYmd, wall_second, day_of_date, seconds_of_time, weekday_of_second}
 use Rattle.croner_base.specs.Private.TableSteps.{first_reading, last_reading}
-use Rattle.croner_base.proofs.calendar.DayNumbers.{days_from_civil-day_number}
 use Rattle.croner_base.proofs.calendar.JiffSeconds.{epoch_day-day_number, wall_second-parts}
 
 pub day_of_parts : (d : CivilDate) (y : ℤ) (m n : ℕ) (day : ℤ) → HasYmd y m n d → day_number y m n ≡ day → day_of_date d ≡ day
@@ -27,12 +25,6 @@ second_of_parts c d t w q r s p o e f g h i =
     let date : day_of_date c.date ≡ q = rw p e in
     let time : seconds_of_time c.time ≡ s = rw o f in
     omega (arith, signed_arith, wall_second-parts c, date, time, g, h, i)
-
-pub second_of_days : (c : CivilDateTime) (y : ℤ) (m k : ℕ) (n s : ℤ) → n ≡ days_from_civil y m k → c.date.year ≡ y → c.date.month ≡ m → c.date.day ≡ k → IsYear c.date.year → s ≡ pos (seconds_of_time c.time) → n *ℤ pos day_seconds +ℤ s ≡ wall_second c
-second_of_days c y m k n s e f g h year t =
-    let b = days_from_civil-day_number c.date.year c.date.month c.date.day (omega (arith, signed_arith)) c.date.real.1.0 in
-    let day : n ≡ day_of_date c.date = e ∙ rw (← f, ← g, ← h) b in
-    omega (arith, signed_arith, wall_second-parts c, day, t)
 
 -- the weekday of a wall second
 pub weekday_by : (w q r : ℤ) (n : ℕ) → q ≡ int_div_euclid w (pos day_seconds) → r ≡ int_rem_euclid (q +ℤ pos 4) (pos 7) → pos n ≡ r → n % 7 ≡ weekday_of_second w

@@ -27,7 +27,7 @@ abbrev pub IsOffsetChange : ℤ → List (ℤ × ℤ) → ℤ → Type 0
 IsOffsetChange o cs d = offset_at o cs d ≡ offset_at o cs (d -ℤ pos 1) → ⊥
 
 -- that is at a change of the table
-place : (o : ℤ) (c : ℤ × ℤ) (cs : List (ℤ × ℤ)) (d : ℤ) → IsOffsetChange o (c ∷ cs) d → (d ≡ c.0) ⊎ ((c.0 <ℤ d) × IsOffsetChange c.1 cs d)
+pub place : (o : ℤ) (c : ℤ × ℤ) (cs : List (ℤ × ℤ)) (d : ℤ) → IsOffsetChange o (c ∷ cs) d → (d ≡ c.0) ⊎ ((c.0 <ℤ d) × IsOffsetChange c.1 cs d)
 place o c cs d m =
     by_lt_z d c.0
     (λ lt. absurd (m (ahead o c cs d lt ∙ sym (ahead o c cs (d -ℤ pos 1) (omega (arith, signed_arith, lt))))))
@@ -36,7 +36,7 @@ place o c cs d m =
     (λ le. inl (omega (arith, signed_arith, ge, le))))
 
 -- there the offset is the change's, and was the one before
-at_change : (o : ℤ) (c : ℤ × ℤ) (cs : List (ℤ × ℤ)) (d : ℤ) → is_apart c cs ≡ true → d ≡ c.0 → (offset_at o (c ∷ cs) d ≡ c.1) × (offset_at o (c ∷ cs) (d -ℤ pos 1) ≡ o)
+pub at_change : (o : ℤ) (c : ℤ × ℤ) (cs : List (ℤ × ℤ)) (d : ℤ) → is_apart c cs ≡ true → d ≡ c.0 → (offset_at o (c ∷ cs) d ≡ c.1) × (offset_at o (c ∷ cs) (d -ℤ pos 1) ≡ o)
 at_change o c cs d h e = (
   passed o c cs d (omega (arith, signed_arith, e)) ∙ stays c cs d h (omega (arith, signed_arith, e)),
   ahead o c cs (d -ℤ pos 1) (omega (arith, signed_arith, e)),

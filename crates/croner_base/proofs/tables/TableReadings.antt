@@ -14,7 +14,8 @@ use Rattle.croner_base.proofs.tables.TableCheck.{first_change, calm_parts}
 use Rattle.croner_base.proofs.tables.TableOffsets.{offset_within, stays}
 use Rattle.croner_base.proofs.tables.TableTests.{lt_of, le_of, le_test, le_false, lt_test, lt_false, lt_tells, offset_bounds}
 
-behind : (c : ℤ × ℤ) (cs : List (ℤ × ℤ)) (j : ℕ) (d : ℤ × ℤ) → j < length cs → is_apart c cs ≡ true → are_changes c.1 cs ≡ true → c.0 ≤ℤ (get_or cs j d).0
+-- the others lie behind the first change
+pub behind : (c : ℤ × ℤ) (cs : List (ℤ × ℤ)) (j : ℕ) (d : ℤ × ℤ) → j < length cs → is_apart c cs ≡ true → are_changes c.1 cs ≡ true → c.0 <ℤ (get_or cs j d).0
 behind c [] j d lt a h = absurd (omega arith)
 behind c (e ∷ es) zero d lt a h = let l = lt_of (c.0 +ℤ pos apart_limit) e.0 a in omega (arith, signed_arith, l)
 behind c (e ∷ es) (suc j) d lt a h =
@@ -28,7 +29,8 @@ ascending o [] i j d le lt h = absurd (omega arith)
 ascending o (c ∷ cs) zero zero d le lt h = omega (arith, signed_arith)
 ascending o (c ∷ cs) zero (suc j) d le lt h =
     let f = first_change o c cs h in
-    behind c cs j d (omega arith) f.apart f.rest
+    let r = behind c cs j d (omega arith) f.apart f.rest in
+    omega (arith, signed_arith, r)
 ascending o (c ∷ cs) (suc i) zero d le lt h = absurd (omega arith)
 ascending o (c ∷ cs) (suc i) (suc j) d le lt h = ascending c.1 cs i j d (omega arith) (omega arith) (first_change o c cs h).rest
 

@@ -1,6 +1,7 @@
 -- What the tests of a table say.
-use Rattle.std.proofs.Common.{◌≡◌, ◌⊎◌, inl, inr, Bool, true, false, refl, arith, ◌&&◌, ℤ, pos, neg_ℤ, ◌-ℤ◌, ◌<ℤ◌, ◌≤ℤ◌, int_le, int_lt}
+use Rattle.std.proofs.Common.{◌≡◌, ◌⊎◌, inl, inr, Bool, true, false, not, refl, arith, ◌&&◌, ℤ, pos, neg_ℤ, ◌-ℤ◌, ◌<ℤ◌, ◌≤ℤ◌, int_le, int_lt}
 use Rattle.std.specs.Bool.{Decides}
+use Rattle.std.specs.Ordering.{int_eq}
 use Rattle.std.proofs.lemmas.Bool.Decides.{Decides-and}
 use Rattle.std.proofs.lemmas.Int.{ints, by_lt_z}
 use Rattle.croner_base.specs.Limits.{gap_limit, fold_limit}
@@ -69,3 +70,10 @@ pub step_parts : (before after : ℤ) → is_step before after ≡ true → IsSm
 step_parts before after h =
     let p = both_parts _ _ h in
     (le_of _ _ (both_parts _ _ p.0).1, le_of _ _ p.1)
+
+pub step_moves : (before after : ℤ) → is_step before after ≡ true → before ≡ after → ⊥
+step_moves before after h same =
+    let by = after -ℤ before in
+    let parts = both_parts (not (int_eq before after) && int_le (neg_ℤ (pos fold_limit)) by) (int_le by (pos gap_limit)) h in
+    let moved : not (int_eq before after) ≡ true = (both_parts (not (int_eq before after)) (int_le (neg_ℤ (pos fold_limit)) by) parts.0).0 in
+    grind (arith, ints)

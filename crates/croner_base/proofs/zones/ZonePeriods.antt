@@ -18,6 +18,7 @@ use Rattle.jiff_tz.specs.declared.posix.DayTime.{DayTime}
 use Rattle.jiff_tz.specs.declared.posix.Dst.{Dst}
 use Rattle.jiff_tz.specs.declared.posix.TimeZone.{TimeZone as Rule}
 use Rattle.jiff_tz.proofs.YearLemmas.{years_within_is}
+use Rattle.croner_base.proofs.calendar.CalendarPeriods.{leap_day_again, leap_by}
 use Rattle.croner_base.proofs.tables.TableTests.{lt_false}
 use Rattle.croner_base.proofs.zones.ZoneYears.{nonneg_abs}
 
@@ -32,23 +33,10 @@ period = pos 12_622_780_800_000_000_000
 -- ---- days
 
 leap_pos : (k : ℕ) → leap_day (pos (k + 400)) ≡ leap_day (pos k)
-leap_pos k =
-    let a : (k + 400) % 4 ≡ k % 4 = omega arith in
-    let b : (k + 400) % 100 ≡ k % 100 = omega arith in
-    let c : (k + 400) % 400 ≡ k % 400 = omega arith in
-    rw (a, b, c) refl
-
-same_test : (a b : Bool) → ◌≡◌ {A = ℕ} (cond a 1 0) (cond b 1 0) → a ≡ b
-same_test true true e = refl
-same_test false false e = refl
-same_test true false e = absurd (omega (arith, e))
-same_test false true e = absurd (omega (arith, e))
+leap_pos k = leap_day_again (pos k) (pos (k + 400)) (omega (arith, signed_arith))
 
 leap_again : (k : ℕ) → is_leap_year (year (k + 400)) ≡ is_leap_year (year k)
-leap_again k =
-    let a = leap_day-shift (year k) k (omega (arith, signed_arith)) in
-    let b = leap_day-shift (year (k + 400)) (k + 400) (omega (arith, signed_arith)) in
-    same_test (is_leap_year (year (k + 400))) (is_leap_year (year k)) (b ∙ leap_pos k ∙ sym a)
+leap_again k = leap_by (year k) (year (k + 400)) (omega (arith, signed_arith))
 
 years_again : (k : ℕ) → days_of_years (k + 400) ≡ days_of_years k + 146_097
 years_again k = omega (arith, days_of_years-march_days k, days_of_years-march_days (k + 400), leap_pos k)

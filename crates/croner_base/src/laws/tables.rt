@@ -1,6 +1,7 @@
 //! What the clocks of tables keep, whatever a search asks of them.
-ghost use Rattle.std.specs.Prelude.{◌≡◌, IsTrue, ℤ, pos, neg_ℤ, ◌+ℤ◌, ◌≤ℤ◌, []};
-ghost use Rattle.croner_base.specs.Calm.{IsCalm, IsStart, HoldsAround};
+ghost use Rattle.std.specs.Prelude.{◌≡◌, ◌↔◌, IsTrue, ℤ, pos, neg_ℤ, ◌+ℤ◌, ◌≤ℤ◌, []};
+ghost use Rattle.std.specs.List.{All};
+ghost use Rattle.croner_base.specs.Calm.{IsCalm, IsChange, IsStart, HoldsAround};
 ghost use Rattle.croner_base.specs.Table.{is_calm_table, offset_limit};
 ghost use Rattle.croner_base.specs.TableZone.{clock, table_zone, table_moment};
 ghost use Rattle.croner_base.specs.Zone.{reading};
@@ -10,6 +11,11 @@ use crate::time::table::{ClockTable, TableTime};
 /// The clock of a table is calm, as [`CronDateTime`](crate::time::CronDateTime) says what that is.
 pub fn table_is_calm(table: &ClockTable)
     ensures { IsCalm (table_zone table.now) }
+{}
+
+/// The clock of a table changes at the instants at which the table has a change, and nowhere else.
+pub fn clock_changes_where_the_table_does(table: &ClockTable)
+    ensures { (instant : ℤ) → IsChange (table_zone table.now) instant ↔ ¬ (All (λ c. ¬ (c.0 ≡ instant)) table.now.changes.items) }
 {}
 
 /// Around a second of a table whose clock reads a year from -9997 to 9997 everything is held that a search needs.

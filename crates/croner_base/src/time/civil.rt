@@ -1,15 +1,25 @@
 //! Dates and times of day without a zone, and weekdays.
-ghost use Rattle.std.specs.Prelude.{◌≡◌, ◌↔◌, ◌+◌, ◌<◌, ◌%◌, ℤ, pos, ◌+ℤ◌, unsigned_abs, Some, IsSome, IfSome, IsOk, IfOk, IfErr, FitsSigned};
+ghost use Rattle.std.specs.Prelude.{◌≡◌, ◌↔◌, ◌+◌, ◌<◌, ◌%◌, ℤ, pos, neg_ℤ, ◌+ℤ◌, unsigned_abs, Some, IsSome, IfSome, MatchOption, IsOk, IfOk, IfErr, FitsSigned};
 ghost use Rattle.std.specs.Int.{int_rem_euclid};
 ghost use mir.Syntax.{w32};
-ghost use Rattle.jiff_core.specs.Calendar.{days_in_month as month_days};
+ghost use Rattle.jiff_core.specs.Calendar.{days_in_month as month_days, IsBetween};
 ghost use Rattle.croner_base.specs.Calendar.{IsRealDate, place_in_year, day_seconds};
 ghost use Rattle.croner_base.specs.CivilText.{date_text, time_text, datetime_text};
 
 use crate::errors::CronError;
-use crate::limits::{DAYS_PER_WEEK, LAST_HOUR, LAST_MINUTE, LAST_MONTH, LAST_SECOND};
+use crate::limits::{
+    DAYS_PER_WEEK, FIRST_DAY_NUMBER, LAST_HOUR, LAST_MINUTE, LAST_MONTH, LAST_SECOND,
+    SECONDS_PER_DAY,
+};
 use crate::time::{day_of_year, days_in_month};
+use jiff_core::civil::Date;
 use std::fmt;
+
+/// After so many years the calendar has the same dates again.
+const YEARS_PER_PERIOD: i32 = 400;
+
+/// The days of these years.
+const DAYS_PER_PERIOD: i64 = 146_097;
 
 /// A day of the week. Weekdays are counted and ordered from Sunday, as cron does.
 #[derive(Debug, Clone, Copy, PartialEq, Eq, PartialOrd, Ord, Hash)]
@@ -98,7 +108,7 @@ pub struct CivilDate {
 }
 
 impl CivilDate {
-    ghost use Rattle.croner_base.specs.Civil.{HasYmd};
+    ghost use Rattle.croner_base.specs.Civil.{HasYmd, day_of_date};
 
     /// The date of these parts, or `None` where the calendar has no such date.
     ///
@@ -183,6 +193,38 @@ impl CivilDate {
         ensures { result ≡ place_in_year self.year self.month self.day }
     {
         day_of_year(self.year, self.month(), self.day())
+    }
+
+    // How many days it comes after 1970-01-01, negative before it: those of the same date in the years 0 to 399, and the
+    // days of the periods between.
+    fn day_number(self) -> i64
+        ensures value { result ≡ day_of_date self }
+        ensures bound { IsBetween (neg_ℤ (pos 1_000_000_000_000)) (pos 1_000_000_000_000) result }
+    {
+        let date = Date {
+            year: self.year.rem_euclid(YEARS_PER_PERIOD) as i16,
+            month: self.month,
+            day: self.day,
+        };
+        let periods = self.year.div_euclid(YEARS_PER_PERIOD) as i64;
+        date.to_unix_epoch_day() as i64 + periods * DAYS_PER_PERIOD
+    }
+
+    // The date that comes so many days after 1970-01-01, or before it. `None` where its year is none of `i32`.
+    fn of_day_number(day: i64) -> Option<CivilDate>
+        ensures { MatchOption result ((date : CivilDate) → FitsSigned w32 date.year → ¬ (day_of_date date ≡ day)) (λ date. day_of_date date ≡ day) }
+    {
+        let days = day.rem_euclid(DAYS_PER_PERIOD);
+        let date = Date::from_days_since_min((days - FIRST_DAY_NUMBER) as u32);
+        let years = day.div_euclid(DAYS_PER_PERIOD) * YEARS_PER_PERIOD as i64;
+        match i32::try_from(years + date.year as i64) {
+            Ok(year) => Some(CivilDate::from_parts_unchecked(
+                year,
+                date.month as u32,
+                date.day as u32,
+            )),
+            Err(_) => None,
+        }
     }
 }
 
@@ -328,7 +370,7 @@ pub struct CivilDateTime {
 }
 
 impl CivilDateTime {
-    ghost use Rattle.croner_base.specs.Civil.{HasYmd, HasHms, IsTimeOfDay};
+    ghost use Rattle.croner_base.specs.Civil.{HasYmd, HasHms, IsTimeOfDay, wall_second};
 
     /// That time of that date.
     ///
@@ -448,6 +490,36 @@ impl CivilDateTime {
         ensures { result ≡ self.time.second }
     {
         self.time.second()
+    }
+
+    /// Its wall second: the seconds since 1970-01-01T00:00:00 on a clock whose days have 86,400 seconds, negative before
+    /// it.
+    ///
+    /// ```
+    /// let start = CivilDateTime::from_ymd_hms(2024, 7, 1, 9, 30, 0)?;
+    /// let second = start.wall_second(); // 1719826200
+    /// ```
+    pub fn wall_second(self) -> i64
+        ensures { result ≡ wall_second self }
+    {
+        self.date.day_number() * SECONDS_PER_DAY as i64 + self.time.seconds_of_day()
+    }
+
+    /// The date and time of a wall second: it undoes `wall_second`. `None` where no date and time has it, which is so
+    /// before the first year of `i32`, -2,147,483,648, and after the last one, 2,147,483,647.
+    ///
+    /// ```
+    /// let start = CivilDateTime::of_wall_second(1_719_826_200); // Some: 2024-07-01T09:30:00
+    /// let none = CivilDateTime::of_wall_second(i64::MAX); // None
+    /// ```
+    pub fn of_wall_second(second: i64) -> Option<CivilDateTime>
+        ensures { MatchOption result ((civil : CivilDateTime) → FitsSigned w32 civil.date.year → ¬ (wall_second civil ≡ second)) (λ civil. wall_second civil ≡ second) }
+    {
+        let time = CivilTime::from_seconds_of_day(second.rem_euclid(SECONDS_PER_DAY as i64) as u32);
+        match CivilDate::of_day_number(second.div_euclid(SECONDS_PER_DAY as i64)) {
+            Some(date) => Some(CivilDateTime::new(date, time)),
+            None => None,
+        }
     }
 }
 

@@ -10,7 +10,7 @@ mod of_zone;
 use crate::errors::CronError;
 use crate::limits::{DAYS_PER_WEEK, SECONDS_PER_DAY, YEAR_LIMIT};
 use crate::time::table::check::{OFFSET_LIMIT_SECONDS, is_calm, is_instant};
-use crate::time::table::civil::{civil_of_second, second_of_civil};
+use crate::time::table::civil::civil_of_second;
 use crate::time::{CivilDateTime, CronDateTime, Resolution, Weekday};
 use jiff::Timestamp;
 use std::alloc::Global;
@@ -66,6 +66,30 @@ impl ClockTable {
         } else {
             Err(CronError::InvalidTime)
         }
+    }
+
+    /// How many seconds the clock is ahead of UTC before its first change.
+    ///
+    /// ```
+    /// let ahead = paris.first_offset(); // 3600
+    /// ```
+    pub fn first_offset(&self) -> i32
+        ensures value { result ≡ self.now.first_offset }
+        ensures bound { IsTrue (Spec.is_offset result) }
+    {
+        self.first_offset
+    }
+
+    /// The changes of the clock, from the earliest: each is an instant, in seconds since 1970-01-01T00:00:00 UTC, and the
+    /// seconds that the clock is ahead of UTC from that instant on. There are no others.
+    ///
+    /// ```
+    /// let (instant, ahead) = paris.changes()[0]; // 1711846800, 7200
+    /// ```
+    pub fn changes(&self) -> &[(i64, i32)]
+        ensures { result.now ≡ self.now.changes.items }
+    {
+        self.changes.as_slice()
     }
 
     // How many changes lie at or before an instant.
@@ -189,6 +213,18 @@ impl<'t> TableTime<'t> {
         }
     }
 
+    /// The table of its clock.
+    ///
+    /// ```
+    /// let noon = TableTime::new(&paris, 1_719_828_000)?;
+    /// let ahead = noon.table().first_offset(); // 3600
+    /// ```
+    pub fn table(&self) -> &'t ClockTable
+        ensures { result.now ≡ self.now.table.now }
+    {
+        self.table
+    }
+
     /// Seconds since 1970-01-01T00:00:00 UTC, from -377,705,116,800 to 253,402,300,799.
     ///
     /// ```
@@ -310,7 +346,7 @@ impl<'t> CronDateTime for TableTime<'t> {
         if civil.year() < -YEAR_LIMIT || civil.year() > YEAR_LIMIT {
             return Err(CronError::InvalidDate);
         }
-        Ok(self.resolved(second_of_civil(civil)))
+        Ok(self.resolved(civil.wall_second()))
     }
 
     fn checked_add_seconds(

@@ -1,15 +1,11 @@
-//! Dates and times of wall seconds, and back.
+//! Dates and times of wall seconds that a table's clock can read.
 ghost use Rattle.std.specs.Prelude.{◌≡◌, pos, neg_ℤ, ◌≤ℤ◌};
 ghost use Rattle.croner_base.specs.Civil.{wall_second, day_of_date};
 ghost use Rattle.croner_base.specs.Private.TableSteps.{first_reading, last_reading};
-ghost use Rattle.jiff_core.specs.Calendar.{IsYear};
 
-use crate::limits::SECONDS_PER_DAY;
+use crate::limits::{FIRST_DAY_NUMBER, SECONDS_PER_DAY};
 use crate::time::{CivilDate, CivilDateTime, CivilTime};
 use jiff_core::civil::Date;
-
-/// The day number of -9999-01-01.
-const FIRST_DAY_NUMBER: i64 = -4_371_587;
 
 /// The day number of 9999-12-31.
 const LAST_DAY_NUMBER: i64 = 2_932_896;
@@ -38,17 +34,4 @@ fn date_of_day(day: i64) -> CivilDate
         let date = Date::from_days_since_min((day - FIRST_DAY_NUMBER) as u32);
         CivilDate::from_parts_unchecked(date.year as i32, date.month as u32, date.day as u32)
     }
-}
-
-// The wall second of a date and time of those years.
-pub(crate) fn second_of_civil(civil: CivilDateTime) -> i64
-    requires { IsYear civil.date.year }
-    ensures { result ≡ wall_second civil }
-{
-    let date = Date {
-        year: civil.year() as i16,
-        month: civil.month() as u8,
-        day: civil.day() as u8,
-    };
-    date.to_unix_epoch_day() as i64 * SECONDS_PER_DAY as i64 + civil.time().seconds_of_day()
 }

@@ -27,6 +27,6 @@ pub returns-clause-value : goal.returns-clause-value
 returns-clause-value c =
     let b = near_second c.args.civil (omega (arith, ints)) (omega (arith, ints)) in
     let near = is_near_year-true c.args.civil.date.year (omega (arith, ints)) (omega (arith, ints)) in
-    let f : FitsSigned w64 c.second_of_civil.result = omega (arith, ints, b) in
+    let f : FitsSigned w64 c.wall_second.result = omega (arith, ints, b) in
     let e = simp to_z-of_z at c.resolved.ensures.value in
-    resolved_to c.args.self.now.table.now c.args.civil c.resolved.result near c.resolved.ensures.table (rw c.second_of_civil.ensures at e)
+    resolved_to c.args.self.now.table.now c.args.civil c.resolved.result near c.resolved.ensures.table (rw c.wall_second.ensures at e)
