@@ -5,16 +5,12 @@ use Rattle.std.proofs.lemmas.Bool.{false≢true}
 use Rattle.std.proofs.lemmas.Int.{ints, by_lt_z}
 use Rattle.croner_base.specs.declared.errors.CronError.{CronError}
 use Rattle.croner_base.specs.declared.time.Direction.TheVariants.{Forward}
-use Rattle.croner_base.specs.declared.time.civil.CivilDateTime.{CivilDateTime}
 use Rattle.croner_base.specs.declared.time.table.ClockTable.{ClockTable}
 use Rattle.croner_base.specs.declared.time.table.TableTime.{TableTime}
-use Rattle.croner_base.specs.declared.time.value.Resolution.TheVariants.{Gap}
-use Rattle.croner_base.specs.Calm.{IsSearched, IsInReach}
-use Rattle.croner_base.specs.Civil.{wall_second}
+use Rattle.croner_base.specs.Calm.{IsSearched}
 use Rattle.croner_base.specs.Table.{is_calm_table}
 use Rattle.croner_base.specs.TableZone.{clock, HasParts, table_zone, table_moment}
-use Rattle.croner_base.specs.Zone.{reading, Names, IsResolved, IsUnheld}
-use Rattle.croner_base.proofs.tables.TableCalm.{clock_calm}
+use Rattle.croner_base.specs.Zone.{reading}
 use Rattle.croner_pattern.specs.Meaning.{Meaning}
 use Rattle.croner_pattern.specs.Schedule.{IsScheduled}
 use Rattle.croner.specs.search.Limit.{year_5000, InSpan}
@@ -33,27 +29,8 @@ pub level_reads : (t : ClockTable) → HasParts (pos 0) [] t → (i : ℤ) → (
 unfolding clock
 level_reads t h i = rw (h.first_is, h.changes_are) (omega (arith, ints))
 
--- ---- a date and time
-
--- the years that a search needs are held
-pub level_holds : (t : TableTime) → HasParts (pos 0) [] t.table.now → t.second ≡ pos 0 → (c : CivilDateTime) → IsInReach (wall_second c) → (e : CronError) → IsUnheld false (table_moment t).zone c e → ⊥
-level_holds t h zero c reach e unheld =
-    let shows : reading (table_moment t) ≡ t.second = level_reads t.table.now h t.second in
-    let held = searchable t (omega (arith, ints, shows, zero), omega (arith, ints, shows, zero)) in
-    let some = held.held.years c reach in
-    elim unheld [ inl (memory, can) ↦ absurd (false≢true can) | inr (kind, none) ↦ let no = rw none at some in absurd (false≢true no) ]
-
--- a second of the clock that shows it
-pub names_second : (t : ClockTable) (x : TableTime) (c : CivilDateTime) → HasParts (pos 0) [] t → Names table_moment (table_zone t) (wall_second c) x → x.second ≡ wall_second c
-names_second t x c h names = sym (level_reads t h x.second) ∙ names.reads_it
-
 pub same_parts : (t u : ClockTable) → u ≡ t → HasParts (pos 0) [] t → HasParts (pos 0) [] u
 same_parts t u same h = subst (λ (x : ClockTable). HasParts (pos 0) [] x) (sym same) h
-
--- no second is skipped
-pub level_skips : (t : ClockTable) → HasParts (pos 0) [] t → (c : CivilDateTime) → IsResolved table_moment (table_zone t) c Gap → ⊥
-level_skips t h c skipped =
-    (clock_calm t.first_offset t.changes.items t.calm).exact c Gap skipped (wall_second c) (level_reads t h (wall_second c))
 
 -- ---- what counts
 

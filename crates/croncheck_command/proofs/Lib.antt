@@ -1,5 +1,3 @@
-mod ClockAsked
-mod ClockTurns
 mod Comparisons
 mod Examples
 mod ExamplesChanges
@@ -9,6 +7,7 @@ mod FileTexts
 mod HarmlessBytes
 mod Items
 mod LevelClock
+mod ListedChanges
 mod Listings
 mod Meetings
 mod Moments
@@ -21,4 +20,5 @@ mod ShownBytes
 mod Stops
 mod TakenLines
 mod Viewed
+mod WatchedYears
 mod Years

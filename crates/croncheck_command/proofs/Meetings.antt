@@ -23,7 +23,7 @@ use Rattle.croncheck_command.specs.declared.changes.Range.{Range}
 use Rattle.croncheck_command.specs.declared.changes.Range.TheVariants as ranges
 use Rattle.croncheck_command.specs.Private.Level.{IsNoneWithin, IsLeastWithin}
 use Rattle.croncheck_command.specs.Private.Met.{IsToldOf, IsNoneIn, IsFirstIn}
-use Rattle.croncheck_command.proofs.ClockAsked.{near_utc}
+use Rattle.croncheck_command.proofs.WatchedYears.{near_utc}
 use Rattle.croncheck_command.proofs.Listings.{starts_calm, searchable}
 
 -- ---- the first scheduled second of a range

@@ -1,4 +1,3 @@
 -- Changes of a clock and a job's seconds at one of them. Private contracts alone cite these definitions.
-pub mod Found
 pub mod Level
 pub mod Met

@@ -1,9 +1,10 @@
 //! What changes of the clock do to a job: which of its seconds are skipped, or shown twice.
-ghost use Rattle.std.specs.Prelude.{◌≡◌, ◌↔◌, true, IsTrue, IfOk, MatchOption, ℤ, pos, ◌-ℤ◌, ◌≤ℤ◌};
+ghost use Rattle.std.specs.Prelude.{◌≡◌, ◌↔◌, true, IsTrue, IfOk, MatchOption, ℤ, pos, ◌-ℤ◌};
 ghost use Rattle.croner_base.specs.TableZone.{table_moment};
+ghost use Rattle.croner_base.specs.Zone.{at_instant};
 ghost use Rattle.croner_pattern.specs.Schedule.{is_fixed_time};
 ghost use Rattle.croner.specs.Views.{job_of};
-ghost use Rattle.croncheck_command.specs.Changes.{first_watched, AreChangesFrom, names_all_hours, Meets, IsMeeting, IsFate, MakesUp, IsFateInCron, has_clock_star};
+ghost use Rattle.croncheck_command.specs.Changes.{AreChangesFrom, names_all_hours, Meets, IsMeeting, IsFate, MakesUp, IsFateInCron, has_clock_star};
 ghost use Rattle.croncheck_command.specs.Line.{next};
 ghost use Rattle.croncheck_command.specs.Private.Met.{IsToldOf, IsInYears, IsNoneIn, IsFirstIn};
 
@@ -13,7 +14,7 @@ pub mod meetings;
 pub mod told;
 
 use crate::bytes::{Kind, begins_with, cut};
-use crate::changes::found::{changes_behind, time_at};
+use crate::changes::found::changes_behind;
 use crate::changes::level::Level;
 use croner::component::ALL_BIT;
 use croner::time::table::TableTime;
@@ -87,7 +88,7 @@ impl<'t> Changes<'t> {
         ensures { IfOk result (λ changes. changes.start ≡ start.entry) }
     {
         let level = Level::new(alloc);
-        let items = changes_behind(alloc, &level, start)?;
+        let items = changes_behind(alloc, start)?;
         Ok(Changes {
             start,
             level,
@@ -97,7 +98,7 @@ impl<'t> Changes<'t> {
 
     /// The first of them that meets a job: not all hours are named, and a scheduled second lies in such a range of the change. `None` where none
     /// does.
-    pub fn first_meeting(&self, alloc: Global, job: &Cron, range: Range) -> Option<Meeting>
+    pub fn first_meeting(&self, job: &Cron, range: Range) -> Option<Meeting>
         ensures { MatchOption result
             ((c : Change) (w : ℤ) → ¬ (Meets (table_moment self.now.start).zone (table_moment self.now.start).instant (job_of job.now) range c w))
             (IsMeeting (table_moment self.now.start).zone (table_moment self.now.start).instant (job_of job.now) range) }
@@ -111,7 +112,7 @@ impl<'t> Changes<'t> {
                     change: *change,
                     range,
                     second,
-                    fate: self.fate_of(alloc, job, range, *change, second),
+                    fate: self.fate_of(job, range, *change, second),
                 });
             }
         }
@@ -134,13 +135,13 @@ impl<'t> Changes<'t> {
     }
 
     // What becomes of a scheduled second in a range of a change.
-    fn fate_of(&self, alloc: Global, job: &Cron, range: Range, change: Change, second: i64) -> Fate
+    fn fate_of(&self, job: &Cron, range: Range, change: Change, second: i64) -> Fate
         requires told { IsToldOf self.now.start change }
         requires first { IsFirstIn (job_of job.now) range change second }
         ensures { IsFate (table_moment self.now.start).zone (job_of job.now) range change result }
     {
         match (range, job.determine_job_type()) {
-            (Range::Gap, JobType::FixedTime) => self.fate_in_gap(alloc, job, change, second),
+            (Range::Gap, JobType::FixedTime) => self.fate_in_gap(job, change, second),
             (Range::Gap, JobType::IntervalWildcard) => Fate::LeftOut,
             (Range::Repeated, JobType::FixedTime) => Fate::Once,
             (Range::Repeated, JobType::IntervalWildcard) => Fate::Twice,
@@ -148,26 +149,28 @@ impl<'t> Changes<'t> {
     }
 
     // What becomes of a fixed-time job's second in the gap.
-    fn fate_in_gap(&self, alloc: Global, job: &Cron, change: Change, second: i64) -> Fate
+    fn fate_in_gap(&self, job: &Cron, change: Change, second: i64) -> Fate
         requires told { IsToldOf self.now.start change }
         requires first { IsFirstIn (job_of job.now) Range.Gap change second }
         requires fixed { is_fixed_time (job_of job.now) ≡ true }
         ensures { IsFate (table_moment self.now.start).zone (job_of job.now) Range.Gap change result }
     {
-        let before = time_at(alloc, self.start, second_before(change));
-        match job.find_next_occurrence(&before, false) {
+        match job.find_next_occurrence(&self.second_before(change), false) {
             Ok(run) => fate_by(run, change),
             Err(_) => Fate::LeftOut,
         }
     }
-}
 
-// The second before a change.
-fn second_before(change: Change) -> i64
-    requires { first_watched ≤ℤ change.instant }
-    ensures { result ≡ change.instant -ℤ pos 1 }
-{
-    change.instant - 1
+    // The second before a change.
+    fn second_before(&self, change: Change) -> TableTime<'t>
+        requires { IsToldOf self.now.start change }
+        ensures { table_moment result ≡ at_instant (table_moment self.now.start).zone (change.instant -ℤ pos 1) }
+    {
+        match TableTime::new(self.start.table(), change.instant - 1) {
+            Ok(time) => time,
+            Err(_) => unreachable!(),
+        }
+    }
 }
 
 // What becomes of a second of the gap, by the next run behind the second before the change.

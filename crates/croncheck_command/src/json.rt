@@ -527,7 +527,7 @@ fn push_if_so(
 fn compared_object(alloc: Global, compared: &Compared) -> Result<Value, AllocError> {
     let name = compared.name();
     let mut text = String::new(alloc);
-    compared.push_text(&mut text, alloc)?;
+    compared.push_text(&mut text)?;
     json!(in alloc; {"name": name, "field": null, "text": text})
 }
 

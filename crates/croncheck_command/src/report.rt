@@ -393,7 +393,7 @@ fn told_of_job<'t>(
     ensures err { IfErr result (λ e. e ≡ CronError.OutOfMemory) }
 {
     let told = told_of(alloc, settings, cron)?;
-    let meetings = meetings_of(alloc, settings, cron, Some(job.schedule), &told);
+    let meetings = meetings_of(settings, cron, Some(job.schedule), &told);
     let dates = dates_of(cron, &told)?;
     let warned = with_warnings(alloc, job, Some(cron), told, meetings, dates, is_fed)?;
     Ok(warned)
@@ -401,7 +401,6 @@ fn told_of_job<'t>(
 
 // What a job is told of changes of the clock, whose times were told so.
 fn meetings_of(
-    alloc: Global,
     settings: &Settings<'_>,
     job: &Cron,
     text: Option<&[u8]>,
@@ -412,7 +411,7 @@ fn meetings_of(
     if is_idle(told) {
         return Meetings::none();
     }
-    settings.changes.meetings_of(alloc, job, text)
+    settings.changes.meetings_of(job, text)
 }
 
 // What a job that was told so is told of its dates: where it runs on either day, those of the month of its first listed run.
@@ -574,7 +573,7 @@ fn told_of_pattern<'l, 't>(
     match settings.parser.parse(alloc, text) {
         Ok(job) => {
             let times = told_of(alloc, settings, &job)?;
-            let meetings = meetings_of(alloc, settings, &job, None, &times);
+            let meetings = meetings_of(settings, &job, None, &times);
             let dates = dates_of(&job, &times)?;
             let warnings = warnings_of_pattern(alloc, text, &job, &times, is_fed)?;
             Ok(Report::Job(JobReport {

@@ -458,7 +458,7 @@ fn push_job(
     }
     push_told(text, shared, &job.times)?;
     push_warnings(text, job)?;
-    push_meetings(alloc, text, &job.meetings)?;
+    push_meetings(text, &job.meetings)?;
     if job.same.is_some() {
         write!(text, "\n  warning: {SAME_JOB}: ")?;
         push_same(text, job)?;
@@ -484,16 +484,12 @@ pub(crate) fn push_same(text: &mut String, job: &JobReport<'_, '_>) -> Result<()
 }
 
 // What a job is told of changes of the clock, below its other warnings.
-fn push_meetings(alloc: Global, text: &mut String, meetings: &Meetings) -> Result<(), AllocError> {
-    push_compared(alloc, text, &meetings.gap)?;
-    push_compared(alloc, text, &meetings.twice)
+fn push_meetings(text: &mut String, meetings: &Meetings) -> Result<(), AllocError> {
+    push_compared(text, &meetings.gap)?;
+    push_compared(text, &meetings.twice)
 }
 
-fn push_compared(
-    alloc: Global,
-    text: &mut String,
-    compared: &Option<Compared>,
-) -> Result<(), AllocError> {
+fn push_compared(text: &mut String, compared: &Option<Compared>) -> Result<(), AllocError> {
     match compared {
         Some(compared) => {
             let kind = if compared.is_harmful() {
@@ -503,7 +499,7 @@ fn push_compared(
             };
             let name = compared.name();
             write!(text, "\n  {kind}: {name}: ")?;
-            compared.push_text(text, alloc)
+            compared.push_text(text)
         }
         None => Ok(()),
     }

@@ -1,7 +1,6 @@
 //! A clock on which each wall second is its own instant, and a job's scheduled seconds on it.
 ghost use Rattle.std.specs.Prelude.{◌≡◌, ◌↔◌, IsTrue, MatchOption, pos, ◌<ℤ◌, ◌≤ℤ◌, []};
 ghost use Rattle.croner_base.specs.Calm.{IsInReach, IsSearched};
-ghost use Rattle.croner_base.specs.Civil.{wall_second};
 ghost use Rattle.croner_base.specs.TableZone.{HasParts};
 ghost use Rattle.croner.specs.search.Limit.{year_5000};
 ghost use Rattle.croner.specs.Views.{job_of};
@@ -10,7 +9,6 @@ ghost use Rattle.croncheck_command.specs.Private.Level.{IsNoneFrom, IsLeastFrom,
 
 use croner::Cron;
 use croner::time::table::{ClockTable, TableTime};
-use croner::time::{CivilDateTime, CronDateTime, Resolution};
 use std::alloc::Global;
 
 /// So many seconds beside a range a job is looked at.
@@ -46,27 +44,6 @@ impl Level {
         match TableTime::new(&self.table, wall) {
             Ok(time) => time,
             Err(_) => unreachable!(),
-        }
-    }
-
-    /// The wall second of a date and time.
-    pub fn second_of(&self, alloc: Global, civil: CivilDateTime) -> i64
-        requires { IsInReach (wall_second civil) }
-        ensures { result ≡ wall_second civil }
-    {
-        match self.at(0).resolve_civil(alloc, civil) {
-            Ok(Resolution::Single(time)) => time.second(),
-            Ok(Resolution::Ambiguous(time, _)) => time.second(),
-            Ok(Resolution::Gap) => unreachable!(),
-            Err(_) => unreachable!(),
-        }
-    }
-
-    /// The date and time of a wall second. `None` outside the years -9999 to 9999.
-    pub fn civil_of(&self, wall: i64) -> Option<CivilDateTime> {
-        match TableTime::new(&self.table, wall) {
-            Ok(time) => Some(time.to_civil()),
-            Err(_) => None,
         }
     }
 

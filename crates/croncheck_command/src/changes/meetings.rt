@@ -7,7 +7,6 @@ ghost use Rattle.croncheck_command.specs.Private.Met.{IsInYears};
 
 use crate::changes::{Change, Changes, Fate, Meeting, Range};
 use croner::Cron;
-use std::alloc::Global;
 
 /// Of a change by so many seconds or more nothing is told: it goes to another date, and is no daylight saving.
 const SECONDS_PER_HALF_DAY: u64 = 43_200;
@@ -86,27 +85,21 @@ impl Changes<'_> {
     /// A job whose hours are all named is told nothing. Else it is told where the clock is moved by less than twelve hours, and cron(8) does
     /// otherwise, or a run is left out or made twice and the job isn't due within three hours before the range or behind it. The times are the
     /// text of five fields that cron(8) would take; a pattern alone has none.
-    pub fn meetings_of(&self, alloc: Global, job: &Cron, times: Option<&[u8]>) -> Meetings
+    pub fn meetings_of(&self, job: &Cron, times: Option<&[u8]>) -> Meetings
         ensures { AreMeetings self.now.start (option_map (λ t. t.now) times.entry) (job_of job.now) result }
     {
         Meetings {
-            gap: self.told_of_first(alloc, job, times, Range::Gap),
-            twice: self.told_of_first(alloc, job, times, Range::Repeated),
+            gap: self.told_of_first(job, times, Range::Gap),
+            twice: self.told_of_first(job, times, Range::Repeated),
         }
     }
 
     // What is told of the first change that meets a job in a range.
-    fn told_of_first(
-        &self,
-        alloc: Global,
-        job: &Cron,
-        times: Option<&[u8]>,
-        range: Range,
-    ) -> Option<Compared>
+    fn told_of_first(&self, job: &Cron, times: Option<&[u8]>, range: Range) -> Option<Compared>
         ensures { TellsFirst (table_moment self.now.start).zone (table_moment self.now.start).instant (option_map (λ t. t.now) times.entry)
             (job_of job.now) range result }
     {
-        match self.first_meeting(alloc, job, range) {
+        match self.first_meeting(job, range) {
             Some(meeting) => if_told(self.compare(job, meeting, times)),
             None => None,
         }

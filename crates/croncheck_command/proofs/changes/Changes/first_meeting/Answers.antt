@@ -5,7 +5,7 @@ use Rattle.croner.specs.Views.{job_of}
 use Rattle.croncheck_command.specs.Changes.{MeetsFirst}
 use Rattle.croncheck_command.specs.declared.changes.Change.{Change}
 use Rattle.croncheck_command.specs.Private.Met.{IsNoneIn}
-use Rattle.croncheck_command.proofs.ClockAsked.{in_years}
+use Rattle.croncheck_command.proofs.WatchedYears.{in_years}
 use Rattle.croncheck_command.proofs.Meetings.{IsNoneOf, none_more, none_meets, first_meets, told_at, read_at}
 use Rattle.croncheck_command.proofs.changes.Changes.first_meeting.Goals as goal
 

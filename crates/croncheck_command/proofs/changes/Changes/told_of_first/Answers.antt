@@ -1,7 +1,7 @@
 use Rattle.std.proofs.Common.{option_map}
 use Rattle.croner_base.specs.TableZone.{table_moment}
 use Rattle.croner.specs.Views.{job_of}
-use Rattle.croncheck_command.proofs.ClockAsked.{in_years}
+use Rattle.croncheck_command.proofs.WatchedYears.{in_years}
 use Rattle.croncheck_command.proofs.Comparisons.{tells_first}
 use Rattle.croncheck_command.proofs.changes.Changes.told_of_first.Goals as goal
 
