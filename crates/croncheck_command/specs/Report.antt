@@ -16,7 +16,7 @@ use Rattle.croner_words.specs.English.{english}
 use Rattle.croner_words.specs.Swedish.{swedish}
 use Rattle.croner_words.specs.Wording.{Wording}
 use Rattle.croner.specs.declared.parser.fault.PatternFault.{PatternFault}
-use Rattle.croner.specs.parser.Faults.{refusal_of, IsPlaced}
+use Rattle.croner.specs.parser.Faults.{IsFault}
 use Rattle.croner.specs.parser.Gives.{Fails}
 use Rattle.croner.specs.parser.Grammar.{Refusal, outcome, Texts}
 use Rattle.croncheck_command.specs.declared.bytes.Kind.TheVariants as kinds
@@ -255,12 +255,12 @@ IsReportOfJob is_fed s blanks task (reports.Refused start end why) = IsWholeBehi
 
 -- ---- a pattern
 
--- why and where a pattern behind so many blanks is refused: the parser refuses it, and its fault is of that refusal's kind and in its place;
--- or the whole of it is no text
+-- why and where a pattern behind so many blanks is refused: the parser refuses it, and its fault is one of that refusal; or the
+-- whole of it is no text
 abbrev pub IsPatternRefused : Settings → ℕ → List ℕ → ℕ → ℕ → Why → Type 0
 IsPatternRefused s blanks text start end (whys.Cron fault) = ⊥
 IsPatternRefused s blanks text start end (whys.Pattern fault) =
-    (outcome s.parser text ≡ Err (refusal_of fault.kind)) × IsPlaced s.parser text fault × IsFaultBehind blanks fault start end
+    (refusal : Refusal) × (outcome s.parser text ≡ Err refusal) × IsFault s.parser text refusal fault × IsFaultBehind blanks fault start end
 IsPatternRefused s blanks text start end (whys.Crate e) = ⊥
 IsPatternRefused s blanks text start end whys.NotText = ¬ (IsUtf8 text) × IsWholeBehind blanks text start end
 

@@ -2,7 +2,8 @@
 
 ghost use Rattle.std.specs.Prelude.{◌≡◌};
 
-mod at_fault;
+mod characters;
+mod counts;
 mod escapes;
 mod explain;
 mod fault;
@@ -12,10 +13,10 @@ mod part;
 mod place;
 mod prepare;
 mod read;
-mod refusals;
 mod second_reading;
 mod settle;
 mod split;
+mod stop;
 
 use crate::job::Cron;
 use croner_base::errors::CronError;
@@ -23,6 +24,7 @@ use croner_pattern::pattern::CronPattern;
 pub use fault::{Expected, FaultKind, Hint, PatternFault, PatternField, Suggestion, ValueNames};
 use std::alloc::Global;
 use std::marker::Model;
+use stop::Stop;
 
 /// Whether a pattern has a field for seconds.
 #[derive(Debug, Clone, Copy, Default, PartialEq, Eq, PartialOrd, Ord)]
@@ -140,6 +142,7 @@ impl CronParser {
     ghost use Rattle.croner_pattern.specs.Meaning.{meaning_of};
     ghost use Rattle.croner.specs.parser.Settings.{default_settings};
     ghost use Rattle.croner.specs.parser.Gives.{Gives};
+    ghost use Rattle.croner.specs.Private.parser.Steps.{Reads};
     ghost use Rattle.croner.specs.parser.Grammar.{outcome};
     ghost use Rattle.croner.specs.Views.{job_of};
 
@@ -173,13 +176,14 @@ impl CronParser {
     {
         match self.parse_text(alloc, pattern) {
             Ok(pattern) => Ok(Cron { pattern }),
-            Err(refused) => Err(self.told(alloc, pattern, refused)),
+            Err(Stop::Refused(cause)) => Err(self.error_of(alloc, pattern, cause)),
+            Err(Stop::OutOfMemory) => Err(CronError::OutOfMemory),
         }
     }
 
     /// Reads a text: it is prepared and split into fields, and these are settled and read.
-    fn parse_text(&self, alloc: Global, given: &str) -> Result<CronPattern, CronError>
-        ensures { Gives meaning_of result (outcome self.now given.now) }
+    fn parse_text(&self, alloc: Global, given: &str) -> Result<CronPattern, Stop>
+        ensures { Reads meaning_of result (outcome self.now given.now) }
     {
         let prepared = self.prepare(alloc, given)?;
         let text = prepared.as_str();

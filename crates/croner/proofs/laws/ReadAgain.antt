@@ -12,8 +12,8 @@ use Rattle.croner_base.specs.Part.{contains_byte}
 use Rattle.croner_pattern.specs.Meaning.{Meaning}
 use Rattle.croner.specs.parser.Gives.{Fails}
 use Rattle.croner.specs.parser.Cut.{Piece, letters, IsCut, cut_of, expansion, replaced}
-use Rattle.croner.specs.parser.Grammar.{Texts, Refusal, Empty, Invalid, Illegal, Component, outcome, of_trimmed, of_replaced, of_fields, of_settled, of_legal, fields_of, settled, has_plus, are_legal, are_read, nickname_of, nicknamed, meaning}
-use Rattle.croner.specs.parser.Settings.{Settings, accepts_count, seconds_required, year_required}
+use Rattle.croner.specs.parser.Grammar.{Texts, Refusal, Empty, Invalid, Illegal, Component, outcome, of_trimmed, of_letter, of_replaced, of_fields, of_settled, of_legal, fields_of, settled, has_plus, are_legal, are_read, illegal_field, illegal_word, unread_field, nickname_of, nicknamed, meaning}
+use Rattle.croner.specs.parser.Settings.{Settings, seconds_required, year_required}
 use Rattle.croner.specs.parser.Words.{words}
 use Rattle.croner.proofs.parser.Cuts.{cut_found}
 use Rattle.croner.proofs.parser.Expanded.{expanded_trimmed, no_at_in, no_at_before}
@@ -39,14 +39,14 @@ record Accepts (s : Settings) (text : List ℕ) (m : Meaning) : Type 0 where
 
 legal_text : (s : Settings) (text : List ℕ) (t : Texts) (and : Bool) (m : Meaning) → of_legal s text t and ≡ Ok m → m.text ≡ text
 legal_text s text t and m e = elim (cases_Bool (are_read s t)) [
-  | inl is_so ↦ sym (ap (λ x. x.text) (ok_same (meaning s text t and) m (sym (cond-true (are_read s t) (Ok (meaning s text t and)) (Err Component) is_so) ∙ e)))
-  | inr is_not ↦ absurd (err_ok Component m (sym (cond-false (are_read s t) (Ok (meaning s text t and)) (Err Component) is_not) ∙ e))
+  | inl is_so ↦ sym (ap (λ x. x.text) (ok_same (meaning s text t and) m (sym (cond-true (are_read s t) (Ok (meaning s text t and)) (Err (Component (unread_field s t))) is_so) ∙ e)))
+  | inr is_not ↦ absurd (err_ok (Component (unread_field s t)) m (sym (cond-false (are_read s t) (Ok (meaning s text t and)) (Err (Component (unread_field s t))) is_not) ∙ e))
 ]
 
 settled_parts : (s : Settings) (text : List ℕ) (t : Texts) (and : Bool) (m : Meaning) → of_settled s text t and ≡ Ok m → (are_legal t ≡ true) × (m.text ≡ text)
 settled_parts s text t and m e = elim (cases_Bool (are_legal t)) [
-  | inl is_so ↦ (is_so, legal_text s text t and m (sym (cond-true (are_legal t) (of_legal s text t and) (Err Illegal) is_so) ∙ e))
-  | inr is_not ↦ absurd (err_ok Illegal m (sym (cond-false (are_legal t) (of_legal s text t and) (Err Illegal) is_not) ∙ e))
+  | inl is_so ↦ (is_so, legal_text s text t and m (sym (cond-true (are_legal t) (of_legal s text t and) (Err (Illegal (illegal_field t))) is_so) ∙ e))
+  | inr is_not ↦ absurd (err_ok (Illegal (illegal_field t)) m (sym (cond-false (are_legal t) (of_legal s text t and) (Err (Illegal (illegal_field t))) is_not) ∙ e))
 ]
 
 fields_parts : (s : Settings) (text : List ℕ) (o : Option Texts) (m : Meaning) → fields_of s (words text) ≡ o → of_fields s text o ≡ Ok m → Accepts s text m
@@ -59,9 +59,12 @@ fields_parts s text (Some t) m e h =
 abbrev Replaces : Settings → List ℕ → Meaning → Type 0
 Replaces s full m = (text : List ℕ) × (replaced s.quartz false full ≡ Some text) × (of_fields s text (fields_of s (words text)) ≡ Ok m)
 
+no_letter : (s : Settings) (o : Option Texts) (m : Meaning) → of_letter s o ≡ Ok m → ⊥
+no_letter s None m h = err_ok Invalid m h
+no_letter s (Some given) m h = err_ok (Illegal (illegal_word s.quartz given)) m h
+
 replaced_parts : (s : Settings) (full : List ℕ) (o : Option (List ℕ)) (m : Meaning) → replaced s.quartz false full ≡ o → of_replaced s full o ≡ Ok m → Replaces s full m
-replaced_parts s full None m e h =
-    absurd (cond_both (accepts_count s.seconds_field s.year_field (length (words full))) (Err Illegal) (Err Invalid) (λ r. r ≡ Ok m → ⊥) (λ _. err_ok Illegal m) (λ _. err_ok Invalid m) h)
+replaced_parts s full None m e h = absurd (no_letter s (fields_of s (words full)) m h)
 replaced_parts s full (Some text) m e h = (text, e, h)
 
 outcome_parts : (s : Settings) (given : List ℕ) (m : Meaning) → outcome s given ≡ Ok m → Replaces s (nicknamed s (trim (str_to_ascii_uppercase given))) m

@@ -7,6 +7,7 @@ use Rattle.croner_base.specs.Field.{marked_values}
 use Rattle.croner_pattern.specs.Shapes.{sixty_shape, hour_shape, day_shape, month_shape}
 use Rattle.croner.specs.declared.parser.Seconds.TheVariants as seconds
 use Rattle.croner.specs.declared.parser.Year.TheVariants as year
+use Rattle.croner.specs.declared.parser.fault.PatternField.TheVariants as fields
 use Rattle.croner.specs.parser.Cut.{replaced}
 use Rattle.croner.specs.parser.Grammar.{Texts, Empty, Invalid, Illegal, Component, outcome, nicknamed, fields_of, settled, is_star, are_legal, are_read, value_of, weekdays_of, settled_weekdays}
 use Rattle.croner.specs.parser.Settings.{Settings, default_settings}
@@ -82,11 +83,11 @@ quartz_star : weekday_marks 1 in_quartz_mode (codes "* * * * *") ≡ Some (0 ∷
 unfolding trim_start trim_end chars lib.Utf8.encode
 quartz_star = refl
 
-quartz_zero : outcome in_quartz_mode (codes "* * * * 0") ≡ Err Component
+quartz_zero : outcome in_quartz_mode (codes "* * * * 0") ≡ Err (Component fields.Weekday)
 unfolding trim_start trim_end chars lib.Utf8.encode
 quartz_zero = refl
 
-quartz_backward_range : outcome in_quartz_mode (codes "* * * * SAT-SUN") ≡ Err Component
+quartz_backward_range : outcome in_quartz_mode (codes "* * * * SAT-SUN") ≡ Err (Component fields.Weekday)
 unfolding trim_start trim_end chars lib.Utf8.encode
 quartz_backward_range = refl
 
@@ -94,7 +95,7 @@ quartz_whole_week : weekday_marks 1 in_quartz_mode (codes "0 0 * * SUN-SAT") ≡
 unfolding trim_start trim_end chars lib.Utf8.encode
 quartz_whole_week = refl
 
-quartz_eight : outcome in_quartz_mode (codes "0 0 * * 8") ≡ Err Component
+quartz_eight : outcome in_quartz_mode (codes "0 0 * * 8") ≡ Err (Component fields.Weekday)
 unfolding trim_start trim_end chars lib.Utf8.encode
 quartz_eight = refl
 
@@ -127,11 +128,11 @@ eight_fields : outcome default_settings (codes "* * * * * * * *") ≡ Err Invali
 unfolding trim_start trim_end chars lib.Utf8.encode
 eight_fields = refl
 
-question_in_minutes : outcome default_settings (codes "? * * * *") ≡ Err Illegal
+question_in_minutes : outcome default_settings (codes "? * * * *") ≡ Err (Illegal fields.Minutes)
 unfolding trim_start trim_end chars lib.Utf8.encode
 question_in_minutes = refl
 
-two_plusses : outcome default_settings (codes "* * * * ++5") ≡ Err Illegal
+two_plusses : outcome default_settings (codes "* * * * ++5") ≡ Err (Illegal fields.Weekday)
 unfolding trim_start trim_end chars lib.Utf8.encode
 two_plusses = refl
 
@@ -159,7 +160,7 @@ a_lost_letter : kept default_settings (codes "0 0 * * SUNDAY") ≡ None
 unfolding trim_start trim_end chars lib.Utf8.encode
 a_lost_letter = refl
 
-a_lost_letter_is_illegal : outcome default_settings (codes "0 0 * * SUNDAY") ≡ Err Illegal
+a_lost_letter_is_illegal : outcome default_settings (codes "0 0 * * SUNDAY") ≡ Err (Illegal fields.Weekday)
 unfolding trim_start trim_end chars lib.Utf8.encode
 a_lost_letter_is_illegal = refl
 
@@ -167,15 +168,15 @@ count_before_letters : outcome default_settings (codes "X * * *") ≡ Err Invali
 unfolding trim_start trim_end chars lib.Utf8.encode
 count_before_letters = refl
 
-letters_before_fields : outcome default_settings (codes "60 * * * X") ≡ Err Illegal
+letters_before_fields : outcome default_settings (codes "60 * * * X") ≡ Err (Illegal fields.Weekday)
 unfolding trim_start trim_end chars lib.Utf8.encode
 letters_before_fields = refl
 
-no_nickname : outcome default_settings (codes "@MON * * * *") ≡ Err Illegal
+no_nickname : outcome default_settings (codes "@MON * * * *") ≡ Err (Illegal fields.Minutes)
 unfolding trim_start trim_end chars lib.Utf8.encode
 no_nickname = refl
 
-no_nickname_with_seconds : outcome with_seconds_required (codes "@X * * * *") ≡ Err Illegal
+no_nickname_with_seconds : outcome with_seconds_required (codes "@X * * * *") ≡ Err (Illegal fields.Minutes)
 unfolding trim_start trim_end chars lib.Utf8.encode
 no_nickname_with_seconds = refl
 
@@ -224,7 +225,7 @@ sloppy_nothing : minutes_of with_sloppy_steps (codes "/10 * * * *") ≡ Some (0 
 unfolding trim_start trim_end chars lib.Utf8.encode
 sloppy_nothing = refl
 
-not_sloppy : outcome default_settings (codes "5/10 * * * *") ≡ Err Component
+not_sloppy : outcome default_settings (codes "5/10 * * * *") ≡ Err (Component fields.Minutes)
 unfolding trim_start trim_end chars lib.Utf8.encode
 not_sloppy = refl
 
@@ -241,7 +242,7 @@ near_a_day : is_read default_settings (codes "0 0 15W? * *") ≡ Some (true ∷ 
 unfolding trim_start trim_end chars lib.Utf8.encode
 near_a_day = refl
 
-near_a_range : outcome default_settings (codes "0 0 15W-20 * *") ≡ Err Component
+near_a_range : outcome default_settings (codes "0 0 15W-20 * *") ≡ Err (Component fields.DayOfMonth)
 unfolding trim_start trim_end chars lib.Utf8.encode
 near_a_range = refl
 
@@ -261,11 +262,11 @@ last_with_any_nth : is_read default_settings (codes "0 0 * * 5#*L") ≡ Some (tr
 unfolding trim_start trim_end chars lib.Utf8.encode
 last_with_any_nth = refl
 
-a_star_with_nth : outcome default_settings (codes "0 0 * * *#2") ≡ Err Component
+a_star_with_nth : outcome default_settings (codes "0 0 * * *#2") ≡ Err (Component fields.Weekday)
 unfolding trim_start trim_end chars lib.Utf8.encode
 a_star_with_nth = refl
 
-a_star_in_a_list : outcome default_settings (codes "*,5 * * * *") ≡ Err Component
+a_star_in_a_list : outcome default_settings (codes "*,5 * * * *") ≡ Err (Component fields.Minutes)
 unfolding trim_start trim_end chars lib.Utf8.encode
 a_star_in_a_list = refl
 
@@ -277,19 +278,19 @@ twenty_digits : minutes_of default_settings (codes "00000000000000000005 * * * *
 unfolding trim_start trim_end chars lib.Utf8.encode
 twenty_digits = refl
 
-no_end : outcome default_settings (codes "5- * * * *") ≡ Err Component
+no_end : outcome default_settings (codes "5- * * * *") ≡ Err (Component fields.Minutes)
 unfolding trim_start trim_end chars lib.Utf8.encode
 no_end = refl
 
-no_step : outcome default_settings (codes "*/ * * * *") ≡ Err Component
+no_step : outcome default_settings (codes "*/ * * * *") ≡ Err (Component fields.Minutes)
 unfolding trim_start trim_end chars lib.Utf8.encode
 no_step = refl
 
-no_day : outcome default_settings (codes "0 0 W * *") ≡ Err Component
+no_day : outcome default_settings (codes "0 0 W * *") ≡ Err (Component fields.DayOfMonth)
 unfolding trim_start trim_end chars lib.Utf8.encode
 no_day = refl
 
-no_nth : outcome default_settings (codes "0 0 * * 5#") ≡ Err Component
+no_nth : outcome default_settings (codes "0 0 * * 5#") ≡ Err (Component fields.Weekday)
 unfolding trim_start trim_end chars lib.Utf8.encode
 no_nth = refl
 
@@ -301,11 +302,11 @@ a_far_step_in_weekdays : weekday_marks 1 default_settings (codes "0 0 * * */6553
 unfolding trim_start trim_end chars lib.Utf8.encode
 a_far_step_in_weekdays = refl
 
-a_step_too_far : outcome default_settings (codes "0 0 */65535 * *") ≡ Err Component
+a_step_too_far : outcome default_settings (codes "0 0 */65535 * *") ≡ Err (Component fields.DayOfMonth)
 unfolding trim_start trim_end chars lib.Utf8.encode
 a_step_too_far = refl
 
-a_step_too_far_in_quartz_mode : outcome in_quartz_mode (codes "0 0 * * */65535") ≡ Err Component
+a_step_too_far_in_quartz_mode : outcome in_quartz_mode (codes "0 0 * * */65535") ≡ Err (Component fields.Weekday)
 unfolding trim_start trim_end chars lib.Utf8.encode
 a_step_too_far_in_quartz_mode = refl
 
@@ -327,11 +328,11 @@ unfolding trim_start trim_end chars lib.Utf8.encode
 zero_width_space = refl
 
 -- letters past ASCII are not raised
-long_s : outcome default_settings (48 ∷ 32 ∷ 48 ∷ 32 ∷ 42 ∷ 32 ∷ 42 ∷ 32 ∷ 197 ∷ 191 ∷ 85 ∷ 78 ∷ []) ≡ Err Illegal
+long_s : outcome default_settings (48 ∷ 32 ∷ 48 ∷ 32 ∷ 42 ∷ 32 ∷ 42 ∷ 32 ∷ 197 ∷ 191 ∷ 85 ∷ 78 ∷ []) ≡ Err (Illegal fields.Weekday)
 unfolding trim_start trim_end chars lib.Utf8.encode
 long_s = refl
 
-arabic_digit : outcome default_settings (217 ∷ 163 ∷ 32 ∷ 42 ∷ 32 ∷ 42 ∷ 32 ∷ 42 ∷ 32 ∷ 42 ∷ []) ≡ Err Illegal
+arabic_digit : outcome default_settings (217 ∷ 163 ∷ 32 ∷ 42 ∷ 32 ∷ 42 ∷ 32 ∷ 42 ∷ 32 ∷ 42 ∷ []) ≡ Err (Illegal fields.Minutes)
 unfolding trim_start trim_end chars lib.Utf8.encode
 arabic_digit = refl
 

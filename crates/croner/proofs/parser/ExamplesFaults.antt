@@ -1,5 +1,5 @@
 -- Worked faults, computed from the definitions: the field at fault, and the place of a fault.
-use Rattle.std.proofs.Common.{◌≡◌, ℕ, ◌+◌, true, Option, Some, None, refl, ap, arith}
+use Rattle.std.proofs.Common.{◌≡◌, ℕ, ◌+◌, true, Option, Some, None, Err, refl, arith}
 use Rattle.std.specs.Prelude.{codes}
 use Rattle.std.specs.Str.{trim_start, trim_end, chars}
 use Rattle.croner.specs.declared.parser.Year.TheVariants as year
@@ -7,7 +7,8 @@ use Rattle.croner.specs.declared.parser.fault.Expected.{Expected}
 use Rattle.croner.specs.declared.parser.fault.FaultKind.TheVariants as kinds
 use Rattle.croner.specs.declared.parser.fault.PatternField.TheVariants as fields
 use Rattle.croner.specs.declared.parser.fault.PatternField.{PatternField}
-use Rattle.croner.specs.parser.Faults.{field_at_fault, counted_word, place_of_field, IsInField, IsPlaced}
+use Rattle.croner.specs.parser.Faults.{named_field, counted_word, IsInField, IsPlaced}
+use Rattle.croner.specs.parser.Grammar.{Invalid, Illegal, Component, outcome}
 use Rattle.croner.specs.parser.Settings.{Settings, default_settings}
 
 abbrev in_quartz_mode : Settings
@@ -16,61 +17,57 @@ in_quartz_mode = record default_settings { quartz = true }
 abbrev without_year : Settings
 without_year = record default_settings { year_field = year.Disallowed }
 
-an_hour_too_high : field_at_fault default_settings kinds.ComponentError (codes "0 24 * * *") ≡ Some fields.Hours
+an_hour_too_high : outcome default_settings (codes "0 24 * * *") ≡ Err (Component fields.Hours)
 unfolding trim_start trim_end chars lib.Utf8.encode
 an_hour_too_high = refl
 
-a_minute_too_high : field_at_fault default_settings kinds.ComponentError (codes "60 * * * *") ≡ Some fields.Minutes
+a_minute_too_high : outcome default_settings (codes "60 * * * *") ≡ Err (Component fields.Minutes)
 unfolding trim_start trim_end chars lib.Utf8.encode
 a_minute_too_high = refl
 
-a_second_too_high : field_at_fault default_settings kinds.ComponentError (codes "60 * * * * *") ≡ Some fields.Seconds
+a_second_too_high : outcome default_settings (codes "60 * * * * *") ≡ Err (Component fields.Seconds)
 unfolding trim_start trim_end chars lib.Utf8.encode
 a_second_too_high = refl
 
-a_day_too_low : field_at_fault default_settings kinds.ComponentError (codes "0 0 0 * *") ≡ Some fields.DayOfMonth
+a_day_too_low : outcome default_settings (codes "0 0 0 * *") ≡ Err (Component fields.DayOfMonth)
 unfolding trim_start trim_end chars lib.Utf8.encode
 a_day_too_low = refl
 
-a_month_too_high : field_at_fault default_settings kinds.ComponentError (codes "0 0 1 13 *") ≡ Some fields.Month
+a_month_too_high : outcome default_settings (codes "0 0 1 13 *") ≡ Err (Component fields.Month)
 unfolding trim_start trim_end chars lib.Utf8.encode
 a_month_too_high = refl
 
-a_year_as_the_sixth_field : field_at_fault default_settings kinds.ComponentError (codes "0 0 1 1 * 2024") ≡ Some fields.Weekday
+a_year_as_the_sixth_field : outcome default_settings (codes "0 0 1 1 * 2024") ≡ Err (Component fields.Weekday)
 unfolding trim_start trim_end chars lib.Utf8.encode
 a_year_as_the_sixth_field = refl
 
-a_year_too_high : field_at_fault default_settings kinds.ComponentError (codes "0 0 0 1 1 * 5001") ≡ Some fields.Year
+a_year_too_high : outcome default_settings (codes "0 0 0 1 1 * 5001") ≡ Err (Component fields.Year)
 unfolding trim_start trim_end chars lib.Utf8.encode
 a_year_too_high = refl
 
-sunday_as_0_in_quartz_mode : field_at_fault in_quartz_mode kinds.ComponentError (codes "0 0 * * 0") ≡ Some fields.Weekday
+sunday_as_0_in_quartz_mode : outcome in_quartz_mode (codes "0 0 * * 0") ≡ Err (Component fields.Weekday)
 unfolding trim_start trim_end chars lib.Utf8.encode
 sunday_as_0_in_quartz_mode = refl
 
-the_first_of_two : field_at_fault default_settings kinds.ComponentError (codes "0 24 * 13 *") ≡ Some fields.Hours
+the_first_of_two : outcome default_settings (codes "0 24 * 13 *") ≡ Err (Component fields.Hours)
 unfolding trim_start trim_end chars lib.Utf8.encode
 the_first_of_two = refl
 
-a_letter_behind_a_number_too_high : field_at_fault default_settings kinds.IllegalCharacters (codes "60 * * * MONDAY") ≡ Some fields.Weekday
+a_letter_behind_a_number_too_high : outcome default_settings (codes "60 * * * MONDAY") ≡ Err (Illegal fields.Weekday)
 unfolding trim_start trim_end chars lib.Utf8.encode
 a_letter_behind_a_number_too_high = refl
 
-a_question_mark_in_hours : field_at_fault default_settings kinds.IllegalCharacters (codes "* ? * * *") ≡ Some fields.Hours
+a_question_mark_in_hours : outcome default_settings (codes "* ? * * *") ≡ Err (Illegal fields.Hours)
 unfolding trim_start trim_end chars lib.Utf8.encode
 a_question_mark_in_hours = refl
 
-a_wrong_count_has_no_field : field_at_fault default_settings kinds.InvalidPattern (codes "60 * * *") ≡ None
+a_wrong_count_has_no_field : outcome default_settings (codes "60 * * *") ≡ Err Invalid
 unfolding trim_start trim_end chars lib.Utf8.encode
 a_wrong_count_has_no_field = refl
 
-an_at_sign_hides_the_fields : field_at_fault default_settings kinds.IllegalCharacters (codes "0 0 * * MON@") ≡ None
+an_at_sign_hides_the_fields : named_field (codes "0 0 * * MON@") (Illegal fields.Weekday) ≡ None
 unfolding trim_start trim_end chars lib.Utf8.encode
 an_at_sign_hides_the_fields = refl
-
-an_accepted_text_has_no_field : field_at_fault default_settings kinds.ComponentError (codes "0 0 * * MON") ≡ None
-unfolding trim_start trim_end chars lib.Utf8.encode
-an_accepted_text_has_no_field = refl
 
 the_first_field_too_many : counted_word default_settings (codes "0 5 * * 1 tar -c /home") ≡ 8
 unfolding chars lib.Utf8.encode
@@ -97,7 +94,6 @@ a_place e = record {
   order = omega arith;
   some = λ h. omega arith;
   least = refl;
-  named = refl;
   field = record { all_written = refl; one_word = refl; its_word = refl };
   character = refl;
 }
@@ -113,14 +109,4 @@ one_character_on : (e : Expected) → IsPlacedAt (Some fields.Minutes) 0 2 2 e �
 unfolding chars lib.Utf8.encode
 one_character_on x p =
     let e : 2 ≡ 1 = p.character in
-    absurd (omega (arith, e))
-
-abbrev number_of_field : Option PatternField → ℕ
-number_of_field None = 0
-number_of_field (Some field) = place_of_field field + 1
-
-no_field_named : (e : Expected) → IsPlacedAt None 0 2 1 e → ⊥
-unfolding trim_start trim_end chars lib.Utf8.encode
-no_field_named x p =
-    let e : 0 ≡ 2 = ap number_of_field p.named in
     absurd (omega (arith, e))

@@ -1,42 +1,46 @@
 -- The fields of a pattern, read one after another.
-use Rattle.std.proofs.Common.{◌≡◌, ℕ, Bool, true, false, cond, eqb, ◌&&◌, List, [], ◌++◌, length, Option, Result, Ok, Err, refl, ap, sym, ◌∙◌, subst}
-use Rattle.std.specs.Prelude.{codes}
+use Rattle.std.proofs.Common.{◌≡◌, ℕ, Bool, true, false, not, cond, eqb, ◌&&◌, List, [], ◌++◌, length, Option, Result, Ok, Err, refl, ap, sym, ◌∙◌, subst}
+use Rattle.std.specs.Prelude.{codes, if◌then◌else◌}
 use Rattle.std.specs.Str.{trim, str_to_ascii_uppercase}
-use Rattle.std.proofs.lemmas.Bool.{and_left, and_right, and_from, cond-true, cond-false}
-use Rattle.croner_base.specs.declared.errors.CronError.{CronError}
-use Rattle.croner_base.specs.declared.errors.CronError.TheVariants.{EmptyPattern, InvalidDate, InvalidTime, TimeSearchLimitExceeded, InvalidPattern, IllegalCharacters, ComponentError, OutOfMemory}
-use Rattle.croner_base.specs.Answers.{IsFieldError}
+use Rattle.std.proofs.lemmas.Bool.{and_from, cond-true, cond-false}
 use Rattle.croner_base.specs.Field.{Shape, Field, empty_field, with_sloppy, has_all}
 use Rattle.croner_base.specs.Part.{field_of, contains_byte}
-use Rattle.croner_base.specs.Reading.{Reads}
+use Rattle.croner_base.specs.Reading.{Reading}
 use Rattle.croner_base.proofs.fields.ReadingsInTurn.{shape-applied}
 use Rattle.croner_pattern.specs.Meaning.{Meaning}
 use Rattle.croner_pattern.specs.Shapes.{sixty_shape, hour_shape, day_shape, month_shape, weekday_shape, year_shape, new_meaning}
 use Rattle.croner.specs.parser.Cut.{replaced}
 use Rattle.croner.specs.parser.Settings.{Settings, seconds_required, year_required}
-use Rattle.croner.specs.parser.Gives.{Fails}
-use Rattle.croner.specs.parser.Grammar.{Texts, Empty, Component, outcome, of_trimmed, of_replaced, nicknamed, nickname_of, reading_of, value_of, start_of, weekdays_of, are_read, settled_weekdays, is_star, meaning, of_legal}
-use Rattle.croner.specs.Private.parser.Steps.{read_meaning, TakesSunday}
+use Rattle.croner.specs.declared.parser.fault.PatternField.{PatternField}
+use Rattle.croner.specs.declared.parser.fault.PatternField.TheVariants as fields
+use Rattle.croner.specs.declared.parser.stop.Cause.TheVariants as causes
+use Rattle.croner.specs.declared.parser.stop.Stop.{Stop}
+use Rattle.croner.specs.declared.parser.stop.Stop.TheVariants as stops
+use Rattle.croner.specs.parser.Grammar.{Texts, Empty, Component, outcome, of_trimmed, of_replaced, nicknamed, nickname_of, reading_of, value_of, start_of, weekdays_of, are_read, settled_weekdays, is_star, meaning, of_legal, unread_field}
+use Rattle.croner.specs.Private.parser.Steps.{read_meaning, refusal_of, ReadsField, Stops, StopsField, StopsOne, TakesSunday}
 
 -- what a call did to a field that was empty
-pub reads_field : {X : Type 0} {r : Result X CronError} (s : Settings) (shape : Shape) (text : List ℕ) (old new : Field) (sloppy : Bool) → s.sloppy ≡ sloppy → old ≡ empty_field shape → Reads (field_of (with_sloppy old sloppy).shape text) (with_sloppy old sloppy) new r → Reads (reading_of s shape text) (start_of s shape) new r
-reads_field {X = X} {r = r} s shape text old new sloppy same e h =
-    subst (λ b. Reads (field_of (with_sloppy (empty_field shape) b).shape text) (with_sloppy (empty_field shape) b) new r) (sym same)
-    (subst (λ f. Reads (field_of (with_sloppy f sloppy).shape text) (with_sloppy f sloppy) new r) e h)
+pub reads_field : (r : Result (Unit {0}) Stop) (s : Settings) (shape : Shape) (text : List ℕ) (old new : Field) (name : PatternField) (sloppy : Bool) → s.sloppy ≡ sloppy → old ≡ empty_field shape
+    → ReadsField (field_of (with_sloppy old sloppy).shape text) (with_sloppy old sloppy) new name r → ReadsField (reading_of s shape text) (start_of s shape) new name r
+reads_field r s shape text old new name sloppy same e h =
+    subst (λ b. ReadsField (field_of (with_sloppy (empty_field shape) b).shape text) (with_sloppy (empty_field shape) b) new name r) (sym same)
+    (subst (λ f. ReadsField (field_of (with_sloppy f sloppy).shape text) (with_sloppy f sloppy) new name r) e h)
 
--- the error of a field is a refusal of it
-pub field_error : (Y : Type 0) (e : CronError) → IsFieldError e → Fails {Y = Y} e (Err Component)
-field_error Y (ComponentError m) h = refl
-field_error Y OutOfMemory h = tt
-field_error Y EmptyPattern h = absurd h
-field_error Y InvalidDate h = absurd h
-field_error Y InvalidTime h = absurd h
-field_error Y TimeSearchLimitExceeded h = absurd h
-field_error Y (InvalidPattern m) h = absurd h
-field_error Y (IllegalCharacters m) h = absurd h
+pub field_read : (s : Settings) (shape : Shape) (text : List ℕ) (old new : Field) (name : PatternField) (sloppy : Bool) → s.sloppy ≡ sloppy → old ≡ empty_field shape
+    → ReadsField (field_of (with_sloppy old sloppy).shape text) (with_sloppy old sloppy) new name (Ok tt) → ((reading_of s shape text).accepted ≡ true) × (new ≡ value_of s shape text)
+field_read s shape text old new name sloppy same e h = reads_field (Ok tt) s shape text old new name sloppy same e h
 
-pub refused_fields : (s : Settings) (text : List ℕ) (t : Texts) (and : Bool) (e : CronError) → are_read s t ≡ false → IsFieldError e → Fails e (of_legal s text t and)
-refused_fields s text t and e h k = rw h (field_error Meaning e k)
+-- what stops at a field stops at the first of all seven, where that field is the first
+pub field_stops : (s : Settings) (t : Texts) (reading : Reading) (name : PatternField) (stop : Stop)
+    → (reading.accepted ≡ false → (are_read s t ≡ false) × (unread_field s t ≡ name)) → StopsField reading name stop → StopsOne s t stop
+field_stops s t reading name stops.OutOfMemory first h = tt
+field_stops s t reading name (stops.Refused cause) first h =
+    let p = first h.0 in (p.0, h.1 ∙ ap causes.Component (sym p.1))
+
+pub stopped_fields : (s : Settings) (text : List ℕ) (t : Texts) (and : Bool) (stop : Stop) → StopsOne s t stop → Stops stop (of_legal s text t and)
+stopped_fields s text t and stops.OutOfMemory h = tt
+stopped_fields s text t and (stops.Refused cause) h =
+    cond-false (are_read s t) (Ok (meaning s text t and)) (Err (Component (unread_field s t))) h.0 ∙ ap (λ c. Err (refusal_of c)) (sym h.1)
 
 -- the shape of a weekday field without an offset lets 7 be moved
 takes_sunday : (sloppy : Bool) (bit : ℕ) → has_all 127 bit ≡ true → TakesSunday (with_sloppy (empty_field (weekday_shape 0)) sloppy).shape bit
@@ -54,53 +58,40 @@ finished s text t and old new weekdays accepted e f g =
     let of_weekdays : Field → Meaning = λ w. record old { days_of_week = w; star_day = is_star t.days; star_weekday = is_star t.days_of_week; and = and } in
     let of_old : Meaning → Meaning = λ o. record o { days_of_week = settled_weekdays s o.days_of_week; star_day = is_star t.days; star_weekday = is_star t.days_of_week; and = and } in
     let is_new : new ≡ meaning s text t and = g ∙ ap of_weekdays f ∙ ap of_old e in
-    ap (λ b. cond b (Ok (meaning s text t and)) (Err Component)) accepted ∙ ap Ok (sym is_new)
+    ap (λ b. cond b (Ok (meaning s text t and)) (Err (Component (unread_field s t)))) accepted ∙ ap Ok (sym is_new)
 
 pub same_fields : (text : List ℕ) (a1 a2 a3 a4 a5 a6 a7 b1 b2 b3 b4 b5 b6 b7 : Field) → a1 ≡ b1 → a2 ≡ b2 → a3 ≡ b3 → a4 ≡ b4 → a5 ≡ b5 → a6 ≡ b6 → a7 ≡ b7 → ◌≡◌ {A = Meaning} (record (new_meaning text) { seconds = a1; minutes = a2; hours = a3; days = a4; months = a5; days_of_week = a6; years = a7 }) (record (new_meaning text) { seconds = b1; minutes = b2; hours = b3; days = b4; months = b5; days_of_week = b6; years = b7 })
 same_fields text a1 a2 a3 a4 a5 a6 a7 b1 b2 b3 b4 b5 b6 b7 e1 e2 e3 e4 e5 e6 e7 = rw (e1, e2, e3, e4, e5, e6, e7) refl
 
--- where one of seven tests fails, they don't all hold
-fails_1 : (a b c d e f g : Bool) → a ≡ false → (a && (b && (c && (d && (e && (f && g)))))) ≡ false
-fails_1 a b c d e f g h = and_left a (b && (c && (d && (e && (f && g))))) h
+-- the first of seven tests that fails, where one does
+abbrev first_false : (a b c d e f : Bool) → PatternField
+first_false a b c d e f =
+    if not a then fields.Seconds else if not b then fields.Minutes else if not c then fields.Hours else if not d then fields.DayOfMonth
+    else if not e then fields.Month else if not f then fields.Weekday else fields.Year
 
-pub refused_1 : (s : Settings) (t : Texts) → (reading_of s sixty_shape t.seconds).accepted ≡ false → are_read s t ≡ false
-refused_1 s t h = fails_1 ((reading_of s sixty_shape t.seconds).accepted) ((reading_of s sixty_shape t.minutes).accepted) ((reading_of s hour_shape t.hours).accepted) ((reading_of s day_shape t.days).accepted) ((reading_of s month_shape t.months).accepted) ((reading_of s (weekdays_of s) t.days_of_week).accepted) ((reading_of s year_shape t.years).accepted) h
+abbrev FailsAt : (a b c d e f g : Bool) → PatternField → Type 0
+FailsAt a b c d e f g name = ((a && (b && (c && (d && (e && (f && g)))))) ≡ false) × (first_false a b c d e f ≡ name)
 
-fails_2 : (a b c d e f g : Bool) → b ≡ false → (a && (b && (c && (d && (e && (f && g)))))) ≡ false
-fails_2 a b c d e f g h = and_right a (b && (c && (d && (e && (f && g))))) (and_left b (c && (d && (e && (f && g)))) h)
+pub fails_1 : (a b c d e f g : Bool) → a ≡ false → FailsAt a b c d e f g fields.Seconds
+fails_1 a b c d e f g h1 = rw h1 (refl, refl)
 
-pub refused_2 : (s : Settings) (t : Texts) → (reading_of s sixty_shape t.minutes).accepted ≡ false → are_read s t ≡ false
-refused_2 s t h = fails_2 ((reading_of s sixty_shape t.seconds).accepted) ((reading_of s sixty_shape t.minutes).accepted) ((reading_of s hour_shape t.hours).accepted) ((reading_of s day_shape t.days).accepted) ((reading_of s month_shape t.months).accepted) ((reading_of s (weekdays_of s) t.days_of_week).accepted) ((reading_of s year_shape t.years).accepted) h
+pub fails_2 : (a b c d e f g : Bool) → a ≡ true → b ≡ false → FailsAt a b c d e f g fields.Minutes
+fails_2 a b c d e f g h1 h2 = rw (h1, h2) (refl, refl)
 
-fails_3 : (a b c d e f g : Bool) → c ≡ false → (a && (b && (c && (d && (e && (f && g)))))) ≡ false
-fails_3 a b c d e f g h = and_right a (b && (c && (d && (e && (f && g))))) (and_right b (c && (d && (e && (f && g)))) (and_left c (d && (e && (f && g))) h))
+pub fails_3 : (a b c d e f g : Bool) → a ≡ true → b ≡ true → c ≡ false → FailsAt a b c d e f g fields.Hours
+fails_3 a b c d e f g h1 h2 h3 = rw (h1, h2, h3) (refl, refl)
 
-pub refused_3 : (s : Settings) (t : Texts) → (reading_of s hour_shape t.hours).accepted ≡ false → are_read s t ≡ false
-refused_3 s t h = fails_3 ((reading_of s sixty_shape t.seconds).accepted) ((reading_of s sixty_shape t.minutes).accepted) ((reading_of s hour_shape t.hours).accepted) ((reading_of s day_shape t.days).accepted) ((reading_of s month_shape t.months).accepted) ((reading_of s (weekdays_of s) t.days_of_week).accepted) ((reading_of s year_shape t.years).accepted) h
+pub fails_4 : (a b c d e f g : Bool) → a ≡ true → b ≡ true → c ≡ true → d ≡ false → FailsAt a b c d e f g fields.DayOfMonth
+fails_4 a b c d e f g h1 h2 h3 h4 = rw (h1, h2, h3, h4) (refl, refl)
 
-fails_4 : (a b c d e f g : Bool) → d ≡ false → (a && (b && (c && (d && (e && (f && g)))))) ≡ false
-fails_4 a b c d e f g h = and_right a (b && (c && (d && (e && (f && g))))) (and_right b (c && (d && (e && (f && g)))) (and_right c (d && (e && (f && g))) (and_left d (e && (f && g)) h)))
+pub fails_5 : (a b c d e f g : Bool) → a ≡ true → b ≡ true → c ≡ true → d ≡ true → e ≡ false → FailsAt a b c d e f g fields.Month
+fails_5 a b c d e f g h1 h2 h3 h4 h5 = rw (h1, h2, h3, h4, h5) (refl, refl)
 
-pub refused_4 : (s : Settings) (t : Texts) → (reading_of s day_shape t.days).accepted ≡ false → are_read s t ≡ false
-refused_4 s t h = fails_4 ((reading_of s sixty_shape t.seconds).accepted) ((reading_of s sixty_shape t.minutes).accepted) ((reading_of s hour_shape t.hours).accepted) ((reading_of s day_shape t.days).accepted) ((reading_of s month_shape t.months).accepted) ((reading_of s (weekdays_of s) t.days_of_week).accepted) ((reading_of s year_shape t.years).accepted) h
+pub fails_6 : (a b c d e f g : Bool) → a ≡ true → b ≡ true → c ≡ true → d ≡ true → e ≡ true → f ≡ false → FailsAt a b c d e f g fields.Weekday
+fails_6 a b c d e f g h1 h2 h3 h4 h5 h6 = rw (h1, h2, h3, h4, h5, h6) (refl, refl)
 
-fails_5 : (a b c d e f g : Bool) → e ≡ false → (a && (b && (c && (d && (e && (f && g)))))) ≡ false
-fails_5 a b c d e f g h = and_right a (b && (c && (d && (e && (f && g))))) (and_right b (c && (d && (e && (f && g)))) (and_right c (d && (e && (f && g))) (and_right d (e && (f && g)) (and_left e (f && g) h))))
-
-pub refused_5 : (s : Settings) (t : Texts) → (reading_of s month_shape t.months).accepted ≡ false → are_read s t ≡ false
-refused_5 s t h = fails_5 ((reading_of s sixty_shape t.seconds).accepted) ((reading_of s sixty_shape t.minutes).accepted) ((reading_of s hour_shape t.hours).accepted) ((reading_of s day_shape t.days).accepted) ((reading_of s month_shape t.months).accepted) ((reading_of s (weekdays_of s) t.days_of_week).accepted) ((reading_of s year_shape t.years).accepted) h
-
-fails_6 : (a b c d e f g : Bool) → f ≡ false → (a && (b && (c && (d && (e && (f && g)))))) ≡ false
-fails_6 a b c d e f g h = and_right a (b && (c && (d && (e && (f && g))))) (and_right b (c && (d && (e && (f && g)))) (and_right c (d && (e && (f && g))) (and_right d (e && (f && g)) (and_right e (f && g) (and_left f g h)))))
-
-pub refused_6 : (s : Settings) (t : Texts) → (reading_of s (weekdays_of s) t.days_of_week).accepted ≡ false → are_read s t ≡ false
-refused_6 s t h = fails_6 ((reading_of s sixty_shape t.seconds).accepted) ((reading_of s sixty_shape t.minutes).accepted) ((reading_of s hour_shape t.hours).accepted) ((reading_of s day_shape t.days).accepted) ((reading_of s month_shape t.months).accepted) ((reading_of s (weekdays_of s) t.days_of_week).accepted) ((reading_of s year_shape t.years).accepted) h
-
-fails_7 : (a b c d e f g : Bool) → g ≡ false → (a && (b && (c && (d && (e && (f && g)))))) ≡ false
-fails_7 a b c d e f g h = and_right a (b && (c && (d && (e && (f && g))))) (and_right b (c && (d && (e && (f && g)))) (and_right c (d && (e && (f && g))) (and_right d (e && (f && g)) (and_right e (f && g) (and_right f g h)))))
-
-pub refused_7 : (s : Settings) (t : Texts) → (reading_of s year_shape t.years).accepted ≡ false → are_read s t ≡ false
-refused_7 s t h = fails_7 ((reading_of s sixty_shape t.seconds).accepted) ((reading_of s sixty_shape t.minutes).accepted) ((reading_of s hour_shape t.hours).accepted) ((reading_of s day_shape t.days).accepted) ((reading_of s month_shape t.months).accepted) ((reading_of s (weekdays_of s) t.days_of_week).accepted) ((reading_of s year_shape t.years).accepted) h
+pub fails_7 : (a b c d e f g : Bool) → a ≡ true → b ≡ true → c ≡ true → d ≡ true → e ≡ true → f ≡ true → g ≡ false → FailsAt a b c d e f g fields.Year
+fails_7 a b c d e f g h1 h2 h3 h4 h5 h6 h7 = rw (h1, h2, h3, h4, h5, h6, h7) (refl, refl)
 
 all_hold : (a b c d e f g : Bool) → a ≡ true → b ≡ true → c ≡ true → d ≡ true → e ≡ true → f ≡ true → g ≡ true → (a && (b && (c && (d && (e && (f && g)))))) ≡ true
 all_hold a b c d e f g h1 h2 h3 h4 h5 h6 h7 =

@@ -6,7 +6,7 @@ use Rattle.croner_pattern.specs.Meaning.{Meaning}
 use Rattle.croner.specs.declared.parser.Seconds.TheVariants as seconds
 use Rattle.croner.specs.declared.parser.Year.TheVariants as year
 use Rattle.croner.specs.parser.Cut.{replaced}
-use Rattle.croner.specs.parser.Grammar.{Refusal, Empty, Invalid, Illegal, outcome, of_replaced, of_fields, seven, nicknamed}
+use Rattle.croner.specs.parser.Grammar.{Refusal, Empty, Invalid, outcome, of_letter, of_replaced, of_fields, seven, nicknamed}
 use Rattle.croner.specs.parser.Settings.{Settings, accepts_count}
 use Rattle.croner.specs.parser.Words.{words}
 
@@ -15,7 +15,7 @@ no_count s n e f = rw (e, f) refl
 
 no_replaced : (s : Settings) (full : List ℕ) (o : Option (List ℕ)) → s.seconds_field ≡ seconds.Disallowed → s.year_field ≡ year.Required → of_replaced s full o ≡ Err Invalid
 no_replaced s full None e f =
-    ap (λ b. cond b (Err Illegal) (Err Invalid)) (no_count s (length (words full)) e f)
+    ap (λ b. of_letter s (cond b (seven (words full)) None)) (no_count s (length (words full)) e f)
 no_replaced s full (Some text) e f =
     ap (λ b. of_fields s text (cond b (seven (words text)) None)) (no_count s (length (words text)) e f)
 

@@ -4,14 +4,14 @@ use Rattle.std.specs.Str.{trim, str_to_ascii_uppercase}
 use Rattle.std.proofs.lemmas.Bool.{cond_both, and_from}
 use Rattle.croner_base.specs.Field.{Shape, Field, empty_field, with_sloppy, with_mark, without_mark, is_marked}
 use Rattle.croner_base.proofs.fields.ReadingsInTurn.{shape-applied}
-use Rattle.croner_base.specs.declared.errors.CronError.{CronError}
+use Rattle.croner.specs.declared.parser.stop.Stop.{Stop}
 use Rattle.croner_pattern.specs.declared.pattern.CronPattern.{CronPattern}
 use Rattle.croner_pattern.specs.Meaning.{Meaning, meaning_of}
-use Rattle.croner.specs.parser.Gives.{Gives}
+use Rattle.croner.specs.Private.parser.Steps.{Reads}
 use Rattle.croner_pattern.specs.Shapes.{sixty_shape, hour_shape, day_shape, month_shape, weekday_shape, year_shape, is_like, has_field_shapes}
-use Rattle.croner.specs.parser.Grammar.{Texts, Refusal, Empty, Invalid, Component, Illegal, outcome, of_trimmed, of_replaced, of_fields, of_settled, of_legal, fields_of, has_plus, nicknamed, settled, are_legal, are_read, meaning, value_of, reading_of, start_of, weekdays_of, settled_weekdays, sunday_moved, weekday_modifiers}
+use Rattle.croner.specs.parser.Grammar.{Texts, Refusal, Empty, Invalid, Component, Illegal, outcome, of_trimmed, of_letter, of_replaced, of_fields, of_settled, of_legal, fields_of, has_plus, nicknamed, settled, are_legal, are_read, illegal_field, illegal_word, unread_field, meaning, value_of, reading_of, start_of, weekdays_of, settled_weekdays, sunday_moved, weekday_modifiers}
 use Rattle.croner.specs.parser.Cut.{replaced}
-use Rattle.croner.specs.parser.Settings.{Settings, accepts_count}
+use Rattle.croner.specs.parser.Settings.{Settings}
 use Rattle.croner.specs.parser.Words.{words}
 
 abbrev IsShaped : Result Meaning Refusal → Type 0
@@ -59,19 +59,22 @@ meaning_shaped s text t and =
 
 legal_shaped : (s : Settings) (text : List ℕ) (t : Texts) (and : Bool) → IsShaped (of_legal s text t and)
 legal_shaped s text t and =
-    cond_both (are_read s t) (Ok (meaning s text t and)) (Err Component) IsShaped (λ _. ok_shaped (meaning s text t and) (meaning_shaped s text t and)) (λ _. err_shaped Component)
+    cond_both (are_read s t) (Ok (meaning s text t and)) (Err (Component (unread_field s t))) IsShaped (λ _. ok_shaped (meaning s text t and) (meaning_shaped s text t and)) (λ _. err_shaped (Component (unread_field s t)))
 
 settled_shaped : (s : Settings) (text : List ℕ) (t : Texts) (and : Bool) → IsShaped (of_settled s text t and)
 settled_shaped s text t and =
-    cond_both (are_legal t) (of_legal s text t and) (Err Illegal) IsShaped (λ _. legal_shaped s text t and) (λ _. err_shaped Illegal)
+    cond_both (are_legal t) (of_legal s text t and) (Err (Illegal (illegal_field t))) IsShaped (λ _. legal_shaped s text t and) (λ _. err_shaped (Illegal (illegal_field t)))
 
 fields_shaped : (s : Settings) (text : List ℕ) (given : Option Texts) → IsShaped (of_fields s text given)
 fields_shaped s text None = err_shaped Invalid
 fields_shaped s text (Some given) = settled_shaped s text (settled given) (s.both_days || has_plus given.days_of_week)
 
+letter_shaped : (s : Settings) (given : Option Texts) → IsShaped (of_letter s given)
+letter_shaped s None = err_shaped Invalid
+letter_shaped s (Some given) = err_shaped (Illegal (illegal_word s.quartz given))
+
 replaced_shaped : (s : Settings) (full : List ℕ) (text : Option (List ℕ)) → IsShaped (of_replaced s full text)
-replaced_shaped s full None =
-    cond_both (accepts_count s.seconds_field s.year_field (length (words full))) (Err Illegal) (Err Invalid) IsShaped (λ _. err_shaped Illegal) (λ _. err_shaped Invalid)
+replaced_shaped s full None = letter_shaped s (fields_of s (words full))
 replaced_shaped s full (Some text) = fields_shaped s text (fields_of s (words text))
 
 outcome_shaped : (s : Settings) (given : List ℕ) → IsShaped (outcome s given)
@@ -79,6 +82,6 @@ outcome_shaped s given =
     let text : List ℕ = trim (str_to_ascii_uppercase given) in
     cond_both (eqb (length text) 0) (Err Empty) (of_trimmed s text) IsShaped (λ _. err_shaped Empty) (λ _. replaced_shaped s (nicknamed s text) (replaced s.quartz false (nicknamed s text)))
 
--- and so has the pattern that a call gives
-pub given_shaped : (s : Settings) (given : List ℕ) (r : Result CronPattern CronError) (p : CronPattern) → Gives meaning_of r (outcome s given) → r ≡ Ok p → has_field_shapes (meaning_of p) ≡ true
-given_shaped s given r p read is = outcome_shaped s given (meaning_of p) (subst (λ x. Gives meaning_of x (outcome s given)) is read)
+-- and so has the pattern that is read
+pub given_shaped : (s : Settings) (given : List ℕ) (r : Result CronPattern Stop) (p : CronPattern) → Reads meaning_of r (outcome s given) → r ≡ Ok p → has_field_shapes (meaning_of p) ≡ true
+given_shaped s given r p read is = outcome_shaped s given (meaning_of p) (subst (λ x. Reads meaning_of x (outcome s given)) is read)

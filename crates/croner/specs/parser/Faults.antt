@@ -1,6 +1,5 @@
 -- What a refused text is told: the kind of its fault, and the place of the fault in the text as it was handed in.
 use Rattle.std.specs.Prelude.{◌≡◌, ℕ, ◌+◌, Bool, true, false, ◌||◌, nat_lt, ◌<◌, ◌≤◌, ◌==◌, List, [], ◌∷◌, ◌++◌, length, take, codes, Option, Some, None, Result, Ok, Err, IsCharBoundary, slice_range, if◌then◌else◌}
-use Rattle.std.specs.Option.{option_or}
 use Rattle.std.specs.Str.{chars}
 use Rattle.croner_base.specs.Part.{contains_byte}
 use Rattle.croner_base.specs.declared.errors.CronError.{CronError}
@@ -15,16 +14,22 @@ use Rattle.croner.specs.declared.parser.Seconds.TheVariants as seconds
 use Rattle.croner.specs.declared.parser.Seconds.{Seconds}
 use Rattle.croner.specs.declared.parser.Year.TheVariants as year
 use Rattle.croner.specs.declared.parser.Year.{Year}
-use Rattle.croner.specs.parser.Grammar.{at_sign, Refusal, Empty, Invalid, Illegal, Component, Texts, seven, outcome}
+use Rattle.croner.specs.parser.Grammar.{at_sign, Refusal, Empty, Invalid, Illegal, Component, outcome}
 use Rattle.croner.specs.parser.Settings.{Settings}
 use Rattle.croner.specs.parser.Words.{words}
 
--- the refusal that a kind of fault is
-abbrev pub refusal_of : FaultKind → Refusal
-refusal_of kinds.EmptyPattern = Empty
-refusal_of kinds.InvalidPattern = Invalid
-refusal_of kinds.IllegalCharacters = Illegal
-refusal_of kinds.ComponentError = Component
+-- the kind of fault that a refusal is, and the field that refused the text
+abbrev pub kind_of : Refusal → FaultKind
+kind_of Empty = kinds.EmptyPattern
+kind_of Invalid = kinds.InvalidPattern
+kind_of (Illegal field) = kinds.IllegalCharacters
+kind_of (Component field) = kinds.ComponentError
+
+abbrev pub refused_by : Refusal → Option PatternField
+refused_by Empty = None
+refused_by Invalid = None
+refused_by (Illegal field) = Some field
+refused_by (Component field) = Some field
 
 -- the place of a field among seven
 abbrev pub place_of_field : PatternField → ℕ
@@ -36,85 +41,9 @@ place_of_field fields.Month = 4
 place_of_field fields.Weekday = 5
 place_of_field fields.Year = 6
 
--- ---- the field at fault
-
--- the same settings, but for the count of fields: five, six and seven are accepted
-abbrev pub for_any_count : Settings → Settings
-for_any_count s = record s { seconds_field = seconds.Optional; year_field = year.Optional }
-
--- a star for each of the seven fields in front of one, and for each behind it
-abbrev pub stars_in_front : PatternField → List ℕ
-stars_in_front fields.Seconds = []
-stars_in_front fields.Minutes = codes "* "
-stars_in_front fields.Hours = codes "* * "
-stars_in_front fields.DayOfMonth = codes "* * * "
-stars_in_front fields.Month = codes "* * * * "
-stars_in_front fields.Weekday = codes "* * * * * "
-stars_in_front fields.Year = codes "* * * * * * "
-
-abbrev pub stars_behind : PatternField → List ℕ
-stars_behind fields.Seconds = codes " * * * * * *"
-stars_behind fields.Minutes = codes " * * * * *"
-stars_behind fields.Hours = codes " * * * *"
-stars_behind fields.DayOfMonth = codes " * * *"
-stars_behind fields.Month = codes " * *"
-stars_behind fields.Weekday = codes " *"
-stars_behind fields.Year = []
-
--- what a word means in a field, where each other field is a star
-abbrev pub outcome_alone : Settings → PatternField → List ℕ → Result Meaning Refusal
-outcome_alone s field word = outcome (for_any_count s) (stars_in_front field ++ (word ++ stars_behind field))
-
-abbrev pub is_illegal : FaultKind → Bool
-is_illegal kinds.EmptyPattern = false
-is_illegal kinds.InvalidPattern = false
-is_illegal kinds.IllegalCharacters = true
-is_illegal kinds.ComponentError = false
-
-abbrev pub is_component : FaultKind → Bool
-is_component kinds.EmptyPattern = false
-is_component kinds.InvalidPattern = false
-is_component kinds.IllegalCharacters = false
-is_component kinds.ComponentError = true
-
--- a refusal of a field, and of that kind
-abbrev pub is_refused_as : FaultKind → Result Meaning Refusal → Bool
-is_refused_as kind (Ok m) = false
-is_refused_as kind (Err Empty) = false
-is_refused_as kind (Err Invalid) = false
-is_refused_as kind (Err Illegal) = is_illegal kind
-is_refused_as kind (Err Component) = is_component kind
-
-abbrev pub is_at_fault : Settings → FaultKind → PatternField → List ℕ → Bool
-is_at_fault s kind field word = is_refused_as kind (outcome_alone s field word)
-
--- the first field of the time, of the date, and of all seven, whose text alone is refused so
-abbrev pub time_at_fault : Settings → FaultKind → Texts → Option PatternField
-time_at_fault s kind t =
-    if is_at_fault s kind fields.Seconds t.seconds then Some fields.Seconds
-    else if is_at_fault s kind fields.Minutes t.minutes then Some fields.Minutes
-    else if is_at_fault s kind fields.Hours t.hours then Some fields.Hours
-    else None
-
-abbrev pub date_at_fault : Settings → FaultKind → Texts → Option PatternField
-date_at_fault s kind t =
-    if is_at_fault s kind fields.DayOfMonth t.days then Some fields.DayOfMonth
-    else if is_at_fault s kind fields.Month t.months then Some fields.Month
-    else if is_at_fault s kind fields.Weekday t.days_of_week then Some fields.Weekday
-    else if is_at_fault s kind fields.Year t.years then Some fields.Year
-    else None
-
-abbrev pub first_at_fault : Settings → FaultKind → Texts → Option PatternField
-first_at_fault s kind t = option_or (time_at_fault s kind t) (date_at_fault s kind t)
-
-abbrev pub first_of_seven : Settings → FaultKind → Option Texts → Option PatternField
-first_of_seven s kind None = None
-first_of_seven s kind (Some t) = first_at_fault s kind t
-
--- the field in which a fault of this kind lies; a text with `@` may get fields that are not written in it, so that no word
--- of it is a field's
-abbrev pub field_at_fault : Settings → FaultKind → List ℕ → Option PatternField
-field_at_fault s kind text = if contains_byte at_sign text then None else first_of_seven s kind (seven (words text))
+-- the field that a fault names; a text with `@` may get fields that are not written in it, so that no word of it is a field's
+abbrev pub named_field : List ℕ → Refusal → Option PatternField
+named_field text refusal = if contains_byte at_sign text then None else refused_by refusal
 
 -- ---- the place
 
@@ -170,26 +99,25 @@ IsLeast s kinds.InvalidPattern text start end = IsCounted s text start end
 IsLeast s kinds.IllegalCharacters text start end = length (chars (slice_range text start end)) ≡ 1
 IsLeast s kinds.ComponentError text start end = contains_byte 44 (slice_range text start end) ≡ false
 
--- a fault's place: whole characters of the text, at least one where there is one, the least piece that is meant; the field
--- at fault is named, and the place lies in it; and its first character, counted from 1
+-- a fault's place: whole characters of the text, at least one where there is one, the least piece that is meant; it lies in
+-- the field that is named; and its first character, counted from 1
 pub record IsPlaced (s : Settings) (text : List ℕ) (fault : PatternFault) : Type 0 where
   pub starts : IsCharBoundary text fault.start
   pub ends : IsCharBoundary text fault.end
   pub order : fault.start ≤ fault.end
   pub some : 0 < length text → fault.start < fault.end
   pub least : IsLeast s fault.kind text fault.start fault.end
-  pub named : fault.field ≡ field_at_fault s fault.kind text
   pub field : IsInNamed text fault.field fault.start fault.end
   pub character : fault.character ≡ length (chars (take fault.start text)) + 1
 
--- what a text is explained by: nothing where it has a meaning, else a fault of its refusal's kind in its place; the one
--- error is want of memory
+-- a fault that tells of a refusal: its kind, the field that refused the text, and its place
+pub record IsFault (s : Settings) (text : List ℕ) (refusal : Refusal) (fault : PatternFault) : Type 0 where
+  pub kind : fault.kind ≡ kind_of refusal
+  pub named : fault.field ≡ named_field text refusal
+  pub placed : IsPlaced s text fault
+
+-- what a text is explained by: nothing where it has a meaning, else a fault of its refusal; the one error is want of memory
 abbrev pub Explains : Settings → List ℕ → Result (Option PatternFault) CronError → Type 0
 Explains s text (Err e) = e ≡ OutOfMemory
 Explains s text (Ok None) = (m : Meaning) × (outcome s text ≡ Ok m)
-Explains s text (Ok (Some fault)) = (outcome s text ≡ Err (refusal_of fault.kind)) × IsPlaced s text fault
-
--- the meaning is the refusal of that kind; nothing is said where there is no kind
-abbrev pub IsKindOf : Result Meaning Refusal → Option FaultKind → Type 0
-IsKindOf meaning None = Unit {0}
-IsKindOf meaning (Some kind) = meaning ≡ Err (refusal_of kind)
+Explains s text (Ok (Some fault)) = (refusal : Refusal) × (outcome s text ≡ Err refusal) × IsFault s text refusal fault

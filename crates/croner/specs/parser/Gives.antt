@@ -2,14 +2,15 @@
 use Rattle.std.specs.Prelude.{◌≡◌, Result, Ok, Err}
 use Rattle.croner_base.specs.declared.errors.CronError.{CronError}
 use Rattle.croner_base.specs.declared.errors.CronError.TheVariants as errors
+use Rattle.croner.specs.declared.parser.fault.PatternField.{PatternField}
 use Rattle.croner.specs.parser.Grammar.{Refusal, Empty, Invalid, Illegal, Component}
 
 -- the kind of refusal; want of memory says nothing of the text
 abbrev pub Fails : {Y : Type 0} → CronError → Result Y Refusal → Type 0
 Fails errors.EmptyPattern meaning = meaning ≡ Err Empty
 Fails (errors.InvalidPattern m) meaning = meaning ≡ Err Invalid
-Fails (errors.IllegalCharacters m) meaning = meaning ≡ Err Illegal
-Fails (errors.ComponentError m) meaning = meaning ≡ Err Component
+Fails (errors.IllegalCharacters m) meaning = (field : PatternField) × (meaning ≡ Err (Illegal field))
+Fails (errors.ComponentError m) meaning = (field : PatternField) × (meaning ≡ Err (Component field))
 Fails errors.OutOfMemory meaning = Unit {0}
 Fails other meaning = ⊥
 

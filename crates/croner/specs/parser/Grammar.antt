@@ -1,5 +1,5 @@
 -- The grammar of cron patterns: for settings and a text the one outcome, in the order in which the rules are tested.
-use Rattle.std.specs.Prelude.{ℕ, Bool, false, ◌&&◌, ◌||◌, ◌==◌, nat_le, List, [], ◌∷◌, ◌++◌, length, map, fold, Option, Some, None, Result, Ok, Err, slice_index, codes, if◌then◌else◌}
+use Rattle.std.specs.Prelude.{ℕ, Bool, false, not, ◌&&◌, ◌||◌, ◌==◌, nat_le, List, [], ◌∷◌, ◌++◌, length, map, fold, Option, Some, None, Result, Ok, Err, slice_index, codes, if◌then◌else◌}
 use Rattle.std.specs.List.{list_all}
 use Rattle.std.specs.Str.{trim, bytes_eq, str_to_ascii_uppercase}
 use Rattle.croner_base.specs.Field.{Shape, Field, empty_field, with_sloppy, with_mark, without_mark, is_marked}
@@ -7,6 +7,8 @@ use Rattle.croner_base.specs.Part.{contains_byte, field_of, plain_bit, last_bit}
 use Rattle.croner_base.specs.Reading.{Reading, applied}
 use Rattle.croner_pattern.specs.Meaning.{Meaning}
 use Rattle.croner_pattern.specs.Shapes.{sixty_shape, hour_shape, day_shape, month_shape, weekday_shape, year_shape}
+use Rattle.croner.specs.declared.parser.fault.PatternField.{PatternField}
+use Rattle.croner.specs.declared.parser.fault.PatternField.TheVariants as names
 use Rattle.croner.specs.parser.Settings.{Settings, seconds_required, year_required, accepts_count}
 use Rattle.croner.specs.parser.Cut.{replaced}
 use Rattle.croner.specs.parser.Words.{words}
@@ -31,9 +33,11 @@ digit_0 = 48
 abbrev pub digit_9 : ℕ
 digit_9 = 57
 
--- why a text has no meaning
+-- why a text has no meaning: it is empty, its count of fields is wrong, a field has a character that is not legal there, or
+-- a field can't be read
 pub data Refusal : Type 0 where
-  Empty Invalid Illegal Component : Refusal
+  Empty Invalid : Refusal
+  Illegal Component : PatternField → Refusal
 
 -- ---- nicknames
 
@@ -111,6 +115,58 @@ are_legal t =
     list_all is_list_character t.seconds && (list_all is_list_character t.minutes && (list_all is_list_character t.hours && (list_all is_for_days t.days
     && (list_all is_list_character t.months && (list_all is_for_weekdays t.days_of_week && list_all is_list_character t.years)))))
 
+-- a field takes a character of a word whose `?` are not settled yet; a `+` in front of the weekdays is none of these
+abbrev pub takes : PatternField → ℕ → Bool
+takes names.Seconds c = is_list_character c
+takes names.Minutes c = is_list_character c
+takes names.Hours c = is_list_character c
+takes names.DayOfMonth c = is_for_days c || c == question_mark
+takes names.Month c = is_list_character c
+takes names.Weekday c = is_for_weekdays c || c == question_mark
+takes names.Year c = is_list_character c
+
+-- it takes each character of a text
+abbrev pub takes_all : PatternField → List ℕ → Bool
+takes_all field text = list_all (takes field) text
+
+-- the first field whose text fails a test; the year, where no other does
+abbrev pub first_failing : (PatternField → List ℕ → Bool) → Texts → PatternField
+first_failing passes t =
+    if not (passes names.Seconds t.seconds) then names.Seconds
+    else if not (passes names.Minutes t.minutes) then names.Minutes
+    else if not (passes names.Hours t.hours) then names.Hours
+    else if not (passes names.DayOfMonth t.days) then names.DayOfMonth
+    else if not (passes names.Month t.months) then names.Month
+    else if not (passes names.Weekday t.days_of_week) then names.Weekday
+    else names.Year
+
+-- the first field with a character that is not legal there
+abbrev pub illegal_field : Texts → PatternField
+illegal_field t = first_failing takes_all t
+
+-- a word without the sign that may stand in front of it
+abbrev pub without_sign : PatternField → List ℕ → List ℕ
+without_sign names.Seconds word = word
+without_sign names.Minutes word = word
+without_sign names.Hours word = word
+without_sign names.DayOfMonth word = word
+without_sign names.Month word = word
+without_sign names.Weekday word = without_plus word
+without_sign names.Year word = word
+
+-- a word whose names are replaced is legal in the field; one that has no cut keeps a letter that is legal nowhere
+abbrev pub is_replaced_legal : PatternField → Option (List ℕ) → Bool
+is_replaced_legal field None = false
+is_replaced_legal field (Some word) = takes_all field (without_sign field word)
+
+-- a word with its own names is legal in the field
+abbrev pub is_word_legal : Bool → PatternField → List ℕ → Bool
+is_word_legal quartz field word = is_replaced_legal field (replaced quartz false word)
+
+-- the first field whose word is not legal there
+abbrev pub illegal_word : Bool → Texts → PatternField
+illegal_word quartz t = first_failing (is_word_legal quartz) t
+
 abbrev pub is_star : List ℕ → Bool
 is_star text = bytes_eq text (codes "*")
 
@@ -134,6 +190,24 @@ are_read s t =
     && ((reading_of s hour_shape t.hours).accepted && ((reading_of s day_shape t.days).accepted
     && ((reading_of s month_shape t.months).accepted && ((reading_of s (weekdays_of s) t.days_of_week).accepted
     && (reading_of s year_shape t.years).accepted)))))
+
+-- the shape of a field
+abbrev pub shape_of : Settings → PatternField → Shape
+shape_of s names.Seconds = sixty_shape
+shape_of s names.Minutes = sixty_shape
+shape_of s names.Hours = hour_shape
+shape_of s names.DayOfMonth = day_shape
+shape_of s names.Month = month_shape
+shape_of s names.Weekday = weekdays_of s
+shape_of s names.Year = year_shape
+
+-- a field accepts a text
+abbrev pub is_read : Settings → PatternField → List ℕ → Bool
+is_read s field text = (reading_of s (shape_of s field) text).accepted
+
+-- the first field that can't be read
+abbrev pub unread_field : Settings → Texts → PatternField
+unread_field s t = first_failing (is_read s) t
 
 -- what stands in a field when its text is read
 abbrev pub value_of : Settings → Shape → List ℕ → Field
@@ -175,20 +249,25 @@ meaning s text t and = record {
 
 -- the fields as they are read
 abbrev pub of_legal : Settings → List ℕ → Texts → Bool → Result Meaning Refusal
-of_legal s text t and = if are_read s t then Ok (meaning s text t and) else Err Component
+of_legal s text t and = if are_read s t then Ok (meaning s text t and) else Err (Component (unread_field s t))
 
 -- the fields as they are tested for their characters
 abbrev pub of_settled : Settings → List ℕ → Texts → Bool → Result Meaning Refusal
-of_settled s text t and = if are_legal t then of_legal s text t and else Err Illegal
+of_settled s text t and = if are_legal t then of_legal s text t and else Err (Illegal (illegal_field t))
 
 -- a text of seven fields
 abbrev pub of_fields : Settings → List ℕ → Option Texts → Result Meaning Refusal
 of_fields s text None = Err Invalid
 of_fields s text (Some given) = of_settled s text (settled given) (s.both_days || has_plus given.days_of_week)
 
--- a text in which each name was replaced; a text that has no cut keeps a letter that is legal nowhere
+-- the words of a text that has no cut, since one of its letters stands for nothing
+abbrev pub of_letter : Settings → Option Texts → Result Meaning Refusal
+of_letter s None = Err Invalid
+of_letter s (Some given) = Err (Illegal (illegal_word s.quartz given))
+
+-- a text in which each name was replaced, where it has a cut
 abbrev pub of_replaced : Settings → List ℕ → Option (List ℕ) → Result Meaning Refusal
-of_replaced s full None = if accepts_count s.seconds_field s.year_field (length (words full)) then Err Illegal else Err Invalid
+of_replaced s full None = of_letter s (fields_of s (words full))
 of_replaced s full (Some text) = of_fields s text (fields_of s (words text))
 
 -- a text that is raised and trimmed: its nickname and its names are replaced

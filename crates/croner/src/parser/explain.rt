@@ -1,22 +1,22 @@
 //! Why a text is refused: the fault as data, and the message that is made of it.
 
-ghost use Rattle.std.specs.Prelude.{Result};
+ghost use Rattle.std.specs.Prelude.{Err};
 ghost use Rattle.croner_pattern.specs.Meaning.{Meaning};
-ghost use Rattle.croner.specs.parser.Faults.{IsKindOf};
 ghost use Rattle.croner.specs.parser.Gives.{Fails};
-ghost use Rattle.croner.specs.parser.Grammar.{Refusal};
+ghost use Rattle.croner.specs.Private.parser.Steps.{refusal_of};
 
 use super::escapes::found_at;
-use super::fault::{Expected, FaultKind, Hint, PatternFault};
+use super::fault::{Expected, Hint, PatternFault};
 use super::place::fault_at;
 use super::second_reading::{accepted_counts, find_fault};
+use super::stop::{Cause, Stop};
 use super::{CronParser, Seconds, Year};
 use croner_base::errors::CronError;
 use std::alloc::{AllocError, Global};
 
 impl CronParser {
-    ghost use Rattle.std.specs.Prelude.{◌≡◌, IfOk, IfSome};
-    ghost use Rattle.croner.specs.parser.Faults.{Explains, IsPlaced};
+    ghost use Rattle.std.specs.Prelude.{IfOk, IfSome};
+    ghost use Rattle.croner.specs.parser.Faults.{Explains, IsFault};
 
     /// Why a text is refused; nothing where [`CronParser::parse`] accepts it.
     ///
@@ -31,65 +31,50 @@ impl CronParser {
     pub fn explain(&self, alloc: Global, text: &str) -> Result<Option<PatternFault>, CronError>
         ensures { Explains self.now text.now result }
     {
-        let refused = match self.parse_text(alloc, text) {
-            Ok(_pattern) => return Ok(None),
-            Err(refused) => refused,
-        };
-        let Some(kind) = kind_of(&refused) else {
-            return Err(CronError::OutOfMemory);
-        };
-        match self.fault_of(alloc, text, kind)? {
-            Some(fault) => Ok(Some(fault)),
-            None => Err(CronError::OutOfMemory),
+        match self.parse_text(alloc, text) {
+            Ok(_pattern) => Ok(None),
+            Err(Stop::Refused(cause)) => match self.fault_of(alloc, text, cause)? {
+                Some(fault) => Ok(Some(fault)),
+                None => Err(CronError::OutOfMemory),
+            },
+            Err(Stop::OutOfMemory) => Err(CronError::OutOfMemory),
         }
     }
 
-    /// The fault of a refused text, by the kind of its refusal; nothing where its place fails a test.
+    /// The fault of a text that is refused for this cause; nothing where its place fails a test.
     fn fault_of(
         &self,
         alloc: Global,
         text: &str,
-        kind: FaultKind,
+        cause: Cause,
     ) -> Result<Option<PatternFault>, AllocError>
-        ensures kind { IfOk result (λ o. IfSome o (λ f. f.kind ≡ kind)) }
-        ensures placed { IfOk result (λ o. IfSome o (λ f. IsPlaced self.now text.now f)) }
+        ensures { IfOk result (λ o. IfSome o (λ f. IsFault self.now text.now (refusal_of cause) f)) }
     {
-        match find_fault(alloc, self, text, kind) {
-            Ok(found) => fault_at(alloc, self, text, kind, found),
-            Err(_) => Err(AllocError),
+        let found = find_fault(alloc, self, text, cause)?;
+        fault_at(alloc, self, text, cause, found)
+    }
+
+    /// The error of a text that is refused for this cause, with its message.
+    pub(super) fn error_of(&self, alloc: Global, text: &str, cause: Cause) -> CronError
+        ensures { Fails {Y = Meaning} result (Err (refusal_of cause)) }
+    {
+        let Ok(message) = self.message(alloc, text, cause) else {
+            return CronError::OutOfMemory;
+        };
+        match cause {
+            Cause::Empty => CronError::EmptyPattern,
+            Cause::Invalid => CronError::InvalidPattern(message),
+            Cause::Illegal(_) => CronError::IllegalCharacters(message),
+            Cause::Component(_) => CronError::ComponentError(message),
         }
     }
 
-    /// A refusal of a text with its message.
-    pub(super) fn told(&self, alloc: Global, text: &str, refused: CronError) -> CronError
-        ensures { (meaning : Result Meaning Refusal) → Fails refused meaning → Fails result meaning }
-    {
-        match refused {
-            CronError::InvalidPattern(_) => {
-                match self.message(alloc, text, FaultKind::InvalidPattern) {
-                    Ok(message) => CronError::InvalidPattern(message),
-                    Err(_) => CronError::OutOfMemory,
-                }
-            }
-            CronError::IllegalCharacters(_) => {
-                match self.message(alloc, text, FaultKind::IllegalCharacters) {
-                    Ok(message) => CronError::IllegalCharacters(message),
-                    Err(_) => CronError::OutOfMemory,
-                }
-            }
-            CronError::ComponentError(_) => {
-                match self.message(alloc, text, FaultKind::ComponentError) {
-                    Ok(message) => CronError::ComponentError(message),
-                    Err(_) => CronError::OutOfMemory,
-                }
-            }
-            other => other,
+    /// The message of a refused text: its fault, and what the text says there. An empty text has none.
+    fn message(&self, alloc: Global, text: &str, cause: Cause) -> Result<String, AllocError> {
+        if let Cause::Empty = cause {
+            return Ok(String::new(alloc));
         }
-    }
-
-    /// The message of a refused text: its fault, and what the text says there.
-    fn message(&self, alloc: Global, text: &str, kind: FaultKind) -> Result<String, AllocError> {
-        let Some(fault) = self.fault_of(alloc, text, kind)? else {
+        let Some(fault) = self.fault_of(alloc, text, cause)? else {
             return Ok(String::new(alloc));
         };
         let (start, end) = repeated(text, &fault);
@@ -119,18 +104,5 @@ fn is_too_many(found: usize, seconds: Seconds, year: Year) -> bool {
     match accepted_counts(seconds, year) {
         Some((_, most)) => found > most,
         None => false,
-    }
-}
-
-/// The kind of a refusal of a text; nothing for want of memory, and what is no refusal of a text.
-fn kind_of(refused: &CronError) -> Option<FaultKind>
-    ensures { (meaning : Result Meaning Refusal) → Fails refused.now meaning → IsKindOf meaning result }
-{
-    match refused {
-        CronError::EmptyPattern => Some(FaultKind::EmptyPattern),
-        CronError::InvalidPattern(_) => Some(FaultKind::InvalidPattern),
-        CronError::IllegalCharacters(_) => Some(FaultKind::IllegalCharacters),
-        CronError::ComponentError(_) => Some(FaultKind::ComponentError),
-        _ => None,
     }
 }

@@ -51,19 +51,6 @@ impl PatternField {
         }
     }
 
-    /// The field at a place of seven, 0 for the seconds. From 6 on it is the year.
-    pub(super) fn at(place: usize) -> PatternField {
-        match place {
-            0 => PatternField::Seconds,
-            1 => PatternField::Minutes,
-            2 => PatternField::Hours,
-            3 => PatternField::DayOfMonth,
-            4 => PatternField::Month,
-            5 => PatternField::Weekday,
-            _ => PatternField::Year,
-        }
-    }
-
     /// The name of the field in messages.
     pub(super) fn name(self) -> &'static str {
         match self {

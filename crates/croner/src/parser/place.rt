@@ -2,13 +2,15 @@
 
 ghost use Rattle.std.specs.Prelude.{◌≡◌, ◌+◌, ◌∷◌, ◌<◌, ◌≤◌, [], true, length, take, IfOk, IfSome, IsCharBoundary};
 ghost use Rattle.std.specs.Str.{chars};
-ghost use Rattle.croner.specs.parser.Faults.{IsCounted, IsInField, IsInNamed, IsLeast, IsPlaced, counted_word, is_whole, unwritten};
+ghost use Rattle.croner.specs.parser.Faults.{IsCounted, IsFault, IsInField, IsInNamed, IsLeast, counted_word, is_whole, named_field, unwritten};
 ghost use Rattle.croner.specs.parser.Words.{words};
+ghost use Rattle.croner.specs.Private.parser.Steps.{refusal_of};
 
 use super::CronParser;
 use super::fault::{Expected, FaultKind, PatternFault, PatternField};
 use super::prepare::has_byte;
 use super::split::words;
+use super::stop::Cause;
 use std::alloc::{AllocError, Global};
 
 /// What the second reading of a refused text found: the bytes from `start` to `end`, and what was expected there.
@@ -24,12 +26,12 @@ pub fn fault_at(
     alloc: Global,
     parser: &CronParser,
     text: &str,
-    kind: FaultKind,
+    cause: Cause,
     found: Finding,
 ) -> Result<Option<PatternFault>, AllocError>
-    ensures kind { IfOk result (λ o. IfSome o (λ f. f.kind ≡ kind)) }
-    ensures placed { IfOk result (λ o. IfSome o (λ f. IsPlaced parser.now text.now f)) }
+    ensures { IfOk result (λ o. IfSome o (λ f. IsFault parser.now text.now (refusal_of cause) f)) }
 {
+    let kind = cause.kind();
     let (start, end) = (found.start, found.end);
     if !is_piece(text, start, end) {
         return Ok(None);
@@ -37,7 +39,7 @@ pub fn fault_at(
     if !is_least(alloc, parser, text, kind, start, end)? {
         return Ok(None);
     }
-    let field = parser.field_at_fault(alloc, kind, text)?;
+    let field = named_field(text, cause);
     if !is_in_named(alloc, text, field, start, end)? {
         return Ok(None);
     }
@@ -49,6 +51,17 @@ pub fn fault_at(
         character: character_at(text, start),
         expected: found.expected,
     }))
+}
+
+/// The field that refused a text. A text with `@` may get fields that are not written in it, so that no word of it is a
+/// field's.
+fn named_field(text: &str, cause: Cause) -> Option<PatternField>
+    ensures { result ≡ named_field text.now (refusal_of cause) }
+{
+    if has_byte(text, b'@') {
+        return None;
+    }
+    cause.field()
 }
 
 /// Whether these are bytes of whole characters, and some where there are any.

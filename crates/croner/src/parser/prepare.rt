@@ -1,17 +1,15 @@
 //! The first step: a text is raised and trimmed, and its nickname and its names are replaced.
 
-ghost use Rattle.std.specs.Prelude.{◌≡◌, ◌++◌, ◌<◌, nat_le, Bool, None, false, [], ℕ, List, codes, length, option_map, slice_index, string_bytes, IfOk, OnOk, IfSome, MatchOption, if◌then◌else◌};
+ghost use Rattle.std.specs.Prelude.{◌≡◌, Err, ◌++◌, ◌<◌, nat_le, Bool, None, false, [], ℕ, List, codes, length, option_map, slice_index, string_bytes, IfOk, OnOk, IfSome, MatchOption, if◌then◌else◌};
 ghost use Rattle.croner_base.specs.Part.{contains_byte};
-ghost use Rattle.croner_pattern.specs.Meaning.{Meaning};
 ghost use Rattle.croner.specs.parser.Cut.{months, weekdays, place_of, name_of, decimal_of, is_lost, weekday_number, replaced};
-ghost use Rattle.croner.specs.parser.Gives.{Fails};
 ghost use Rattle.croner.specs.parser.Grammar.{nickname_of, nicknamed, of_replaced};
-ghost use Rattle.croner.specs.Private.parser.Steps.{HasNoName, IsShown, AdvancesOrLost, Prepares};
+ghost use Rattle.croner.specs.Private.parser.Steps.{HasNoName, IsShown, AdvancesOrLost, Prepares, refusal_of};
 
 use super::CronParser;
-use super::refusals::{illegal_character, wrong_count};
+use super::characters::illegal_word;
 use super::split::words;
-use croner_base::errors::CronError;
+use super::stop::{Cause, Stop};
 use std::alloc::{AllocError, Global};
 
 /// How many letters a name of a month or a weekday has.
@@ -19,19 +17,22 @@ const NAME_LENGTH: usize = 3;
 
 impl CronParser {
     /// The text as a pattern keeps it: raised, trimmed, its nickname replaced, and with a number for each name.
-    pub(super) fn prepare(&self, alloc: Global, given: &str) -> Result<String, CronError>
+    pub(super) fn prepare(&self, alloc: Global, given: &str) -> Result<String, Stop>
         ensures { Prepares self.now given.now result }
     {
         let raised = given.to_ascii_uppercase(alloc)?;
         let text = raised.as_str().trim();
         if text.is_empty() {
-            return Err(CronError::EmptyPattern);
+            return Err(Stop::Refused(Cause::Empty));
         }
         let nickname = self.nickname(alloc, text)?;
         let full = text_or(&nickname, text);
         match replaced(alloc, full, self.alternative_weekdays)? {
             Some(prepared) => Ok(prepared),
-            None => Err(self.lost(alloc, full)?),
+            None => {
+                let cause = self.cause_of_letter(alloc, full)?;
+                Err(Stop::Refused(cause))
+            }
         }
     }
 
@@ -48,15 +49,18 @@ impl CronParser {
         Ok(Some(full))
     }
 
-    /// Why a text is refused in which a letter stands for nothing: for its count of fields, or for the letter.
-    fn lost(&self, alloc: Global, full: &str) -> Result<CronError, AllocError>
-        ensures { IfOk result (λ e. Fails {Y = Meaning} e (of_replaced self.now full.now None)) }
+    /// Why a text is refused in which a letter stands for nothing: for its count of fields, or for the first field with such a
+    /// letter, or with a character that is not legal there.
+    fn cause_of_letter(&self, alloc: Global, full: &str) -> Result<Cause, AllocError>
+        ensures { IfOk result (λ cause. of_replaced self.now full.now None ≡ Err (refusal_of cause)) }
     {
-        let count = words(alloc, full)?.len();
-        if self.accepts_count(count) {
-            Ok(illegal_character(alloc))
-        } else {
-            Ok(wrong_count(alloc))
+        let words = words(alloc, full)?;
+        match self.fields_of(words.as_slice()) {
+            Some(given) => {
+                let field = illegal_word(alloc, given, self.alternative_weekdays)?;
+                Ok(Cause::Illegal(field))
+            }
+            None => Ok(Cause::Invalid),
         }
     }
 }

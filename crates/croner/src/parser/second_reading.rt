@@ -1,12 +1,13 @@
 //! The second reading of a refused text: where its first fault is, and what was expected there. It looks at the text as it was
 //! handed in, with its own letters and names.
 
-use super::fault::{Expected, FaultKind, Hint, PatternField};
+use super::characters::is_legal_in;
+use super::fault::{Expected, Hint, PatternField};
 use super::part::{Part, Rules, fault_of_part};
 use super::place::Finding;
 use super::prepare::{name_at, replaced};
-use super::read::is_legal_in;
 use super::settle::starred;
+use super::stop::{Cause, Stop};
 use super::{CronParser, Seconds, Year};
 use croner_base::component::CronComponent;
 use croner_base::errors::CronError;
@@ -48,20 +49,20 @@ fn whole(text: &str, expected: Expected) -> Finding {
     piece.found(expected)
 }
 
-/// Where the fault of a refused text is, by the kind of the refusal.
+/// Where the fault of a refused text is: in the word of the field that refused it, or in the count of words.
 pub fn find_fault(
     alloc: Global,
     parser: &CronParser,
     text: &str,
-    kind: FaultKind,
-) -> Result<Finding, CronError> {
+    cause: Cause,
+) -> Result<Finding, AllocError> {
     let words = words_of(alloc, text)?;
     let words = words.as_slice();
-    let found = match kind {
-        FaultKind::EmptyPattern => None,
-        FaultKind::InvalidPattern => Some(wrong_count(alloc, parser, text, words)?),
-        FaultKind::IllegalCharacters => illegal_character(alloc, parser, text, words)?,
-        FaultKind::ComponentError => refused_part(alloc, parser, words)?,
+    let found = match cause {
+        Cause::Empty => None,
+        Cause::Invalid => Some(wrong_count(alloc, parser, text, words)?),
+        Cause::Illegal(field) => illegal_character(alloc, parser, text, words, field)?,
+        Cause::Component(field) => refused_part(alloc, parser, words, field)?,
     };
     match found {
         Some(found) => Ok(found),
@@ -103,7 +104,7 @@ fn wrong_count(
     parser: &CronParser,
     text: &str,
     words: &[Piece<'_>],
-) -> Result<Finding, CronError> {
+) -> Result<Finding, AllocError> {
     let (seconds, year) = (parser.seconds, parser.year);
     let Some((_, most)) = accepted_counts(seconds, year) else {
         return Ok(whole(text, Expected::Settings));
@@ -132,7 +133,7 @@ fn hint_of_few(
     parser: &CronParser,
     text: &str,
     words: &[Piece<'_>],
-) -> Result<Hint, CronError> {
+) -> Result<Hint, AllocError> {
     if let [word] = words {
         if let Some(nickname) = nickname_of(word.text, parser.year) {
             return Ok(Hint::AtSign { nickname });
@@ -174,11 +175,11 @@ fn is_unit(word: &str) -> bool {
 }
 
 /// Whether a text is a pattern where each count of fields is accepted.
-fn is_pattern(alloc: Global, parser: &CronParser, text: &str) -> Result<bool, CronError> {
+fn is_pattern(alloc: Global, parser: &CronParser, text: &str) -> Result<bool, AllocError> {
     match parser.for_any_count().parse_text(alloc, text) {
         Ok(_pattern) => Ok(true),
-        Err(CronError::OutOfMemory) => Err(CronError::OutOfMemory),
-        Err(_) => Ok(false),
+        Err(Stop::Refused(_)) => Ok(false),
+        Err(Stop::OutOfMemory) => Err(AllocError),
     }
 }
 
@@ -249,7 +250,7 @@ fn hint_of_many(
     text: &str,
     words: &[Piece<'_>],
     most: usize,
-) -> Result<Hint, CronError> {
+) -> Result<Hint, AllocError> {
     let hint = hint_of_no_pattern(words);
     if hint != Hint::None {
         return Ok(hint);
@@ -265,7 +266,7 @@ fn hint_of_many(
     if is_pattern(alloc, parser, text)? {
         return Ok(hint_of_unwanted(parser, words));
     }
-    Ok(hint_of_command(alloc, words, most)?)
+    hint_of_command(alloc, words, most)
 }
 
 /// Which field a pattern has that the settings don't take.
@@ -361,37 +362,41 @@ fn nickname_in_fields(word: &str) -> Option<&'static str> {
 
 // ---- characters
 
-/// The field of a word, by its place and the count of words.
-fn field_of(place: usize, count: usize) -> PatternField {
+/// The place among the words of a field's word; none where the field is not written.
+fn place_of(field: PatternField, count: usize) -> Option<usize> {
     if count == LEAST_FIELDS {
-        return PatternField::at(place.saturating_add(1));
+        return field.place().checked_sub(1);
     }
-    PatternField::at(place)
+    Some(field.place())
 }
 
-/// The first character that is not legal in its field, or the `@` of a text with one: it may get fields that are not written.
+/// The first character of a field's word that is not legal there, or the `@` of a text with one: it may get fields that are
+/// not written.
 fn illegal_character(
     alloc: Global,
     parser: &CronParser,
     text: &str,
     words: &[Piece<'_>],
+    field: PatternField,
 ) -> Result<Option<Finding>, AllocError> {
     if let Some(start) = text.find('@') {
         return Ok(Some(at_sign(start)));
     }
-    for (place, word) in words.iter().enumerate() {
-        let field = field_of(place, words.len());
-        let found = illegal_in_word(alloc, *word, field)?;
-        if let Some(illegal) = found {
-            if let Some(step) = illegal.step_of(*word, field) {
-                return Ok(Some(illegal.found_as(Expected::StepAlone { step })));
-            }
-            let hint = illegal.hint(place, words, field);
-            let hint = hint_of_lines(text, hint);
-            return Ok(Some(illegal.found(field, parser.alternative_weekdays, hint)));
-        }
+    let Some(place) = place_of(field, words.len()) else {
+        return Ok(None);
+    };
+    let Some(word) = words.get(place) else {
+        return Ok(None);
+    };
+    let Some(illegal) = illegal_in_word(alloc, *word, field)? else {
+        return Ok(None);
+    };
+    if let Some(step) = illegal.step_of(*word, field) {
+        return Ok(Some(illegal.found_as(Expected::StepAlone { step })));
     }
-    Ok(None)
+    let hint = illegal.hint(place, words, field);
+    let hint = hint_of_lines(text, hint);
+    Ok(Some(illegal.found(field, parser.alternative_weekdays, hint)))
 }
 
 fn at_sign(start: usize) -> Finding {
@@ -592,29 +597,31 @@ fn illegal_in_word(
 
 // ---- parts
 
-/// The first part of a field that is refused.
+/// The first part of a field's word that the field refuses.
 fn refused_part(
     alloc: Global,
     parser: &CronParser,
     words: &[Piece<'_>],
-) -> Result<Option<Finding>, CronError> {
-    let mut pattern = CronPattern::new_in_mode(alloc, "", parser.alternative_weekdays)?;
-    for (place, word) in words.iter().enumerate() {
-        let field = field_of(place, words.len());
-        let rules = Rules {
-            field,
-            quartz: parser.alternative_weekdays,
-            sloppy: parser.sloppy_ranges,
-            hint: hint_of(parser.year, field, words, place),
-        };
-        let component = component_of(&mut pattern, field);
-        component.set_sloppy_ranges(parser.sloppy_ranges);
-        let found = refused_in_word(alloc, component, *word, rules)?;
-        if found.is_some() {
-            return Ok(found);
-        }
-    }
-    Ok(None)
+    field: PatternField,
+) -> Result<Option<Finding>, AllocError> {
+    let Some(place) = place_of(field, words.len()) else {
+        return Ok(None);
+    };
+    let Some(word) = words.get(place) else {
+        return Ok(None);
+    };
+    let rules = Rules {
+        field,
+        quartz: parser.alternative_weekdays,
+        sloppy: parser.sloppy_ranges,
+        hint: hint_of(parser.year, field, words, place),
+    };
+    let Ok(mut pattern) = CronPattern::new_in_mode(alloc, "", parser.alternative_weekdays) else {
+        return Err(AllocError);
+    };
+    let component = component_of(&mut pattern, field);
+    component.set_sloppy_ranges(parser.sloppy_ranges);
+    refused_in_word(alloc, component, *word, rules)
 }
 
 /// Why a refused part may stand in the word at a place: a space beside a sign, or six fields that end in a year.
@@ -693,10 +700,7 @@ fn refused_in_word(
     component: &mut CronComponent,
     word: Piece<'_>,
     rules: Rules,
-) -> Result<Option<Finding>, CronError> {
-    if is_star(word.text, rules.field) {
-        return Ok(None);
-    }
+) -> Result<Option<Finding>, AllocError> {
     let mut start = word.start;
     for written in word.text.split(',') {
         let here = Piece {
@@ -704,21 +708,18 @@ fn refused_in_word(
             start,
         };
         let part = without_plus(here, word.start, rules.field);
-        if is_refused(alloc, component, part.text, rules)? {
-            return found_in_part(alloc, part, rules);
+        let read = as_read(alloc, part.text, rules.quartz)?;
+        if is_refused(component, read.as_str())? {
+            let whole = Part {
+                written: part,
+                read: read.as_str(),
+            };
+            let (place, expected) = fault_of_part(whole, rules);
+            return Ok(Some(place.found(expected)));
         }
         start = here.end().saturating_add(1);
     }
     Ok(None)
-}
-
-/// Whether a field is written as a star, or in the two day fields as what becomes one.
-fn is_star(word: &str, field: PatternField) -> bool {
-    match field {
-        PatternField::DayOfMonth => word == "*" || word == "?",
-        PatternField::Weekday => word == "*" || word == "?" || word == "+*" || word == "+?",
-        _ => word == "*",
-    }
 }
 
 /// The first part of the weekday field, without one `+` in front.
@@ -747,36 +748,14 @@ fn as_read(alloc: Global, part: &str, quartz: bool) -> Result<String, AllocError
     }
 }
 
-/// Whether a field refuses a part of a list.
-fn is_refused(
-    alloc: Global,
-    component: &mut CronComponent,
-    part: &str,
-    rules: Rules,
-) -> Result<bool, CronError> {
-    let read = as_read(alloc, part, rules.quartz)?;
-    let read = read.as_str();
+/// Whether a field refuses a part of a list, as it is read.
+fn is_refused(component: &mut CronComponent, read: &str) -> Result<bool, AllocError> {
     if read == "*" {
         return Ok(true);
     }
     match component.parse(read) {
         Ok(()) => Ok(false),
-        Err(CronError::OutOfMemory) => Err(CronError::OutOfMemory),
+        Err(CronError::OutOfMemory) => Err(AllocError),
         Err(_) => Ok(true),
     }
-}
-
-/// Where the fault of a refused part is.
-fn found_in_part(
-    alloc: Global,
-    part: Piece<'_>,
-    rules: Rules,
-) -> Result<Option<Finding>, CronError> {
-    let read = as_read(alloc, part.text, rules.quartz)?;
-    let whole = Part {
-        written: part,
-        read: read.as_str(),
-    };
-    let (place, expected) = fault_of_part(whole, rules);
-    Ok(Some(place.found(expected)))
 }

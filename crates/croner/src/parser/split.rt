@@ -7,9 +7,8 @@ ghost use Rattle.croner.specs.Private.parser.Steps.{Splits};
 ghost use Rattle.croner.specs.Views.{texts_of};
 
 use super::fields::FieldTexts;
-use super::refusals::wrong_count;
+use super::stop::{Cause, Stop};
 use super::{CronParser, Seconds, Year};
-use croner_base::errors::CronError;
 use std::alloc::{AllocError, Global};
 
 /// The words as fields: where there are five the seconds are `0`, and where there are five or six the year is `*`.
@@ -64,22 +63,18 @@ impl CronParser {
     ghost use Rattle.croner.specs.parser.Grammar.{fields_of};
 
     /// The fields of a text whose names are replaced.
-    pub(super) fn split<'t>(
-        &self,
-        alloc: Global,
-        text: &'t str,
-    ) -> Result<FieldTexts<'t>, CronError>
+    pub(super) fn split<'t>(&self, alloc: Global, text: &'t str) -> Result<FieldTexts<'t>, Stop>
         ensures { Splits self.now text.now result }
     {
         let words = words(alloc, text)?;
         match self.fields_of(words.as_slice()) {
             Some(fields) => Ok(fields),
-            None => Err(wrong_count(alloc)),
+            None => Err(Stop::Refused(Cause::Invalid)),
         }
     }
 
     /// The words as fields, where the settings accept so many.
-    fn fields_of<'t>(&self, words: &[&'t str]) -> Option<FieldTexts<'t>>
+    pub(super) fn fields_of<'t>(&self, words: &[&'t str]) -> Option<FieldTexts<'t>>
         ensures { option_map texts_of result ≡ fields_of self.now (map (λ w. w.now) words.now) }
     {
         if self.accepts_count(words.len()) {

@@ -4,31 +4,53 @@ use Rattle.std.specs.declared.alloc.Global.{Global}
 use Rattle.std.specs.declared.string.String.{String}
 use denote.Ref.{Bor}
 use Rattle.std.specs.Str.{IsUtf8}
-use Rattle.croner_base.specs.declared.errors.CronError.{CronError}
-use Rattle.croner_base.specs.Answers.{IsFieldError}
-use Rattle.croner_base.specs.Field.{Shape, empty_field, can_ask, can_mark}
+use Rattle.croner_base.specs.Field.{Shape, Field, empty_field, can_ask, can_mark}
+use Rattle.croner_base.specs.Reading.{Reading, applied}
 use Rattle.croner_pattern.specs.Meaning.{Meaning}
 use Rattle.croner_pattern.specs.Shapes.{sixty_shape, hour_shape, day_shape, month_shape, year_shape, new_meaning}
 use Rattle.croner.specs.declared.parser.settle.Settled.{Settled}
 use Rattle.croner.specs.declared.parser.fields.FieldTexts.{FieldTexts}
+use Rattle.croner.specs.declared.parser.stop.Cause.{Cause}
+use Rattle.croner.specs.declared.parser.stop.Cause.TheVariants as causes
+use Rattle.croner.specs.declared.parser.stop.Stop.{Stop}
+use Rattle.croner.specs.declared.parser.stop.Stop.TheVariants as stops
+use Rattle.croner.specs.declared.parser.fault.PatternField.{PatternField}
 use Rattle.croner.specs.parser.Cut.{Piece, name_of, shown, is_dash, decimal_of, replaced}
-use Rattle.croner.specs.parser.Gives.{Fails}
-use Rattle.croner.specs.parser.Grammar.{Texts, outcome, of_fields, fields_of, starred, without_plus, are_read, value_of, weekdays_of}
+use Rattle.croner.specs.parser.Grammar.{Texts, Refusal, Empty, Invalid, Illegal, Component, unread_field, outcome, of_fields, fields_of, starred, without_plus, are_read, value_of, weekdays_of}
 use Rattle.croner.specs.parser.Settings.{Settings}
 use Rattle.croner.specs.parser.Words.{words}
 use Rattle.croner.specs.Views.{texts_of}
 
+-- ---- refusals
+
+-- the refusal that a cause is
+abbrev pub refusal_of : Cause → Refusal
+refusal_of causes.Empty = Empty
+refusal_of causes.Invalid = Invalid
+refusal_of (causes.Illegal field) = Illegal field
+refusal_of (causes.Component field) = Component field
+
+-- a reading stopped since its text is refused so, or for want of memory, which says nothing of the text
+abbrev pub Stops : {Y : Type 0} → Stop → Result Y Refusal → Type 0
+Stops (stops.Refused cause) meaning = meaning ≡ Err (refusal_of cause)
+Stops stops.OutOfMemory meaning = Unit {0}
+
+-- what was read, seen by view, is the meaning, unless the reading stopped
+abbrev pub Reads : {X Y : Type 0} → (X → Y) → Result X Stop → Result Y Refusal → Type 0
+Reads view (Ok x) meaning = meaning ≡ Ok (view x)
+Reads view (Err stop) meaning = Stops stop meaning
+
 -- ---- the way of a text
 
 -- the text in which names are numbers means by its fields what the given one means, or the given one is refused
-abbrev pub Prepares : Settings → List ℕ → Result (String Global) CronError → Type 0
+abbrev pub Prepares : Settings → List ℕ → Result (String Global) Stop → Type 0
 Prepares s given (Ok text) = outcome s given ≡ of_fields s (string_bytes text) (fields_of s (words (string_bytes text)))
-Prepares s given (Err e) = Fails {Y = Meaning} e (outcome s given)
+Prepares s given (Err e) = Stops {Y = Meaning} e (outcome s given)
 
 -- the fields of the text, or the text is refused
-abbrev pub Splits : Settings → List ℕ → Result FieldTexts CronError → Type 0
+abbrev pub Splits : Settings → List ℕ → Result FieldTexts Stop → Type 0
 Splits s text (Ok t) = fields_of s (words text) ≡ Some (texts_of t)
-Splits s text (Err e) = Fails {Y = Meaning} e (of_fields s text (fields_of s (words text)))
+Splits s text (Err e) = Stops {Y = Meaning} e (of_fields s text (fields_of s (words text)))
 
 -- a day field stays, or its copy is the field without its signs
 pub record IsSettled (written : Texts) (s : Settled) : Type 0 where
@@ -90,7 +112,22 @@ read_meaning s text t = record (new_meaning text) {
   years = value_of s year_shape t.years;
 }
 
--- each field was read, or one was refused
-abbrev pub ReadsAll : Settings → List ℕ → Texts → Meaning → Result (Unit {0}) CronError → Type 0
+-- a field refused its text, or memory ran out
+abbrev pub StopsField : Reading → PatternField → Stop → Type 0
+StopsField reading field (stops.Refused cause) = (reading.accepted ≡ false) × (cause ≡ causes.Component field)
+StopsField reading field stops.OutOfMemory = Unit {0}
+
+-- a field was read
+abbrev pub ReadsField : Reading → Field → Field → PatternField → Result (Unit {0}) Stop → Type 0
+ReadsField reading old new field (Ok x) = (reading.accepted ≡ true) × (new ≡ applied reading.done old)
+ReadsField reading old new field (Err stop) = StopsField reading field stop
+
+-- the first of seven fields that isn't accepted refused its text, or memory ran out
+abbrev pub StopsOne : Settings → Texts → Stop → Type 0
+StopsOne s t (stops.Refused cause) = (are_read s t ≡ false) × (cause ≡ causes.Component (unread_field s t))
+StopsOne s t stops.OutOfMemory = Unit {0}
+
+-- each field was read
+abbrev pub ReadsAll : Settings → List ℕ → Texts → Meaning → Result (Unit {0}) Stop → Type 0
 ReadsAll s text t new (Ok x) = (are_read s t ≡ true) × (new ≡ read_meaning s text t)
-ReadsAll s text t new (Err e) = (are_read s t ≡ false) × IsFieldError e
+ReadsAll s text t new (Err stop) = StopsOne s t stop

@@ -1,8 +1,6 @@
-use Rattle.std.proofs.Common.{rules, ◌≡◌, ap, sym, subst, true, false, eqb, length, Some, None, string_bytes}
+use Rattle.std.proofs.Common.{rules, ◌≡◌, ◌∙◌, ap, sym, subst, true, false, eqb, length, Some, None, string_bytes}
 use Rattle.std.specs.Str.{trim, str_to_ascii_uppercase}
-use Rattle.croner_pattern.specs.Meaning.{Meaning}
 use Rattle.croner.specs.parser.Cut.{replaced}
-use Rattle.croner.specs.parser.Gives.{Fails}
 use Rattle.croner.specs.parser.Grammar.{nicknamed}
 use Rattle.croner.proofs.parser.FieldReads.{empty_outcome, replaced_outcome}
 use Rattle.croner.proofs.parser.CronParser.prepare.Goals as goal
@@ -29,4 +27,4 @@ returns c =
     let some : eqb (length c.trim-text.result.now) 0 ≡ false = search rules in
     let full = c.text_or-full.ensures (nicknamed s c.trim-text.result.now) c.in_ok-nickname.ensures in
     let none : None ≡ replaced c.self.inside.alternative_weekdays false c.text_or-full.result.now = search rules in
-    subst (Fails {Y = Meaning} c.in_ok-lost-in-None.field-0) (replaced_outcome s c.args.given.now c.trim-text.result.now c.text_or-full.result.now c.self.inside.alternative_weekdays None text some full (ap (λ v. v.quartz) c.self.view_is) none) c.in_ok-lost-in-None.ensures
+    sym (replaced_outcome s c.args.given.now c.trim-text.result.now c.text_or-full.result.now c.self.inside.alternative_weekdays None text some full (ap (λ v. v.quartz) c.self.view_is) none) ∙ c.in_ok-cause-in-None.ensures

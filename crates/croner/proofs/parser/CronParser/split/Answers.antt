@@ -1,7 +1,9 @@
-use Rattle.std.proofs.Common.{rules, ◌≡◌, ◌∙◌, ap, sym, subst, map, Some, None}
+use Rattle.std.proofs.Common.{rules, ◌≡◌, ◌∙◌, ap, sym, subst, map, refl, Some, None}
 use Rattle.croner_pattern.specs.Meaning.{Meaning}
-use Rattle.croner.specs.parser.Gives.{Fails}
+use Rattle.croner.specs.Private.parser.Steps.{Stops}
 use Rattle.croner.specs.parser.Grammar.{of_fields, fields_of}
+use Rattle.croner.specs.declared.parser.stop.Cause.TheVariants as causes
+use Rattle.croner.specs.declared.parser.stop.Stop.TheVariants as stops
 use Rattle.croner.specs.parser.Words.{words}
 use Rattle.croner.specs.Views.{texts_of}
 use Rattle.croner.proofs.parser.CronParser.split.Goals as goal
@@ -16,4 +18,4 @@ pub returns : goal.returns
 returns c =
     let given : map (λ w. w.now) c.as_slice.result.now ≡ words c.args.text.now = search rules in
     let none : None ≡ fields_of c.args.self.now (map (λ w. w.now) c.as_slice.result.now) = search rules in
-    subst (λ t. Fails {Y = Meaning} c.wrong_count.result (of_fields c.args.self.now c.args.text.now t)) (none ∙ ap (fields_of c.args.self.now) given) c.wrong_count.ensures
+    subst (λ t. Stops {Y = Meaning} (stops.Refused causes.Invalid) (of_fields c.args.self.now c.args.text.now t)) (none ∙ ap (fields_of c.args.self.now) given) refl
