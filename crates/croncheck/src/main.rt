@@ -11,6 +11,7 @@ use croncheck_command::report::Settings;
 use croncheck_command::runs::Listing;
 use croncheck_command::shown::Shared;
 use croncheck_command::words::{Call, Form, NoCall, Span, USAGE, read_call};
+use croncheck_command::zone::{note_of, refusal_of};
 use croner::time::table::TableTime;
 use either::{Either, Left, Right};
 use jiff::Timestamp;
@@ -70,7 +71,7 @@ fn status(rt: &HostRuntime, words: &[String]) -> u8 {
 // Checks in the zone that the words name.
 fn in_zone(rt: &HostRuntime, call: &Call<'_>) -> Result<u8, Problem> {
     if let Ok(zone) = TimeZone::posix(call.zone) {
-        return check(rt, call, zone);
+        return in_ruled_zone(rt, call, zone);
     }
     let zones = TimeZoneDatabase::from_env(rt).map_err(Problem::Zone)?;
     if call.zone == "local" {
@@ -78,8 +79,31 @@ fn in_zone(rt: &HostRuntime, call: &Call<'_>) -> Result<u8, Problem> {
         let zone = system.time_zone(&zones).map_err(Problem::Zone)?;
         return check(rt, call, zone);
     }
-    let zone = zones.get(call.zone).map_err(Problem::Zone)?;
+    match zones.get(call.zone) {
+        Ok(zone) => check(rt, call, zone),
+        Err(jiff::Error::TimeZoneNotFound) => Err(no_zone(rt, call.zone)),
+        Err(error) => Err(Problem::Zone(error)),
+    }
+}
+
+// Checks in the zone of a rule, and says before which way it is off UTC, where that is easily taken for the other.
+fn in_ruled_zone(rt: &HostRuntime, call: &Call<'_>, zone: TimeZone<'_>) -> Result<u8, Problem> {
+    match note_of(rt.alloc(), call.zone, &zone) {
+        Ok(Some(note)) => {
+            let _ = eprintln!(rt; "croncheck: {note}");
+        }
+        Ok(None) => {}
+        Err(_) => return Err(Problem::OutOfMemory),
+    }
     check(rt, call, zone)
+}
+
+// What is wrong with the word of a zone that is none.
+fn no_zone(rt: &HostRuntime, word: &str) -> Problem {
+    match refusal_of(rt.alloc(), word) {
+        Ok(text) => Problem::NoZone(text),
+        Err(_) => Problem::OutOfMemory,
+    }
 }
 
 fn check(rt: &HostRuntime, call: &Call<'_>, zone: TimeZone<'_>) -> Result<u8, Problem> {
@@ -106,11 +130,16 @@ fn check(rt: &HostRuntime, call: &Call<'_>, zone: TimeZone<'_>) -> Result<u8, Pr
         parser: call.parser,
         language: call.language,
         changes: &changes,
+        last: clock.last(),
         listing,
         is_strict: call.is_strict,
         compares_jobs: call.compares_jobs,
     };
-    let shared = Shared { zone, listing };
+    let shared = Shared {
+        zone,
+        stop: clock.stop(),
+        listing,
+    };
     check_in(rt, call, &settings, &shared).map_err(Problem::Unwritten)
 }
 

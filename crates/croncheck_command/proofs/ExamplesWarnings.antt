@@ -169,7 +169,12 @@ job_by user command = record {
   is_zone = false;
   is_past = false;
   is_never = false;
+  is_at_window_end = false;
 }
+
+-- whatever its times: of a listing that ends with the clock's window it isn't known in which months the job runs
+no_months_at_the_window_end : (m : Meaning) → holds (record (job_by None (codes "x")) { meaning = Some m; is_at_window_end = true }) warnings.ShortMonths ≡ false
+no_months_at_the_window_end m = refl
 
 a_field_for_a_user : holds (job_by (Some (codes "*")) (codes "root x")) warnings.LooksLikeField ≡ true
 a_field_for_a_user = refl

@@ -1,6 +1,7 @@
 mod Comparisons
 mod Examples
 mod ExamplesChanges
+mod ExamplesClock
 mod ExamplesTally
 mod ExamplesWarnings
 mod FileTexts

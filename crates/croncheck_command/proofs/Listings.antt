@@ -1,5 +1,5 @@
 -- Listings of runs on the clock of a table: of none, of so many, and what is left of one that is cut off behind a second.
-use Rattle.std.proofs.Common.{◌≡◌, ◌<◌, ◌≤◌, ◌∙◌, ◌∷◌, [], ℕ, zero, suc, ℤ, Bool, true, false, List, Option, Some, None, length, take, get_or, refl, sym, ap, subst, inl, inr, min, arith}
+use Rattle.std.proofs.Common.{◌≡◌, ◌<◌, ◌≤◌, ◌∙◌, ◌∷◌, [], ℕ, zero, suc, ℤ, Bool, true, false, List, Option, Some, None, length, take, get_or, refl, sym, ap, subst, inl, inr, min, if◌then◌else◌, arith}
 use Rattle.std.proofs.lemmas.Bool.{cases_lt, false≢true}
 use Rattle.std.proofs.lemmas.Bool.Decides.{nat_tests}
 use Rattle.std.proofs.lemmas.Int.{ints}
@@ -7,7 +7,7 @@ use Rattle.std.proofs.lemmas.List.{get_or-take, get_or-map, length-take, length-
 use Rattle.std.proofs.lemmas.List.Elements.{All-nil, All-take}
 use Rattle.std.proofs.lemmas.List.Sums.{prefix_len_passes, prefix_len_stops}
 use Rattle.std.specs.List.{All, Contains, prefix_len}
-use Rattle.std.specs.Prelude.{◌⊎◌, ◌↔◌, ◌&&◌, pos, neg_ℤ, int_le, nat_lt, IsTrue, ◌≤ℤ◌, ◌<ℤ◌}
+use Rattle.std.specs.Prelude.{◌⊎◌, ◌↔◌, ◌&&◌, pos, neg_ℤ, int_le, int_lt, nat_lt, IsTrue, ◌≤ℤ◌, ◌<ℤ◌}
 use Rattle.croner_base.specs.declared.errors.CronError.{CronError}
 use Rattle.croner_base.specs.declared.errors.CronError.TheVariants as errors
 use Rattle.croner_base.specs.declared.time.Direction.TheVariants.{Forward}
@@ -31,7 +31,7 @@ use Rattle.croncheck_command.specs.declared.runs.End.{End}
 use Rattle.croncheck_command.specs.declared.runs.End.TheVariants as ends
 use Rattle.croncheck_command.specs.declared.runs.Listing.TheVariants as listings
 use Rattle.croncheck_command.specs.declared.runs.Runs.{Runs}
-use Rattle.croncheck_command.specs.Runs.{starts, seconds_of, most_runs, GaveUntil, LeavesOne, LeavesBehind, StartsWell, IsEnd, EndsBy, end_of_refusal, cut_end, IsListedFrom, IsListed}
+use Rattle.croncheck_command.specs.Runs.{starts, seconds_of, most_runs, GaveUntil, IsInWindow, LeavesBehind, StartsWell, IsOver, IsAtWindowEnd, IsEnd, EndsBy, end_of_refusal, end_before, end_in_window, end_of_window, cut_end, IsListedFrom, IsListed}
 
 -- ---- the start
 
@@ -57,20 +57,47 @@ refused : (m : Meaning) (start : TableTime) (e : CronError) → IsRefused false 
     → StartsWell (starts m start) → ⊥
 refused m start e is other well = elim (is.promised (searchable start well)) [ inl limit ↦ other limit | inr (memory, can) ↦ false≢true can ]
 
-pub refused_end : (m : Meaning) (start : TableTime) (e : CronError) → IsRefused false Forward false (timetable_of m) (table_moment start) e
-    → IsEnd (starts m start) (listings.Count 0) [] (end_of_refusal e)
-refused_end m start errors.TimeSearchLimitExceeded is = λ i left inside. absurd (is.limit (starts_calm start) refl i inside left)
-refused_end m start errors.EmptyPattern is = refused m start errors.EmptyPattern is (λ e. cc)
-refused_end m start errors.InvalidDate is = refused m start errors.InvalidDate is (λ e. cc)
-refused_end m start errors.InvalidTime is = refused m start errors.InvalidTime is (λ e. cc)
-refused_end m start (errors.InvalidPattern text) is = refused m start (errors.InvalidPattern text) is (λ e. cc)
-refused_end m start (errors.IllegalCharacters text) is = refused m start (errors.IllegalCharacters text) is (λ e. cc)
-refused_end m start (errors.ComponentError text) is = refused m start (errors.ComponentError text) is (λ e. cc)
-refused_end m start errors.OutOfMemory is = refused m start errors.OutOfMemory is (λ e. cc)
+-- nothing is left in the span: over, or at the window's end
+limit_end : (m : Meaning) (start : TableTime) (last : Option ℤ) → GaveAll (starts m start) []
+    → IsEnd (starts m start) last (listings.Count 0) [] (end_in_window last ends.Over)
+limit_end m start None gave = gave
+limit_end m start (Some last) gave = inr gave
 
--- a run that was found is left
-pub found_left : (m : Meaning) (start found : TableTime) → IsFound Forward false (timetable_of m) (table_moment start) (table_moment found) → LeavesOne (starts m start)
-found_left m start found is = (found.second, (is.nearest (starts_calm start)).counts)
+failed_end : (m : Meaning) (start : TableTime) (last : Option ℤ) (e : CronError) → (StartsWell (starts m start) → ⊥)
+    → IsEnd (starts m start) last (listings.Count 0) [] (end_in_window last (ends.Failed e))
+failed_end m start None e isnt = isnt
+failed_end m start (Some last) e isnt = isnt
+
+pub refused_end : (m : Meaning) (start : TableTime) (last : Option ℤ) (e : CronError) → IsRefused false Forward false (timetable_of m) (table_moment start) e
+    → IsEnd (starts m start) last (listings.Count 0) [] (end_in_window last (end_of_refusal e))
+refused_end m start last errors.TimeSearchLimitExceeded is =
+    limit_end m start last (λ i left inside. absurd (is.limit (starts_calm start) refl i inside left))
+refused_end m start last errors.EmptyPattern is = failed_end m start last errors.EmptyPattern (refused m start errors.EmptyPattern is (λ e. cc))
+refused_end m start last errors.InvalidDate is = failed_end m start last errors.InvalidDate (refused m start errors.InvalidDate is (λ e. cc))
+refused_end m start last errors.InvalidTime is = failed_end m start last errors.InvalidTime (refused m start errors.InvalidTime is (λ e. cc))
+refused_end m start last (errors.InvalidPattern text) is =
+    failed_end m start last (errors.InvalidPattern text) (refused m start (errors.InvalidPattern text) is (λ e. cc))
+refused_end m start last (errors.IllegalCharacters text) is =
+    failed_end m start last (errors.IllegalCharacters text) (refused m start (errors.IllegalCharacters text) is (λ e. cc))
+refused_end m start last (errors.ComponentError text) is =
+    failed_end m start last (errors.ComponentError text) (refused m start (errors.ComponentError text) is (λ e. cc))
+refused_end m start last errors.OutOfMemory is = failed_end m start last errors.OutOfMemory (refused m start errors.OutOfMemory is (λ e. cc))
+
+-- a run that was found is left, if the window doesn't end before it
+by_window : (m : Meaning) (start found : TableTime) (last : ℤ) (b : Bool) → int_lt last found.second ≡ b → IsFound Forward false (timetable_of m) (table_moment start) (table_moment found)
+    → IsEnd (starts m start) (Some last) (listings.Count 0) [] (if b then ends.Window else ends.More)
+by_window m start found last true test is = inl (λ i left le.
+    let near : found.second ≤ℤ i = (is.nearest (starts_calm start)).nearest i left in
+    let less : last <ℤ found.second = grind (arith, ints) in
+    absurd (omega (arith, ints, le, near, less)))
+by_window m start found last false test is =
+    let inside : found.second ≤ℤ last = grind (arith, ints) in
+    (refl, λ none. (found.second, (is.nearest (starts_calm start)).counts, inside))
+
+pub found_end : (m : Meaning) (start found : TableTime) (last : Option ℤ) → IsFound Forward false (timetable_of m) (table_moment start) (table_moment found)
+    → IsEnd (starts m start) last (listings.Count 0) [] (end_before found.second last)
+found_end m start found None is = (refl, λ none. (found.second, (is.nearest (starts_calm start)).counts, tt))
+found_end m start found (Some last) is = by_window m start found last (int_lt last found.second) refl is
 
 -- ---- so many
 
@@ -83,21 +110,21 @@ count_end : (s : Standing) (calls : ℕ) (items : List TableTime) (end : End) (f
     → (IsTrue mark → GaveAll s (seconds_of items))
     → (IsSearchable s.position → (length items ≡ calls) ⊎ GaveAll s (seconds_of items))
     → (IsSearchable s.position → IsMemoryAlone false fault)
-    → EndsBy full fault mark well end → IsEnd s (listings.Count calls) (seconds_of items) end
+    → EndsBy full fault mark well end → IsEnd s None (listings.Count calls) (seconds_of items) end
 count_end s calls items end true fault mark well held some is_full is_well all counted memory ends_so =
     let same : length (seconds_of items) ≡ length items = length-map items (λ (t : TableTime). (table_moment t).instant) in
-    subst (λ (e : End). IsEnd s (listings.Count calls) (seconds_of items) e) (sym ends_so)
+    subst (λ (e : End). IsEnd s None (listings.Count calls) (seconds_of items) e) (sym ends_so)
     (same ∙ is_full.0 refl, λ none. absurd (omega (arith, some, none)))
 count_end s calls items end false (Some e) mark well held some is_full is_well all counted memory ends_so =
-    subst (λ (e : End). IsEnd s (listings.Count calls) (seconds_of items) e) (sym ends_so.1)
+    subst (λ (e : End). IsEnd s None (listings.Count calls) (seconds_of items) e) (sym ends_so.1)
     (λ starts_well. none_alone (Some e) e (memory (held starts_well)) refl)
 count_end s calls items end false None true well held some is_full is_well all counted memory ends_so =
-    subst (λ (e : End). IsEnd s (listings.Count calls) (seconds_of items) e) (sym ends_so) (all refl)
+    subst (λ (e : End). IsEnd s None (listings.Count calls) (seconds_of items) e) (sym ends_so) (all refl)
 count_end s calls items end false None false true held some is_full is_well all counted memory ends_so =
     let given : GaveAll s (seconds_of items) = elim (counted (held (is_well.0 refl))) [ inl as_many ↦ absurd (false≢true (is_full.1 as_many)) | inr given ↦ given ] in
-    subst (λ (e : End). IsEnd s (listings.Count calls) (seconds_of items) e) (sym ends_so) given
+    subst (λ (e : End). IsEnd s None (listings.Count calls) (seconds_of items) e) (sym ends_so) given
 count_end s calls items end false None false false held some is_full is_well all counted memory ends_so =
-    subst (λ (e : End). IsEnd s (listings.Count calls) (seconds_of items) e) (sym ends_so) (λ starts_well. false≢true (is_well.1 starts_well))
+    subst (λ (e : End). IsEnd s None (listings.Count calls) (seconds_of items) e) (sym ends_so) (λ starts_well. false≢true (is_well.1 starts_well))
 
 pub some_listed : (s : Standing) (calls : ℕ) (r : Runs) (full : Bool) (fault : Option CronError) (mark well : Bool)
     → StartsCalm s.position → (StartsWell s → IsSearchable s.position) → 0 < calls → IsTrue full ↔ (length r.items.items ≡ calls)
@@ -107,13 +134,14 @@ pub some_listed : (s : Standing) (calls : ℕ) (r : Runs) (full : Bool) (fault :
     → (IsSearchable s.position → (length r.items.items ≡ calls) ⊎ GaveAll s (seconds_of r.items.items))
     → (IsSearchable s.position → IsMemoryAlone false fault)
     → All (λ t. IsWholeIn s.position.zone (table_moment t)) r.items.items → length r.items.items ≤ calls
-    → EndsBy full fault mark well r.end → IsListedFrom s (listings.Count calls) r
+    → EndsBy full fault mark well r.end → IsListedFrom s None (listings.Count calls) r
 some_listed s calls r full fault mark well calm held some is_full is_well begins all counted memory whole most ends_so =
     let same : length (seconds_of r.items.items) ≡ length r.items.items = length-map r.items.items (λ (t : TableTime). (table_moment t).instant) in
     record {
       begins = begins calm;
       asked = omega (arith, same, most);
       on_clock = whole;
+      in_window = λ k d within. tt;
       end = count_end s calls r.items.items r.end full fault mark well held some is_full is_well (all calm) counted memory ends_so;
     }
 
@@ -125,13 +153,13 @@ pub some_listed_at : (m : Meaning) (start : TableTime) (at : Standing) (calls : 
     → (IsSearchable at.position → (length r.items.items ≡ calls) ⊎ GaveAll at (seconds_of r.items.items))
     → (IsSearchable at.position → IsMemoryAlone false fault)
     → All (λ t. IsWholeIn at.position.zone (table_moment t)) r.items.items → length r.items.items ≤ calls
-    → EndsBy full fault mark well r.end → IsListed m start (listings.Count calls) r
+    → EndsBy full fault mark well r.end → IsListed m start None (listings.Count calls) r
 some_listed_at m start at calls r full fault mark well same some is_full is_well begins all counted memory whole most ends_so =
     let calm : StartsCalm at.position = subst (λ (s : Standing). StartsCalm s.position) (sym same) (starts_calm start) in
     let held : StartsWell at → IsSearchable at.position =
     λ w. subst (λ (s : Standing). IsSearchable s.position) (sym same) (searchable start (subst (λ (s : Standing). StartsWell s) same w)) in
     let is_well' : IsTrue well ↔ StartsWell at = subst (λ (s : Standing). IsTrue well ↔ StartsWell s) (sym same) is_well in
-    subst (λ (s : Standing). IsListedFrom s (listings.Count calls) r) same
+    subst (λ (s : Standing). IsListedFrom s None (listings.Count calls) r) same
     (some_listed at calls r full fault mark well calm held some is_full is_well' begins all counted memory whole most ends_so)
 
 -- the years from which no search fails
@@ -246,9 +274,10 @@ pub not_le : (a b : ℤ) → int_le a b ≡ false → b <ℤ a
 not_le a b h = grind (arith, ints)
 
 -- none is left out up to the second where one behind it is cut off
-cut_complete : (m : Meaning) (start : TableTime) (until : ℤ) (xs : List TableTime) → BeginsRest (starts m start) (seconds_of xs) → kept until xs < length xs
-    → GaveUntil (starts m start) until (seconds_of (take (kept until xs) xs)) × LeavesBehind (starts m start) until
-cut_complete m start until xs begins less =
+cut_complete : (m : Meaning) (start : TableTime) (last : Option ℤ) (until : ℤ) (xs : List TableTime) → BeginsRest (starts m start) (seconds_of xs)
+    → All (IsInWindow last) (seconds_of xs) → kept until xs < length xs
+    → GaveUntil (starts m start) until (seconds_of (take (kept until xs) xs)) × LeavesBehind (starts m start) last until
+cut_complete m start last until xs begins in_window less =
     let n = kept until xs in
     let x = (get_or xs n start).second in
     let same : length (seconds_of xs) ≡ length xs = length-map xs (λ (t : TableTime). (table_moment t).instant) in
@@ -259,28 +288,31 @@ cut_complete m start until xs begins less =
       λ i left le.
           subst (λ (ys : List ℤ). Contains ys i) (take-map (λ (t : TableTime). (table_moment t).instant) n xs)
           (first_complete (IsLeft (starts m start)) n (seconds_of xs) until x begins inside at past i left le),
-      (x, subst (IsLeft (starts m start)) at (begins.counts n x inside), past),
+      (x, subst (IsLeft (starts m start)) at (begins.counts n x inside), subst (IsInWindow last) at (in_window n x inside), past),
     )
 
 -- what the end says once runs were cut off, or none
-cut_is_end : (s : Standing) (until : ℤ) (count : ℕ) (end cut : End) (all some : List ℤ) (b : Bool) → IsEnd s (listings.Count count) all end
-    → cut ≡ cut_end b end → (cut ≡ ends.Cut → count ≡ most_runs) → (b ≡ true → GaveUntil s until some × LeavesBehind s until) → (b ≡ false → some ≡ all)
-    → IsEnd s (listings.Until until) some cut
-cut_is_end s until count end cut all some true is cut_so most gave same = subst (λ (e : End). IsEnd s (listings.Until until) some e) (sym cut_so) (gave refl)
-cut_is_end s until count ends.More cut all some false is cut_so most gave same =
-    subst (λ (e : End). IsEnd s (listings.Until until) some e) (sym cut_so) (ap length (same refl) ∙ is.0 ∙ most cut_so)
-cut_is_end s until count ends.Over cut all some false is cut_so most gave same =
-    subst (λ (e : End). IsEnd s (listings.Until until) some e) (sym cut_so) (subst (λ (ys : List ℤ). GaveAll s ys) (sym (same refl)) is)
-cut_is_end s until count ends.Cut cut all some false is cut_so most gave same = absurd is
-cut_is_end s until count (ends.Failed e) cut all some false is cut_so most gave same =
-    subst (λ (e : End). IsEnd s (listings.Until until) some e) (sym cut_so) is
+cut_is_end : (s : Standing) (last : Option ℤ) (until : ℤ) (count : ℕ) (end cut : End) (all some : List ℤ) (b : Bool) → IsEnd s last (listings.Count count) all end
+    → cut ≡ cut_end b end → (cut ≡ ends.Cut → count ≡ most_runs) → (b ≡ true → GaveUntil s until some × LeavesBehind s last until) → (b ≡ false → some ≡ all)
+    → IsEnd s last (listings.Until until) some cut
+cut_is_end s last until count end cut all some true is cut_so most gave same =
+    subst (λ (e : End). IsEnd s last (listings.Until until) some e) (sym cut_so) (gave refl)
+cut_is_end s last until count ends.More cut all some false is cut_so most gave same =
+    subst (λ (e : End). IsEnd s last (listings.Until until) some e) (sym cut_so) (ap length (same refl) ∙ is.0 ∙ most cut_so)
+cut_is_end s last until count ends.Over cut all some false is cut_so most gave same =
+    subst (λ (e : End). IsEnd s last (listings.Until until) some e) (sym cut_so) (subst (λ (ys : List ℤ). IsOver s last ys) (sym (same refl)) is)
+cut_is_end s last until count ends.Cut cut all some false is cut_so most gave same = absurd is
+cut_is_end s last until count ends.Window cut all some false is cut_so most gave same =
+    subst (λ (e : End). IsEnd s last (listings.Until until) some e) (sym cut_so) (subst (λ (ys : List ℤ). IsAtWindowEnd s last ys) (sym (same refl)) is)
+cut_is_end s last until count (ends.Failed e) cut all some false is cut_so most gave same =
+    subst (λ (e : End). IsEnd s last (listings.Until until) some e) (sym cut_so) is
 
 -- a listing of so many runs without those behind a second
-pub cut_listed : (m : Meaning) (start : TableTime) (until : ℤ) (count : ℕ) (r cut : Runs) → IsListed m start (listings.Count count) r
+pub cut_listed : (m : Meaning) (start : TableTime) (last : Option ℤ) (until : ℤ) (count : ℕ) (r cut : Runs) → IsListed m start last (listings.Count count) r
     → cut.items.items ≡ take (kept until r.items.items) r.items.items
     → cut.end ≡ cut_end (nat_lt (kept until r.items.items) (length r.items.items)) r.end
-    → (cut.end ≡ ends.Cut → count ≡ most_runs) → IsListed m start (listings.Until until) cut
-cut_listed m start until count r cut l items_are end_is most =
+    → (cut.end ≡ ends.Cut → count ≡ most_runs) → IsListed m start last (listings.Until until) cut
+cut_listed m start last until count r cut l items_are end_is most =
     let xs = r.items.items in
     let n = kept until xs in
     let s = starts m start in
@@ -292,7 +324,52 @@ cut_listed m start until count r cut l items_are end_is most =
       asked = subst (λ (ys : List TableTime). All (λ i. i ≤ℤ until) (seconds_of ys)) (sym items_are) (all_until start until xs);
       on_clock = subst (λ (ys : List TableTime). All (λ t. IsWholeIn s.position.zone (table_moment t)) ys) (sym items_are)
           (All-take (λ t. IsWholeIn s.position.zone (table_moment t)) n xs l.on_clock);
-      end = cut_is_end s until count r.end cut.end (seconds_of xs) (seconds_of cut.items.items) (nat_lt n (length xs)) l.end end_is most
-          (λ test. subst (λ (ys : List TableTime). GaveUntil s until (seconds_of ys) × LeavesBehind s until) (sym items_are)
-          (cut_complete m start until xs l.begins (grind (arith, nat_tests)))) whole;
+      in_window = subst (λ (ys : List ℤ). All (IsInWindow last) ys) (sym seconds) (All-take (IsInWindow last) n (seconds_of xs) l.in_window);
+      end = cut_is_end s last until count r.end cut.end (seconds_of xs) (seconds_of cut.items.items) (nat_lt n (length xs)) l.end end_is most
+          (λ test. subst (λ (ys : List TableTime). GaveUntil s until (seconds_of ys) × LeavesBehind s last until) (sym items_are)
+          (cut_complete m start last until xs l.begins l.in_window (grind (arith, nat_tests)))) whole;
+    }
+
+-- ---- no later than the window's last second
+
+-- what the end of so many says in a window, once runs behind it were cut off, or none
+window_is_end : (s : Standing) (last : ℤ) (count : ℕ) (end res : End) (all some : List ℤ) (b : Bool) → IsEnd s None (listings.Count count) all end
+    → 0 < count → res ≡ end_of_window (cut_end b end) → (b ≡ true → GaveUntil s last some) → (b ≡ false → some ≡ all)
+    → IsEnd s (Some last) (listings.Count count) some res
+window_is_end s last count end res all some true is positive res_so gave same =
+    subst (λ (e : End). IsEnd s (Some last) (listings.Count count) some e) (sym res_so) (inl (gave refl))
+window_is_end s last count ends.More res all some false is positive res_so gave same =
+    subst (λ (e : End). IsEnd s (Some last) (listings.Count count) some e) (sym res_so) (ap length (same refl) ∙ is.0, λ none. absurd (omega (arith, positive, none)))
+window_is_end s last count ends.Over res all some false is positive res_so gave same =
+    subst (λ (e : End). IsEnd s (Some last) (listings.Count count) some e) (sym res_so) (inr (subst (λ (ys : List ℤ). GaveAll s ys) (sym (same refl)) is))
+window_is_end s last count ends.Cut res all some false is positive res_so gave same = absurd is
+window_is_end s last count ends.Window res all some false is positive res_so gave same = absurd is
+window_is_end s last count (ends.Failed e) res all some false is positive res_so gave same =
+    subst (λ (e : End). IsEnd s (Some last) (listings.Count count) some e) (sym res_so) is
+
+-- a listing of so many runs without those behind the window's last second
+pub window_listed : (m : Meaning) (start : TableTime) (last : ℤ) (count : ℕ) (r res : Runs) (cut : End) → IsListed m start None (listings.Count count) r → 0 < count
+    → res.items.items ≡ take (kept last r.items.items) r.items.items
+    → cut ≡ cut_end (nat_lt (kept last r.items.items) (length r.items.items)) r.end → res.end ≡ end_of_window cut
+    → IsListed m start (Some last) (listings.Count count) res
+window_listed m start last count r res cut l positive items_are cut_is end_is =
+    let xs = r.items.items in
+    let n = kept last xs in
+    let s = starts m start in
+    let seconds : seconds_of res.items.items ≡ take n (seconds_of xs) = ap (λ (ys : List TableTime). seconds_of ys) items_are ∙ sym (take-map (λ (t : TableTime). (table_moment t).instant) n xs) in
+    let whole : nat_lt n (length xs) ≡ false → seconds_of res.items.items ≡ seconds_of xs =
+    λ test. ap (λ (ys : List TableTime). seconds_of ys) (items_are ∙ take_all n xs (grind (arith, nat_tests))) in
+    let short : length (take n (seconds_of xs)) ≡ min n (length (seconds_of xs)) = length-take n (seconds_of xs) in
+    let fewer : length (seconds_of res.items.items) ≡ length (take n (seconds_of xs)) = ap (λ (ys : List ℤ). length ys) seconds in
+    let asked : length (seconds_of xs) ≤ count = l.asked in
+    record {
+      begins = subst (λ (ys : List ℤ). BeginsRest s ys) (sym seconds) (begins_first (IsLeft s) n (seconds_of xs) l.begins);
+      asked = omega (arith, short, fewer, asked);
+      on_clock = subst (λ (ys : List TableTime). All (λ t. IsWholeIn s.position.zone (table_moment t)) ys) (sym items_are)
+          (All-take (λ t. IsWholeIn s.position.zone (table_moment t)) n xs l.on_clock);
+      in_window = subst (λ (ys : List TableTime). All (λ i. i ≤ℤ last) (seconds_of ys)) (sym items_are) (all_until start last xs);
+      end = window_is_end s last count r.end res.end (seconds_of xs) (seconds_of res.items.items) (nat_lt n (length xs)) l.end positive
+          (end_is ∙ ap (λ (e : End). end_of_window e) cut_is)
+          (λ test. subst (λ (ys : List TableTime). GaveUntil s last (seconds_of ys)) (sym items_are)
+          (cut_complete m start None last xs l.begins l.in_window (grind (arith, nat_tests))).0) whole;
     }

@@ -1,7 +1,7 @@
 -- Plans: of so many moments, and what is left of one that is cut off behind a second.
-use Rattle.std.proofs.Common.{◌≡◌, ◌<◌, ◌≤◌, ◌∙◌, ◌==◌, ◌∷◌, [], ℕ, ℤ, Bool, true, false, List, Option, Some, None, length, take, drop, get_or, slice_index, ◌++◌, refl, sym, ap, subst, inl, inr, arith}
+use Rattle.std.proofs.Common.{◌≡◌, ◌<◌, ◌≤◌, ◌∙◌, ◌==◌, ◌∷◌, [], ℕ, ℤ, Bool, true, false, List, Option, Some, None, length, take, drop, get_or, slice_index, ◌++◌, refl, sym, ap, subst, inl, inr, min, arith}
 use Rattle.std.proofs.lemmas.Bool.Decides.{nat_tests}
-use Rattle.std.proofs.lemmas.List.{append-nil, append_assoc, get_or-map, length-map, take-map, take_all}
+use Rattle.std.proofs.lemmas.List.{append-nil, append_assoc, get_or-map, length-map, length-take, take-map, take_all}
 use Rattle.std.proofs.lemmas.List.Elements.{All-nil, All-take}
 use Rattle.std.proofs.lemmas.List.Sums.{prefix_len_passes, prefix_len_stops}
 use Rattle.std.specs.List.{All, Contains, prefix_len}
@@ -27,8 +27,8 @@ use Rattle.croncheck_command.specs.declared.plan.Plan.{Plan}
 use Rattle.croncheck_command.specs.declared.runs.End.{End}
 use Rattle.croncheck_command.specs.declared.runs.End.TheVariants as ends
 use Rattle.croncheck_command.specs.declared.runs.Listing.TheVariants as listings
-use Rattle.croncheck_command.specs.Plan.{plan_starts, moments, GavePlanUntil, IsPlanEnd, IsPlannedFrom, IsPlanned, EndsPlan, label_at, labels_at}
-use Rattle.croncheck_command.specs.Runs.{most_runs, cut_end}
+use Rattle.croncheck_command.specs.Plan.{plan_starts, moments, GavePlanUntil, IsPlanOver, IsPlanAtWindowEnd, IsPlanEnd, IsPlannedFrom, IsPlanned, EndsPlan, label_at, labels_at}
+use Rattle.croncheck_command.specs.Runs.{most_runs, IsInWindow, end_of_window, cut_end}
 use Rattle.croncheck_command.proofs.Listings.{starts_calm, searchable, begins_first, first_complete, taken_at, not_le}
 
 -- a moment with its places
@@ -50,15 +50,15 @@ only_memory e alone other = elim alone [ inl none ↦ (cc) | inr (memory, can) �
 plan_end : (s : TableStanding) (count : ℕ) (items : List Item) (end : End) (mark full : Bool) (fault : Option CronError)
     → (IsStart (reading s.position) → IsSearchable s.position) → length items ≤ count → full ≡ (length items == count)
     → (IsTrue mark → GaveAllTable s (moments items)) → (IsSearchable s.position → 0 < count → IsMemoryAlone true fault)
-    → EndsPlan mark full fault end → IsPlanEnd s (listings.Count count) (moments items) end
+    → EndsPlan mark full fault end → IsPlanEnd s None (listings.Count count) (moments items) end
 plan_end s count items end true full fault well most full_is all memory ends_so =
-    subst (λ (e : End). IsPlanEnd s (listings.Count count) (moments items) e) (sym ends_so) (all refl)
+    subst (λ (e : End). IsPlanEnd s None (listings.Count count) (moments items) e) (sym ends_so) (all refl)
 plan_end s count items end false true fault well most full_is all memory ends_so =
-    subst (λ (e : End). IsPlanEnd s (listings.Count count) (moments items) e) (sym ends_so) (same_length items ∙ grind (arith, nat_tests))
+    subst (λ (e : End). IsPlanEnd s None (listings.Count count) (moments items) e) (sym ends_so) (same_length items ∙ grind (arith, nat_tests))
 plan_end s count items end false false None well most full_is all memory ends_so = absurd ends_so
 plan_end s count items end false false (Some e) well most full_is all memory ends_so =
     let less : 0 < count = grind (arith, nat_tests) in
-    subst (λ (e : End). IsPlanEnd s (listings.Count count) (moments items) e) (sym ends_so.1.1)
+    subst (λ (e : End). IsPlanEnd s None (listings.Count count) (moments items) e) (sym ends_so.1.1)
     (λ starts_well. only_memory e (memory (well starts_well) less) ends_so.0)
 
 -- of an iterator that is new at the start
@@ -68,14 +68,15 @@ pub first_planned : (patterns : List Meaning) (start : TableTime) (s : TableStan
     → (StartsCalm s.position → IsTrue mark → GaveAllTable s (moments p.items.items))
     → (IsSearchable s.position → 0 < count → IsMemoryAlone true fault)
     → length p.items.items ≤ count → full ≡ (length p.items.items == count) → EndsPlan mark full fault p.end
-    → IsPlanned patterns start (listings.Count count) p
+    → IsPlanned patterns start None (listings.Count count) p
 first_planned patterns start s count p mark full fault same begins all memory most full_is ends_so =
     let calm : StartsCalm s.position = subst (λ (t : TableStanding). StartsCalm t.position) (sym same) (starts_calm start) in
     let well : IsStart (reading s.position) → IsSearchable s.position =
     λ w. subst (λ (t : TableStanding). IsSearchable t.position) (sym same) (searchable start (subst (λ (t : TableStanding). IsStart (reading t.position)) same w)) in
-    subst (λ (t : TableStanding). IsPlannedFrom t (listings.Count count) p) same (record {
+    subst (λ (t : TableStanding). IsPlannedFrom t None (listings.Count count) p) same (record {
       begins = begins calm;
       asked = omega (arith, same_length p.items.items, most);
+      in_window = λ k d within. tt;
       end = plan_end s count p.items.items p.end mark full fault well most full_is (all calm) memory ends_so;
     })
 
@@ -149,24 +150,35 @@ complete_by patterns start until [] begins less = absurd (omega (arith, less))
 complete_by patterns start until (item ∷ items) begins less = cut_complete patterns start item until (item ∷ items) begins less
 
 -- what the end says once moments were cut off, or none
-cut_is_end : (s : TableStanding) (until : ℤ) (count : ℕ) (end cut : End) (all some : List (ℤ × List ℕ)) (b : Bool) → IsPlanEnd s (listings.Count count) all end
-    → cut ≡ cut_end b end → (cut ≡ ends.Cut → count ≡ most_runs) → (b ≡ true → GavePlanUntil s until some) → (b ≡ false → some ≡ all)
-    → IsPlanEnd s (listings.Until until) some cut
-cut_is_end s until count end cut all some true is cut_so most gave same = subst (λ (e : End). IsPlanEnd s (listings.Until until) some e) (sym cut_so) (gave refl)
-cut_is_end s until count ends.More cut all some false is cut_so most gave same =
-    subst (λ (e : End). IsPlanEnd s (listings.Until until) some e) (sym cut_so) (ap (λ (ms : List (ℤ × List ℕ)). length ms) (same refl) ∙ is ∙ most cut_so)
-cut_is_end s until count ends.Over cut all some false is cut_so most gave same =
-    subst (λ (e : End). IsPlanEnd s (listings.Until until) some e) (sym cut_so) (subst (λ (ms : List (ℤ × List ℕ)). GaveAllTable s ms) (sym (same refl)) is)
-cut_is_end s until count ends.Cut cut all some false is cut_so most gave same = absurd is
-cut_is_end s until count (ends.Failed e) cut all some false is cut_so most gave same =
-    subst (λ (e : End). IsPlanEnd s (listings.Until until) some e) (sym cut_so) is
+cut_is_end : (s : TableStanding) (last : Option ℤ) (until : ℤ) (count : ℕ) (end cut : End) (all some : List (ℤ × List ℕ)) (b : Bool)
+    → IsPlanEnd s last (listings.Count count) all end → cut ≡ cut_end b end → (cut ≡ ends.Cut → count ≡ most_runs) → (b ≡ true → GavePlanUntil s until some)
+    → (b ≡ false → some ≡ all) → IsPlanEnd s last (listings.Until until) some cut
+cut_is_end s last until count end cut all some true is cut_so most gave same =
+    subst (λ (e : End). IsPlanEnd s last (listings.Until until) some e) (sym cut_so) (gave refl)
+cut_is_end s last until count ends.More cut all some false is cut_so most gave same =
+    subst (λ (e : End). IsPlanEnd s last (listings.Until until) some e) (sym cut_so) (ap (λ (ms : List (ℤ × List ℕ)). length ms) (same refl) ∙ is ∙ most cut_so)
+cut_is_end s last until count ends.Over cut all some false is cut_so most gave same =
+    subst (λ (e : End). IsPlanEnd s last (listings.Until until) some e) (sym cut_so) (subst (λ (ms : List (ℤ × List ℕ)). IsPlanOver s last ms) (sym (same refl)) is)
+cut_is_end s last until count ends.Cut cut all some false is cut_so most gave same = absurd is
+cut_is_end s last until count ends.Window cut all some false is cut_so most gave same =
+    subst (λ (e : End). IsPlanEnd s last (listings.Until until) some e) (sym cut_so)
+    (subst (λ (ms : List (ℤ × List ℕ)). IsPlanAtWindowEnd s last ms) (sym (same refl)) is)
+cut_is_end s last until count (ends.Failed e) cut all some false is cut_so most gave same =
+    subst (λ (e : End). IsPlanEnd s last (listings.Until until) some e) (sym cut_so) is
+
+-- what is taken of the moments lies in the window too
+in_window_cut : (last : Option ℤ) (n : ℕ) (items : List Item) → All (IsInWindow last) (item_instants (moments items))
+    → All (IsInWindow last) (item_instants (take n (moments items)))
+in_window_cut last n items h =
+    subst (λ (is : List ℤ). All (IsInWindow last) is) (sym (instants_taken n (moments items))) (All-take (IsInWindow last) n (item_instants (moments items)) h)
 
 -- a plan of so many moments without those behind a second
-pub cut_planned : (patterns : List Meaning) (start : TableTime) (until : ℤ) (count : ℕ) (p cut : Plan) → IsPlanned patterns start (listings.Count count) p
+pub cut_planned : (patterns : List Meaning) (start : TableTime) (last : Option ℤ) (until : ℤ) (count : ℕ) (p cut : Plan)
+    → IsPlanned patterns start last (listings.Count count) p
     → cut.items.items ≡ take (kept until p.items.items) p.items.items
     → cut.end ≡ cut_end (nat_lt (kept until p.items.items) (length p.items.items)) p.end
-    → (cut.end ≡ ends.Cut → count ≡ most_runs) → IsPlanned patterns start (listings.Until until) cut
-cut_planned patterns start until count p cut l items_are end_is most =
+    → (cut.end ≡ ends.Cut → count ≡ most_runs) → IsPlanned patterns start last (listings.Until until) cut
+cut_planned patterns start last until count p cut l items_are end_is most =
     let items = p.items.items in
     let n = kept until items in
     let s = plan_starts patterns start in
@@ -176,9 +188,54 @@ cut_planned patterns start until count p cut l items_are end_is most =
     record {
       begins = subst (λ (ms : List (ℤ × List ℕ)). BeginsTableRest s ms) (sym now) (begins_cut patterns start n (moments items) l.begins);
       asked = subst (λ (xs : List Item). All (λ i. i ≤ℤ until) (item_instants (moments xs))) (sym items_are) (all_by until items);
-      end = cut_is_end s until count p.end cut.end (moments items) (moments cut.items.items) (nat_lt n (length items)) l.end end_is most
+      in_window = subst (λ (ms : List (ℤ × List ℕ)). All (IsInWindow last) (item_instants ms)) (sym now) (in_window_cut last n items l.in_window);
+      end = cut_is_end s last until count p.end cut.end (moments items) (moments cut.items.items) (nat_lt n (length items)) l.end end_is most
           (λ test. subst (λ (xs : List Item). GavePlanUntil s until (moments xs)) (sym items_are)
           (complete_by patterns start until items l.begins (grind (arith, nat_tests)))) whole;
+    }
+
+-- ---- no later than the window's last second
+
+-- what the end of so many says in a window, once moments behind it were cut off, or none
+window_is_end : (s : TableStanding) (last : ℤ) (count : ℕ) (end res : End) (all some : List (ℤ × List ℕ)) (b : Bool)
+    → IsPlanEnd s None (listings.Count count) all end → res ≡ end_of_window (cut_end b end) → (b ≡ true → GavePlanUntil s last some) → (b ≡ false → some ≡ all)
+    → IsPlanEnd s (Some last) (listings.Count count) some res
+window_is_end s last count end res all some true is res_so gave same =
+    subst (λ (e : End). IsPlanEnd s (Some last) (listings.Count count) some e) (sym res_so) (inl (gave refl))
+window_is_end s last count ends.More res all some false is res_so gave same =
+    subst (λ (e : End). IsPlanEnd s (Some last) (listings.Count count) some e) (sym res_so) (ap (λ (ms : List (ℤ × List ℕ)). length ms) (same refl) ∙ is)
+window_is_end s last count ends.Over res all some false is res_so gave same =
+    subst (λ (e : End). IsPlanEnd s (Some last) (listings.Count count) some e) (sym res_so)
+    (inr (subst (λ (ms : List (ℤ × List ℕ)). GaveAllTable s ms) (sym (same refl)) is))
+window_is_end s last count ends.Cut res all some false is res_so gave same = absurd is
+window_is_end s last count ends.Window res all some false is res_so gave same = absurd is
+window_is_end s last count (ends.Failed e) res all some false is res_so gave same =
+    subst (λ (e : End). IsPlanEnd s (Some last) (listings.Count count) some e) (sym res_so) is
+
+-- a plan of so many moments without those behind the window's last second
+pub window_planned : (patterns : List Meaning) (start : TableTime) (last : ℤ) (count : ℕ) (p res : Plan) (cut : End)
+    → IsPlanned patterns start None (listings.Count count) p
+    → res.items.items ≡ take (kept last p.items.items) p.items.items
+    → cut ≡ cut_end (nat_lt (kept last p.items.items) (length p.items.items)) p.end → res.end ≡ end_of_window cut
+    → IsPlanned patterns start (Some last) (listings.Count count) res
+window_planned patterns start last count p res cut l items_are cut_is end_is =
+    let items = p.items.items in
+    let n = kept last items in
+    let s = plan_starts patterns start in
+    let now : moments res.items.items ≡ take n (moments items) = ap (λ (xs : List Item). moments xs) items_are ∙ moments_taken n items in
+    let whole : nat_lt n (length items) ≡ false → moments res.items.items ≡ moments items =
+    λ test. ap (λ (xs : List Item). moments xs) (items_are ∙ take_all n items (grind (arith, nat_tests))) in
+    let short : length (take n (moments items)) ≡ min n (length (moments items)) = length-take n (moments items) in
+    let fewer : length (moments res.items.items) ≡ length (take n (moments items)) = ap (λ (ms : List (ℤ × List ℕ)). length ms) now in
+    let asked : length (moments items) ≤ count = l.asked in
+    record {
+      begins = subst (λ (ms : List (ℤ × List ℕ)). BeginsTableRest s ms) (sym now) (begins_cut patterns start n (moments items) l.begins);
+      asked = omega (arith, short, fewer, asked);
+      in_window = subst (λ (xs : List Item). All (λ i. i ≤ℤ last) (item_instants (moments xs))) (sym items_are) (all_by last items);
+      end = window_is_end s last count p.end res.end (moments items) (moments res.items.items) (nat_lt n (length items)) l.end
+          (end_is ∙ ap (λ (e : End). end_of_window e) cut_is)
+          (λ test. subst (λ (xs : List Item). GavePlanUntil s last (moments xs)) (sym items_are)
+          (complete_by patterns start last items l.begins (grind (arith, nat_tests)))) whole;
     }
 
 -- ---- what is shown of the jobs

@@ -1,9 +1,16 @@
--- The second from which on a window is calm no more.
-use Rattle.std.proofs.Common.{◌≡◌, ◌≤◌, ◌+◌, ℕ, zero, suc, ℤ, pos, ◌+ℤ◌, ◌-ℤ◌, sym, subst, arith}
+-- The second from which on a window is calm no more, and why.
+use Rattle.std.proofs.Common.{◌≡◌, ◌∙◌, ◌≤◌, ◌+◌, ℕ, zero, suc, ℤ, Bool, true, false, refl, pos, ◌+ℤ◌, ◌-ℤ◌, sym, subst, arith}
 use Rattle.std.proofs.lemmas.Int.{ints}
+use Rattle.std.proofs.lemmas.Bool.{false≢true}
+use Rattle.std.specs.Prelude.{not}
 use Rattle.jiff_tz.specs.declared.timezone.TimeZone.{TimeZone}
-use Rattle.croner_base.specs.ZoneTable.{IsWindow, IsCalmWindow}
-use Rattle.croncheck_command.specs.Clock.{last_second, IsStop}
+use Rattle.croner_base.specs.Table.{is_offset}
+use Rattle.croner_base.specs.Zone.{Zone}
+use Rattle.croner_base.specs.ZoneTable.{IsWindow, IsCalmWindow, ahead_at, nearest_in}
+use Rattle.croner.specs.laws.Zones.{IsClockOf}
+use Rattle.croncheck_command.specs.declared.clock.stop.Reason.{Reason}
+use Rattle.croncheck_command.specs.declared.clock.stop.Reason.TheVariants as reasons
+use Rattle.croncheck_command.specs.Clock.{last_second, two_days_before, IsStop, IsReasonBy, IsReason}
 
 none_behind : (first : ℤ) → (first +ℤ pos 0) ≡ first
 none_behind first = omega (arith, ints)
@@ -47,3 +54,41 @@ pub stop_whole : (tz : TimeZone) (first : ℤ) (behind n : ℕ) (at : ℤ) → l
     → IsStop tz first (first +ℤ pos behind) (first +ℤ pos n) → IsStop tz first last_second at
 stop_whole tz first behind n at last_is at_is stop =
     subst (λ (last : ℤ). IsStop tz first last at) (sym last_is) (subst (λ (second : ℤ). IsStop tz first (first +ℤ pos behind) second) (sym at_is) stop)
+
+-- ---- why
+
+-- a reason by three offsets is one by the offsets of a zone that are the same
+same_reason : (tz : TimeZone) (first at earlier before there : ℤ) (r : Reason) → there ≡ ahead_at tz at → before ≡ ahead_at tz (at -ℤ pos 1)
+    → earlier ≡ ahead_at tz (two_days_before first at) → IsReasonBy earlier before there r
+    → IsReasonBy (ahead_at tz (two_days_before first at)) (ahead_at tz (at -ℤ pos 1)) (ahead_at tz at) r
+same_reason tz first at earlier before there r there_is before_is earlier_is is =
+    subst (λ (e : ℤ). IsReasonBy e (ahead_at tz (at -ℤ pos 1)) (ahead_at tz at) r) earlier_is
+    (subst (λ (b : ℤ). IsReasonBy earlier b (ahead_at tz at) r) before_is
+    (subst (λ (t : ℤ). IsReasonBy earlier before t r) there_is is))
+
+-- the reason of a change of a clock that is no more than a day off UTC
+pub reason_at : (tz : TimeZone) (first at earlier before there : ℤ) (r : Reason) → there ≡ ahead_at tz at → before ≡ ahead_at tz (at -ℤ pos 1)
+    → earlier ≡ ahead_at tz (two_days_before first at) → is_offset there ≡ true → IsReasonBy earlier before there r → IsReason tz first at r
+reason_at tz first at earlier before there (reasons.Far n) there_is before_is earlier_is near is = absurd is
+reason_at tz first at earlier before there (reasons.Forward n) there_is before_is earlier_is near is =
+    (subst (λ (t : ℤ). is_offset t ≡ true) there_is near, λ less. same_reason tz first at earlier before there (reasons.Forward n) there_is before_is earlier_is is)
+reason_at tz first at earlier before there (reasons.Back n) there_is before_is earlier_is near is =
+    (subst (λ (t : ℤ). is_offset t ≡ true) there_is near, λ less. same_reason tz first at earlier before there (reasons.Back n) there_is before_is earlier_is is)
+reason_at tz first at earlier before there reasons.Soon there_is before_is earlier_is near is =
+    (subst (λ (t : ℤ). is_offset t ≡ true) there_is near, λ less. same_reason tz first at earlier before there reasons.Soon there_is before_is earlier_is is)
+reason_at tz first at earlier before there reasons.Many there_is before_is earlier_is near is =
+    (subst (λ (t : ℤ). is_offset t ≡ true) there_is near, λ less. same_reason tz first at earlier before there reasons.Many there_is before_is earlier_is is)
+
+-- a test that is false says that what it denies holds
+pub not_far : (near far : Bool) → far ≡ not near → far ≡ false → near ≡ true
+not_far true far is isnt = refl
+not_far false far is isnt = absurd (false≢true (sym isnt ∙ is))
+
+-- ---- the clock up to it
+
+-- the table of a calm window shows what the zone shows there
+pub clock_of : (tz : TimeZone) (first last f l : ℤ) (z : Zone) → f ≡ first → l ≡ last → IsCalmWindow tz f l
+    → ((i : ℤ) → z.reads i ≡ i +ℤ ahead_at tz (nearest_in f l i)) → IsClockOf tz first last z
+clock_of tz first last f l z first_is last_is calm shows =
+    subst (λ (a : ℤ). IsClockOf tz a last z) first_is
+    (subst (λ (b : ℤ). IsClockOf tz f b z) last_is (record { window = calm.window; shows = shows }))

@@ -1,10 +1,15 @@
 -- The window of a clock, and why a zone has none. Source: this crate's documentation of `Clock`.
-use Rattle.std.specs.Prelude.{ℕ, ℤ, pos, ◌-ℤ◌, ◌<ℤ◌, ◌≤ℤ◌}
+use Rattle.std.specs.Prelude.{◌≡◌, ℕ, true, false, if◌then◌else◌, int_lt, ℤ, pos, ◌-ℤ◌, ◌<ℤ◌, ◌≤ℤ◌, Option, Some, None}
 use Rattle.jiff_tz.specs.declared.timezone.TimeZone.{TimeZone}
-use Rattle.croner_base.specs.ZoneTable.{IsWindow, IsCalmWindow}
-use Rattle.croner_base.specs.ZonedZone.{first_timestamp}
+use Rattle.croner_base.specs.Limits.{gap_limit, fold_limit, apart_limit}
+use Rattle.croner_base.specs.Table.{is_offset}
+use Rattle.croner_base.specs.ZoneTable.{IsWindow, IsCalmWindow, ahead_at}
+use Rattle.croner_base.specs.ZonedZone.{first_timestamp, last_timestamp}
 use Rattle.croncheck_command.specs.declared.clock.NoClock.{NoClock}
-use Rattle.croncheck_command.specs.declared.clock.NoClock.TheVariants as reasons
+use Rattle.croncheck_command.specs.declared.clock.NoClock.TheVariants as refusals
+use Rattle.croncheck_command.specs.declared.clock.stop.Reason.{Reason}
+use Rattle.croncheck_command.specs.declared.clock.stop.Reason.TheVariants as reasons
+use Rattle.croncheck_command.specs.declared.clock.stop.Stop.{Stop}
 
 -- so many seconds before the start the window begins: three days
 abbrev pub seconds_before : ℕ
@@ -24,18 +29,55 @@ pub record IsStop (tz : TimeZone) (first last at : ℤ) : Type 0 where
   pub not_calm : ¬ (IsCalmWindow tz first at)
   pub calm_before : first <ℤ at → IsCalmWindow tz first (at -ℤ pos 1)
 
--- why a window up to the last second has no clock: it isn't calm, or memory is wanting
-abbrev pub IsNoClockFrom : TimeZone → ℤ → NoClock → Type 0
-IsNoClockFrom tz first (reasons.Change at) = IsStop tz first last_second at
-IsNoClockFrom tz first reasons.Outside = ⊥
-IsNoClockFrom tz first reasons.OutOfMemory = IsWindow first last_second
+-- a whole second of jiff's instants
+abbrev pub IsHeldSecond : ℤ → Type 0
+IsHeldSecond i = (first_timestamp ≤ℤ i) × (i ≤ℤ last_timestamp)
+
+-- two days before the second in front of another one, but no second before the first
+abbrev pub two_days_before : ℤ → ℤ → ℤ
+two_days_before first at = if int_lt (at -ℤ pos 1 -ℤ pos apart_limit) first then first else at -ℤ pos 1 -ℤ pos apart_limit
+
+-- why searches don't go over a change, by how far the clock is ahead of UTC there, in the second before, and two days before that
+abbrev pub IsReasonBy : ℤ → ℤ → ℤ → Reason → Type 0
+IsReasonBy earlier before there (reasons.Far ahead) = ⊥
+IsReasonBy earlier before there (reasons.Forward n) = (n ≡ there -ℤ before) × (pos gap_limit <ℤ n)
+IsReasonBy earlier before there (reasons.Back n) = (n ≡ before -ℤ there) × (pos fold_limit <ℤ n)
+IsReasonBy earlier before there reasons.Soon = ¬ (before ≡ earlier)
+IsReasonBy earlier before there reasons.Many =
+    (before ≡ earlier) × ((there -ℤ before) ≤ℤ pos gap_limit) × ((before -ℤ there) ≤ℤ pos fold_limit)
+
+-- why a window stops at a second
+abbrev pub IsReason : TimeZone → ℤ → ℤ → Reason → Type 0
+IsReason tz first at (reasons.Far ahead) = (ahead ≡ ahead_at tz at) × (is_offset ahead ≡ false)
+IsReason tz first at reason =
+    (is_offset (ahead_at tz at) ≡ true) × (first <ℤ at → IsReasonBy (ahead_at tz (two_days_before first at)) (ahead_at tz (at -ℤ pos 1)) (ahead_at tz at) reason)
+
+-- where a window up to the last second stops, and why
+pub record IsStopOf (tz : TimeZone) (first : ℤ) (s : Stop) : Type 0 where
+  pub stops : IsStop tz first last_second s.second
+  pub reason_is : IsReason tz first s.second s.reason
+
+-- where a clock stops: nowhere, where its window is calm up to the last second
+abbrev pub HasStop : TimeZone → ℤ → Option Stop → Type 0
+HasStop tz first None = IsCalmWindow tz first last_second
+HasStop tz first (Some s) = IsStopOf tz first s
+
+-- the last second of the window of a clock that stops there
+abbrev pub last_of : Option Stop → ℤ
+last_of None = last_second
+last_of (Some s) = s.second -ℤ pos 1
+
+-- the same, where the window ends before the last second
+abbrev pub last_before : Option Stop → Option ℤ
+last_before None = None
+last_before (Some s) = Some (s.second -ℤ pos 1)
 
 -- a start whose window jiff holds
 abbrev pub IsHeldStart : ℤ → Type 0
 IsHeldStart start = (first_timestamp ≤ℤ first_of start) × (start ≤ℤ last_second)
 
--- why there is no clock from a start on: that, or the start lies outside
+-- why there is no clock from a start on: its window stops at it or before it; it lies outside; or memory is wanting
 abbrev pub IsNoClock : TimeZone → ℤ → NoClock → Type 0
-IsNoClock tz start (reasons.Change at) = IsStop tz (first_of start) last_second at
-IsNoClock tz start reasons.Outside = ¬ (IsHeldStart start)
-IsNoClock tz start reasons.OutOfMemory = IsWindow (first_of start) last_second
+IsNoClock tz start (refusals.Change s) = IsStopOf tz (first_of start) s × (s.second ≤ℤ start)
+IsNoClock tz start refusals.Outside = ¬ (IsHeldStart start)
+IsNoClock tz start refusals.OutOfMemory = IsWindow (first_of start) last_second

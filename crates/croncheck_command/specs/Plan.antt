@@ -1,5 +1,5 @@
 -- Plans: one list of the runs of all jobs of all files, in order of time. Source: this crate's documentation of `Plan` and `Planner`.
-use Rattle.std.specs.Prelude.{◌≡◌, ℕ, ℤ, ◌≤ℤ◌, ◌≤◌, Bool, true, false, List, [], ◌∷◌, ◌++◌, length, map, slice_get, Option, Some, None, Result, Ok, Err, IsUtf8, string_bytes}
+use Rattle.std.specs.Prelude.{◌≡◌, ◌⊎◌, ℕ, ℤ, ◌≤ℤ◌, ◌≤◌, Bool, true, false, List, [], ◌∷◌, ◌++◌, length, map, slice_get, Option, Some, None, Result, Ok, Err, IsUtf8, string_bytes}
 use Rattle.std.specs.List.{All, Contains}
 use Rattle.std.specs.declared.alloc.Global.{Global}
 use Rattle.std.specs.declared.vec.Vec.{Vec}
@@ -33,7 +33,7 @@ use Rattle.croncheck_command.specs.Line.{Timing, reboot, never, named, Line, job
 use Rattle.croncheck_command.specs.Lines.{AreLines}
 use Rattle.croncheck_command.specs.Parsed.{crontab_settings}
 use Rattle.croncheck_command.specs.Report.{IsReport, counted, one_more}
-use Rattle.croncheck_command.specs.Runs.{most_runs}
+use Rattle.croncheck_command.specs.Runs.{most_runs, IsInWindow}
 
 -- ---- the moments
 
@@ -49,6 +49,16 @@ moments items = table_items table_moment items
 abbrev pub GavePlanUntil : TableStanding → ℤ → List (ℤ × List ℕ) → Type 0
 GavePlanUntil s until items = (i : ℤ) → IsTableLeft s i → i ≤ℤ until → Contains (item_instants items) i
 
+-- nothing is left in the years that are searched, of a clock whose window doesn't end before they do
+abbrev pub IsPlanOver : TableStanding → Option ℤ → List (ℤ × List ℕ) → Type 0
+IsPlanOver s None items = GaveAllTable s items
+IsPlanOver s (Some last) items = ⊥
+
+-- the window ends: nothing is left out up to its last second, or nothing on this clock in the years that are searched
+abbrev pub IsPlanAtWindowEnd : TableStanding → Option ℤ → List (ℤ × List ℕ) → Type 0
+IsPlanAtWindowEnd s None items = ⊥
+IsPlanAtWindowEnd s (Some last) items = GavePlanUntil s last items ⊎ GaveAllTable s items
+
 -- more may come: there are as many moments as were asked, or none is left out up to the second
 abbrev pub IsMorePlanned : TableStanding → Listing → List (ℤ × List ℕ) → Type 0
 IsMorePlanned s (listings.Count count) items = length items ≡ count
@@ -60,26 +70,28 @@ IsPlanCut (listings.Count count) items = ⊥
 IsPlanCut (listings.Until until) items = length items ≡ most_runs
 
 -- what the end of a plan says
-abbrev pub IsPlanEnd : TableStanding → Listing → List (ℤ × List ℕ) → End → Type 0
-IsPlanEnd s listing items ends.More = IsMorePlanned s listing items
-IsPlanEnd s listing items ends.Over = GaveAllTable s items
-IsPlanEnd s listing items ends.Cut = IsPlanCut listing items
-IsPlanEnd s listing items (ends.Failed e) = ¬ (IsStart (reading s.position))
+abbrev pub IsPlanEnd : TableStanding → Option ℤ → Listing → List (ℤ × List ℕ) → End → Type 0
+IsPlanEnd s last listing items ends.More = IsMorePlanned s listing items
+IsPlanEnd s last listing items ends.Over = IsPlanOver s last items
+IsPlanEnd s last listing items ends.Cut = IsPlanCut listing items
+IsPlanEnd s last listing items ends.Window = IsPlanAtWindowEnd s last items
+IsPlanEnd s last listing items (ends.Failed e) = ¬ (IsStart (reading s.position))
 
 -- there are no more moments than were asked, and none behind the second
 abbrev pub IsPlanAsked : Listing → List (ℤ × List ℕ) → Type 0
 IsPlanAsked (listings.Count count) items = length items ≤ count
 IsPlanAsked (listings.Until until) items = All (λ i. i ≤ℤ until) (item_instants items)
 
--- the moments begin the listing of the runs of all jobs behind the start, each with exactly the jobs that run then
-pub record IsPlannedFrom (s : TableStanding) (listing : Listing) (plan : Plan) : Type 0 where
+-- the moments begin the listing of the runs of all jobs behind the start, in the clock's window, each with exactly the jobs that run then
+pub record IsPlannedFrom (s : TableStanding) (last : Option ℤ) (listing : Listing) (plan : Plan) : Type 0 where
   pub begins : BeginsTableRest s (moments plan.items.items)
   pub asked : IsPlanAsked listing (moments plan.items.items)
-  pub end : IsPlanEnd s listing (moments plan.items.items) plan.end
+  pub in_window : All (IsInWindow last) (item_instants (moments plan.items.items))
+  pub end : IsPlanEnd s last listing (moments plan.items.items) plan.end
 
--- the plan of the jobs of these patterns after a start
-abbrev pub IsPlanned : List Meaning → TableTime → Listing → Plan → Type 0
-IsPlanned patterns start listing plan = IsPlannedFrom (plan_starts patterns start) listing plan
+-- the plan of the jobs of these patterns after a start, on a clock whose window ends there or not before the years that are searched
+abbrev pub IsPlanned : List Meaning → TableTime → Option ℤ → Listing → Plan → Type 0
+IsPlanned patterns start last listing plan = IsPlannedFrom (plan_starts patterns start) last listing plan
 
 -- how a plan of so many moments ends: nothing is left; there are as many as were asked; or a search failed
 abbrev pub EndsPlan : Bool → Bool → Option CronError → End → Type 0

@@ -75,7 +75,7 @@ pub record IsPastAt (m : Meaning) (w : ℤ) (is_past : Bool) : Type 0 where
 -- a meaning is told as its description, its runs behind the start, and whether its years are past
 pub record IsTold (s : Settings) (m : Meaning) (text : String Global) (runs : Runs) (is_past : Bool) : Type 0 where
   pub described : string_bytes text ≡ description (wording_of s.language) m
-  pub listed : IsListed m (start_of s) s.listing runs
+  pub listed : IsListed m (start_of s) s.last s.listing runs
   pub past : IsPastAt m (reading (table_moment (start_of s))) is_past
 
 -- what was told of a text for a parser: that of its meaning, so that it has one
@@ -96,7 +96,21 @@ abbrev pub is_over : End → Bool
 is_over ends.More = false
 is_over ends.Over = true
 is_over ends.Cut = false
+is_over ends.Window = false
 is_over (ends.Failed e) = false
+
+abbrev pub is_at_end_of_window : End → Bool
+is_at_end_of_window ends.More = false
+is_at_end_of_window ends.Over = false
+is_at_end_of_window ends.Cut = false
+is_at_end_of_window ends.Window = true
+is_at_end_of_window (ends.Failed e) = false
+
+-- its listing ends where the clock's window does
+abbrev pub is_at_window_end : Told → Bool
+is_at_window_end tolds.Reboot = false
+is_at_window_end tolds.Nothing = false
+is_at_window_end (tolds.Runs text runs is_past) = is_at_end_of_window runs.end
 
 -- a field names nothing, or the listing is over and has no run
 abbrev pub is_never : Told → Bool
@@ -104,11 +118,11 @@ is_never tolds.Reboot = false
 is_never tolds.Nothing = true
 is_never (tolds.Runs text runs is_past) = is_over runs.end && length runs.items.items == 0
 
--- no year that it names is left at the start
+-- no year that it names is left at the start, and its listing doesn't end where the clock's window does
 abbrev pub is_told_past : Told → Bool
 is_told_past tolds.Reboot = false
 is_told_past tolds.Nothing = false
-is_told_past (tolds.Runs text runs is_past) = is_past
+is_told_past (tolds.Runs text runs is_past) = is_past && not (is_at_end_of_window runs.end)
 
 -- ---- warnings
 
@@ -135,6 +149,7 @@ subject_of fields meaning user command is_crontab is_fed told = record {
   is_zone = false;
   is_past = is_told_past told;
   is_never = is_never told;
+  is_at_window_end = is_at_window_end told;
 }
 
 -- the warnings of a job of a crontab, with these texts and this meaning, that was told so

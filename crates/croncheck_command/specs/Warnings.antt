@@ -215,7 +215,8 @@ is_first_too_many lines = lines == most_lines
 
 -- what is looked at of a line that is taken: the texts of its fields, where it has them; its meaning, where it has one (`@reboot` has none, nor
 -- has a job of which a field names nothing); its user, where it is a job of a crontab of the system; its command, where it is a job of a crontab; whether it is a line of a crontab, has its line
--- feed, and sets `CRON_TZ` or `TZ`; and of a job or a pattern whether its years are past and whether it has no run left before year 5000
+-- feed, and sets `CRON_TZ` or `TZ`; and of a job or a pattern whether its years are past, whether it has no run left before year 5000, and whether its
+-- runs are listed up to the end of the clock's window
 pub record Subject : Type 0 where
   pub fields : Option Texts
   pub meaning : Option Meaning
@@ -226,6 +227,7 @@ pub record Subject : Type 0 where
   pub is_zone : Bool
   pub is_past : Bool
   pub is_never : Bool
+  pub is_at_window_end : Bool
 
 -- there is such a thing, and it passes
 abbrev pub is_some_so : {X : Type 0} → (X → Bool) → Option X → Bool
@@ -248,7 +250,7 @@ holds s warnings.EitherDay = is_some_so is_either_day s.meaning
 holds s (warnings.UnevenStep field) = is_some_so (has_uneven_step field) s.fields
 holds s (warnings.StepBeyond field) = is_some_so (has_step_beyond field) s.fields
 holds s warnings.WholeHour = is_some_so is_whole_hour s.meaning
-holds s warnings.ShortMonths = not (s.is_past || s.is_never) && is_some_so has_short_months s.meaning
+holds s warnings.ShortMonths = not (s.is_past || (s.is_never || s.is_at_window_end)) && is_some_so has_short_months s.meaning
 holds s warnings.Gone = s.is_past
 holds s warnings.Never = not s.is_past && s.is_never
 holds s warnings.LooksLikeField = is_some_so looks_like_field (behind_times s)
@@ -297,4 +299,5 @@ subject_seen s = record {
   is_zone = s.is_zone;
   is_past = s.is_past;
   is_never = s.is_never;
+  is_at_window_end = s.is_at_window_end;
 }

@@ -1,20 +1,26 @@
 //! The clock that runs are listed on: a zone's, over the years that are checked.
-ghost use Rattle.std.specs.Prelude.{◌≡◌, IsOk, IfOk, IfErr, pos, ◌+ℤ◌, ◌≤ℤ◌};
+ghost use Rattle.std.specs.Prelude.{◌≡◌, not, IfOk, IfErr, pos, ◌+ℤ◌, ◌-ℤ◌, ◌<ℤ◌, ◌≤ℤ◌};
 ghost use Rattle.std.specs.Bool.{OnTrue, OnFalse};
 ghost use Rattle.jiff.specs.ZoneView.{plain_zone};
+ghost use Rattle.jiff_core.specs.Timestamp.{nanos_of_seconds};
+ghost use Rattle.croner_base.specs.Table.{is_offset};
 ghost use Rattle.croner_base.specs.TableZone.{table_zone};
-ghost use Rattle.croner_base.specs.ZoneTable.{IsWindow, IsCalmWindow, IsNoTable};
+ghost use Rattle.croner_base.specs.ZoneTable.{IsWindow, IsCalmWindow, ahead_at};
 ghost use Rattle.croner_base.specs.ZonedZone.{first_timestamp};
 ghost use Rattle.croner.specs.laws.Zones.{IsClockOf, IsWellIn};
-ghost use Rattle.croncheck_command.specs.Clock.{last_second, first_of, IsStop, IsNoClockFrom, IsNoClock};
+ghost use Rattle.croncheck_command.specs.Clock.{last_second, first_of, last_of, last_before, two_days_before, IsHeldSecond, IsStop, HasStop, IsStopOf, IsReason, IsReasonBy, IsNoClock};
 
+pub mod stop;
+
+use crate::clock::stop::{Reason, Stop};
 use croner::errors::CronError;
 use croner::time::table::ClockTable;
 use jiff::tz::TimeZone;
+use jiff_core::Timestamp;
 use std::alloc::{AllocError, Global};
 
 /// How many seconds before the start the window begins.
-const SECONDS_BEFORE: i64 = 259_200;
+pub(crate) const SECONDS_BEFORE: i64 = 259_200;
 
 /// The first start whose window `jiff` holds.
 const FIRST_START: i64 = -377_704_764_001;
@@ -22,27 +28,40 @@ const FIRST_START: i64 = -377_704_764_001;
 /// The last second of the window: 5000-12-31T23:59:59 UTC.
 const LAST_SECOND: i64 = 95_649_119_999;
 
-/// The clock of a zone from three days before a start to the end of year 5000, in UTC.
+const NANOS_PER_SECOND: i128 = 1_000_000_000;
+
+/// Searches are made on a clock that is so many seconds ahead of UTC at most, or behind it.
+const SECONDS_PER_DAY: i32 = 86_400;
+
+/// They go over a change by so many seconds forward at most.
+const SECONDS_FORWARD: i64 = 86_400;
+
+/// And by so many back.
+const SECONDS_BACK: i64 = 7_200;
+
+/// Two changes have to lie more than so many seconds apart.
+const SECONDS_APART: i64 = 172_800;
+
+/// The clock of a zone from three days before a start to the end of year 5000, in UTC; or to the second before its stop.
 ///
 /// In this window it shows what the zone shows. The start lies well in it, so that a listing from there on is the zone's own.
 pub struct Clock {
     table: ClockTable,
+    stop: Option<Stop>,
 }
 
 // By hand, so that a function that lets one go calls this one: its proof doesn't go through the fields at each exit.
 impl Drop for Clock {
     fn drop(self) {
-        let Clock { table: _ } = self;
+        let Clock { table: _, stop: _ } = self;
     }
 }
 
 /// Why a zone has no clock from a start on.
 #[derive(Clone, Copy, Drop)]
 pub enum NoClock {
-    /// Up to the second before this one the window is calm, and with this one it isn't: the zone's clock changes there by more, or
-    /// sooner after the change before, than searches allow, or has by then skipped more seconds in all, or changed more often. In
-    /// seconds since 1970-01-01T00:00:00 UTC.
-    Change(i64),
+    /// The window of the start ends before it, or at it.
+    Change(Stop),
     /// The start lies outside -377,704,764,001 to 95,649,119,999.
     Outside,
     /// Memory was asked for and not found.
@@ -52,8 +71,9 @@ pub enum NoClock {
 impl Clock {
     /// The clock of a zone from a start on, which is given in seconds since 1970-01-01T00:00:00 UTC. The error says why there is none.
     pub fn of(alloc: Global, zone: &TimeZone<'_>, start: i64) -> Result<Clock, NoClock>
-        ensures clock { IfOk result (λ c. IsClockOf (plain_zone zone.now) (first_of start) last_second (table_zone c.table)) }
-        ensures start { IsOk result → IsWellIn (plain_zone zone.now) (first_of start) last_second start }
+        ensures clock { IfOk result (λ c. IsClockOf (plain_zone zone.now) (first_of start) (last_of c.stop) (table_zone c.table)) }
+        ensures start { IfOk result (λ c. IsWellIn (plain_zone zone.now) (first_of start) (last_of c.stop) start) }
+        ensures stop { IfOk result (λ c. HasStop (plain_zone zone.now) (first_of start) c.stop) }
         ensures err { IfErr result (IsNoClock (plain_zone zone.now) start) }
     {
         if start < FIRST_START || LAST_SECOND < start {
@@ -61,8 +81,9 @@ impl Clock {
         }
         let first = first_of(start);
         match ClockTable::of_zone(alloc, zone, first, LAST_SECOND) {
-            Ok(table) => Ok(Clock { table }),
-            Err(refusal) => Err(no_clock(alloc, zone, first, refusal)),
+            Ok(table) => Ok(Clock { table, stop: None }),
+            Err(CronError::InvalidTime) => clock_up_to_stop(alloc, zone, start, first),
+            Err(_) => Err(NoClock::OutOfMemory),
         }
     }
 
@@ -71,6 +92,23 @@ impl Clock {
         ensures { result.now ≡ self.now.table }
     {
         &self.table
+    }
+
+    /// Where its window ends before year 5000 does.
+    pub fn stop(&self) -> Option<Stop>
+        ensures { result ≡ self.now.stop }
+    {
+        self.stop
+    }
+
+    /// The last second of its window, where that ends before year 5000 does.
+    pub fn last(&self) -> Option<i64>
+        ensures { result ≡ last_before self.now.stop }
+    {
+        match self.stop {
+            Some(stop) => Some(stop.second - 1),
+            None => None,
+        }
     }
 }
 
@@ -82,23 +120,120 @@ fn first_of(start: i64) -> i64
     start - SECONDS_BEFORE
 }
 
-// Why a window up to the last second has no table, of which this is the refusal.
-fn no_clock(alloc: Global, zone: &TimeZone<'_>, first: i64, refusal: CronError) -> NoClock
+// The clock of a start whose window isn't calm to its end: up to the second before its stop, if the start lies before that.
+fn clock_up_to_stop(
+    alloc: Global,
+    zone: &TimeZone<'_>,
+    start: i64,
+    first: i64,
+) -> Result<Clock, NoClock>
+    requires first_is { first ≡ first_of start }
     requires window { IsWindow first last_second }
-    requires refused { IsNoTable (plain_zone zone.now) first last_second refusal }
-    ensures { IsNoClockFrom (plain_zone zone.now) first result }
+    requires not_calm { ¬ (IsCalmWindow (plain_zone zone.now) first last_second) }
+    ensures clock { IfOk result (λ c. IsClockOf (plain_zone zone.now) first (last_of c.stop) (table_zone c.table)) }
+    ensures start { IfOk result (λ c. IsWellIn (plain_zone zone.now) first (last_of c.stop) start) }
+    ensures stop { IfOk result (λ c. HasStop (plain_zone zone.now) first c.stop) }
+    ensures err { IfErr result (IsNoClock (plain_zone zone.now) start) }
 {
-    match refusal {
-        CronError::InvalidTime => match stop_of(alloc, zone, first) {
-            Ok(second) => NoClock::Change(second),
-            Err(_) => NoClock::OutOfMemory,
-        },
-        _ => NoClock::OutOfMemory,
+    let Ok(stop) = stop_of(alloc, zone, first) else {
+        return Err(NoClock::OutOfMemory);
+    };
+    if stop.second <= start {
+        return Err(NoClock::Change(stop));
+    }
+    match ClockTable::of_zone(alloc, zone, first, stop.second - 1) {
+        Ok(table) => Ok(Clock {
+            table,
+            stop: Some(stop),
+        }),
+        Err(_) => Err(NoClock::OutOfMemory),
+    }
+}
+
+// Where a window up to the last second stops, and why.
+fn stop_of(alloc: Global, zone: &TimeZone<'_>, first: i64) -> Result<Stop, AllocError>
+    requires window { IsWindow first last_second }
+    requires not_calm { ¬ (IsCalmWindow (plain_zone zone.now) first last_second) }
+    ensures { IfOk result (IsStopOf (plain_zone zone.now) first) }
+{
+    let second = stop_second_of(alloc, zone, first)?;
+    Ok(Stop {
+        second,
+        reason: reason_of(zone, first, second),
+    })
+}
+
+// How many seconds a zone's clock is ahead of UTC at a second.
+fn ahead_at(zone: &TimeZone<'_>, second: i64) -> i32
+    requires { IsHeldSecond second }
+    ensures { result ≡ ahead_at (plain_zone zone.now) second }
+{
+    zone.to_plain().to_offset(instant_of(second)).seconds
+}
+
+// The instant of a second.
+fn instant_of(second: i64) -> Timestamp
+    requires { IsHeldSecond second }
+    ensures { result.nanosecond ≡ nanos_of_seconds second }
+{
+    Timestamp {
+        nanosecond: second as i128 * NANOS_PER_SECOND,
+    }
+}
+
+// Why a window stops at a second.
+fn reason_of(zone: &TimeZone<'_>, first: i64, second: i64) -> Reason
+    requires { IsStop (plain_zone zone.now) first last_second second }
+    ensures { IsReason (plain_zone zone.now) first second result }
+{
+    let there = ahead_at(zone, second);
+    if is_far(there) {
+        return Reason::Far(there);
+    }
+    if second == first {
+        return Reason::Many;
+    }
+    let before = ahead_at(zone, second - 1);
+    let earlier = ahead_at(zone, two_days_before(first, second));
+    reason_by(earlier, before, there)
+}
+
+// Whether a clock is more than a day ahead of UTC, or behind it.
+fn is_far(ahead: i32) -> bool
+    ensures { result ≡ not (is_offset ahead) }
+{
+    ahead < -SECONDS_PER_DAY || SECONDS_PER_DAY < ahead
+}
+
+// Two days before the second in front of another one, but no second before the first.
+fn two_days_before(first: i64, second: i64) -> i64
+    requires first { IsHeldSecond first }
+    requires second { IsHeldSecond second }
+    ensures value { result ≡ two_days_before first second }
+    ensures held { IsHeldSecond result }
+{
+    let earlier = second - 1 - SECONDS_APART;
+    if earlier < first { first } else { earlier }
+}
+
+// Why searches don't go over a change, by how far the clock is ahead of UTC there, in the second before, and two days before that.
+fn reason_by(earlier: i32, before: i32, there: i32) -> Reason
+    ensures { IsReasonBy earlier before there result }
+{
+    let forward = there as i64 - before as i64;
+    if forward > SECONDS_FORWARD {
+        Reason::Forward(forward)
+    } else if -forward > SECONDS_BACK {
+        Reason::Back(-forward)
+    } else if earlier != before {
+        Reason::Soon
+    } else {
+        Reason::Many
     }
 }
 
 // The second from which on a window up to the last one is calm no more.
-fn stop_of(alloc: Global, zone: &TimeZone<'_>, first: i64) -> Result<i64, AllocError>
+fn stop_second_of(alloc: Global, zone: &TimeZone<'_>, first: i64) -> Result<i64, AllocError>
     requires window { IsWindow first last_second }
     requires not_calm { ¬ (IsCalmWindow (plain_zone zone.now) first last_second) }
     ensures { IfOk result (IsStop (plain_zone zone.now) first last_second) }

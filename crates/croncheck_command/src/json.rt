@@ -368,7 +368,7 @@ fn end_of(end: &End, is_past: bool) -> &'static str {
         End::Over if is_past => "past",
         End::Over => "over",
         End::More => "more",
-        End::Cut => "cut",
+        End::Cut | End::Window => "cut",
         End::Failed(_) => "failed",
     }
 }

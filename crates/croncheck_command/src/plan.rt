@@ -1,5 +1,5 @@
 //! One list of the runs of all jobs of all files, in order of time.
-ghost use Rattle.std.specs.Prelude.{◌≡◌, ◌≤◌, ◌<◌, ◌↔◌, ◌++◌, [], IfOk, IfErr, OnOk, IfSome, IsTrue, int_le, nat_lt, length, take, option_map, string_bytes, Result};
+ghost use Rattle.std.specs.Prelude.{◌≡◌, ◌≤◌, ◌<◌, ◌↔◌, ◌++◌, ℕ, List, [], None, Some, IfOk, IfErr, OnOk, IfSome, IsTrue, int_le, nat_lt, length, take, option_map, string_bytes, Result};
 ghost use Rattle.std.specs.List.{prefix_len};
 ghost use Rattle.croner_pattern.specs.Meaning.{Meaning};
 ghost use Rattle.croner.specs.crontable.Tables.{patterns_of};
@@ -17,8 +17,8 @@ use crate::file_seen::FileSeen;
 use crate::line::{Entry, Times};
 use crate::parsed::job_of;
 use crate::report::{Report, Settings, Tally, report_of};
-use crate::runs::{End, Listing, MOST_RUNS, cut_end};
-use crate::shown::{COMMAND_BYTES, Place, Shared, push_clock, push_front, text_of};
+use crate::runs::{End, Listing, MOST_RUNS, cut_end, end_of_window};
+use crate::shown::{COMMAND_BYTES, Place, Shared, push_clock, push_front, push_window_end, text_of};
 use croner::Cron;
 use croner::crontable::CronTable;
 use croner::errors::CronError;
@@ -41,21 +41,53 @@ pub struct Plan<'t> {
     pub end: End,
 }
 
-/// The plan of a table's jobs after a start, which is in none: so many moments, or all up to a second.
+/// The plan of a table's jobs after a start, which is in none: so many moments, or all up to a second. Where the window of the start's clock
+/// ends with a second, none behind that is in it.
 ///
 /// It takes memory in proportion to its moments and their places. The only error is `OutOfMemory`.
 pub fn plan_of<'t>(
     alloc: Global,
     table: &CronTable,
     start: TableTime<'t>,
+    last: Option<i64>,
     listing: Listing,
 ) -> Result<Plan<'t>, CronError>
-    ensures planned { IfOk result (IsPlanned (patterns_of table.now) start.entry listing) }
+    ensures planned { IfOk result (IsPlanned (patterns_of table.now) start.entry last listing) }
     ensures err { IfErr result (λ e. e ≡ CronError.OutOfMemory) }
 {
     match listing {
-        Listing::Count(count) => first_moments(alloc, table, start, count),
-        Listing::Until(until) => moments_until(alloc, table, start, until),
+        Listing::Count(count) => moments_in_window(alloc, table, start, last, count),
+        Listing::Until(until) => moments_until(alloc, table, start, last, until),
+    }
+}
+
+// So many moments, none behind the last second.
+fn moments_in_window<'t>(
+    alloc: Global,
+    table: &CronTable,
+    start: TableTime<'t>,
+    last: Option<i64>,
+    count: u32,
+) -> Result<Plan<'t>, CronError>
+    ensures planned { IfOk result (IsPlanned (patterns_of table.now) start.entry last (Listing.Count count)) }
+    ensures err { IfErr result (λ e. e ≡ CronError.OutOfMemory) }
+{
+    let plan = first_moments(alloc, table, start, count)?;
+    match last {
+        Some(last) => Ok(up_to_last(plan, last)),
+        None => Ok(plan),
+    }
+}
+
+// What comes of so many moments no later than the last second.
+fn up_to_last<'t>(plan: Plan<'t>, last: i64) -> Plan<'t>
+    ensures { (patterns : List Meaning) (start : TableTime) (count : ℕ) → IsPlanned patterns start None (Listing.Count count) plan.entry
+        → IsPlanned patterns start (Some last) (Listing.Count count) result }
+{
+    let Plan { items, end } = cut_off(plan, last);
+    Plan {
+        items,
+        end: end_of_window(end),
     }
 }
 
@@ -66,7 +98,7 @@ fn first_moments<'t>(
     start: TableTime<'t>,
     count: u32,
 ) -> Result<Plan<'t>, CronError>
-    ensures planned { IfOk result (IsPlanned (patterns_of table.now) start.entry (Listing.Count count)) }
+    ensures planned { IfOk result (IsPlanned (patterns_of table.now) start.entry None (Listing.Count count)) }
     ensures err { IfErr result (λ e. e ≡ CronError.OutOfMemory) }
 {
     let mut iterator = table.iter_after(start);
@@ -101,14 +133,15 @@ fn moments_until<'t>(
     alloc: Global,
     table: &CronTable,
     start: TableTime<'t>,
+    last: Option<i64>,
     until: i64,
 ) -> Result<Plan<'t>, CronError>
-    ensures planned { IfOk result (IsPlanned (patterns_of table.now) start.entry (Listing.Until until)) }
+    ensures planned { IfOk result (IsPlanned (patterns_of table.now) start.entry last (Listing.Until until)) }
     ensures err { IfErr result (λ e. e ≡ CronError.OutOfMemory) }
 {
-    let plan = some_until(alloc, table, start, FEW_MOMENTS, until)?;
+    let plan = some_until(alloc, table, start, last, FEW_MOMENTS, until)?;
     if is_cut(&plan) {
-        return many_until(alloc, table, start, until);
+        return many_until(alloc, table, start, last, until);
     }
     Ok(plan)
 }
@@ -118,14 +151,15 @@ fn many_until<'t>(
     alloc: Global,
     table: &CronTable,
     start: TableTime<'t>,
+    last: Option<i64>,
     until: i64,
 ) -> Result<Plan<'t>, CronError>
-    ensures planned { IfOk result (IsPlanned (patterns_of table.now) start.entry (Listing.Until until)) }
+    ensures planned { IfOk result (IsPlanned (patterns_of table.now) start.entry last (Listing.Until until)) }
     ensures err { IfErr result (λ e. e ≡ CronError.OutOfMemory) }
 {
-    let plan = some_until(alloc, table, start, MANY_MOMENTS, until)?;
+    let plan = some_until(alloc, table, start, last, MANY_MOMENTS, until)?;
     if is_cut(&plan) {
-        return all_until(alloc, table, start, until);
+        return all_until(alloc, table, start, last, until);
     }
     Ok(plan)
 }
@@ -135,12 +169,13 @@ fn all_until<'t>(
     alloc: Global,
     table: &CronTable,
     start: TableTime<'t>,
+    last: Option<i64>,
     until: i64,
 ) -> Result<Plan<'t>, CronError>
-    ensures planned { IfOk result (IsPlanned (patterns_of table.now) start.entry (Listing.Until until)) }
+    ensures planned { IfOk result (IsPlanned (patterns_of table.now) start.entry last (Listing.Until until)) }
     ensures err { IfErr result (λ e. e ≡ CronError.OutOfMemory) }
 {
-    some_until(alloc, table, start, MOST_RUNS, until)
+    some_until(alloc, table, start, last, MOST_RUNS, until)
 }
 
 // Those of so many moments that come no later than a second.
@@ -148,14 +183,15 @@ fn some_until<'t>(
     alloc: Global,
     table: &CronTable,
     start: TableTime<'t>,
+    last: Option<i64>,
     count: u32,
     until: i64,
 ) -> Result<Plan<'t>, CronError>
     ensures planned { IfOk result
-        (λ p. (p.end ≡ End.Cut → count ≡ most_runs) → IsPlanned (patterns_of table.now) start.entry (Listing.Until until) p) }
+        (λ p. (p.end ≡ End.Cut → count ≡ most_runs) → IsPlanned (patterns_of table.now) start.entry last (Listing.Until until) p) }
     ensures err { IfErr result (λ e. e ≡ CronError.OutOfMemory) }
 {
-    let plan = first_moments(alloc, table, start, count)?;
+    let plan = moments_in_window(alloc, table, start, last, count)?;
     Ok(cut_off(plan, until))
 }
 
@@ -164,7 +200,7 @@ fn is_cut(plan: &Plan<'_>) -> bool
 {
     match plan.end {
         End::Cut => true,
-        End::More | End::Over | End::Failed(_) => false,
+        End::More | End::Over | End::Window | End::Failed(_) => false,
     }
 }
 
@@ -381,13 +417,14 @@ impl<'s, 't, W: Write + Drop> Planner<'s, 't, W> {
 
     /// The plan of all jobs that were read.
     pub fn plan(&self) -> Result<Plan<'t>, CronError>
-        ensures planned { IfOk result (IsPlanned (patterns_of self.now.table) (start_of self.now.settings.now) self.now.settings.now.listing) }
+        ensures planned { IfOk result (IsPlanned (patterns_of self.now.table) (start_of self.now.settings.now) self.now.settings.now.last self.now.settings.now.listing) }
         ensures err { IfErr result (λ e. e ≡ CronError.OutOfMemory) }
     {
         plan_of(
             self.alloc,
             &self.table,
             self.settings.changes.start,
+            self.settings.last,
             self.settings.listing,
         )
     }
@@ -590,6 +627,10 @@ fn end_text(alloc: Global, shared: &Shared<'_>, plan: &Plan<'_>) -> Result<Strin
             &mut text,
             "and more: a list ends after {MOST_RUNS} moments\n"
         )?,
+        End::Window => {
+            push_window_end(&mut text, shared)?;
+            text.push('\n')?
+        }
         End::Failed(refusal) => {
             write!(&mut text, "and more, which were not found: {refusal}\n")?
         }

@@ -1,7 +1,7 @@
 //! Why a call can't be answered, or not whole.
 
-use crate::clock::NoClock;
-use jiff::Timestamp;
+use crate::clock::stop::{Reason, Stop};
+use crate::clock::{NoClock, SECONDS_BEFORE};
 use std::{fmt, io};
 
 /// Why a call can't be answered.
@@ -9,8 +9,10 @@ use std::{fmt, io};
 pub enum Problem {
     /// The words of the call are not read.
     Words(io::Error),
-    /// The zone isn't found, or isn't read.
+    /// The zone isn't read.
     Zone(jiff::Error),
+    /// The word of the zone is none. What is wrong with it.
+    NoZone(String),
     /// The zone has no clock.
     Clock(NoClock),
     /// The machine's clock isn't read.
@@ -48,6 +50,7 @@ impl fmt::Display for Problem {
                 f,
                 "the zone: {error}; --zone takes a name of the database, as Europe/Paris, a POSIX rule, as CET-1CEST,M3.5.0,M10.5.0/3, or local"
             ),
+            Problem::NoZone(text) => f.write_str(text.as_str()),
             Problem::Clock(reason) => write_reason(f, *reason),
             Problem::Now(error) => write!(f, "the machine's clock: {error}"),
             Problem::SkippedFrom => {
@@ -65,7 +68,7 @@ impl fmt::Display for Problem {
 // Why a zone has no clock.
 fn write_reason<W: fmt::Write>(f: &mut fmt::Formatter<W>, reason: NoClock) -> fmt::Result {
     match reason {
-        NoClock::Change(second) => write_change(f, second),
+        NoClock::Change(stop) => write_stop(f, stop),
         NoClock::Outside => f.write_str(
             "--from: runs are listed up to the end of year 5000, and not from before year -9998",
         ),
@@ -73,14 +76,15 @@ fn write_reason<W: fmt::Write>(f: &mut fmt::Formatter<W>, reason: NoClock) -> fm
     }
 }
 
-// The change of a zone's clock over which runs are not listed.
-fn write_change<W: fmt::Write>(f: &mut fmt::Formatter<W>, second: i64) -> fmt::Result {
-    f.write_str("the zone: runs are not listed over the change of its clock at ")?;
-    if let Ok(instant) = Timestamp::from_second(second) {
-        write!(f, "{instant} ")?;
+// Where a zone's clock stops before runs can be listed, and from when on they can be.
+fn write_stop<W: fmt::Write>(f: &mut fmt::Formatter<W>, stop: Stop) -> fmt::Result {
+    write!(f, "the zone: its clock is not followed over {stop}")?;
+    match stop.reason {
+        Reason::Far(_) => Ok(()),
+        _ => write!(
+            f,
+            "; runs are listed from three days behind that on, by --from @{}",
+            stop.second.saturating_add(SECONDS_BEFORE)
+        ),
     }
-    write!(
-        f,
-        "@{second}: it is of more than a day forward or two hours back, or within two days of the change before, or the clock has then skipped more than 20,000,000 seconds in all"
-    )
 }

@@ -11,7 +11,7 @@ ghost use Rattle.croner.specs.parser.Gives.{Fails};
 ghost use Rattle.croner.specs.parser.Grammar.{Refusal};
 ghost use Rattle.croner.specs.Views.{job_of as meaning_of_job};
 ghost use Rattle.croncheck_command.specs.Entries.{job_seen, times_seen};
-ghost use Rattle.croncheck_command.specs.Report.{wording_of, NamesNoneFrom, IsPastAt, IsTold, TellsMeaning, TellsTiming, IsRefusalOf, IsUnreadTiming, IsReportOfJob, IsPatternRefused, IsReportOfPattern, blanks_of, IsReport, IsReportOfLine, start_of, is_over, is_never, is_told_past, is_idle, TellsChanges, subject_of, IsWarned, WarnsJob, WarnsPattern, MeetsJob, MeetsPattern, DatesOf, TellsDates, meaning_of_timing, earlier_of, has_job_warnings, has_warnings, none_counted, counted, begun, is_too_many, is_line_warned, one_more, one_more_if, added, status_of};
+ghost use Rattle.croncheck_command.specs.Report.{wording_of, NamesNoneFrom, IsPastAt, IsTold, TellsMeaning, TellsTiming, IsRefusalOf, IsUnreadTiming, IsReportOfJob, IsPatternRefused, IsReportOfPattern, blanks_of, IsReport, IsReportOfLine, start_of, is_over, is_at_end_of_window, is_at_window_end, is_never, is_told_past, is_idle, TellsChanges, subject_of, IsWarned, WarnsJob, WarnsPattern, MeetsJob, MeetsPattern, DatesOf, TellsDates, meaning_of_timing, earlier_of, has_job_warnings, has_warnings, none_counted, counted, begun, is_too_many, is_line_warned, one_more, one_more_if, added, status_of};
 ghost use Rattle.croncheck_command.specs.Warnings.{fields_seen, subject_seen};
 
 use crate::bytes::{Kind, cut};
@@ -54,6 +54,8 @@ pub struct Settings<'t> {
     pub language: Tongue,
     /// The changes of the clock behind the start, from which runs are listed; it is none itself.
     pub changes: &'t Changes<'t>,
+    /// The last second of the clock's window, where it ends before year 5000 does.
+    pub last: Option<i64>,
     pub listing: Listing,
     /// The status is 1 where a line has a warning, too.
     pub is_strict: bool,
@@ -208,7 +210,17 @@ impl End {
     {
         match self {
             End::Over => true,
-            End::More | End::Cut | End::Failed(_) => false,
+            End::More | End::Cut | End::Window | End::Failed(_) => false,
+        }
+    }
+
+    // The clock's window ends.
+    fn is_at_end_of_window(&self) -> bool
+        ensures { result ≡ is_at_end_of_window self.now }
+    {
+        match self {
+            End::Window => true,
+            End::More | End::Over | End::Cut | End::Failed(_) => false,
         }
     }
 }
@@ -225,12 +237,22 @@ impl Told<'_> {
         }
     }
 
-    // No year that the job names is left at the start.
+    // No year that the job names is left at the start, and its listing doesn't end where the clock's window does.
     fn is_past(&self) -> bool
         ensures { result ≡ is_told_past self.now }
     {
         match self {
-            Told::Runs { is_past, .. } => *is_past,
+            Told::Runs { is_past, runs, .. } => *is_past && !runs.end.is_at_end_of_window(),
+            Told::Reboot | Told::Nothing => false,
+        }
+    }
+
+    // Its listing ends where the clock's window does.
+    fn is_at_window_end(&self) -> bool
+        ensures { result ≡ is_at_window_end self.now }
+    {
+        match self {
+            Told::Runs { runs, .. } => runs.end.is_at_end_of_window(),
             Told::Reboot | Told::Nothing => false,
         }
     }
@@ -493,6 +515,7 @@ fn subject_of<'s, 'j>(
         is_zone: false,
         is_past: told.is_past(),
         is_never: told.is_never(),
+        is_at_window_end: told.is_at_window_end(),
     }
 }
 
@@ -616,7 +639,13 @@ fn told_of<'t>(alloc: Global, settings: &Settings<'t>, job: &Cron) -> Result<Tol
     ensures err { IfErr result (λ e. e ≡ CronError.OutOfMemory) }
 {
     let description = description_of(job, settings.language)?;
-    let runs = runs_of(alloc, job, settings.changes.start, settings.listing)?;
+    let runs = runs_of(
+        alloc,
+        job,
+        settings.changes.start,
+        settings.last,
+        settings.listing,
+    )?;
     let is_past = is_past(job, settings.changes.start);
     Ok(Told::Runs {
         description,

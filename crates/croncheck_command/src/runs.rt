@@ -1,5 +1,5 @@
 //! The runs of a job from a start.
-ghost use Rattle.std.specs.Prelude.{◌≡◌, ◌≤◌, ◌<◌, ◌↔◌, ◌&&◌, ℤ, pos, neg_ℤ, List, [], IsTrue, IfOk, IfErr, ◌≤ℤ◌, int_le, nat_lt, length, take, option_map};
+ghost use Rattle.std.specs.Prelude.{◌≡◌, ◌≤◌, ◌<◌, ◌↔◌, ◌&&◌, ℕ, ℤ, pos, neg_ℤ, List, [], None, Some, IsTrue, IfOk, IfErr, ◌≤ℤ◌, int_le, nat_lt, length, take, option_map};
 ghost use Rattle.std.specs.List.{All, Contains, prefix_len};
 ghost use Rattle.jiff_tz.specs.declared.timezone.TimeZone.{TimeZone};
 ghost use Rattle.croner_base.specs.Calm.{IsStart};
@@ -12,7 +12,7 @@ ghost use Rattle.croner.specs.iterator.Listing.{IsLeft, BeginsRest, GaveAll};
 ghost use Rattle.croner.specs.laws.Zones.{IsOnClockOf, in_zone};
 ghost use Rattle.croner.specs.search.Limit.{InSpan};
 ghost use Rattle.croner.specs.Views.{job_of};
-ghost use Rattle.croncheck_command.specs.Runs.{starts, most_runs, end_of_refusal, cut_end, EndsBy, IsEnd, IsListed, GaveUntil};
+ghost use Rattle.croncheck_command.specs.Runs.{starts, most_runs, end_of_refusal, end_before, end_in_window, over_in_window, end_of_window, cut_end, EndsBy, IsEnd, IsListed, GaveUntil};
 
 use crate::clock::Clock;
 use croner::Cron;
@@ -51,6 +51,8 @@ pub enum End {
     Over,
     /// The most runs were listed, and more may come up to the second.
     Cut,
+    /// The clock's window ends: of its runs in the years that are searched each was listed, and more may come behind it.
+    Window,
     /// A search was refused, though not by the end of the years.
     Failed(CronError),
 }
@@ -62,6 +64,7 @@ impl Drop for End {
             End::More => {}
             End::Over => {}
             End::Cut => {}
+            End::Window => {}
             End::Failed(_) => {}
         }
     }
@@ -76,42 +79,73 @@ pub struct Runs<'t> {
     pub end: End,
 }
 
-/// The runs of a job after a start, which doesn't count itself: so many, or all up to a second.
+/// The runs of a job after a start, which doesn't count itself: so many, or all up to a second. Where the window of the start's clock ends
+/// with a second, none behind that is listed.
 ///
 /// The only error is `OutOfMemory`. A search that is refused is the end of the listing.
 pub fn runs_of<'t>(
     alloc: Global,
     job: &Cron,
     start: TableTime<'t>,
+    last: Option<i64>,
     listing: Listing,
 ) -> Result<Runs<'t>, CronError>
-    ensures listed { IfOk result (IsListed (job_of job.now) start.entry listing) }
+    ensures listed { IfOk result (IsListed (job_of job.now) start.entry last listing) }
     ensures err { IfErr result (λ e. e ≡ CronError.OutOfMemory) }
 {
     match listing {
-        Listing::Count(0) => Ok(no_runs(alloc, job, start)),
-        Listing::Count(count) => some_runs(alloc, job, start, count),
-        Listing::Until(until) => runs_until(alloc, job, start, until),
+        Listing::Count(0) => Ok(no_runs(alloc, job, start, last)),
+        Listing::Count(count) => some_runs_in_window(alloc, job, start, last, count),
+        Listing::Until(until) => runs_until(alloc, job, start, last, until),
     }
 }
 
 // No run, and whether none is left.
-fn no_runs<'t>(alloc: Global, job: &Cron, start: TableTime<'t>) -> Runs<'t>
-    ensures { IsListed (job_of job.now) start.entry (Listing.Count 0) result }
+fn no_runs<'t>(alloc: Global, job: &Cron, start: TableTime<'t>, last: Option<i64>) -> Runs<'t>
+    ensures { IsListed (job_of job.now) start.entry last (Listing.Count 0) result }
 {
     Runs {
         items: Vec::new(alloc),
-        end: end_of_none(job, start),
+        end: end_of_none(job, start, last),
     }
 }
 
 // Whether no run is left.
-fn end_of_none(job: &Cron, start: TableTime<'_>) -> End
-    ensures { IsEnd (starts (job_of job.now) start.entry) (Listing.Count 0) [] result }
+fn end_of_none(job: &Cron, start: TableTime<'_>, last: Option<i64>) -> End
+    ensures { IsEnd (starts (job_of job.now) start.entry) last (Listing.Count 0) [] result }
 {
     match job.find_next_occurrence(&start, false) {
-        Ok(_run) => End::More,
-        Err(refusal) => end_of_refusal(refusal),
+        Ok(found) => end_before(found.second(), last),
+        Err(refusal) => end_in_window(last, end_of_refusal(refusal)),
+    }
+}
+
+// How a listing of none ends where this is the next run.
+fn end_before(run: i64, last: Option<i64>) -> End
+    ensures { result ≡ end_before run last }
+{
+    match last {
+        Some(last) if last < run => End::Window,
+        _ => End::More,
+    }
+}
+
+// What the end of a search says where a window ends, or none does: more may come behind it.
+fn end_in_window(last: Option<i64>, end: End) -> End
+    ensures { result ≡ end_in_window last end }
+{
+    match last {
+        Some(_) => over_in_window(end),
+        None => end,
+    }
+}
+
+fn over_in_window(end: End) -> End
+    ensures { result ≡ over_in_window end }
+{
+    match &end {
+        End::Over => End::Window,
+        End::More | End::Cut | End::Window | End::Failed(_) => end,
     }
 }
 
@@ -125,6 +159,48 @@ fn end_of_refusal(refusal: CronError) -> End
     }
 }
 
+// So many runs, one at least, none behind the last second.
+fn some_runs_in_window<'t>(
+    alloc: Global,
+    job: &Cron,
+    start: TableTime<'t>,
+    last: Option<i64>,
+    count: u32,
+) -> Result<Runs<'t>, CronError>
+    requires { 0 < count }
+    ensures listed { IfOk result (IsListed (job_of job.now) start.entry last (Listing.Count count)) }
+    ensures err { IfErr result (λ e. e ≡ CronError.OutOfMemory) }
+{
+    let runs = some_runs(alloc, job, start, count)?;
+    match last {
+        Some(last) => Ok(up_to_last(runs, last)),
+        None => Ok(runs),
+    }
+}
+
+// What comes of so many runs no later than the last second.
+fn up_to_last<'t>(runs: Runs<'t>, last: i64) -> Runs<'t>
+    ensures { (m : Meaning) (start : TableTime) (count : ℕ) → 0 < count → IsListed m start None (Listing.Count count) runs.entry
+        → IsListed m start (Some last) (Listing.Count count) result }
+{
+    let Runs { items, end } = cut_off(runs, last);
+    Runs {
+        items,
+        end: end_of_window(end),
+    }
+}
+
+// How a listing of so many ends in a window, by how one of as many up to the window's last second does.
+pub(crate) fn end_of_window(end: End) -> End
+    ensures { result ≡ end_of_window end }
+{
+    match &end {
+        End::More | End::Over => End::Window,
+        End::Cut => End::More,
+        End::Window | End::Failed(_) => end,
+    }
+}
+
 // So many runs, one at least.
 fn some_runs<'t>(
     alloc: Global,
@@ -133,7 +209,7 @@ fn some_runs<'t>(
     count: u32,
 ) -> Result<Runs<'t>, CronError>
     requires { 0 < count }
-    ensures listed { IfOk result (IsListed (job_of job.now) start.entry (Listing.Count count)) }
+    ensures listed { IfOk result (IsListed (job_of job.now) start.entry None (Listing.Count count)) }
     ensures err { IfErr result (λ e. e ≡ CronError.OutOfMemory) }
 {
     let mut iterator = job.iter_after(start)?;
@@ -194,14 +270,15 @@ fn runs_until<'t>(
     alloc: Global,
     job: &Cron,
     start: TableTime<'t>,
+    last: Option<i64>,
     until: i64,
 ) -> Result<Runs<'t>, CronError>
-    ensures listed { IfOk result (IsListed (job_of job.now) start.entry (Listing.Until until)) }
+    ensures listed { IfOk result (IsListed (job_of job.now) start.entry last (Listing.Until until)) }
     ensures err { IfErr result (λ e. e ≡ CronError.OutOfMemory) }
 {
-    let runs = some_runs_until(alloc, job, start, FEW_RUNS, until)?;
+    let runs = some_runs_until(alloc, job, start, last, FEW_RUNS, until)?;
     if is_cut(&runs) {
-        return many_runs_until(alloc, job, start, until);
+        return many_runs_until(alloc, job, start, last, until);
     }
     Ok(runs)
 }
@@ -211,14 +288,15 @@ fn many_runs_until<'t>(
     alloc: Global,
     job: &Cron,
     start: TableTime<'t>,
+    last: Option<i64>,
     until: i64,
 ) -> Result<Runs<'t>, CronError>
-    ensures listed { IfOk result (IsListed (job_of job.now) start.entry (Listing.Until until)) }
+    ensures listed { IfOk result (IsListed (job_of job.now) start.entry last (Listing.Until until)) }
     ensures err { IfErr result (λ e. e ≡ CronError.OutOfMemory) }
 {
-    let runs = some_runs_until(alloc, job, start, MANY_RUNS, until)?;
+    let runs = some_runs_until(alloc, job, start, last, MANY_RUNS, until)?;
     if is_cut(&runs) {
-        return all_runs_until(alloc, job, start, until);
+        return all_runs_until(alloc, job, start, last, until);
     }
     Ok(runs)
 }
@@ -228,12 +306,13 @@ fn all_runs_until<'t>(
     alloc: Global,
     job: &Cron,
     start: TableTime<'t>,
+    last: Option<i64>,
     until: i64,
 ) -> Result<Runs<'t>, CronError>
-    ensures listed { IfOk result (IsListed (job_of job.now) start.entry (Listing.Until until)) }
+    ensures listed { IfOk result (IsListed (job_of job.now) start.entry last (Listing.Until until)) }
     ensures err { IfErr result (λ e. e ≡ CronError.OutOfMemory) }
 {
-    some_runs_until(alloc, job, start, MOST_RUNS, until)
+    some_runs_until(alloc, job, start, last, MOST_RUNS, until)
 }
 
 // Those of so many runs, one at least, that come no later than a second.
@@ -241,14 +320,15 @@ fn some_runs_until<'t>(
     alloc: Global,
     job: &Cron,
     start: TableTime<'t>,
+    last: Option<i64>,
     count: u32,
     until: i64,
 ) -> Result<Runs<'t>, CronError>
     requires { 0 < count }
-    ensures listed { IfOk result (λ r. (r.end ≡ End.Cut → count ≡ most_runs) → IsListed (job_of job.now) start.entry (Listing.Until until) r) }
+    ensures listed { IfOk result (λ r. (r.end ≡ End.Cut → count ≡ most_runs) → IsListed (job_of job.now) start.entry last (Listing.Until until) r) }
     ensures err { IfErr result (λ e. e ≡ CronError.OutOfMemory) }
 {
-    let runs = some_runs(alloc, job, start, count)?;
+    let runs = some_runs_in_window(alloc, job, start, last, count)?;
     Ok(cut_off(runs, until))
 }
 
@@ -257,7 +337,7 @@ fn is_cut(runs: &Runs<'_>) -> bool
 {
     match runs.end {
         End::Cut => true,
-        End::More | End::Over | End::Failed(_) => false,
+        End::More | End::Over | End::Window | End::Failed(_) => false,
     }
 }
 
@@ -293,7 +373,7 @@ pub(crate) fn cut_end(is_less: bool, end: End) -> End
     }
     match &end {
         End::More => End::Cut,
-        End::Over | End::Cut | End::Failed(_) => end,
+        End::Over | End::Cut | End::Window | End::Failed(_) => end,
     }
 }
 

@@ -4,6 +4,7 @@ ghost use Rattle.croncheck_command.specs.Shown.{is_told, AreLines};
 
 use crate::bytes::{Kind, begins_with, cut, is_quote, rest_of, trimmed};
 use crate::changes::meetings::{Compared, Meetings};
+use crate::clock::stop::Stop;
 use crate::escaped::push_shown;
 use crate::line::{Fault, WEEKDAYS};
 use crate::notes;
@@ -43,6 +44,8 @@ const LEFT_OUT: &str = "..";
 pub struct Shared<'z> {
     /// The zone whose clock is shown.
     pub zone: TimeZone<'z>,
+    /// Where the clock's window ends before year 5000 does.
+    pub stop: Option<Stop>,
     pub listing: Listing,
 }
 
@@ -571,7 +574,7 @@ fn push_told(text: &mut String, shared: &Shared<'_>, times: &Told<'_>) -> Result
             if times.is_never() {
                 return Ok(());
             }
-            push_end(text, shared.listing, runs)
+            push_end(text, shared, runs)
         }
     }
 }
@@ -636,14 +639,27 @@ impl fmt::Display for Ahead {
 }
 
 // What stands behind the runs of a job that has some, or may have some.
-fn push_end(text: &mut String, listing: Listing, runs: &Runs<'_>) -> Result<(), AllocError> {
+fn push_end(text: &mut String, shared: &Shared<'_>, runs: &Runs<'_>) -> Result<(), AllocError> {
     match &runs.end {
         End::Over => text.push_str("\n  no more: no run is left before year 5000"),
         End::Cut => write!(text, "\n  and more: a list ends after {MOST_RUNS} runs"),
+        End::Window => {
+            text.push_str("\n  ")?;
+            push_window_end(text, shared)
+        }
         End::Failed(refusal) => write!(text, "\n  and more, which were not found: {refusal}"),
-        End::More => match listing {
+        End::More => match shared.listing {
             Listing::Until(_) if runs.items.is_empty() => text.push_str("\n  no run up to then"),
             _ => Ok(()),
         },
+    }
+}
+
+// What stands behind a listing that ends where the clock's window does.
+pub(crate) fn push_window_end(text: &mut String, shared: &Shared<'_>) -> Result<(), AllocError> {
+    text.push_str("and maybe more: the zone's clock is not followed ")?;
+    match shared.stop {
+        Some(stop) => write!(text, "over {stop}"),
+        None => text.push_str("any further"),
     }
 }

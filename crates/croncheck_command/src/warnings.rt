@@ -101,6 +101,8 @@ pub struct Subject<'s, 'j> {
     pub is_past: bool,
     /// Its times leave no run before year 5000.
     pub is_never: bool,
+    /// Its runs are listed up to the end of the clock's window, so that it isn't known which years and months they come in behind it.
+    pub is_at_window_end: bool,
 }
 
 /// The warnings of a line, in the order of the table in docs/CRONTAB.md: those that hold, and no other.
@@ -172,12 +174,12 @@ fn is_whole_hour(job: Option<&Cron>) -> bool
     }
 }
 
-// Whether a line that leaves a run has it only in months of enough days.
+// Whether a line that leaves a run, as far as is known, has it only in months of enough days.
 fn has_short_months(subject: &Subject<'_, '_>) -> Result<bool, CronError>
     ensures ok { IfOk result (λ yes. yes ≡ holds (subject_seen subject.now) Warning.ShortMonths) }
     ensures err { IfErr result (λ e. e ≡ CronError.OutOfMemory) }
 {
-    if subject.is_past || subject.is_never {
+    if subject.is_past || subject.is_never || subject.is_at_window_end {
         return Ok(false);
     }
     match subject.job {

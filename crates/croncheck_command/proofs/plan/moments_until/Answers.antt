@@ -12,5 +12,5 @@ returns-clause-planned c =
     let isnt : c.is_cut.result ≡ false = search rules in
     let fits : FitsSigned w64 c.args.until = search rules in
     let plan = c.in_ok-plan.plan in
-    subst (λ (until : ℤ). IsPlanned (patterns_of c.args.table.now) c.args.start (listings.Until until) plan) (to_z-of_z w64 c.args.until fits)
+    subst (λ (until : ℤ). IsPlanned (patterns_of c.args.table.now) c.args.start c.args.last (listings.Until until) plan) (to_z-of_z w64 c.args.until fits)
     (c.in_ok-plan.ensures.planned (λ cut. absurd (not_so (plan.end ≡ ends.Cut) c.is_cut.result c.is_cut.ensures isnt cut)))

@@ -14,4 +14,4 @@ returns-clause-planned c = λ most.
     let xs = plan.items.items in
     let items = subst (λ (until : ℤ). c.cut_off.result.items.items ≡ take (kept until xs) xs) same c.cut_off.ensures.items in
     let end = subst (λ (until : ℤ). c.cut_off.result.end ≡ cut_end (nat_lt (kept until xs) (length xs)) plan.end) same c.cut_off.ensures.end in
-    cut_planned (patterns_of c.args.table.now) c.args.start c.args.until c.args.count plan c.cut_off.result c.in_ok-plan.ensures.planned items end most
+    cut_planned (patterns_of c.args.table.now) c.args.start c.args.last c.args.until c.args.count plan c.cut_off.result c.in_ok-plan.ensures.planned items end most

@@ -12,5 +12,5 @@ returns-clause-listed c =
     let isnt : c.is_cut.result ≡ false = search rules in
     let fits : FitsSigned w64 c.args.until = search rules in
     let runs = c.in_ok-runs.runs in
-    subst (λ (until : ℤ). IsListed (job_of c.args.job.now) c.args.start (listings.Until until) runs) (to_z-of_z w64 c.args.until fits)
+    subst (λ (until : ℤ). IsListed (job_of c.args.job.now) c.args.start c.args.last (listings.Until until) runs) (to_z-of_z w64 c.args.until fits)
     (c.in_ok-runs.ensures.listed (λ cut. absurd (not_so (runs.end ≡ ends.Cut) c.is_cut.result c.is_cut.ensures isnt cut)))

@@ -14,4 +14,4 @@ returns-clause-listed c = λ most.
     let xs = runs.items.items in
     let items = subst (λ (until : ℤ). c.cut_off.result.items.items ≡ take (kept until xs) xs) same c.cut_off.ensures.items in
     let end = subst (λ (until : ℤ). c.cut_off.result.end ≡ cut_end (nat_lt (kept until xs) (length xs)) runs.end) same c.cut_off.ensures.end in
-    cut_listed (job_of c.args.job.now) c.args.start c.args.until c.args.count runs c.cut_off.result c.in_ok-runs.ensures.listed items end most
+    cut_listed (job_of c.args.job.now) c.args.start c.args.last c.args.until c.args.count runs c.cut_off.result c.in_ok-runs.ensures.listed items end most

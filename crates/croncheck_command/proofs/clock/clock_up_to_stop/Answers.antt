@@ -1,0 +1,18 @@
+use Rattle.std.proofs.Common.{◌≡◌, ◌∙◌, ℤ, pos, ◌-ℤ◌, w64, FitsSigned, to_z, of_z, ap, refl, rules}
+use Rattle.std.proofs.lemmas.Int.{to_z-of_z}
+use Rattle.jiff.specs.ZoneView.{plain_zone}
+use Rattle.croner_base.specs.TableZone.{table_zone}
+use Rattle.croncheck_command.proofs.Stops.{clock_of}
+use Rattle.croncheck_command.proofs.clock.clock_up_to_stop.Goals as goal
+
+pub returns-in-Ok-of_zone-clause-clock : goal.returns-in-Ok-of_zone-clause-clock
+returns-in-Ok-of_zone-clause-clock c =
+    let stop = c.in-Ok.stop.second in
+    let last = stop -ℤ pos 1 in
+    let first_fits : FitsSigned w64 c.args.first = search rules in
+    let stop_fits : FitsSigned w64 stop = search rules in
+    let last_fits : FitsSigned w64 last = search rules in
+    let same : to_z w64 (of_z w64 stop) ≡ stop = to_z-of_z w64 stop stop_fits in
+    let last_is = ap (λ (second : ℤ). to_z w64 (of_z w64 (second -ℤ pos 1))) same ∙ to_z-of_z w64 last last_fits in
+    clock_of (plain_zone c.args.zone.now) c.args.first last _ _ (table_zone c.in-Ok-of_zone.table) (to_z-of_z w64 c.args.first first_fits) last_is
+    (c.in-Ok-of_zone.ensures.calm refl) c.in-Ok-of_zone.ensures.beyond
