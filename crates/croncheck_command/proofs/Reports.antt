@@ -3,17 +3,16 @@ use Rattle.std.proofs.Common.{◌≡◌, ◌∙◌, ℕ, Bool, List, [], ◌∷�
 use Rattle.std.specs.Prelude.{IfSome, OnOk}
 use Rattle.croncheck_command.specs.declared.report.Settings.{Settings}
 use Rattle.croncheck_command.specs.declared.report.Tally.{Tally}
-use Rattle.croncheck_command.specs.Checked.{entry_of_line, TakesInTurn, TakesAll}
+use Rattle.croncheck_command.specs.Checked.{LineRead, entry_of_line, TakesInTurn, TakesAll}
 use Rattle.croncheck_command.specs.Json.{Noted, Writes}
-use Rattle.croncheck_command.specs.Line.{Line}
 use Rattle.croncheck_command.specs.Report.{begun}
 use Rattle.croncheck_command.specs.Reported.{Tallies, IsChecked}
 
 -- an entry is told by settings that stay, and its report is added to a tally
-abbrev pub Tells : {S : Type 0} → (S → Tally) → (S → Settings) → S → (Line × Bool) → S → Type 0
+abbrev pub Tells : {S : Type 0} → (S → Tally) → (S → Settings) → S → LineRead → S → Type 0
 Tells tally_of settings_of old y new = Tallies (settings_of old) (tally_of old) y (tally_of new) × (settings_of new ≡ settings_of old)
 
-tallies_in_turn : {S : Type 0} (tally_of : S → Tally) (settings_of : S → Settings) (s : Settings) (ys : List (Line × Bool)) (old new : S)
+tallies_in_turn : {S : Type 0} (tally_of : S → Tally) (settings_of : S → Settings) (s : Settings) (ys : List LineRead) (old new : S)
     → settings_of old ≡ s → TakesInTurn (Tells tally_of settings_of) old ys new
     → TakesInTurn (Tallies s) (tally_of old) ys (tally_of new) × (settings_of new ≡ s)
 tallies_in_turn tally_of settings_of s [] old new e h = (ap tally_of h, ap settings_of h ∙ e)
@@ -48,15 +47,15 @@ module _ {S Y : Type 0} (P Q : S → Y → S → Type 0) (step : (old : S) (y : 
   in_turn_so (y ∷ ys) old new h = (h.0, step old y h.0 h.1, in_turn_so ys h.0 new h.2)
 
 -- an object is written by settings that stay
-abbrev pub WritesOne : {S : Type 0} → (S → Noted) → (S → Settings) → S → (Line × Bool) → S → Type 0
+abbrev pub WritesOne : {S : Type 0} → (S → Noted) → (S → Settings) → S → LineRead → S → Type 0
 WritesOne noted settings_of old y new = Writes (settings_of old) (noted old) y (noted new) × (settings_of new ≡ settings_of old)
 
 -- so its report is told
-told_of_written : {S : Type 0} (noted : S → Noted) (settings_of : S → Settings) (old : S) (y : Line × Bool) (new : S)
+told_of_written : {S : Type 0} (noted : S → Noted) (settings_of : S → Settings) (old : S) (y : LineRead) (new : S)
     → WritesOne noted settings_of old y new → Tells (λ r. (noted r).tally) settings_of old y new
 told_of_written noted settings_of old y new h =
     let w = h.0 in
-    ((w.text, w.entry, w.report, w.seen, w.reported, w.alone, w.tallied), h.1)
+    ((w.entry, w.report, w.seen, w.reported, w.alone, w.tallied), h.1)
 
 -- what was told of each line of a file of which objects were written
 pub checked_objects : {S : Type 0} (new : S) (noted : S → Noted) (settings_of : S → Settings) (s : Settings) (remaining : Option (List ℕ))

@@ -2,16 +2,15 @@
 use Rattle.std.proofs.Common.{◌≡◌, ◌∙◌, ℕ, Bool, List, [], ◌∷◌, Option, Some, None, Result, Ok, Err, map, ap, subst}
 use Rattle.std.specs.Prelude.{IfSome, OnOk}
 use Rattle.croncheck_command.specs.declared.report.Settings.{Settings}
-use Rattle.croncheck_command.specs.Checked.{entry_of_line, TakesInTurn, TakesAll}
-use Rattle.croncheck_command.specs.Line.{Line}
+use Rattle.croncheck_command.specs.Checked.{LineRead, entry_of_line, TakesInTurn, TakesAll}
 use Rattle.croncheck_command.specs.Lines.{AreLines}
 
-module _ {S V : Type 0} (view : S → V) (settings_of : S → Settings) (Leaves : Settings → V → (Line × Bool) → V → Type 0) where
+module _ {S V : Type 0} (view : S → V) (settings_of : S → Settings) (Leaves : Settings → V → LineRead → V → Type 0) where
   -- an entry is taken by settings that stay
-  abbrev pub Takes : S → (Line × Bool) → S → Type 0
+  abbrev pub Takes : S → LineRead → S → Type 0
   Takes old y new = Leaves (settings_of old) (view old) y (view new) × (settings_of new ≡ settings_of old)
 
-  in_turn : (s : Settings) (ys : List (Line × Bool)) (old new : S) → settings_of old ≡ s → TakesInTurn Takes old ys new
+  in_turn : (s : Settings) (ys : List LineRead) (old new : S) → settings_of old ≡ s → TakesInTurn Takes old ys new
       → TakesInTurn (Leaves s) (view old) ys (view new)
   in_turn s [] old new e h = ap view h
   in_turn s (y ∷ ys) old new e h =
@@ -28,7 +27,7 @@ module _ {S V : Type 0} (view : S → V) (settings_of : S → Settings) (Leaves 
   viewed s (Some text) old new e h = (h.0, h.1, in_turn s (map (entry_of_line s.dialect) h.0) old new e h.2)
 
 -- the same, with what is left first
-pub seen_of_file : {S V : Type 0} (new : S) (Leaves : Settings → V → (Line × Bool) → V → Type 0) (view : S → V) (settings_of : S → Settings) (s : Settings)
+pub seen_of_file : {S V : Type 0} (new : S) (Leaves : Settings → V → LineRead → V → Type 0) (view : S → V) (settings_of : S → Settings) (s : Settings)
     (remaining : Option (List ℕ)) (old : S) → settings_of old ≡ s → TakesAll (Takes view settings_of Leaves) s.dialect remaining old new
     → IfSome remaining (λ text. (lines : List (List ℕ)) × AreLines text lines
     × TakesInTurn (Leaves s) (view old) (map (entry_of_line s.dialect) lines) (view new))

@@ -1,5 +1,5 @@
 -- What contracts see of an entry: the meaning of its line.
-use Rattle.std.specs.Prelude.{ℕ, ◌≤◌, ⊤, option_map, Result, Ok, Err, string_bytes}
+use Rattle.std.specs.Prelude.{ℕ, ◌≤◌, ⊤, Option, Some, None, option_map, Result, Ok, Err, string_bytes}
 use Rattle.croncheck_command.specs.declared.line.Fault.{Fault}
 use Rattle.croncheck_command.specs.declared.line.Times.{Times}
 use Rattle.croncheck_command.specs.declared.line.Times.TheVariants as times
@@ -40,6 +40,11 @@ entry_seen (entries.Setting is_zone) = setting is_zone
 entry_seen (entries.Job j) = job (job_seen j)
 entry_seen (entries.Pattern text) = pattern text.now
 entry_seen (entries.Refused fault start end) = refused fault
+
+-- the place that a refused line names
+abbrev pub place_seen : Entry → Option (ℕ × ℕ)
+place_seen (entries.Refused fault start end) = Some (start, end)
+place_seen other = None
 
 -- the place of a fault lies in a line of this length
 abbrev pub LiesIn : ℕ → Entry → Type 0

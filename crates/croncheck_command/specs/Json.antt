@@ -1,26 +1,44 @@
--- Reports as JSON: one object a line of input. Source: this crate's documentation ("JSON").
-use Rattle.std.specs.Prelude.{◌≡◌, ℕ, Bool, false, List, [], ◌∷◌, ◌++◌, map, codes, Option, Some}
+-- Reports as JSON: one object a line of input. The members of an object stand in the order of their names. Source: this crate's documentation
+-- ("JSON").
+use Rattle.std.specs.Prelude.{◌≡◌, ℕ, ℤ, Bool, true, false, not, List, [], ◌∷◌, ◌++◌, map, codes, Option, Some, None, option_map, is_some, string_bytes, if◌then◌else◌}
 use Rattle.std.specs.Io.KnownBytes.{Appends}
-use Rattle.serde_json.specs.Data.{Data, null, number, unsigned, string, object, member, no_members}
-use Rattle.serde_json.specs.Find.{get}
-use Rattle.serde_json.specs.Written.{has_float, compact_text}
+use Rattle.serde_json.specs.Data.{Data, null, number, unsigned, string, array, object, member, no_members}
+use Rattle.serde_json.specs.Find.{of_integer}
+use Rattle.serde_json.specs.View.{items_of}
+use Rattle.serde_json.specs.Written.{compact_text}
+use Rattle.jiff_tz.specs.declared.timezone.TimeZone.{TimeZone}
+use Rattle.croner_base.specs.declared.time.table.TableTime.{TableTime}
+use Rattle.croncheck_command.specs.declared.changes.meetings.Compared.{Compared}
+use Rattle.croncheck_command.specs.declared.changes.meetings.Meetings.{Meetings}
 use Rattle.croncheck_command.specs.declared.line.Entry.{Entry}
 use Rattle.croncheck_command.specs.declared.line.Fault.{Fault}
 use Rattle.croncheck_command.specs.declared.line.Fault.TheVariants as faults
+use Rattle.croncheck_command.specs.declared.notes.Note.{Note}
+use Rattle.croncheck_command.specs.declared.report.JobReport.{JobReport}
 use Rattle.croncheck_command.specs.declared.report.Report.{Report}
 use Rattle.croncheck_command.specs.declared.report.Report.TheVariants as reports
 use Rattle.croncheck_command.specs.declared.report.Settings.{Settings}
 use Rattle.croncheck_command.specs.declared.report.Tally.{Tally}
+use Rattle.croncheck_command.specs.declared.report.Told.{Told}
+use Rattle.croncheck_command.specs.declared.report.Told.TheVariants as tolds
 use Rattle.croncheck_command.specs.declared.report.Why.{Why}
 use Rattle.croncheck_command.specs.declared.report.Why.TheVariants as whys
-use Rattle.croncheck_command.specs.Checked.{entry_of_line, TakesInTurn}
-use Rattle.croncheck_command.specs.Entries.{entry_seen}
+use Rattle.croncheck_command.specs.declared.runs.End.{End}
+use Rattle.croncheck_command.specs.declared.runs.End.TheVariants as ends
+use Rattle.croncheck_command.specs.declared.warnings.Warning.{Warning}
+use Rattle.croncheck_command.specs.declared.warnings.Warning.TheVariants as warnings
+use Rattle.croncheck_command.specs.Changes.{is_harmful, name_of}
+use Rattle.croncheck_command.specs.Checked.{LineRead, IsEntryOf, entry_of_line, TakesInTurn}
 use Rattle.croncheck_command.specs.Line.{Line, blank, comment, setting, job, pattern, refused}
 use Rattle.croncheck_command.specs.Lines.{AreLines}
-use Rattle.croncheck_command.specs.Report.{IsReportOfLine, IsAlone, added, one_more}
+use Rattle.croncheck_command.specs.Notes.{note_name, notes_of}
+use Rattle.croncheck_command.specs.Report.{IsReportOfLine, IsAlone, is_too_many, added, one_more}
+use Rattle.croncheck_command.specs.Shown.{bytes_shown, offset_of}
+use Rattle.croncheck_command.specs.Warnings.{warning_name, field_name, field_of}
 
 -- ---- kinds
 
+-- the word for what a line is
 abbrev pub kind_of_line : Line → List ℕ
 kind_of_line blank = codes "blank"
 kind_of_line comment = codes "comment"
@@ -36,6 +54,7 @@ kind_of kind (reports.Setting is_zone has_feed) = kind
 kind_of kind (reports.Job j) = kind
 kind_of kind (reports.Refused start end why) = codes "refused"
 
+-- the word for why cron refuses a line
 abbrev pub fault_kind : Fault → List ℕ
 fault_kind faults.Nul = codes "nul"
 fault_kind faults.Minutes = codes "minutes"
@@ -48,64 +67,235 @@ fault_kind faults.User = codes "user"
 fault_kind faults.Command = codes "command"
 fault_kind faults.LongCommand = codes "long-command"
 
+-- the word for why a line is refused
 abbrev pub refusal_kind : Why → List ℕ
 refusal_kind (whys.Cron fault) = fault_kind fault
 refusal_kind (whys.Pattern fault) = codes "pattern"
 refusal_kind (whys.Crate e) = codes "text"
 refusal_kind whys.NotText = codes "not-utf-8"
 
+-- how a list of runs ends
+abbrev pub end_name : Bool → End → List ℕ
+end_name is_past ends.More = codes "more"
+end_name is_past ends.Over = if is_past then codes "past" else codes "over"
+end_name is_past ends.Cut = codes "cut"
+end_name is_past ends.Window = codes "cut"
+end_name is_past (ends.Failed e) = codes "failed"
+
+-- ---- warnings and notes
+
+-- a warning or a note: its name, and that of the field of which it is
+pub record Remark : Type 0 where
+  pub name : List ℕ
+  pub field : Option (List ℕ)
+
+-- one of no field
+abbrev pub remark_without_field : List ℕ → Remark
+remark_without_field name = record { name = name; field = None }
+
+-- a warning, of its field if it has one
+abbrev pub remark_of_warning : Warning → Remark
+remark_of_warning w = record { name = warning_name w; field = option_map field_name (field_of w) }
+
+-- a note of a line's bytes
+abbrev pub remark_of_note : Note → Remark
+remark_of_note note = remark_without_field (note_name note)
+
+-- what is told of a change of the clock
+abbrev pub remark_of_change : Compared → Remark
+remark_of_change c = remark_without_field (name_of c)
+
+-- a list of one remark, or of none
+abbrev pub only_if : Bool → Remark → List Remark
+only_if is_so r = if is_so then r ∷ [] else []
+
+-- a change of the clock that is told counts as a warning where it is harmful, and else as a note
+abbrev pub counts_as : Bool → Compared → Bool
+counts_as true c = is_harmful c
+counts_as false c = not (is_harmful c)
+
+-- the remark on the first change in a range, if it counts so
+abbrev pub remarks_of_range : Bool → Option Compared → List Remark
+remarks_of_range is_warning None = []
+remarks_of_range is_warning (Some c) = only_if (counts_as is_warning c) (remark_of_change c)
+
+-- the warnings, or else the notes, of changes of the clock, that of the gap first
+abbrev pub remarks_of_changes : Bool → Meetings → List Remark
+remarks_of_changes is_warning met = remarks_of_range is_warning met.gap ++ remarks_of_range is_warning met.twice
+
+-- the warnings of a job: its own, those of changes of the clock, and `same-job`
+abbrev pub warnings_of_job : JobReport → List Remark
+warnings_of_job j =
+    map remark_of_warning j.warnings.items ++ (remarks_of_changes true j.meetings ++ only_if (is_some j.same) (remark_without_field (codes "same-job")))
+
+-- the warnings of a setting
+abbrev pub warnings_of_setting : Bool → Bool → List Remark
+warnings_of_setting is_zone is_fed =
+    only_if (not is_fed) (remark_of_warning warnings.NoNewline) ++ only_if is_zone (remark_of_warning warnings.NoZone)
+
+-- the warnings of a report
+abbrev pub warnings_of_report : Report → List Remark
+warnings_of_report reports.Silent = []
+warnings_of_report (reports.Setting is_zone is_fed) = warnings_of_setting is_zone is_fed
+warnings_of_report (reports.Job j) = warnings_of_job j
+warnings_of_report (reports.Refused start end why) = []
+
+-- the warnings of a line: those of its report, and `many-lines` of the first that is too many
+abbrev pub warnings_of_line : Bool → Report → List Remark
+warnings_of_line is_too_many report = warnings_of_report report ++ only_if is_too_many (remark_of_warning warnings.ManyLines)
+
+-- the notes of a job's line: a pattern, which has no command, has none
+abbrev pub notes_of_job : Option (List ℕ) → List ℕ → List Note
+notes_of_job None line = []
+notes_of_job (Some command) line = notes_of None line
+
+-- the notes of a line that is refused: where cron refuses it
+abbrev pub notes_of_refusal : Why → List ℕ → List Note
+notes_of_refusal (whys.Cron fault) line = notes_of (Some fault) line
+notes_of_refusal (whys.Pattern fault) line = []
+notes_of_refusal (whys.Crate e) line = []
+notes_of_refusal whys.NotText line = []
+
+-- the notes of a line with a report: those of its bytes, and the changes of the clock that are no warnings
+abbrev pub notes_of_line : List ℕ → Report → List Remark
+notes_of_line line reports.Silent = []
+notes_of_line line (reports.Setting is_zone is_fed) = []
+notes_of_line line (reports.Job j) =
+    map remark_of_note (notes_of_job (option_map (λ c. c.now) j.command) line) ++ remarks_of_changes false j.meetings
+notes_of_line line (reports.Refused start end why) = map remark_of_note (notes_of_refusal why line)
+
 -- ---- objects
 
--- why and where, with a message
-abbrev pub IsRefusalObject : ℕ → ℕ → Why → Data → Type 0
-IsRefusalObject start end why d = (message : List ℕ) × (d ≡ object
+-- the sentences of an object, which no definition says: why a line is refused, and what its warnings and its notes say, in their order
+pub record Sentences : Type 0 where
+  pub message : List ℕ
+  pub warnings : List (List ℕ)
+  pub notes : List (List ℕ)
+
+-- a number that may be negative
+abbrev pub integer : ℤ → Data
+integer z = number (of_integer z)
+
+-- a text, or null where there is none
+abbrev pub string_or_null : Option (List ℕ) → Data
+string_or_null None = null
+string_or_null (Some text) = string text
+
+-- a warning or a note that says this
+abbrev pub remark_object : Remark → List ℕ → Data
+remark_object r text = object
+    (member (codes "field") (string_or_null r.field) (member (codes "name") (string r.name) (member (codes "text") (string text) no_members)))
+
+-- an object for each, with its sentence, which is empty where there is none
+abbrev pub remark_objects : List Remark → List (List ℕ) → List Data
+remark_objects [] texts = []
+remark_objects (r ∷ rs) [] = remark_object r [] ∷ remark_objects rs []
+remark_objects (r ∷ rs) (text ∷ texts) = remark_object r text ∷ remark_objects rs texts
+
+-- a run: its second, and how far the zone's clock is ahead of UTC then
+abbrev pub run_object : TimeZone → TableTime → Data
+run_object zone run = object
+    (member (codes "offset") (integer (offset_of zone run.second)) (member (codes "second") (integer run.second) no_members))
+
+-- when a job runs
+abbrev pub times_object : TimeZone → Told → Data
+times_object zone tolds.Reboot = object (member (codes "when") (string (codes "reboot")) no_members)
+times_object zone tolds.Nothing = object (member (codes "when") (string (codes "nothing")) no_members)
+times_object zone (tolds.Runs text runs is_past) = object
+    (member (codes "description") (string (string_bytes text))
+    (member (codes "end") (string (end_name is_past runs.end))
+    (member (codes "runs") (array (items_of (map (run_object zone) runs.items.items)))
+    (member (codes "when") (string (codes "named")) no_members))))
+
+-- a job: its times as they are written, its user and its command as they are shown, and when it runs
+abbrev pub job_object : TimeZone → JobReport → Data
+job_object zone j = object
+    (member (codes "command") (string_or_null (option_map (λ c. bytes_shown c.now) j.command))
+    (member (codes "schedule") (string (bytes_shown j.schedule.now))
+    (member (codes "times") (times_object zone j.times)
+    (member (codes "user") (string_or_null (option_map (λ u. bytes_shown u.now) j.user)) no_members))))
+
+-- the job of a report, or null
+abbrev pub job_data : TimeZone → Report → Data
+job_data zone reports.Silent = null
+job_data zone (reports.Setting is_zone is_fed) = null
+job_data zone (reports.Job j) = job_object zone j
+job_data zone (reports.Refused start end why) = null
+
+-- why and where a line is refused, with this message
+abbrev pub refusal_object : ℕ → ℕ → Why → List ℕ → Data
+refusal_object start end why message = object
     (member (codes "end") (number (unsigned end)) (member (codes "kind") (string (refusal_kind why))
-    (member (codes "message") (string message) (member (codes "start") (number (unsigned start)) no_members)))))
+    (member (codes "message") (string message) (member (codes "start") (number (unsigned start)) no_members))))
 
--- the refusal of a report, as data
-abbrev pub IsRefusalData : Report → Data → Type 0
-IsRefusalData reports.Silent d = d ≡ null
-IsRefusalData (reports.Setting is_zone has_feed) d = d ≡ null
-IsRefusalData (reports.Job j) d = d ≡ null
-IsRefusalData (reports.Refused start end why) d = IsRefusalObject start end why d
+-- the refusal of a report, or null
+abbrev pub refusal_data : Report → List ℕ → Data
+refusal_data reports.Silent message = null
+refusal_data (reports.Setting is_zone is_fed) message = null
+refusal_data (reports.Job j) message = null
+refusal_data (reports.Refused start end why) message = refusal_object start end why message
 
--- the object of a line of this kind in this place, with its report
-pub record IsObject (kind file : List ℕ) (line : ℕ) (report : Report) (d : Data) : Type 0 where
-  pub version : get (codes "version") d ≡ Some (number (unsigned 1))
-  pub kind_is : get (codes "kind") d ≡ Some (string kind)
-  pub file_is : get (codes "file") d ≡ Some (string file)
-  pub line_is : get (codes "line") d ≡ Some (number (unsigned line))
-  pub refusal_is : (r : Data) × (get (codes "refusal") d ≡ Some r) × IsRefusalData report r
+-- what an object says of a line beside its report: the zone whose clock is shown, what the line is, its bytes, the name of its file as it is
+-- shown, its number there, from 1, and whether it is the first that is too many
+pub record Origin : Type 0 where
+  pub zone : TimeZone
+  pub kind : List ℕ
+  pub text : List ℕ
+  pub file : List ℕ
+  pub line : ℕ
+  pub is_too_many : Bool
+
+-- the object of a line with a report, in these sentences
+abbrev pub object_of : Origin → Report → Sentences → Data
+object_of o report s = object
+    (member (codes "file") (string o.file)
+    (member (codes "job") (job_data o.zone report)
+    (member (codes "kind") (string (kind_of o.kind report))
+    (member (codes "line") (number (unsigned o.line))
+    (member (codes "notes") (array (items_of (remark_objects (notes_of_line o.text report) s.notes)))
+    (member (codes "refusal") (refusal_data report s.message)
+    (member (codes "version") (number (unsigned 1))
+    (member (codes "warnings") (array (items_of (remark_objects (warnings_of_line o.is_too_many report) s.warnings))) no_members))))))))
 
 -- ---- what is written
 
--- what was written so far, where it is known; what was told; and the file's name, as it is shown, with how many of its lines were read
+-- what was written so far, where it is known; what was told; the zone whose clock is shown; and the file's name, as it is shown, with how
+-- many of its lines were read
 pub record Noted : Type 0 where
   pub contents : Option (List ℕ)
   pub tally : Tally
+  pub zone : TimeZone
   pub file : List ℕ
   pub line : ℕ
 
--- one object was written for a report, and a line feed
-pub record WritesObject (kind file : List ℕ) (line : ℕ) (report : Report) (old new : Option (List ℕ)) : Type 0 where
-  pub value : Data
-  pub text : List ℕ
-  pub is : IsObject kind file line report value
-  pub text_is : has_float value ≡ false → text ≡ compact_text value
-  pub appends : Appends old new (text ++ 10 ∷ [])
+-- the object of a report was written, in some sentences, and a line feed
+pub record WritesObject (o : Origin) (report : Report) (old new : Option (List ℕ)) : Type 0 where
+  pub sentences : Sentences
+  pub appends : Appends old new (compact_text (object_of o report sentences) ++ 10 ∷ [])
+
+-- the origin of the next line
+abbrev pub next_origin : Settings → Noted → LineRead → Origin
+next_origin s old y = record {
+  zone = old.zone;
+  kind = kind_of_line y.is;
+  text = y.bytes;
+  file = old.file;
+  line = one_more old.line;
+  is_too_many = is_too_many s.dialect old.tally.file_lines;
+}
 
 -- what a line leaves: the object of its report was written, which is added to the tally with its warnings
-pub record Writes (s : Settings) (old : Noted) (y : Line × Bool) (new : Noted) : Type 0 where
-  pub text : List ℕ
+pub record Writes (s : Settings) (old : Noted) (y : LineRead) (new : Noted) : Type 0 where
   pub entry : Entry
   pub report : Report
-  pub seen : entry_seen entry ≡ y.0
-  pub reported : IsReportOfLine y.1 s text entry report
+  pub seen : IsEntryOf y entry
+  pub reported : IsReportOfLine y.is_fed s y.bytes entry report
   pub alone : IsAlone s report
   pub same : new.file ≡ old.file
+  pub same_zone : new.zone ≡ old.zone
   pub next : new.line ≡ one_more old.line
   pub tallied : new.tally ≡ added s.dialect old.tally report
-  pub written : WritesObject (kind_of (kind_of_line y.0) report) new.file new.line report old.contents new.contents
+  pub written : WritesObject (next_origin s old y) report old.contents new.contents
 
 -- each line of a text has exactly one object, and they were written in order
 abbrev pub IsWritten : Settings → List ℕ → Noted → Noted → Type 0

@@ -19,6 +19,7 @@ pub mod Problem
 pub mod Report
 pub mod Reported
 pub mod Runs
+pub mod Same
 pub mod Setting
 pub mod Shown
 pub mod Warnings

@@ -1,6 +1,6 @@
 -- The notes of a line of a crontab: where cron(8) reads it otherwise than the crate's parser reads the same five fields, or refuses what
 -- that parser takes. Each is a property of the line's bytes. Source: docs/CRONTAB.md, 'Where cron and the crate differ'.
-use Rattle.std.specs.Prelude.{ℕ, ◌^◌, Bool, true, false, not, ◌&&◌, ◌||◌, ◌==◌, nat_lt, nat_le, List, length, take, drop, fold, map, codes, Option, Some, None}
+use Rattle.std.specs.Prelude.{ℕ, ◌^◌, Bool, true, false, not, ◌&&◌, ◌||◌, ◌==◌, nat_lt, nat_le, List, [], ◌∷◌, length, take, drop, fold, filter, map, codes, Option, Some, None}
 use Rattle.std.specs.Char.{to_ascii_lowercase}
 use Rattle.std.specs.List.{list_all, list_any, slice_split, prefix_len}
 use Rattle.std.specs.Option.{is_some, is_none}
@@ -21,6 +21,21 @@ use Rattle.croncheck_command.specs.Field.{with_digit, name_of, part_of}
 use Rattle.croncheck_command.specs.List.{parts_of, names_nothing}
 use Rattle.croncheck_command.specs.Line.{Five, minute_place, hour_place, day_place, month_place, weekday_place, next, words_of, are_both, nickname_of}
 use Rattle.croncheck_command.specs.Setting.{has}
+
+-- ---- names
+
+-- the name by which a note is known
+abbrev pub note_name : Note → List ℕ
+note_name notes.StarDay = codes "star-day"
+note_name notes.RangeDown = codes "range-down"
+note_name notes.PassedOver = codes "passed-over"
+note_name notes.StarAmongParts = codes "star-among-parts"
+note_name notes.LargeNumber = codes "large-number"
+note_name notes.EmptyPart = codes "empty-part"
+note_name notes.OtherName = codes "other-name"
+note_name notes.Modifier = codes "modifier"
+note_name notes.CapitalNickname = codes "capital-nickname"
+note_name notes.Seconds = codes "seconds"
 
 -- ---- signs in a field: of a piece between its commas, or of a word of letters and digits
 
@@ -174,3 +189,13 @@ is_refusal_noted note fault text = is_refused_field_noted note fault (field_at f
 abbrev pub is_noted : Note → Option Fault → List ℕ → Bool
 is_noted note None line = is_job_noted note (behind kinds.Blank line)
 is_noted note (Some fault) line = is_refusal_noted note fault (behind kinds.Blank line)
+
+-- all notes, in the order in which they are given
+abbrev pub all_notes : List Note
+all_notes =
+    notes.StarDay ∷ notes.RangeDown ∷ notes.PassedOver ∷ notes.StarAmongParts ∷ notes.LargeNumber
+    ∷ notes.EmptyPart ∷ notes.OtherName ∷ notes.Modifier ∷ notes.CapitalNickname ∷ notes.Seconds ∷ []
+
+-- the notes of a line of a crontab, which is a job or is refused for this fault
+abbrev pub notes_of : Option Fault → List ℕ → List Note
+notes_of fault line = filter (λ note. is_noted note fault line) all_notes

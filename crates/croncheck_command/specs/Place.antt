@@ -1,13 +1,13 @@
 -- Where in its line a fault lies. A place is that of two texts that both reach to the line's end: it begins where the first begins, and ends
 -- where the second does. Source: this repository's page on the lines of a crontab.
-use Rattle.std.specs.Prelude.{◌≡◌, ℕ, Bool, ◌-◌, List, [], length, ⊤, if◌then◌else◌}
+use Rattle.std.specs.Prelude.{◌≡◌, ℕ, Bool, ◌-◌, List, [], length, Option, Some, None, ⊤, if◌then◌else◌}
 use Rattle.croncheck_command.specs.declared.bytes.Kind.TheVariants as kinds
 use Rattle.croncheck_command.specs.declared.line.Entry.{Entry}
 use Rattle.croncheck_command.specs.declared.line.Entry.TheVariants as entries
 use Rattle.croncheck_command.specs.declared.line.Fault.{Fault}
 use Rattle.croncheck_command.specs.declared.line.Fault.TheVariants as faults
 use Rattle.croncheck_command.specs.Bytes.{behind, begins_with, rest_of}
-use Rattle.croncheck_command.specs.Line.{next}
+use Rattle.croncheck_command.specs.Line.{next, Line, refused}
 
 -- what stands behind the times: `@` and a word, or five words
 abbrev pub behind_times : List ℕ → List ℕ
@@ -44,6 +44,13 @@ IsBetween line from past start end = (start ≡ length line - length from) × (e
 -- the place of a fault of a line, whose text stands behind its blanks
 abbrev pub IsPlaceOf : Bool → List ℕ → List ℕ → Fault → ℕ → ℕ → Type 0
 IsPlaceOf system line text fault start end = IsBetween line (from_fault system text fault) (behind_fault system text fault) start end
+
+-- the place of the fault of a line, if it is refused
+abbrev pub place_of : Bool → List ℕ → Line → Option (ℕ × ℕ)
+place_of system line (refused fault) =
+    let text = behind kinds.Blank line in
+    Some (length line - length (from_fault system text fault), length line - length (behind_fault system text fault))
+place_of system line other = None
 
 -- a refused line names the place of its fault
 abbrev pub NamesPlace : Bool → List ℕ → Entry → Type 0

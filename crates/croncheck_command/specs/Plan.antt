@@ -27,8 +27,7 @@ use Rattle.croncheck_command.specs.declared.runs.End.{End}
 use Rattle.croncheck_command.specs.declared.runs.End.TheVariants as ends
 use Rattle.croncheck_command.specs.declared.runs.Listing.{Listing}
 use Rattle.croncheck_command.specs.declared.runs.Listing.TheVariants as listings
-use Rattle.croncheck_command.specs.Checked.{entry_of_line, TakesInTurn}
-use Rattle.croncheck_command.specs.Entries.{entry_seen}
+use Rattle.croncheck_command.specs.Checked.{LineRead, IsEntryOf, entry_of_line, TakesInTurn}
 use Rattle.croncheck_command.specs.Line.{Timing, reboot, never, named, Line, job, pattern}
 use Rattle.croncheck_command.specs.Lines.{AreLines}
 use Rattle.croncheck_command.specs.Parsed.{crontab_settings}
@@ -161,17 +160,17 @@ abbrev pub Adds : Meaning → Seen → Seen → Type 0
 Adds m old new = new ≡ with_meaning m old
 
 -- a line without a place in the plan is told as in a report; warnings are not counted
-abbrev pub Passes : Settings → Entry → Seen → Seen → Type 0
-Passes s entry old new = (text : List ℕ) × (report : Report) × IsReport s text entry report × (new ≡ record old { tally = counted old.tally report })
+abbrev pub Passes : Settings → List ℕ → Entry → Seen → Seen → Type 0
+Passes s text entry old new = (report : Report) × IsReport s text entry report × (new ≡ record old { tally = counted old.tally report })
 
 -- what a line with that meaning leaves
-abbrev pub PlansMeaning : Settings → Line → Option Meaning → Seen → Seen → Type 0
-PlansMeaning s line (Some m) old new = Adds m old new
-PlansMeaning s line None old new = (entry : Entry) × (entry_seen entry ≡ line) × Passes s entry old new
+abbrev pub PlansMeaning : Settings → LineRead → Option Meaning → Seen → Seen → Type 0
+PlansMeaning s y (Some m) old new = Adds m old new
+PlansMeaning s y None old new = (entry : Entry) × IsEntryOf y entry × Passes s y.bytes entry old new
 
 -- the job of a line that has one is added, with the place of the line
-abbrev pub Plans : Settings → Seen → (Line × Bool) → Seen → Type 0
-Plans s old y new = (found : Option Meaning) × HasMeaning s y.0 found × PlansMeaning s y.0 found (at_line old) new
+abbrev pub Plans : Settings → Seen → LineRead → Seen → Type 0
+Plans s old y new = (found : Option Meaning) × HasMeaning s y.is found × PlansMeaning s y found (at_line old) new
 
 -- the jobs of the lines of a file are added behind those of the files before, each once and in order
 abbrev pub IsPlannedFile : Settings → List ℕ → Seen → Seen → Type 0

@@ -1,9 +1,12 @@
--- Bytes of a file as they are shown.
-use Rattle.std.specs.Prelude.{◌≡◌, ℕ, zero, suc, Bool, true, false, not, ◌&&◌, ◌==◌, nat_le, List, [], ◌∷◌, ◌++◌, length, take, drop, Option, Some, None}
+-- Bytes of a file and offsets of a clock as they are shown.
+use Rattle.std.specs.Prelude.{◌≡◌, ℕ, zero, suc, ℤ, pos, Bool, true, false, not, ◌&&◌, ◌==◌, nat_le, List, [], ◌∷◌, ◌++◌, length, take, drop, Option, Some, None, if◌then◌else◌}
 use Rattle.std.specs.Str.{encode_utf8_all}
 use Rattle.bstr.specs.Escape.{escaped}
 use Rattle.bstr.specs.Utf8.{decoded}
+use Rattle.jiff_tz.specs.declared.timezone.TimeZone.{TimeZone}
 use Rattle.croner_base.specs.Excerpt.{shown}
+use Rattle.croner_base.specs.ZoneTable.{ahead_at}
+use Rattle.croner_base.specs.ZonedZone.{is_timestamp_second}
 use Rattle.croncheck_command.specs.declared.report.Report.{Report}
 use Rattle.croncheck_command.specs.declared.report.Report.TheVariants as reports
 
@@ -34,6 +37,13 @@ is_harmless b = nat_le 32 b && not (b == 127)
 -- ASCII that is printed
 abbrev pub is_printed : ℕ → Bool
 is_printed b = nat_le 32 b && nat_le b 126
+
+-- ---- offsets
+
+-- how far a zone's clock is ahead of UTC at a second: what the zone gives for each second that it has, which are those of the years -9998 to
+-- 9998 at least
+abbrev pub offset_of : TimeZone → ℤ → ℤ
+offset_of zone second = if is_timestamp_second second then ahead_at zone second else pos 0
 
 -- ---- the text of a report
 

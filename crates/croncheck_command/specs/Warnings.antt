@@ -244,6 +244,33 @@ field_of (warnings.UnevenStep field) = Some field
 field_of (warnings.StepBeyond field) = Some field
 field_of other = None
 
+-- the name by which a warning is known
+abbrev pub warning_name : Warning → List ℕ
+warning_name warnings.EitherDay = codes "either-day"
+warning_name (warnings.UnevenStep field) = codes "uneven-step"
+warning_name (warnings.StepBeyond field) = codes "step-beyond"
+warning_name warnings.WholeHour = codes "whole-hour"
+warning_name warnings.ShortMonths = codes "short-months"
+warning_name warnings.Gone = codes "gone"
+warning_name warnings.Never = codes "never"
+warning_name warnings.LooksLikeField = codes "looks-like-field"
+warning_name warnings.Percent = codes "percent"
+warning_name warnings.NoNewline = codes "no-newline"
+warning_name warnings.NoZone = codes "no-zone"
+warning_name warnings.CarriageReturn = codes "carriage-return"
+warning_name warnings.EmptyItem = codes "empty-item"
+warning_name warnings.ManyLines = codes "many-lines"
+
+-- the name of a field as warnings have it
+abbrev pub field_name : PatternField → List ℕ
+field_name fields.Seconds = codes "seconds"
+field_name fields.Minutes = codes "minutes"
+field_name fields.Hours = codes "hours"
+field_name fields.DayOfMonth = codes "days of the month"
+field_name fields.Month = codes "months"
+field_name fields.Weekday = codes "weekdays"
+field_name fields.Year = codes "years"
+
 -- the warning stands at the line. `looks-like-field`: what stands behind the times begins with a word of a field's signs
 abbrev pub holds : Subject → Warning → Bool
 holds s warnings.EitherDay = is_some_so is_either_day s.meaning

@@ -10,21 +10,21 @@ use std::io::{BufRead, ErrorKind};
 
 /// What takes the entries of a file, in the order of its lines.
 pub trait Entries {
-    ghost use Rattle.std.specs.Prelude.{Bool, OnOk};
-    ghost use Rattle.croncheck_command.specs.Line.{Line};
-    ghost use Rattle.croncheck_command.specs.Entries.{entry_seen};
+    ghost use Rattle.std.specs.Prelude.{OnOk};
+    ghost use Rattle.croncheck_command.specs.Checked.{LineRead, line_seen};
 
-    /// What taking the entry of a line leaves, and whether that line ends with a line feed.
-    ghost takes: { Self → (Line × Bool) → Self → Type 0 };
+    /// What taking the entry of a line leaves.
+    ghost takes: { Self → LineRead → Self → Type 0 };
 
     /// Takes the entry of the next line, which is given without its line feed, and whether the line ends with one.
     ///
     /// The error is that of what the entries are written to, or says that memory is lacking.
     fn take(&mut self, line: &[u8], entry: Entry<'_>, is_fed: bool) -> io::Result<()>
-        ensures { OnOk result (takes self.old (entry_seen entry.entry, is_fed) self.new) };
+        ensures { OnOk result (takes self.old (line_seen line.now entry.entry is_fed) self.new) };
 }
 
 // Takes the entry of a line.
+#[tactic(auto, using(crate::proofs::ReadLines::seen_as_read))]
 fn take_line<S: Entries>(
     alloc: Global,
     dialect: Dialect,

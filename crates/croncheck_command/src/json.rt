@@ -1,18 +1,23 @@
 //! Reports as JSON: one object a line of input.
-ghost use Rattle.std.specs.Prelude.{◌≡◌, IfOk, IfSome, OnOk, string_bytes};
-ghost use Rattle.serde_json.specs.View.{view};
+ghost use Rattle.std.specs.Prelude.{◌≡◌, ◌++◌, ℕ, List, map, length, option_map, is_some, false, true, not, IfOk, IfSome, OnOk, string_bytes};
+ghost use Rattle.serde_json.specs.Data.{array};
+ghost use Rattle.serde_json.specs.View.{view, items_of};
+ghost use Rattle.jiff.specs.ZoneView.{plain_zone};
 ghost use Rattle.croncheck_command.specs.Entries.{entry_seen};
-ghost use Rattle.croncheck_command.specs.Json.{kind_of_line, kind_of, fault_kind, refusal_kind, IsRefusalObject, IsRefusalData, IsObject, WritesObject, IsWritten};
+ghost use Rattle.croncheck_command.specs.Json.{kind_of_line, kind_of, fault_kind, refusal_kind, end_name, remark_of_warning, remark_of_note, remark_of_change, remark_without_field, only_if, counts_as, remarks_of_range, remarks_of_changes, warnings_of_job, warnings_of_setting, warnings_of_report, warnings_of_line, notes_of_job, notes_of_refusal, notes_of_line, Sentences, string_or_null, remark_object, run_object, times_object, job_object, job_data, refusal_object, refusal_data, Origin, object_of, WritesObject, IsWritten};
+ghost use Rattle.croncheck_command.specs.Private.Remarks.{remark_seen, remarks_seen, AreRemarksOf, object_of_remark, objects_of_remarks, object_with};
+ghost use Rattle.croncheck_command.specs.Notes.{notes_of as notes_of_bytes};
 ghost use Rattle.croncheck_command.specs.Report.{none_counted, begun};
 ghost use Rattle.croncheck_command.specs.Reported.{IsChecked};
 ghost use Rattle.croncheck_command.specs.Shown.{bytes_shown};
+ghost use Rattle.croncheck_command.specs.Warnings.{field_name};
 
 use crate::changes::meetings::{Compared, Meetings};
 use crate::check::{Entries, check};
 use crate::escaped::shown;
 use crate::line::{Entry, Fault};
 use crate::notes;
-use crate::notes::{Note, is_noted};
+use crate::notes::Note;
 use crate::report::{JobReport, Report, Settings, Tally, Told, Why, is_too_many, report_of_line};
 use crate::runs::{End, Runs};
 use crate::same::Seen;
@@ -20,6 +25,7 @@ use crate::shown::{
     Place, SAME_JOB, Shared, ahead_of, at_fault, field_name, push_reason, push_same,
 };
 use crate::warnings::{Dates, Warning, push_warning_text};
+use croner::parser::PatternField;
 use croner::time::table::TableTime;
 use serde_json::{Value, json};
 use std::alloc::{AllocError, Global};
@@ -105,8 +111,8 @@ impl<'s, 't, W: Write + Drop> JsonReporter<'s, 't, W> {
     /// The error is that of the reader or of what is written to, or says that memory is lacking.
     pub fn report<R: BufRead>(&mut self, name: &str, reader: &mut R) -> io::Result<()>
         ensures written { OnOk result (IfSome (R.remaining reader.old) (λ text. IsWritten self.old.settings.now text
-            (record { contents = W.contents self.old.out; tally = begun self.old.tally; file = bytes_shown name.now; line = 0 })
-            (record { contents = W.contents self.new.out; tally = self.new.tally; file = string_bytes self.new.name; line = self.new.line }))) }
+            (record { contents = W.contents self.old.out; tally = begun self.old.tally; zone = plain_zone self.old.shared.now.zone; file = bytes_shown name.now; line = 0 })
+            (record { contents = W.contents self.new.out; tally = self.new.tally; zone = plain_zone self.new.shared.now.zone; file = string_bytes self.new.name; line = self.new.line }))) }
         ensures checked { OnOk result (IfSome (R.remaining reader.old) (λ text.
             IsChecked self.old.settings.now text self.old.tally self.new.tally × (self.new.settings.now ≡ self.old.settings.now))) }
     {
@@ -128,6 +134,7 @@ impl<'s, 't, W: Write + Drop> JsonReporter<'s, 't, W> {
     }
 
     // Writes the object of a line of this text, of this kind of entry, with its report; of a crontab it may be the first line too many.
+    #[tactic(auto, using(crate::proofs::Objects::object_written))]
     fn tell(
         &mut self,
         kind: &str,
@@ -135,13 +142,19 @@ impl<'s, 't, W: Write + Drop> JsonReporter<'s, 't, W> {
         is_too_many: bool,
         report: &Report<'_, '_>,
     ) -> io::Result<()>
-        ensures written { OnOk result (WritesObject (kind_of kind.now report.now) (string_bytes self.old.name) self.old.line report.now
-            (W.contents self.old.out) (W.contents self.new.out)) }
+        ensures written { OnOk result (WritesObject (record {
+          zone = plain_zone self.old.shared.now.zone;
+          kind = kind.now;
+          text = line.now;
+          file = string_bytes self.old.name;
+          line = self.old.line;
+          is_too_many = is_too_many;
+        }) report.now (W.contents self.old.out) (W.contents self.new.out)) }
         ensures tally { self.new.tally ≡ self.old.tally }
         ensures place { (self.new.name ≡ self.old.name) × (self.new.line ≡ self.old.line) }
+        ensures zone { self.new.shared.now ≡ self.old.shared.now }
         ensures settings { self.new.settings.now ≡ self.old.settings.now }
     {
-        let kind = kind_of(kind, report);
         let mut text = {
             let object = object_of(
                 self.alloc,
@@ -168,11 +181,12 @@ impl<'s, 't, W: Write + Drop> JsonReporter<'s, 't, W> {
 
 impl<'s, 't, W: Write + Drop> Entries for JsonReporter<'s, 't, W> {
     ghost use Rattle.croncheck_command.specs.Json.{Writes};
+    ghost use Rattle.jiff.specs.ZoneView.{plain_zone};
     ghost use Rattle.std.specs.Prelude.{◌≡◌, string_bytes};
 
     ghost takes = { λ old y new. Writes old.settings.now
-        (record { contents = W.contents old.out; tally = old.tally; file = string_bytes old.name; line = old.line }) y
-        (record { contents = W.contents new.out; tally = new.tally; file = string_bytes new.name; line = new.line }) × (new.settings.now ≡ old.settings.now) };
+        (record { contents = W.contents old.out; tally = old.tally; zone = plain_zone old.shared.now.zone; file = string_bytes old.name; line = old.line }) y
+        (record { contents = W.contents new.out; tally = new.tally; zone = plain_zone new.shared.now.zone; file = string_bytes new.name; line = new.line }) × (new.settings.now ≡ old.settings.now) };
 
     fn take(&mut self, line: &[u8], entry: Entry<'_>, is_fed: bool) -> io::Result<()> {
         self.line = self.line.saturating_add(1);
@@ -256,8 +270,31 @@ fn object_of(
     text: &[u8],
     is_too_many: bool,
 ) -> Result<Value, AllocError>
-    ensures { IfOk result (λ v. IsObject kind.now place.entry.file.now place.entry.line report.now (view v)) }
+    ensures { IfOk result (λ v. (s : Sentences) × (view v ≡ object_of (record {
+      zone = plain_zone shared.now.zone;
+      kind = kind.now;
+      text = text.now;
+      file = place.entry.file.now;
+      line = place.entry.line;
+      is_too_many = is_too_many;
+    }) report.now s)) }
 {
+    let remarks = remarks_of(alloc, report, text, is_too_many)?;
+    object_with(alloc, shared, kind, place, report, &remarks)
+}
+
+// The object of a line of which this is said.
+fn object_with(
+    alloc: Global,
+    shared: &Shared<'_>,
+    kind: &str,
+    place: Place<'_>,
+    report: &Report<'_, '_>,
+    remarks: &Remarks,
+) -> Result<Value, AllocError>
+    ensures { IfOk result (λ v. view v ≡ object_with (plain_zone shared.now.zone) (kind_of kind.now report.now) place.entry.file.now place.entry.line report.now remarks.now) }
+{
+    let kind = kind_of(kind, report);
     let (file, line) = (place.file, place.line);
     json!(in alloc; {
         "version": VERSION,
@@ -265,18 +302,18 @@ fn object_of(
         "file": file,
         "line": line,
         "job": job_of(alloc, shared, report)?,
-        "refusal": refusal_of(alloc, report, text)?,
-        "warnings": Value::Array(warnings_of(alloc, report, is_too_many)?),
-        "notes": Value::Array(notes_of(alloc, report, text)?)
+        "refusal": refusal_of(alloc, report, remarks.message.as_str())?,
+        "warnings": objects_of(alloc, remarks.warnings.as_slice())?,
+        "notes": objects_of(alloc, remarks.notes.as_slice())?
     })
 }
 
-// Why a line of this text is refused, and where; null where it isn't.
-fn refusal_of(alloc: Global, report: &Report<'_, '_>, text: &[u8]) -> Result<Value, AllocError>
-    ensures { IfOk result (λ v. IsRefusalData report.now (view v)) }
+// Why and where a line is refused; null where it isn't.
+fn refusal_of(alloc: Global, report: &Report<'_, '_>, message: &str) -> Result<Value, AllocError>
+    ensures { IfOk result (λ v. view v ≡ refusal_data report.now message.now) }
 {
     match report {
-        Report::Refused { start, end, why } => refusal_object(alloc, *start, *end, why, text),
+        Report::Refused { start, end, why } => refusal_object(alloc, *start, *end, why, message),
         Report::Silent | Report::Setting { .. } | Report::Job(_) => Ok(Value::Null),
     }
 }
@@ -286,35 +323,18 @@ fn refusal_object(
     start: usize,
     end: usize,
     why: &Why,
-    text: &[u8],
+    message: &str,
 ) -> Result<Value, AllocError>
-    ensures { IfOk result (λ v. IsRefusalObject start end why.now (view v)) }
+    ensures { IfOk result (λ v. view v ≡ refusal_object start end why.now message.now) }
 {
-    let message = message_of(alloc, why, text, at_fault(text, start, end))?;
     let kind = kind_of_why(why);
     json!(in alloc; {"start": start, "end": end, "kind": kind, "message": message})
 }
 
-// Why a line of this text is refused, of which this piece is at fault.
-fn message_of(alloc: Global, why: &Why, text: &[u8], piece: &[u8]) -> Result<String, AllocError> {
-    match why {
-        Why::Cron(fault) => {
-            let mut reason = String::new(alloc);
-            push_reason(alloc, &mut reason, *fault, text, piece)?;
-            Ok(reason)
-        }
-        Why::Pattern(fault) => format!(in alloc; "{fault}"),
-        Why::Crate(refusal) => format!(in alloc; "{refusal}"),
-        Why::NotText => String::from_str(alloc, "a pattern is text in UTF-8"),
-    }
-}
-
 // What a job is told; null where the line is none.
-fn job_of(
-    alloc: Global,
-    shared: &Shared<'_>,
-    report: &Report<'_, '_>,
-) -> Result<Value, AllocError> {
+fn job_of(alloc: Global, shared: &Shared<'_>, report: &Report<'_, '_>) -> Result<Value, AllocError>
+    ensures { IfOk result (λ v. view v ≡ job_data (plain_zone shared.now.zone) report.now) }
+{
     match report {
         Report::Job(job) => job_object(alloc, shared, job),
         Report::Silent | Report::Setting { .. } | Report::Refused { .. } => Ok(Value::Null),
@@ -325,7 +345,9 @@ fn job_object(
     alloc: Global,
     shared: &Shared<'_>,
     job: &JobReport<'_, '_>,
-) -> Result<Value, AllocError> {
+) -> Result<Value, AllocError>
+    ensures { IfOk result (λ v. view v ≡ job_object (plain_zone shared.now.zone) job.now) }
+{
     json!(in alloc; {
         "schedule": text_of(alloc, Some(job.schedule))?,
         "user": text_of(alloc, job.user)?,
@@ -335,14 +357,18 @@ fn job_object(
 }
 
 // Bytes as they are shown; null where there are none.
-fn text_of(alloc: Global, bytes: Option<&[u8]>) -> Result<Value, AllocError> {
+fn text_of(alloc: Global, bytes: Option<&[u8]>) -> Result<Value, AllocError>
+    ensures { IfOk result (λ v. view v ≡ string_or_null (option_map (λ b. bytes_shown b.now) bytes.entry)) }
+{
     match bytes {
         Some(bytes) => Ok(Value::String(shown(alloc, bytes)?)),
         None => Ok(Value::Null),
     }
 }
 
-fn times_of(alloc: Global, shared: &Shared<'_>, times: &Told<'_>) -> Result<Value, AllocError> {
+fn times_of(alloc: Global, shared: &Shared<'_>, times: &Told<'_>) -> Result<Value, AllocError>
+    ensures { IfOk result (λ v. view v ≡ times_object (plain_zone shared.now.zone) times.now) }
+{
     match times {
         Told::Reboot => json!(in alloc; {"when": "reboot"}),
         Told::Nothing => json!(in alloc; {"when": "nothing"}),
@@ -363,7 +389,9 @@ fn times_of(alloc: Global, shared: &Shared<'_>, times: &Told<'_>) -> Result<Valu
     }
 }
 
-fn end_of(end: &End, is_past: bool) -> &'static str {
+fn end_of(end: &End, is_past: bool) -> &'static str
+    ensures { result.now ≡ end_name is_past end.now }
+{
     match end {
         End::Over if is_past => "past",
         End::Over => "over",
@@ -373,179 +401,410 @@ fn end_of(end: &End, is_past: bool) -> &'static str {
     }
 }
 
-fn runs_of(alloc: Global, shared: &Shared<'_>, runs: &Runs<'_>) -> Result<Value, AllocError> {
-    let mut items = Vec::new(alloc);
-    for run in runs.items.iter() {
-        items.push(run_object(alloc, shared, run)?)?;
-    }
+fn runs_of(alloc: Global, shared: &Shared<'_>, runs: &Runs<'_>) -> Result<Value, AllocError>
+    ensures { IfOk result (λ v. view v ≡ array (items_of (map (run_object (plain_zone shared.now.zone)) runs.now.items.items))) }
+{
+    let items = run_objects(alloc, shared, runs.items.as_slice())?;
     Ok(Value::Array(items))
 }
 
-// A run: its second, and how many seconds the zone's clock is ahead of UTC then.
-fn run_object(
+fn run_objects(
     alloc: Global,
     shared: &Shared<'_>,
-    run: &TableTime<'_>,
-) -> Result<Value, AllocError> {
+    runs: &[TableTime<'_>],
+) -> Result<Vec<Value>, AllocError>
+    ensures { IfOk result (λ items. map view items.items ≡ map (run_object (plain_zone shared.now.zone)) runs.now) }
+{
+    let mut items = Vec::new(alloc);
+    for run in runs {
+        items.push(run_object(alloc, shared, run)?)?;
+    }
+    Ok(items)
+}
+
+// A run: its second, and how many seconds the zone's clock is ahead of UTC then.
+fn run_object(alloc: Global, shared: &Shared<'_>, run: &TableTime<'_>) -> Result<Value, AllocError>
+    ensures { IfOk result (λ v. view v ≡ run_object (plain_zone shared.now.zone) run.now) }
+{
     let (second, offset) = (run.second(), ahead_of(shared, run));
     json!(in alloc; {"second": second, "offset": offset})
 }
 
-// The warnings of a line: those of a job stand in front of its changes of the clock, and `many-lines` last.
+// ---- warnings and notes
+
+/// A warning or a note.
+#[derive(Drop)]
+pub struct Remark {
+    name: &'static str,
+    // The name of the field that it is about.
+    field: Option<&'static str>,
+    // What it says.
+    text: String,
+}
+
+/// What is said of a line.
+#[derive(Drop)]
+pub struct Remarks {
+    // Why it is refused; empty where it isn't.
+    message: String,
+    warnings: Vec<Remark>,
+    notes: Vec<Remark>,
+}
+
+// What is said of a line of this text; of a crontab it may be the first line too many.
+fn remarks_of(
+    alloc: Global,
+    report: &Report<'_, '_>,
+    text: &[u8],
+    is_too_many: bool,
+) -> Result<Remarks, AllocError>
+    ensures { IfOk result (λ r. AreRemarksOf is_too_many text.now report.now r) }
+{
+    let message = message_of(alloc, report, text)?;
+    let warnings = warnings_of(alloc, report, is_too_many)?;
+    let notes = notes_of(alloc, report, text)?;
+    Ok(Remarks {
+        message,
+        warnings,
+        notes,
+    })
+}
+
+// Why a line of this text is refused; empty where it isn't.
+fn message_of(alloc: Global, report: &Report<'_, '_>, text: &[u8]) -> Result<String, AllocError> {
+    match report {
+        Report::Refused { start, end, why } => reason_of(
+            alloc,
+            why,
+            text,
+            at_fault(text, *start, *end),
+        ),
+        Report::Silent | Report::Setting { .. } | Report::Job(_) => Ok(String::new(alloc)),
+    }
+}
+
+// Why a line of this text is refused, of which this piece is at fault.
+fn reason_of(alloc: Global, why: &Why, text: &[u8], piece: &[u8]) -> Result<String, AllocError> {
+    match why {
+        Why::Cron(fault) => {
+            let mut reason = String::new(alloc);
+            push_reason(alloc, &mut reason, *fault, text, piece)?;
+            Ok(reason)
+        }
+        Why::Pattern(fault) => format!(in alloc; "{fault}"),
+        Why::Crate(refusal) => format!(in alloc; "{refusal}"),
+        Why::NotText => String::from_str(alloc, "a pattern is text in UTF-8"),
+    }
+}
+
+// A list of an object for each.
+fn objects_of(alloc: Global, remarks: &[Remark]) -> Result<Value, AllocError>
+    ensures { IfOk result (λ v. view v ≡ array (items_of (objects_of_remarks remarks.now))) }
+{
+    let mut items = Vec::new(alloc);
+    for remark in remarks {
+        items.push(remark_object(alloc, remark)?)?;
+    }
+    Ok(Value::Array(items))
+}
+
+fn remark_object(alloc: Global, remark: &Remark) -> Result<Value, AllocError>
+    ensures { IfOk result (λ v. view v ≡ object_of_remark remark.now) }
+{
+    let (name, text) = (remark.name, remark.text.as_str());
+    json!(in alloc; {"name": name, "field": name_or_null(alloc, remark.field)?, "text": text})
+}
+
+// A name; null where there is none.
+fn name_or_null(alloc: Global, name: Option<&'static str>) -> Result<Value, AllocError>
+    ensures { IfOk result (λ v. view v ≡ string_or_null (option_map (λ n. n.now) name.entry)) }
+{
+    match name {
+        Some(name) => Ok(Value::String(String::from_str(alloc, name)?)),
+        None => Ok(Value::Null),
+    }
+}
+
+// The warnings of a line: those of its report, and `many-lines` last.
 fn warnings_of(
     alloc: Global,
     report: &Report<'_, '_>,
     is_too_many: bool,
-) -> Result<Vec<Value>, AllocError> {
-    let mut items = Vec::new(alloc);
+) -> Result<Vec<Remark>, AllocError>
+    ensures { IfOk result (λ found. remarks_seen found.items ≡ warnings_of_line is_too_many report.now) }
+{
+    let mut found = Vec::new(alloc);
+    push_warnings(alloc, &mut found, report)?;
+    push_if(alloc, &mut found, is_too_many, Warning::ManyLines)?;
+    Ok(found)
+}
+
+fn push_warnings(
+    alloc: Global,
+    found: &mut Vec<Remark>,
+    report: &Report<'_, '_>,
+) -> Result<(), AllocError>
+    ensures { OnOk result (remarks_seen found.new.items ≡ remarks_seen found.old.items ++ warnings_of_report report.now) }
+{
     match report {
-        Report::Job(job) => push_job_warnings(alloc, &mut items, job)?,
+        Report::Job(job) => push_job_warnings(alloc, found, job),
         Report::Setting { is_zone, is_fed } => push_setting_warnings(
-            alloc, &mut items, *is_zone, *is_fed,
-        )?,
-        Report::Silent | Report::Refused { .. } => {}
+            alloc, found, *is_zone, *is_fed,
+        ),
+        Report::Silent | Report::Refused { .. } => Ok(()),
     }
-    push_if(alloc, &mut items, is_too_many, Warning::ManyLines)?;
-    Ok(items)
 }
 
 fn push_setting_warnings(
     alloc: Global,
-    items: &mut Vec<Value>,
+    found: &mut Vec<Remark>,
     is_zone: bool,
     is_fed: bool,
-) -> Result<(), AllocError> {
-    push_if(alloc, items, !is_fed, Warning::NoNewline)?;
-    push_if(alloc, items, is_zone, Warning::NoZone)
+) -> Result<(), AllocError>
+    ensures { OnOk result (remarks_seen found.new.items ≡ remarks_seen found.old.items ++ warnings_of_setting is_zone is_fed) }
+{
+    push_if(alloc, found, !is_fed, Warning::NoNewline)?;
+    push_if(alloc, found, is_zone, Warning::NoZone)
 }
 
+// The warnings of a job stand in front of its changes of the clock.
 fn push_job_warnings(
     alloc: Global,
-    items: &mut Vec<Value>,
+    found: &mut Vec<Remark>,
     job: &JobReport<'_, '_>,
-) -> Result<(), AllocError> {
-    for warning in job.warnings.as_slice() {
-        items.push(warning_object(alloc, *warning, &job.dates)?)?;
-    }
-    push_compared(alloc, items, &job.meetings, true)?;
-    if job.same.is_some() {
-        items.push(same_object(alloc, job)?)?;
+) -> Result<(), AllocError>
+    ensures { OnOk result (remarks_seen found.new.items ≡ remarks_seen found.old.items ++ warnings_of_job job.now) }
+{
+    push_own_warnings(alloc, found, job.warnings.as_slice(), &job.dates)?;
+    push_changes(alloc, found, &job.meetings, true)?;
+    push_same_job(alloc, found, job)
+}
+
+fn push_own_warnings(
+    alloc: Global,
+    found: &mut Vec<Remark>,
+    warnings: &[Warning],
+    dates: &Option<Dates>,
+) -> Result<(), AllocError>
+    ensures { OnOk result (remarks_seen found.new.items ≡ remarks_seen found.old.items ++ map remark_of_warning warnings.now) }
+{
+    for warning in warnings {
+        found.push(remark_of_warning(alloc, *warning, dates)?)?;
     }
     Ok(())
 }
 
-fn same_object(alloc: Global, job: &JobReport<'_, '_>) -> Result<Value, AllocError> {
+fn push_same_job(
+    alloc: Global,
+    found: &mut Vec<Remark>,
+    job: &JobReport<'_, '_>,
+) -> Result<(), AllocError>
+    ensures { OnOk result (remarks_seen found.new.items
+        ≡ remarks_seen found.old.items ++ only_if (is_some job.now.same) (remark_without_field SAME_JOB.now)) }
+{
+    if job.same.is_some() {
+        found.push(remark_of_same_job(alloc, job)?)?;
+    }
+    Ok(())
+}
+
+fn remark_of_same_job(alloc: Global, job: &JobReport<'_, '_>) -> Result<Remark, AllocError>
+    ensures { IfOk result (λ r. remark_seen r ≡ remark_without_field SAME_JOB.now) }
+{
     let mut text = String::new(alloc);
     push_same(&mut text, job)?;
-    json!(in alloc; {"name": SAME_JOB, "field": null, "text": text})
+    Ok(Remark {
+        name: SAME_JOB,
+        field: None,
+        text,
+    })
 }
 
 // A warning, if it holds.
 fn push_if(
     alloc: Global,
-    items: &mut Vec<Value>,
+    found: &mut Vec<Remark>,
     holds: bool,
     warning: Warning,
-) -> Result<(), AllocError> {
+) -> Result<(), AllocError>
+    ensures { OnOk result (remarks_seen found.new.items ≡ remarks_seen found.old.items ++ only_if holds (remark_of_warning warning)) }
+{
     if holds {
-        items.push(warning_object(alloc, warning, &None)?)?;
+        found.push(remark_of_warning(alloc, warning, &None)?)?;
     }
     Ok(())
 }
 
-// The notes of a line of this text: what cron makes of its fields, and what harmless changes of the clock do.
-fn notes_of(alloc: Global, report: &Report<'_, '_>, text: &[u8]) -> Result<Vec<Value>, AllocError> {
-    let mut items = Vec::new(alloc);
-    match report {
-        Report::Job(job) => push_job_notes(alloc, &mut items, job, text)?,
-        Report::Refused {
-            why: Why::Cron(fault),
-            ..
-        } => push_notes(alloc, &mut items, Some(*fault), text)?,
-        Report::Silent | Report::Setting { .. } | Report::Refused { .. } => {}
-    }
-    Ok(items)
+fn remark_of_warning(
+    alloc: Global,
+    warning: Warning,
+    dates: &Option<Dates>,
+) -> Result<Remark, AllocError>
+    ensures { IfOk result (λ r. remark_seen r ≡ remark_of_warning warning) }
+{
+    let mut text = String::new(alloc);
+    push_warning_text(&mut text, warning, dates)?;
+    Ok(Remark {
+        name: warning.name(),
+        field: name_of_field(warning.field()),
+        text,
+    })
 }
 
-fn push_job_notes(
-    alloc: Global,
-    items: &mut Vec<Value>,
-    job: &JobReport<'_, '_>,
-    text: &[u8],
-) -> Result<(), AllocError> {
-    if job.command.is_some() {
-        push_notes(alloc, items, None, text)?;
+fn name_of_field(field: Option<PatternField>) -> Option<&'static str>
+    ensures { option_map (λ name. name.now) result ≡ option_map field_name field }
+{
+    match field {
+        Some(field) => Some(field_name(field)),
+        None => None,
     }
-    push_compared(alloc, items, &job.meetings, false)
+}
+
+// The notes of a line of this text: what cron makes of its fields, and what harmless changes of the clock do.
+fn notes_of(alloc: Global, report: &Report<'_, '_>, text: &[u8]) -> Result<Vec<Remark>, AllocError>
+    ensures { IfOk result (λ found. remarks_seen found.items ≡ notes_of_line text.now report.now) }
+{
+    let mut found = Vec::new(alloc);
+    push_notes(alloc, &mut found, report, text)?;
+    Ok(found)
 }
 
 fn push_notes(
     alloc: Global,
-    items: &mut Vec<Value>,
+    found: &mut Vec<Remark>,
+    report: &Report<'_, '_>,
+    text: &[u8],
+) -> Result<(), AllocError>
+    ensures { OnOk result (remarks_seen found.new.items ≡ remarks_seen found.old.items ++ notes_of_line text.now report.now) }
+{
+    match report {
+        Report::Job(job) => push_job_notes(alloc, found, job, text),
+        Report::Refused { why, .. } => push_refusal_notes(alloc, found, why, text),
+        Report::Silent | Report::Setting { .. } => Ok(()),
+    }
+}
+
+fn push_job_notes(
+    alloc: Global,
+    found: &mut Vec<Remark>,
+    job: &JobReport<'_, '_>,
+    text: &[u8],
+) -> Result<(), AllocError>
+    ensures { OnOk result (remarks_seen found.new.items ≡ remarks_seen found.old.items
+        ++ (map remark_of_note (notes_of_job (option_map (λ c. c.now) job.now.command) text.now) ++ remarks_of_changes false job.now.meetings)) }
+{
+    push_command_notes(alloc, found, job.command, text)?;
+    push_changes(alloc, found, &job.meetings, false)
+}
+
+// The notes of a line with a job, where the line has a command: a pattern has none.
+fn push_command_notes(
+    alloc: Global,
+    found: &mut Vec<Remark>,
+    command: Option<&[u8]>,
+    text: &[u8],
+) -> Result<(), AllocError>
+    ensures { OnOk result (remarks_seen found.new.items
+        ≡ remarks_seen found.old.items ++ map remark_of_note (notes_of_job (option_map (λ c. c.now) command.entry) text.now)) }
+{
+    match command {
+        Some(_) => push_notes_of(alloc, found, None, text),
+        None => Ok(()),
+    }
+}
+
+// The notes of a line that is refused, where cron refuses it.
+fn push_refusal_notes(
+    alloc: Global,
+    found: &mut Vec<Remark>,
+    why: &Why,
+    text: &[u8],
+) -> Result<(), AllocError>
+    ensures { OnOk result (remarks_seen found.new.items ≡ remarks_seen found.old.items ++ map remark_of_note (notes_of_refusal why.now text.now)) }
+{
+    match why {
+        Why::Cron(fault) => push_notes_of(alloc, found, Some(*fault), text),
+        Why::Pattern(_) | Why::Crate(_) | Why::NotText => Ok(()),
+    }
+}
+
+fn push_notes_of(
+    alloc: Global,
+    found: &mut Vec<Remark>,
     fault: Option<Fault>,
     text: &[u8],
-) -> Result<(), AllocError> {
-    for note in Note::ALL {
-        if is_noted(alloc, note, fault, text)? {
-            items.push(note_object(alloc, note)?)?;
-        }
+) -> Result<(), AllocError>
+    ensures { OnOk result (remarks_seen found.new.items ≡ remarks_seen found.old.items ++ map remark_of_note (notes_of_bytes fault text.now)) }
+{
+    let noted = notes::notes_of(alloc, fault, text)?;
+    push_each_note(alloc, found, noted.as_slice())
+}
+
+fn push_each_note(alloc: Global, found: &mut Vec<Remark>, all: &[Note]) -> Result<(), AllocError>
+    ensures { OnOk result (remarks_seen found.new.items ≡ remarks_seen found.old.items ++ map remark_of_note all.now) }
+{
+    for note in all {
+        found.push(remark_of_note(alloc, *note)?)?;
     }
     Ok(())
 }
 
-fn note_object(alloc: Global, note: Note) -> Result<Value, AllocError> {
-    let (name, text) = (note.name(), notes::text(note));
-    json!(in alloc; {"name": name, "field": null, "text": text})
+fn remark_of_note(alloc: Global, note: Note) -> Result<Remark, AllocError>
+    ensures { IfOk result (λ r. remark_seen r ≡ remark_of_note note) }
+{
+    let text = String::from_str(alloc, notes::text(note))?;
+    Ok(Remark {
+        name: note.name(),
+        field: None,
+        text,
+    })
 }
 
-// Those of a job's changes of the clock that are harmful, or those that aren't.
-fn push_compared(
+// Those of a job's changes of the clock that are warnings, or those that are notes.
+fn push_changes(
     alloc: Global,
-    items: &mut Vec<Value>,
+    found: &mut Vec<Remark>,
     meetings: &Meetings,
-    is_harmful: bool,
-) -> Result<(), AllocError> {
-    push_if_so(alloc, items, &meetings.gap, is_harmful)?;
-    push_if_so(alloc, items, &meetings.twice, is_harmful)
+    is_warning: bool,
+) -> Result<(), AllocError>
+    ensures { OnOk result (remarks_seen found.new.items ≡ remarks_seen found.old.items ++ remarks_of_changes is_warning meetings.now) }
+{
+    push_change(alloc, found, &meetings.gap, is_warning)?;
+    push_change(alloc, found, &meetings.twice, is_warning)
 }
 
-fn push_if_so(
+fn push_change(
     alloc: Global,
-    items: &mut Vec<Value>,
+    found: &mut Vec<Remark>,
     compared: &Option<Compared>,
-    is_harmful: bool,
-) -> Result<(), AllocError> {
+    is_warning: bool,
+) -> Result<(), AllocError>
+    ensures { OnOk result (remarks_seen found.new.items ≡ remarks_seen found.old.items ++ remarks_of_range is_warning compared.now) }
+{
     match compared {
-        Some(compared) if compared.is_harmful() == is_harmful => {
-            items.push(compared_object(alloc, compared)?)?;
+        Some(compared) if counts_as(compared, is_warning) => {
+            found.push(remark_of_change(alloc, compared)?)?;
             Ok(())
         }
         _ => Ok(()),
     }
 }
 
-fn compared_object(alloc: Global, compared: &Compared) -> Result<Value, AllocError> {
-    let name = compared.name();
+// Whether a change of the clock is a warning, or else a note, as is asked: it is a warning where it is harmful.
+fn counts_as(compared: &Compared, is_warning: bool) -> bool
+    ensures { result ≡ counts_as is_warning compared.now }
+{
+    compared.is_harmful() == is_warning
+}
+
+fn remark_of_change(alloc: Global, compared: &Compared) -> Result<Remark, AllocError>
+    ensures { IfOk result (λ r. remark_seen r ≡ remark_of_change compared.now) }
+{
     let mut text = String::new(alloc);
     compared.push_text(&mut text)?;
-    json!(in alloc; {"name": name, "field": null, "text": text})
-}
-
-fn warning_object(
-    alloc: Global,
-    warning: Warning,
-    dates: &Option<Dates>,
-) -> Result<Value, AllocError> {
-    let name = warning.name();
-    let mut text = String::new(alloc);
-    push_warning_text(&mut text, warning, dates)?;
-    json!(in alloc; {"name": name, "field": field_of(alloc, warning)?, "text": text})
-}
-
-// The name of the field that a warning is about; null where it is about none.
-fn field_of(alloc: Global, warning: Warning) -> Result<Value, AllocError> {
-    match warning.field() {
-        Some(field) => Ok(Value::String(String::from_str(alloc, field_name(field))?)),
-        None => Ok(Value::Null),
-    }
+    Ok(Remark {
+        name: compared.name(),
+        field: None,
+        text,
+    })
 }

@@ -1,6 +1,6 @@
 //! The notes of a line: where cron reads it otherwise than the crate's parser reads the same five fields, or refuses what that parser
 //! takes.
-ghost use Rattle.std.specs.Prelude.{◌≡◌, ◌≤◌, ◌||◌, not, length, option_map, take, IfOk};
+ghost use Rattle.std.specs.Prelude.{◌≡◌, ◌≤◌, ◌||◌, not, length, option_map, take, filter, IfOk};
 ghost use Rattle.std.specs.Option.{is_some, is_none};
 ghost use Rattle.std.specs.List.{list_any, prefix_len};
 ghost use Rattle.croncheck_command.specs.declared.bytes.Kind.TheVariants as kinds;
@@ -10,7 +10,7 @@ ghost use Rattle.croncheck_command.specs.Field.{name_of, part_of};
 ghost use Rattle.croncheck_command.specs.Line.{nickname_of};
 ghost use Rattle.croncheck_command.specs.Line.{words_of as words_in};
 ghost use Rattle.croncheck_command.specs.List.{names_nothing, parts_of};
-ghost use Rattle.croncheck_command.specs.Notes.{is_followed, is_large, is_named, reads, is_numbered, is_named_last, passes, any_run, is_whole_star, has_range_down, has_star_among, is_field_noted, any_field, is_star_day, are_words_noted, is_job_noted, field_at, has_modifier, is_fault_noted, takes, is_refused_field_noted, takes_all, has_seconds, lowered, is_of_fields, is_of_nickname, is_refusal_noted, is_noted};
+ghost use Rattle.croncheck_command.specs.Notes.{is_followed, is_large, is_named, reads, is_numbered, is_named_last, passes, any_run, is_whole_star, has_range_down, has_star_among, is_field_noted, any_field, is_star_day, are_words_noted, is_job_noted, field_at, has_modifier, is_fault_noted, takes, is_refused_field_noted, takes_all, has_seconds, lowered, is_of_fields, is_of_nickname, is_refusal_noted, is_noted, note_name, notes_of};
 
 use crate::bytes::{Kind, begins_with, cut, is_digit, is_of, rest_of};
 use crate::field::{Names, Part, Place, all_digits, digits, is_name, name_of, part_of};
@@ -66,7 +66,9 @@ impl Note {
     ];
 
     /// The name by which it is known, as `star-day`.
-    pub fn name(self) -> &'static str {
+    pub fn name(self) -> &'static str
+        ensures { result.now ≡ note_name self }
+    {
         match self {
             Note::StarDay => "star-day",
             Note::RangeDown => "range-down",
@@ -422,6 +424,34 @@ pub fn is_noted(
         None => is_job_noted(alloc, note, text),
         Some(fault) => is_refusal_noted(alloc, note, fault, text),
     }
+}
+
+/// The notes of a line of a crontab, in the order in which they are told. The line is a job, or one that cron refuses for this fault, and is
+/// given without its line feed.
+///
+/// The only error is want of memory.
+pub fn notes_of(alloc: Global, fault: Option<Fault>, line: &[u8]) -> Result<Vec<Note>, AllocError>
+    ensures { IfOk result (λ found. found.items ≡ notes_of fault line.now) }
+{
+    those_noted(alloc, fault, line, &Note::ALL)
+}
+
+// Of some notes those that a line has.
+fn those_noted(
+    alloc: Global,
+    fault: Option<Fault>,
+    line: &[u8],
+    notes: &[Note],
+) -> Result<Vec<Note>, AllocError>
+    ensures { IfOk result (λ found. found.items ≡ filter (λ note. is_noted note fault line.now) notes.now) }
+{
+    let mut found = Vec::new(alloc);
+    for note in notes {
+        if is_noted(alloc, *note, fault, line)? {
+            found.push(*note)?;
+        }
+    }
+    Ok(found)
 }
 
 /// What a note says: what cron does, and what to write.

@@ -485,7 +485,7 @@ impl<'s, 't, W: Write + Drop> Planner<'s, 't, W> {
 
     // Tells a line that has no place in the plan.
     fn pass(&mut self, line: &[u8], entry: Entry<'_>) -> io::Result<()>
-        ensures told { OnOk result (Passes self.old.settings.now entry.entry
+        ensures told { OnOk result (Passes self.old.settings.now line.now entry.entry
             (seen self.old.table self.old.jobs self.old.tally self.old.file self.old.line)
             (seen self.new.table self.new.jobs self.new.tally self.new.file self.new.line)) }
         ensures settings { self.new.settings.now ≡ self.old.settings.now }

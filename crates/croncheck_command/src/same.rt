@@ -1,5 +1,10 @@
 //! The jobs that were seen, of which each has one place: that of the first that is the same.
-ghost use Rattle.std.specs.Prelude.{◌≡◌, false, None, IfOk};
+ghost use Rattle.std.specs.Prelude.{◌≡◌, true, false, Option, None, Some, codes, option_map, string_bytes, IfOk, OnOk, if◌then◌else◌};
+ghost use Rattle.std.specs.Str.{bytes_eq};
+ghost use Rattle.croner.specs.Views.{job_of as meaning_of_job};
+ghost use Rattle.croncheck_command.specs.Entries.{entry_seen};
+ghost use Rattle.croncheck_command.specs.Line.{words_of as words_in};
+ghost use Rattle.croncheck_command.specs.Same.{has_star_day, HasTimesCompared, owner_of, JobKey, IsCompared, are_same, file_and_line, place_kept, Finds, FindsAny};
 
 use crate::line::{Entry, Times, words_of};
 use crate::parsed::job_of;
@@ -25,7 +30,9 @@ impl Drop for Seen {
 
 impl Seen {
     /// None was seen yet.
-    pub fn new(alloc: Global) -> Seen {
+    pub fn new(alloc: Global) -> Seen
+        ensures { (key : JobKey) → place_kept result key ≡ None }
+    {
         Seen {
             jobs: BTreeMap::new(alloc),
         }
@@ -41,7 +48,9 @@ impl Seen {
         entry: &Entry<'_>,
         place: Place<'_>,
     ) -> Result<Option<Same>, AllocError>
-        ensures { settings.now.compares_jobs ≡ false → IfOk result (λ found. found ≡ None) }
+        ensures alone { settings.now.compares_jobs ≡ false → IfOk result (λ found. found ≡ None) }
+        ensures found { settings.now.compares_jobs ≡ true → IfOk result (λ found. (key : Option JobKey) × IsCompared settings.now (entry_seen entry.now) key
+            × FindsAny key (place.entry.file.now, place.entry.line) self.old self.new found) }
     {
         if !settings.compares_jobs {
             return Ok(None);
@@ -59,17 +68,42 @@ impl Seen {
         words: Vec<u8>,
         job: Cron,
         place: Place<'_>,
-    ) -> Result<Option<Same>, AllocError> {
+    ) -> Result<Option<Same>, AllocError>
+        ensures { IfOk result (λ found. Finds (words, job) (place.entry.file.now, place.entry.line) self.old self.new found) }
+    {
         let key = (words, job);
-        let earlier = match self.jobs.get(&key) {
-            Some(same) => Some(same_at(alloc, same.file.as_str(), same.line)?),
-            None => None,
-        };
-        if earlier.is_none() {
-            let same = same_at(alloc, place.file, place.line)?;
-            self.jobs.insert(key, same)?;
+        match self.place_of(alloc, &key)? {
+            Some(same) => Ok(Some(same)),
+            None => {
+                self.keep(alloc, key, place)?;
+                Ok(None)
+            }
         }
-        Ok(earlier)
+    }
+
+    // The place that is kept of a job, if one is.
+    fn place_of(&self, alloc: Global, key: &(Vec<u8>, Cron)) -> Result<Option<Same>, AllocError>
+        ensures { IfOk result (λ found. option_map file_and_line found ≡ place_kept self.now key.now) }
+    {
+        match self.jobs.get(key) {
+            Some(same) => Ok(Some(same_at(alloc, same.file.as_str(), same.line)?)),
+            None => Ok(None),
+        }
+    }
+
+    // Keeps the place of a job of which none is kept.
+    fn keep(
+        &mut self,
+        alloc: Global,
+        key: (Vec<u8>, Cron),
+        place: Place<'_>,
+    ) -> Result<(), AllocError>
+        ensures { OnOk result ((other : JobKey) → place_kept self.new other
+            ≡ (if are_same key other then Some (place.entry.file.now, place.entry.line) else place_kept self.old other)) }
+    {
+        let same = same_at(alloc, place.file, place.line)?;
+        self.jobs.insert(key, same)?;
+        Ok(())
     }
 }
 
@@ -79,7 +113,9 @@ fn job_compared(
     alloc: Global,
     settings: &Settings<'_>,
     entry: &Entry<'_>,
-) -> Result<Option<Cron>, AllocError> {
+) -> Result<Option<Cron>, AllocError>
+    ensures { IfOk result (λ found. HasTimesCompared settings.now (entry_seen entry.now) (option_map meaning_of_job found)) }
+{
     if let Entry::Job(job) = entry {
         if let Times::Named { text, .. } = &job.times {
             if has_star_day(text.as_str().as_bytes()) {
@@ -91,22 +127,30 @@ fn job_compared(
 }
 
 // Whether a day field of five is `*`.
-fn has_star_day(text: &[u8]) -> bool {
+fn has_star_day(text: &[u8]) -> bool
+    ensures { result ≡ has_star_day (words_in text.now) }
+{
     let words = words_of(text);
     is_star(words.days) || is_star(words.weekdays)
 }
 
-fn is_star(field: &[u8]) -> bool {
+fn is_star(field: &[u8]) -> bool
+    ensures { result ≡ bytes_eq field.now (codes "*") }
+{
     field == "*".as_bytes()
 }
 
-fn same_at(alloc: Global, file: &str, line: u64) -> Result<Same, AllocError> {
+fn same_at(alloc: Global, file: &str, line: u64) -> Result<Same, AllocError>
+    ensures { IfOk result (λ same. file_and_line same ≡ (file.now, line)) }
+{
     let file = String::from_str(alloc, file)?;
     Ok(Same { file, line })
 }
 
 // The user and the command of an entry, with a byte 0 between, which is in none of them. A pattern has neither.
-fn owner_of(alloc: Global, entry: &Entry<'_>) -> Result<Vec<u8>, AllocError> {
+fn owner_of(alloc: Global, entry: &Entry<'_>) -> Result<Vec<u8>, AllocError>
+    ensures { IfOk result (λ words. words.items ≡ owner_of (entry_seen entry.now)) }
+{
     let mut words = Vec::new(alloc);
     if let Entry::Job(job) = entry {
         words.extend_from_slice(job.user.unwrap_or(&[]))?;

@@ -1,6 +1,8 @@
 //! The text of a report.
 ghost use Rattle.std.specs.Prelude.{◌≡◌, ◌≤◌, [], length, true, false, IfOk, string_bytes};
-ghost use Rattle.croncheck_command.specs.Shown.{is_told, AreLines};
+ghost use Rattle.jiff.specs.ZoneView.{plain_zone};
+ghost use Rattle.croncheck_command.specs.Shown.{is_told, AreLines, offset_of};
+ghost use Rattle.croncheck_command.specs.Warnings.{field_name};
 
 use crate::bytes::{Kind, begins_with, cut, is_quote, rest_of, trimmed};
 use crate::changes::meetings::{Compared, Meetings};
@@ -8,7 +10,7 @@ use crate::clock::stop::Stop;
 use crate::escaped::push_shown;
 use crate::line::{Fault, WEEKDAYS};
 use crate::notes;
-use crate::notes::{Note, is_nickname, is_noted, takes};
+use crate::notes::{Note, is_nickname, notes_of, takes};
 use crate::report::{JobReport, Report, Told, Why};
 use crate::runs::{End, Listing, MOST_RUNS, Runs};
 use crate::setting::has;
@@ -126,24 +128,16 @@ fn push_notes(
     fault: Option<Fault>,
     line: &[u8],
 ) -> Result<(), AllocError> {
-    for note in Note::ALL {
-        push_note(alloc, text, note, fault, line)?;
+    let found = notes_of(alloc, fault, line)?;
+    for note in found.as_slice() {
+        push_note(text, *note)?;
     }
     Ok(())
 }
 
-fn push_note(
-    alloc: Global,
-    text: &mut String,
-    note: Note,
-    fault: Option<Fault>,
-    line: &[u8],
-) -> Result<(), AllocError> {
-    if is_noted(alloc, note, fault, line)? {
-        let (name, sentence) = (note.name(), notes::text(note));
-        write!(text, "\n  note: {name}: {sentence}")?;
-    }
-    Ok(())
+fn push_note(text: &mut String, note: Note) -> Result<(), AllocError> {
+    let (name, sentence) = (note.name(), notes::text(note));
+    write!(text, "\n  note: {name}: {sentence}")
 }
 
 fn push_place(text: &mut String, place: Place<'_>) -> Result<(), AllocError> {
@@ -535,7 +529,9 @@ fn push_warning(
 }
 
 // The name of a field as warnings have it.
-pub(crate) fn field_name(field: PatternField) -> &'static str {
+pub(crate) fn field_name(field: PatternField) -> &'static str
+    ensures { result.now ≡ field_name field }
+{
     match field {
         PatternField::Seconds => "seconds",
         PatternField::Minutes => "minutes",
@@ -612,7 +608,9 @@ fn name_of(weekday: Weekday) -> &'static str {
 }
 
 // How many seconds the zone's clock is ahead of UTC at a run.
-pub(crate) fn ahead_of(shared: &Shared<'_>, run: &TableTime<'_>) -> i32 {
+pub(crate) fn ahead_of(shared: &Shared<'_>, run: &TableTime<'_>) -> i32
+    ensures { result ≡ offset_of (plain_zone shared.now.zone) run.now.second }
+{
     match run.timestamp() {
         Ok(instant) => shared.zone.to_offset(instant).seconds(),
         Err(_) => 0,

@@ -1,6 +1,6 @@
 //! The names of warnings, and what they say.
 ghost use Rattle.std.specs.Prelude.{◌≡◌};
-ghost use Rattle.croncheck_command.specs.Warnings.{field_of};
+ghost use Rattle.croncheck_command.specs.Warnings.{field_of, warning_name};
 
 use super::Warning;
 use super::sides::{Dates, Month};
@@ -9,7 +9,9 @@ use std::alloc::AllocError;
 
 impl Warning {
     /// The name by which it is known, as `either-day`.
-    pub fn name(self) -> &'static str {
+    pub fn name(self) -> &'static str
+        ensures { result.now ≡ warning_name self }
+    {
         match self {
             Warning::EitherDay => "either-day",
             Warning::UnevenStep(_) => "uneven-step",

@@ -1,0 +1,78 @@
+-- Jobs that are the same as an earlier one. Source: docs/CRONTAB.md, `same-job`.
+use Rattle.std.specs.Prelude.{◌≡◌, ◌++◌, ◌∷◌, ◌||◌, ℕ, Bool, false, List, [], codes, Option, Some, None, option_map, unwrap_or, string_bytes, if◌then◌else◌}
+use Rattle.std.specs.BTreeMap.{get}
+use Rattle.std.specs.Cmp.Lexicographic.{slice_cmp}
+use Rattle.std.specs.Option.{option_or}
+use Rattle.std.specs.Ordering.{nat_cmp, ordering_then, is_eq}
+use Rattle.std.specs.Str.{bytes_eq}
+use Rattle.std.specs.declared.alloc.Global.{Global}
+use Rattle.std.specs.declared.cmp.Ordering.{Ordering}
+use Rattle.std.specs.declared.vec.Vec.{Vec}
+use Rattle.croner_pattern.specs.Meaning.{Meaning}
+use Rattle.croner_pattern.specs.Order.{pattern_cmp}
+use Rattle.croner.specs.declared.job.Cron.{Cron}
+use Rattle.croner.specs.Views.{job_of}
+use Rattle.croncheck_command.specs.declared.report.Same.{Same}
+use Rattle.croncheck_command.specs.declared.report.Settings.{Settings}
+use Rattle.croncheck_command.specs.declared.same.Seen.{Seen}
+use Rattle.croncheck_command.specs.Line.{Timing, named, Five, words_of, Line, job}
+use Rattle.croncheck_command.specs.Plan.{HasTiming, HasMeaning}
+
+-- ---- what is compared
+
+-- one of the day fields is `*`: then it doesn't count that a day has to match both
+abbrev pub has_star_day : Five → Bool
+has_star_day w = bytes_eq w.days (codes "*") || bytes_eq w.weekdays (codes "*")
+
+-- the times of a job as they are compared
+abbrev pub times_compared : Timing → Timing
+times_compared (named text both) = if has_star_day (words_of text) then named text false else named text both
+times_compared other = other
+
+-- the meaning of the times of a line as they are compared, if it has some
+abbrev pub HasTimesCompared : Settings → Line → Option Meaning → Type 0
+HasTimesCompared s (job task) found = HasTiming (times_compared task.times) found
+HasTimesCompared s other found = HasMeaning s other found
+
+-- the bytes of a job's user and of its command, with a byte 0 between, which is in neither
+abbrev pub owner_of : Line → List ℕ
+owner_of (job task) = unwrap_or task.user [] ++ 0 ∷ task.command
+owner_of other = []
+
+-- what is compared of a job: user and command, and times
+abbrev pub JobKey : Type 0
+JobKey = Vec ℕ Global × Cron
+
+-- the bytes are compared first, and then the times
+abbrev pub key_cmp : JobKey → JobKey → Ordering
+key_cmp a b = ordering_then (slice_cmp nat_cmp a.0.items b.0.items) (pattern_cmp a.1.pattern b.1.pattern)
+
+-- two are the same: byte for byte, and in their times, whatever text these were read from
+abbrev pub are_same : JobKey → JobKey → Bool
+are_same a b = is_eq (key_cmp a b)
+
+-- what is compared of a line, if anything is
+abbrev pub IsCompared : Settings → Line → Option JobKey → Type 0
+IsCompared s line None = HasTimesCompared s line None
+IsCompared s line (Some key) = HasTimesCompared s line (Some (job_of key.1)) × (key.0.items ≡ owner_of line)
+
+-- ---- what is kept
+
+-- a place: the name of a file as it is shown, and the number of a line
+abbrev pub file_and_line : Same → List ℕ × ℕ
+file_and_line same = (string_bytes same.file, same.line)
+
+-- the place that is kept of a job
+abbrev pub place_kept : Seen → JobKey → Option (List ℕ × ℕ)
+place_kept seen key = option_map file_and_line (get key_cmp seen.jobs key)
+
+-- a job at a place is told the place that is kept of it; and each job keeps its place, or has this one from then on, if it has none and is the
+-- same
+pub record Finds (key : JobKey) (here : List ℕ × ℕ) (old new : Seen) (found : Option Same) : Type 0 where
+  pub earlier : option_map file_and_line found ≡ place_kept old key
+  pub first : (other : JobKey) → place_kept new other ≡ option_or (place_kept old other) (if are_same key other then Some here else None)
+
+-- the same, if there is a job
+abbrev pub FindsAny : Option JobKey → List ℕ × ℕ → Seen → Seen → Option Same → Type 0
+FindsAny None here old new found = (found ≡ None) × (new ≡ old)
+FindsAny (Some key) here old new found = Finds key here old new found
