@@ -1,6 +1,6 @@
 -- The places that are kept of jobs.
 use Rattle.std.proofs.Common.{◌≡◌, ◌∙◌, ℕ, List, [], ◌∷◌, Bool, true, false, Option, Some, None, cond, true≢false, ap, sym, refl, subst}
-use Rattle.std.specs.Prelude.{option_map, is_some, if◌then◌else◌}
+use Rattle.std.specs.Prelude.{option_map, is_some, if◌then◌else◌, Result, Ok, Err, IfOk}
 use Rattle.std.proofs.lemmas.Cmp.{alike_right, nat_list_cmp_total, on_total, then_total}
 use Rattle.std.specs.BTreeMap.{get}
 use Rattle.std.specs.Cmp.{IsTotalOrder}
@@ -69,15 +69,33 @@ finds_none old new key here none is = record {
   first = λ other. new_first (place_kept old key) (place_kept old other) (place_kept new other) here (are_same key other) (sym none) (kept_same old key other) (is other);
 }
 
+put_in : (same : Bool) (place : Same) (here : List ℕ × ℕ) (q : Option Same) → file_and_line place ≡ here
+    → option_map file_and_line (cond same (Some place) q) ≡ (if same then Some here else option_map file_and_line q)
+put_in true place here q h = ap (λ (x : List ℕ × ℕ). Some x) h
+put_in false place here q h = refl
+
+-- once a place was put in at a job
+pub kept_after : (old new : Seen) (key : JobKey) (here : List ℕ × ℕ) (place : Same)
+    → ((other : JobKey) → get key_cmp new.jobs other ≡ cond (is_eq (key_cmp key other)) (Some place) (get key_cmp old.jobs other))
+    → file_and_line place ≡ here → (other : JobKey) → place_kept new other ≡ (if are_same key other then Some here else place_kept old other)
+kept_after old new key here place gets is other =
+    ap (option_map file_and_line) (gets other) ∙ put_in (are_same key other) place here (get key_cmp old.jobs other) is
+
 -- ---- of a line
 
 -- nothing is compared of it
 pub finds_nothing : (s : Settings) (line : Line) (here : List ℕ × ℕ) (seen : Seen) → HasTimesCompared s line None
     → (key : Option JobKey) × IsCompared s line key × FindsAny key here seen seen None
-finds_nothing s line here seen h = (None, h, refl, refl)
+finds_nothing s line here seen h = (None, h, (refl, refl))
 
 -- it has a job
 pub finds_job : (s : Settings) (line : Line) (key : JobKey) (here : List ℕ × ℕ) (old new : Seen) (found : Option Same)
     → HasTimesCompared s line (Some (job_of key.1)) → key.0.items ≡ owner_of line → Finds key here old new found
     → (key : Option JobKey) × IsCompared s line key × FindsAny key here old new found
 finds_job s line key here old new found times owner finds = (Some key, (times, owner), finds)
+
+pub if_found : {E : Type 0} (s : Settings) (line : Line) (key : JobKey) (here : List ℕ × ℕ) (old new : Seen) (r : Result (Option Same) E)
+    → HasTimesCompared s line (Some (job_of key.1)) → key.0.items ≡ owner_of line → IfOk r (λ found. Finds key here old new found)
+    → IfOk r (λ found. (key : Option JobKey) × IsCompared s line key × FindsAny key here old new found)
+if_found s line key here old new (Ok found) times owner finds = finds_job s line key here old new found times owner finds
+if_found s line key here old new (Err e) times owner finds = finds

@@ -24,7 +24,6 @@ pub trait Entries {
 }
 
 // Takes the entry of a line.
-#[tactic(auto, using(crate::proofs::ReadLines::seen_as_read))]
 fn take_line<S: Entries>(
     alloc: Global,
     dialect: Dialect,

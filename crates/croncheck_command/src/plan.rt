@@ -18,7 +18,9 @@ use crate::line::{Entry, Times};
 use crate::parsed::job_of;
 use crate::report::{Report, Settings, Tally, report_of};
 use crate::runs::{End, Listing, MOST_RUNS, cut_end, end_of_window};
-use crate::shown::{COMMAND_BYTES, Place, Shared, push_clock, push_front, push_window_end, text_of};
+use crate::shown::{
+    COMMAND_BYTES, Place, Shared, push_clock, push_front, push_window_end, text_of,
+};
 use croner::Cron;
 use croner::crontable::CronTable;
 use croner::errors::CronError;

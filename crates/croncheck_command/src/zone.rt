@@ -104,7 +104,9 @@ fn push_fault(text: &mut String, word: &str, fault: ZoneFault<'_>) -> Result<(),
             " is no name of the time zone database, as Europe/Paris, and no POSIX rule, as CET-1CEST,M3.5.0,M10.5.0/3; local is the machine's zone",
         ),
         ZoneFault::NoDates => {
-            text.push_str(" is a rule that lacks the dates of its summer time: write them behind it, as ")?;
+            text.push_str(
+                " is a rule that lacks the dates of its summer time: write them behind it, as ",
+            )?;
             push_front(text, word.as_bytes(), SHOWN_BYTES)?;
             write!(text, ",{DATES}")
         }
@@ -115,12 +117,16 @@ fn push_fault(text: &mut String, word: &str, fault: ZoneFault<'_>) -> Result<(),
         ZoneFault::Front(front) => {
             text.push_str(" is a rule that begins with ")?;
             push_quoted(text, front)?;
-            text.push_str(", which isn't the names of its times, of three letters or more, each with the hours up to 24 that it is behind UTC: write as CET-1CEST or <+03>-3<+04>")
+            text.push_str(
+                ", which isn't the names of its times, of three letters or more, each with the hours up to 24 that it is behind UTC: write as CET-1CEST or <+03>-3<+04>",
+            )
         }
         ZoneFault::Date(date) => {
             text.push_str(" is a rule with the date ")?;
             push_quoted(text, date)?;
-            text.push_str(": write as M10.5.0 (a month from 1 to 12, a week from 1 to 5, which is the last, and a weekday from 0, Sunday, to 6), or as J60 (a day from 1 to 365)")
+            text.push_str(
+                ": write as M10.5.0 (a month from 1 to 12, a week from 1 to 5, which is the last, and a weekday from 0, Sunday, to 6), or as J60 (a day from 1 to 365)",
+            )
         }
         ZoneFault::Time(time) => {
             text.push_str(" is a rule with the time ")?;
@@ -172,7 +178,9 @@ fn note_by(alloc: Global, word: &str, hours: &str, ahead: i32) -> Result<String,
     };
     let name = word.get(..3).unwrap_or(word);
     let hours = without_sign(hours);
-    format!(in alloc; "--zone {word}: this clock is {length} {side} UTC, as POSIX has it; {length} {other} UTC is {name}{sign}{hours}")
+    format!(in alloc;
+        "--zone {word}: this clock is {length} {side} UTC, as POSIX has it; {length} {other} UTC is {name}{sign}{hours}"
+    )
 }
 
 fn without_sign(hours: &str) -> &str {
