@@ -268,8 +268,9 @@ def main(words):
           f"{sum(len(place.names) for place in calm)} of {len(calm)} files calm, with {sum(len(p.changes) for p in calm)} changes")
     print(f"{2 * SEARCHES * len(calm)} searches and {2 * LISTINGS * len(calm)} listings: {sum(runs for _, runs in counts)} runs, "
           f"{sum(count for count, _ in counts)} differences, {len(wrong)} wrong answers", *summary, errors.strip())
-    failed = len(wrong) + sum(count > 0 for count, _ in counts) + bool(errors)
-    print(f"{len(lines) - len(wrong) - sum(count > 0 for count, _ in counts)} passed, {failed} failed")
+    differing = len(wrong) + sum(count > 0 for count, _ in counts)
+    failed = differing + bool(errors)
+    print(f"{len(lines) - differing} passed, {failed} failed")
     return 1 if failed else 0
 
 
