@@ -15,7 +15,8 @@ use Rattle.croncheck_command.specs.declared.report.Same.{Same}
 use Rattle.croncheck_command.specs.declared.report.Settings.{Settings}
 use Rattle.croncheck_command.specs.declared.same.Seen.{Seen}
 use Rattle.croncheck_command.specs.Line.{Line}
-use Rattle.croncheck_command.specs.Same.{HasTimesCompared, owner_of, JobKey, key_cmp, are_same, IsCompared, file_and_line, place_kept, Finds, FindsAny}
+use Rattle.croncheck_command.specs.Report.{file_and_line}
+use Rattle.croncheck_command.specs.Same.{HasTimesCompared, owner_of, JobKey, key_cmp, are_same, IsCompared, place_kept, Finds, FindsAny}
 
 key_cmp_total : IsTotalOrder key_cmp
 key_cmp_total = then_total (on_total (λ (k : JobKey). k.0.items) nat_list_cmp_total) (on_total (λ (k : JobKey). k.1.pattern) pattern_cmp_total)

@@ -1,11 +1,14 @@
 -- What is told of a whole file.
-use Rattle.std.proofs.Common.{◌≡◌, ◌∙◌, ℕ, Bool, List, [], ◌∷◌, Option, Some, None, Result, Ok, Err, map, ap, refl, subst, sym}
-use Rattle.std.specs.Prelude.{IfSome, OnOk}
+use Rattle.std.proofs.Common.{◌≡◌, ◌∙◌, ℕ, Bool, false, List, [], ◌∷◌, Option, Some, None, Result, Ok, Err, map, ap, refl, subst, sym}
+use Rattle.std.specs.Prelude.{IfSome, OnOk, option_map}
+use Rattle.croncheck_command.specs.declared.report.Report.{Report}
+use Rattle.croncheck_command.specs.declared.report.Report.TheVariants as reports
+use Rattle.croncheck_command.specs.declared.report.Same.{Same}
 use Rattle.croncheck_command.specs.declared.report.Settings.{Settings}
 use Rattle.croncheck_command.specs.declared.report.Tally.{Tally}
 use Rattle.croncheck_command.specs.Checked.{LineRead, entry_of_line, TakesInTurn, TakesAll}
 use Rattle.croncheck_command.specs.Json.{Noted, Writes}
-use Rattle.croncheck_command.specs.Report.{begun}
+use Rattle.croncheck_command.specs.Report.{file_and_line, earlier_of, place_for, IsAlone, begun}
 use Rattle.croncheck_command.specs.Reported.{Tallies, IsChecked}
 
 -- an entry is told by settings that stay, and its report is added to a tally
@@ -35,6 +38,18 @@ checked new tally_of settings_of s (Some text) before old last end e b k m h =
     let Q : Tally → Type 0 = λ t. TakesInTurn (Tallies s) t ys last in
     let all = tallies_in_turn tally_of settings_of s ys old new e h.2 in
     ((h.0, h.1, subst Q b (subst P (sym k) all.0)), m ∙ all.1)
+
+-- where none was found, a report has none
+none_for : (r : Report) → place_for r None ≡ None
+none_for reports.Silent = refl
+none_for (reports.Setting is_zone has_feed) = refl
+none_for (reports.Job j) = refl
+none_for (reports.Refused start end why) = refl
+
+-- so where the settings compare no jobs, it is alone
+pub alone : (s : Settings) (r : Report) (found : Option Same) → (s.compares_jobs ≡ false → found ≡ None)
+    → earlier_of r ≡ place_for r (option_map file_and_line found) → IsAlone s r
+alone s r found none has = λ off. has ∙ ap (λ (f : Option Same). place_for r (option_map file_and_line f)) (none off) ∙ none_for r
 
 -- what holds in any case
 pub always : {T E P : Type 0} (r : Result T E) → P → OnOk r P

@@ -309,12 +309,24 @@ IsReport s line entry r = IsReportOfLine true s line entry r
 
 -- ---- the same job
 
+-- the place of a job: the name of its file as it is shown, and the number of its line
+abbrev pub file_and_line : Same → List ℕ × ℕ
+file_and_line same = (string_bytes same.file, same.line)
+
 -- the place of an earlier job that is the same, where the report has one
-abbrev pub earlier_of : Report → Option Same
+abbrev pub earlier_of : Report → Option (List ℕ × ℕ)
 earlier_of reports.Silent = None
 earlier_of (reports.Setting is_zone has_feed) = None
-earlier_of (reports.Job j) = j.same
+earlier_of (reports.Job j) = option_map file_and_line j.same
 earlier_of (reports.Refused start end why) = None
+
+-- what a report has of the place that was found for its line: the place itself, where the report is of a job or a pattern
+-- that is read, and else none
+abbrev pub place_for : Report → Option (List ℕ × ℕ) → Option (List ℕ × ℕ)
+place_for reports.Silent found = None
+place_for (reports.Setting is_zone has_feed) found = None
+place_for (reports.Job j) found = found
+place_for (reports.Refused start end why) found = None
 
 -- where the settings compare no jobs, a report has none
 abbrev pub IsAlone : Settings → Report → Type 0

@@ -1,5 +1,5 @@
 -- Jobs that are the same as an earlier one. Source: docs/CRONTAB.md, `same-job`.
-use Rattle.std.specs.Prelude.{◌≡◌, ◌++◌, ◌∷◌, ◌||◌, ℕ, Bool, false, List, [], codes, Option, Some, None, option_map, unwrap_or, string_bytes, if◌then◌else◌}
+use Rattle.std.specs.Prelude.{◌≡◌, ◌++◌, ◌∷◌, ◌||◌, ℕ, Bool, false, List, [], codes, Option, Some, None, option_map, unwrap_or, if◌then◌else◌}
 use Rattle.std.specs.BTreeMap.{get}
 use Rattle.std.specs.Cmp.Lexicographic.{slice_cmp}
 use Rattle.std.specs.Option.{option_or}
@@ -17,6 +17,7 @@ use Rattle.croncheck_command.specs.declared.report.Settings.{Settings}
 use Rattle.croncheck_command.specs.declared.same.Seen.{Seen}
 use Rattle.croncheck_command.specs.Line.{Timing, named, Five, words_of, Line, job}
 use Rattle.croncheck_command.specs.Plan.{HasTiming, HasMeaning}
+use Rattle.croncheck_command.specs.Report.{file_and_line}
 
 -- ---- what is compared
 
@@ -57,10 +58,6 @@ IsCompared s line None = HasTimesCompared s line None
 IsCompared s line (Some key) = HasTimesCompared s line (Some (job_of key.1)) × (key.0.items ≡ owner_of line)
 
 -- ---- what is kept
-
--- a place: the name of a file as it is shown, and the number of a line
-abbrev pub file_and_line : Same → List ℕ × ℕ
-file_and_line same = (string_bytes same.file, same.line)
 
 -- the place that is kept of a job
 abbrev pub place_kept : Seen → JobKey → Option (List ℕ × ℕ)

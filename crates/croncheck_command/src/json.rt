@@ -188,6 +188,7 @@ impl<'s, 't, W: Write + Drop> Entries for JsonReporter<'s, 't, W> {
         (record { contents = W.contents old.out; tally = old.tally; zone = plain_zone old.shared.now.zone; file = string_bytes old.name; line = old.line }) y
         (record { contents = W.contents new.out; tally = new.tally; zone = plain_zone new.shared.now.zone; file = string_bytes new.name; line = new.line }) × (new.settings.now ≡ old.settings.now) };
 
+    #[tactic(auto, using(crate::proofs::Reports::alone))]
     fn take(&mut self, line: &[u8], entry: Entry<'_>, is_fed: bool) -> io::Result<()> {
         self.line = self.line.saturating_add(1);
         let kind = kind_of_entry(&entry);

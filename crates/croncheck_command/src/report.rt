@@ -11,7 +11,7 @@ ghost use Rattle.croner.specs.parser.Gives.{Fails};
 ghost use Rattle.croner.specs.parser.Grammar.{Refusal};
 ghost use Rattle.croner.specs.Views.{job_of as meaning_of_job};
 ghost use Rattle.croncheck_command.specs.Entries.{job_seen, times_seen};
-ghost use Rattle.croncheck_command.specs.Report.{wording_of, NamesNoneFrom, IsPastAt, IsTold, TellsMeaning, TellsTiming, IsRefusalOf, IsUnreadTiming, IsReportOfJob, IsPatternRefused, IsReportOfPattern, blanks_of, IsReport, IsReportOfLine, start_of, is_over, is_at_end_of_window, is_at_window_end, is_never, is_told_past, is_idle, TellsChanges, subject_of, IsWarned, WarnsJob, WarnsPattern, MeetsJob, MeetsPattern, DatesOf, TellsDates, meaning_of_timing, earlier_of, has_job_warnings, has_warnings, none_counted, counted, begun, is_too_many, is_line_warned, one_more, one_more_if, added, status_of};
+ghost use Rattle.croncheck_command.specs.Report.{wording_of, NamesNoneFrom, IsPastAt, IsTold, TellsMeaning, TellsTiming, IsRefusalOf, IsUnreadTiming, IsReportOfJob, IsPatternRefused, IsReportOfPattern, blanks_of, IsReport, IsReportOfLine, start_of, is_over, is_at_end_of_window, is_at_window_end, is_never, is_told_past, is_idle, TellsChanges, subject_of, IsWarned, WarnsJob, WarnsPattern, MeetsJob, MeetsPattern, DatesOf, TellsDates, meaning_of_timing, file_and_line, earlier_of, place_for, has_job_warnings, has_warnings, none_counted, counted, begun, is_too_many, is_line_warned, one_more, one_more_if, added, status_of};
 ghost use Rattle.croncheck_command.specs.Warnings.{fields_seen, subject_seen};
 
 use crate::bytes::{Kind, cut};
@@ -260,8 +260,9 @@ impl Told<'_> {
 
 /// The report of the entry of a line that has its line feed, and is given without it.
 ///
-/// A job is refused exactly where the crate's parser refuses the text of its times, and a pattern where the parser refuses it or it is no
-/// UTF-8. The place of such a refusal lies behind the blanks in front of the line. The only error is `OutOfMemory`.
+/// A job is refused exactly where the crate's parser refuses the text of its times, and a pattern where the parser
+/// refuses it or it is no UTF-8. The place of such a refusal lies behind the blanks in front of the line. No earlier job
+/// that is the same stands in the report. The only error is `OutOfMemory`.
 pub fn report_of<'l, 't>(
     alloc: Global,
     settings: &Settings<'t>,
@@ -269,13 +270,16 @@ pub fn report_of<'l, 't>(
     entry: Entry<'l>,
 ) -> Result<Report<'l, 't>, CronError>
     ensures report { IfOk result (IsReport settings.now line.now entry.entry) }
+    ensures alone { IfOk result (λ r. earlier_of r ≡ None) }
     ensures err { IfErr result (λ e. e ≡ CronError.OutOfMemory) }
 {
     report_of_line(alloc, settings, line, entry, true, None)
 }
 
-/// The report of the entry of a line that has its line feed or hasn't, and is given without it. The place of an earlier job that is the same
-/// is passed on; where none is given, the report has none. The only error is `OutOfMemory`.
+/// The same of a line that has its line feed or hasn't, and for which an earlier job was looked for that is the same.
+///
+/// The place that was found stands in the report, if that is of a job or a pattern that is read. The only error is
+/// `OutOfMemory`.
 pub fn report_of_line<'l, 't>(
     alloc: Global,
     settings: &Settings<'t>,
@@ -285,7 +289,7 @@ pub fn report_of_line<'l, 't>(
     same: Option<Same>,
 ) -> Result<Report<'l, 't>, CronError>
     ensures report { IfOk result (IsReportOfLine is_fed settings.now line.now entry.entry) }
-    ensures passed { same ≡ None → IfOk result (λ r. earlier_of r ≡ None) }
+    ensures passed { IfOk result (λ r. earlier_of r ≡ place_for r (option_map file_and_line same)) }
     ensures err { IfErr result (λ e. e ≡ CronError.OutOfMemory) }
 {
     match entry {
@@ -319,7 +323,7 @@ fn report_of_job<'l, 't>(
     same: Option<Same>,
 ) -> Result<Report<'l, 't>, CronError>
     ensures report { IfOk result (IsReportOfJob is_fed settings.now (blanks_of line.now) (job_seen job.entry)) }
-    ensures passed { same ≡ None → IfOk result (λ r. earlier_of r ≡ None) }
+    ensures passed { IfOk result (λ r. earlier_of r ≡ place_for r (option_map file_and_line same)) }
     ensures err { IfErr result (λ e. e ≡ CronError.OutOfMemory) }
 {
     match told_of_times(alloc, settings, &job, is_fed)? {
@@ -569,7 +573,7 @@ fn report_of_pattern<'l, 't>(
     same: Option<Same>,
 ) -> Result<Report<'l, 't>, CronError>
     ensures report { IfOk result (IsReportOfPattern is_fed settings.now (blanks_of line.now) bytes.now) }
-    ensures passed { same ≡ None → IfOk result (λ r. earlier_of r ≡ None) }
+    ensures passed { IfOk result (λ r. earlier_of r ≡ place_for r (option_map file_and_line same)) }
     ensures err { IfErr result (λ e. e ≡ CronError.OutOfMemory) }
 {
     let Ok(text) = std::str::from_utf8(bytes) else {
@@ -590,7 +594,7 @@ fn told_of_pattern<'l, 't>(
     same: Option<Same>,
 ) -> Result<Report<'l, 't>, CronError>
     ensures report { (blanks : ℕ) → IfOk result (IsReportOfPattern is_fed settings.now blanks text.now) }
-    ensures passed { same ≡ None → IfOk result (λ r. earlier_of r ≡ None) }
+    ensures passed { IfOk result (λ r. earlier_of r ≡ place_for r (option_map file_and_line same)) }
     ensures err { IfErr result (λ e. e ≡ CronError.OutOfMemory) }
 {
     match settings.parser.parse(alloc, text) {

@@ -169,6 +169,7 @@ impl<'s, 't, W: Write + Drop> Entries for Reporter<'s, 't, W> {
 
     ghost takes = { λ old y new. Tallies old.settings.now old.tally y new.tally × (new.settings.now ≡ old.settings.now) };
 
+    #[tactic(auto, using(crate::proofs::Reports::alone))]
     fn take(&mut self, line: &[u8], entry: Entry<'_>, is_fed: bool) -> io::Result<()> {
         self.file.add_line(&entry, is_fed);
         let place = Place {

@@ -4,7 +4,8 @@ ghost use Rattle.std.specs.Str.{bytes_eq};
 ghost use Rattle.croner.specs.Views.{job_of as meaning_of_job};
 ghost use Rattle.croncheck_command.specs.Entries.{entry_seen};
 ghost use Rattle.croncheck_command.specs.Line.{words_of as words_in};
-ghost use Rattle.croncheck_command.specs.Same.{has_star_day, HasTimesCompared, owner_of, JobKey, IsCompared, are_same, file_and_line, place_kept, Finds, FindsAny};
+ghost use Rattle.croncheck_command.specs.Report.{file_and_line};
+ghost use Rattle.croncheck_command.specs.Same.{has_star_day, HasTimesCompared, owner_of, JobKey, IsCompared, are_same, place_kept, Finds, FindsAny};
 
 use crate::line::{Entry, Times, words_of};
 use crate::parsed::job_of;

@@ -1,5 +1,5 @@
 use Rattle.std.proofs.Common.{◌∙◌, ap, sym, option_map}
-use Rattle.croncheck_command.specs.Same.{file_and_line}
+use Rattle.croncheck_command.specs.Report.{file_and_line}
 use Rattle.croncheck_command.proofs.Kept.{finds_kept, finds_none}
 use Rattle.croncheck_command.proofs.same.Seen.earlier_job.Goals as goal
 
