@@ -166,7 +166,6 @@ job_by user command = record {
   command = Some command;
   is_crontab = true;
   is_fed = true;
-  is_zone = false;
   is_past = false;
   is_never = false;
   is_at_window_end = false;

@@ -25,8 +25,9 @@ use Rattle.croncheck_command.specs.declared.report.Why.{Why}
 use Rattle.croncheck_command.specs.declared.report.Why.TheVariants as whys
 use Rattle.croncheck_command.specs.declared.runs.End.{End}
 use Rattle.croncheck_command.specs.declared.runs.End.TheVariants as ends
+use Rattle.croncheck_command.specs.declared.warnings.OtherWarning.{OtherWarning}
+use Rattle.croncheck_command.specs.declared.warnings.OtherWarning.TheVariants as others
 use Rattle.croncheck_command.specs.declared.warnings.Warning.{Warning}
-use Rattle.croncheck_command.specs.declared.warnings.Warning.TheVariants as warnings
 use Rattle.croncheck_command.specs.Changes.{is_harmful, name_of}
 use Rattle.croncheck_command.specs.Checked.{LineRead, IsEntryOf, entry_of_line, TakesInTurn}
 use Rattle.croncheck_command.specs.Line.{Line, blank, comment, setting, job, pattern, refused}
@@ -34,7 +35,7 @@ use Rattle.croncheck_command.specs.Lines.{AreLines}
 use Rattle.croncheck_command.specs.Notes.{note_name, notes_of}
 use Rattle.croncheck_command.specs.Report.{IsReportOfLine, IsAlone, is_too_many, added, one_more}
 use Rattle.croncheck_command.specs.Shown.{bytes_shown, offset_of}
-use Rattle.croncheck_command.specs.Warnings.{warning_name, field_name, field_of}
+use Rattle.croncheck_command.specs.Warnings.{warning_name, other_name, field_name, field_of}
 
 -- ---- kinds
 
@@ -97,6 +98,10 @@ remark_without_field name = record { name = name; field = None }
 abbrev pub remark_of_warning : Warning → Remark
 remark_of_warning w = record { name = warning_name w; field = option_map field_name (field_of w) }
 
+-- a warning of a setting, or of the number of lines
+abbrev pub remark_of_other : OtherWarning → Remark
+remark_of_other w = remark_without_field (other_name w)
+
 -- a note of a line's bytes
 abbrev pub remark_of_note : Note → Remark
 remark_of_note note = remark_without_field (note_name note)
@@ -131,7 +136,7 @@ warnings_of_job j =
 -- the warnings of a setting
 abbrev pub warnings_of_setting : Bool → Bool → List Remark
 warnings_of_setting is_zone is_fed =
-    only_if (not is_fed) (remark_of_warning warnings.NoNewline) ++ only_if is_zone (remark_of_warning warnings.NoZone)
+    only_if (not is_fed) (remark_of_other others.NoNewline) ++ only_if is_zone (remark_of_other others.NoZone)
 
 -- the warnings of a report
 abbrev pub warnings_of_report : Report → List Remark
@@ -142,7 +147,7 @@ warnings_of_report (reports.Refused start end why) = []
 
 -- the warnings of a line: those of its report, and `many-lines` of the first that is too many
 abbrev pub warnings_of_line : Bool → Report → List Remark
-warnings_of_line is_too_many report = warnings_of_report report ++ only_if is_too_many (remark_of_warning warnings.ManyLines)
+warnings_of_line is_too_many report = warnings_of_report report ++ only_if is_too_many (remark_of_other others.ManyLines)
 
 -- the notes of a job's line: a pattern, which has no command, has none
 abbrev pub notes_of_job : Option (List ℕ) → List ℕ → List Note

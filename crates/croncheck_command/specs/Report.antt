@@ -146,7 +146,6 @@ subject_of fields meaning user command is_crontab is_fed told = record {
   command = command;
   is_crontab = is_crontab;
   is_fed = is_fed;
-  is_zone = false;
   is_past = is_told_past told;
   is_never = is_never told;
   is_at_window_end = is_at_window_end told;

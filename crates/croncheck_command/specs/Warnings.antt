@@ -18,6 +18,8 @@ use Rattle.croncheck_command.specs.declared.bytes.Kind.TheVariants as kinds
 use Rattle.croncheck_command.specs.declared.field.Names.TheVariants as names
 use Rattle.croncheck_command.specs.declared.field.Place.{Place}
 use Rattle.croncheck_command.specs.declared.field.Part.{Part}
+use Rattle.croncheck_command.specs.declared.warnings.OtherWarning.{OtherWarning}
+use Rattle.croncheck_command.specs.declared.warnings.OtherWarning.TheVariants as others
 use Rattle.croncheck_command.specs.declared.warnings.Subject.{Subject as GivenSubject}
 use Rattle.croncheck_command.specs.declared.warnings.Warning.{Warning}
 use Rattle.croncheck_command.specs.declared.warnings.Warning.TheVariants as warnings
@@ -211,12 +213,13 @@ are_many_lines lines = nat_lt most_lines lines
 abbrev pub is_first_too_many : ℕ → Bool
 is_first_too_many lines = lines == most_lines
 
--- ---- the line
+-- ---- the job
 
--- what is looked at of a line that is taken: the texts of its fields, where it has them; its meaning, where it has one (`@reboot` has none, nor
--- has a job of which a field names nothing); its user, where it is a job of a crontab of the system; its command, where it is a job of a crontab; whether it is a line of a crontab, has its line
--- feed, and sets `CRON_TZ` or `TZ`; and of a job or a pattern whether its years are past, whether it has no run left before year 5000, and whether its
--- runs are listed up to the end of the clock's window
+-- what is looked at of a job or a pattern: the texts of its fields, where it has them; its meaning, where it has one
+-- (`@reboot` has none, nor has a job of which a field names nothing); its user, where it is a job of a crontab of the
+-- system; its command, where it is a job of a crontab; whether it stands in a crontab, and whether it has its line feed;
+-- whether its years are past, whether it has no run left before year 5000, and whether its runs are listed up to the end
+-- of the clock's window
 pub record Subject : Type 0 where
   pub fields : Option Texts
   pub meaning : Option Meaning
@@ -224,7 +227,6 @@ pub record Subject : Type 0 where
   pub command : Option (List ℕ)
   pub is_crontab : Bool
   pub is_fed : Bool
-  pub is_zone : Bool
   pub is_past : Bool
   pub is_never : Bool
   pub is_at_window_end : Bool
@@ -256,10 +258,14 @@ warning_name warnings.Never = codes "never"
 warning_name warnings.LooksLikeField = codes "looks-like-field"
 warning_name warnings.Percent = codes "percent"
 warning_name warnings.NoNewline = codes "no-newline"
-warning_name warnings.NoZone = codes "no-zone"
 warning_name warnings.CarriageReturn = codes "carriage-return"
 warning_name warnings.EmptyItem = codes "empty-item"
-warning_name warnings.ManyLines = codes "many-lines"
+
+-- the name of one of a setting, or of the number of lines: that of a missing line feed is the same as a job's
+abbrev pub other_name : OtherWarning → List ℕ
+other_name others.NoNewline = warning_name warnings.NoNewline
+other_name others.NoZone = codes "no-zone"
+other_name others.ManyLines = codes "many-lines"
 
 -- the name of a field as warnings have it
 abbrev pub field_name : PatternField → List ℕ
@@ -271,7 +277,7 @@ field_name fields.Month = codes "months"
 field_name fields.Weekday = codes "weekdays"
 field_name fields.Year = codes "years"
 
--- the warning stands at the line. `looks-like-field`: what stands behind the times begins with a word of a field's signs
+-- the warning stands at the job. `looks-like-field`: what stands behind the times begins with a word of a field's signs
 abbrev pub holds : Subject → Warning → Bool
 holds s warnings.EitherDay = is_some_so is_either_day s.meaning
 holds s (warnings.UnevenStep field) = is_some_so (has_uneven_step field) s.fields
@@ -283,12 +289,10 @@ holds s warnings.Never = not s.is_past && s.is_never
 holds s warnings.LooksLikeField = is_some_so looks_like_field (behind_times s)
 holds s warnings.Percent = is_some_so has_percent s.command
 holds s warnings.NoNewline = s.is_crontab && not s.is_fed
-holds s warnings.NoZone = s.is_zone
 holds s warnings.CarriageReturn = is_some_so has_carriage_return s.command
 holds s warnings.EmptyItem = not s.is_crontab && is_some_so has_empty_items s.fields
-holds s warnings.ManyLines = false
 
--- the warnings of lines, in the order in which they are given; `many-lines` is none of a line
+-- the warnings of jobs and patterns, in the order in which they are given
 abbrev pub all_warnings : List Warning
 all_warnings =
     warnings.EitherDay
@@ -296,9 +300,9 @@ all_warnings =
     ∷ warnings.StepBeyond fields.Seconds ∷ warnings.StepBeyond fields.Minutes ∷ warnings.StepBeyond fields.Hours
     ∷ warnings.StepBeyond fields.DayOfMonth ∷ warnings.StepBeyond fields.Month ∷ warnings.StepBeyond fields.Weekday ∷ warnings.StepBeyond fields.Year
     ∷ warnings.WholeHour ∷ warnings.ShortMonths ∷ warnings.Gone ∷ warnings.Never
-    ∷ warnings.LooksLikeField ∷ warnings.Percent ∷ warnings.NoNewline ∷ warnings.NoZone ∷ warnings.CarriageReturn ∷ warnings.EmptyItem ∷ []
+    ∷ warnings.LooksLikeField ∷ warnings.Percent ∷ warnings.NoNewline ∷ warnings.CarriageReturn ∷ warnings.EmptyItem ∷ []
 
--- the warnings of a line
+-- the warnings of a job or a pattern
 abbrev pub warnings_of : Subject → List Warning
 warnings_of s = filter (holds s) all_warnings
 
@@ -323,7 +327,6 @@ subject_seen s = record {
   command = option_map (λ command. command.now) s.command;
   is_crontab = s.is_crontab;
   is_fed = s.is_fed;
-  is_zone = s.is_zone;
   is_past = s.is_past;
   is_never = s.is_never;
   is_at_window_end = s.is_at_window_end;

@@ -4,7 +4,7 @@ ghost use Rattle.serde_json.specs.Data.{array};
 ghost use Rattle.serde_json.specs.View.{view, items_of};
 ghost use Rattle.jiff.specs.ZoneView.{plain_zone};
 ghost use Rattle.croncheck_command.specs.Entries.{entry_seen};
-ghost use Rattle.croncheck_command.specs.Json.{kind_of_line, kind_of, fault_kind, refusal_kind, end_name, remark_of_warning, remark_of_note, remark_of_change, remark_without_field, only_if, counts_as, remarks_of_range, remarks_of_changes, warnings_of_job, warnings_of_setting, warnings_of_report, warnings_of_line, notes_of_job, notes_of_refusal, notes_of_line, Sentences, string_or_null, remark_object, run_object, times_object, job_object, job_data, refusal_object, refusal_data, Origin, object_of, WritesObject, IsWritten};
+ghost use Rattle.croncheck_command.specs.Json.{kind_of_line, kind_of, fault_kind, refusal_kind, end_name, remark_of_warning, remark_of_other, remark_of_note, remark_of_change, remark_without_field, only_if, counts_as, remarks_of_range, remarks_of_changes, warnings_of_job, warnings_of_setting, warnings_of_report, warnings_of_line, notes_of_job, notes_of_refusal, notes_of_line, Sentences, string_or_null, remark_object, run_object, times_object, job_object, job_data, refusal_object, refusal_data, Origin, object_of, WritesObject, IsWritten};
 ghost use Rattle.croncheck_command.specs.Private.Remarks.{remark_seen, remarks_seen, AreRemarksOf, object_of_remark, objects_of_remarks, object_with};
 ghost use Rattle.croncheck_command.specs.Notes.{notes_of as notes_of_bytes};
 ghost use Rattle.croncheck_command.specs.Report.{none_counted, begun};
@@ -24,7 +24,7 @@ use crate::same::Seen;
 use crate::shown::{
     Place, SAME_JOB, Shared, ahead_of, at_fault, field_name, push_reason, push_same,
 };
-use crate::warnings::{Dates, Warning, push_warning_text};
+use crate::warnings::{Dates, OtherWarning, Warning, push_warning_text};
 use croner::parser::PatternField;
 use croner::time::table::TableTime;
 use serde_json::{Value, json};
@@ -536,7 +536,7 @@ fn warnings_of(
 {
     let mut found = Vec::new(alloc);
     push_warnings(alloc, &mut found, report)?;
-    push_if(alloc, &mut found, is_too_many, Warning::ManyLines)?;
+    push_if(alloc, &mut found, is_too_many, OtherWarning::ManyLines)?;
     Ok(found)
 }
 
@@ -564,8 +564,8 @@ fn push_setting_warnings(
 ) -> Result<(), AllocError>
     ensures { OnOk result (remarks_seen found.new.items ≡ remarks_seen found.old.items ++ warnings_of_setting is_zone is_fed) }
 {
-    push_if(alloc, found, !is_fed, Warning::NoNewline)?;
-    push_if(alloc, found, is_zone, Warning::NoZone)
+    push_if(alloc, found, !is_fed, OtherWarning::NoNewline)?;
+    push_if(alloc, found, is_zone, OtherWarning::NoZone)
 }
 
 // The warnings of a job stand in front of its changes of the clock.
@@ -621,19 +621,30 @@ fn remark_of_same_job(alloc: Global, job: &JobReport<'_, '_>) -> Result<Remark, 
     })
 }
 
-// A warning, if it holds.
+// A warning of a setting, or of the number of lines, if it holds.
 fn push_if(
     alloc: Global,
     found: &mut Vec<Remark>,
     holds: bool,
-    warning: Warning,
+    warning: OtherWarning,
 ) -> Result<(), AllocError>
-    ensures { OnOk result (remarks_seen found.new.items ≡ remarks_seen found.old.items ++ only_if holds (remark_of_warning warning)) }
+    ensures { OnOk result (remarks_seen found.new.items ≡ remarks_seen found.old.items ++ only_if holds (remark_of_other warning)) }
 {
     if holds {
-        found.push(remark_of_warning(alloc, warning, &None)?)?;
+        found.push(remark_of_other(alloc, warning)?)?;
     }
     Ok(())
+}
+
+fn remark_of_other(alloc: Global, warning: OtherWarning) -> Result<Remark, AllocError>
+    ensures { IfOk result (λ r. remark_seen r ≡ remark_of_other warning) }
+{
+    let text = String::from_str(alloc, warning.text())?;
+    Ok(Remark {
+        name: warning.name(),
+        field: None,
+        text,
+    })
 }
 
 fn remark_of_warning(

@@ -516,7 +516,6 @@ fn subject_of<'s, 'j>(
         command,
         is_crontab,
         is_fed,
-        is_zone: false,
         is_past: told.is_past(),
         is_never: told.is_never(),
         is_at_window_end: told.is_at_window_end(),

@@ -22,7 +22,7 @@ pub use texts::push_warning_text;
 /// The most lines that cron takes.
 const MOST_LINES: u64 = 10_000;
 
-/// What is to be said of a line that is taken. Its [`name`](Warning::name) and [`text`](Warning::text) say it in words.
+/// What is to be said of a job or a pattern. Its [`name`](Warning::name) and [`text`](Warning::text) say it in words.
 #[derive(Clone, Copy, Drop)]
 pub enum Warning {
     /// Neither day field is a star, and a day has to match one of them alone.
@@ -45,18 +45,26 @@ pub enum Warning {
     Percent,
     /// The last line has no line feed.
     NoNewline,
-    /// The setting's variable is `CRON_TZ` or `TZ`.
-    NoZone,
     /// The command ends with a carriage return.
     CarriageReturn,
     /// A list of a pattern has an empty item.
     EmptyItem,
+}
+
+/// What is to be said of a setting, or of the number of lines. Its [`name`](OtherWarning::name) and
+/// [`text`](OtherWarning::text) say it in words.
+#[derive(Clone, Copy, Drop)]
+pub enum OtherWarning {
+    /// The setting's line is the last, and has no line feed.
+    NoNewline,
+    /// The setting's variable is `CRON_TZ` or `TZ`.
+    NoZone,
     /// The file has more than 10,000 lines.
     ManyLines,
 }
 
-/// The warnings of lines, in the order in which they are given.
-const ALL_WARNINGS: [Warning; 21] = [
+/// The warnings of jobs and patterns, in the order in which they are given.
+const ALL_WARNINGS: [Warning; 20] = [
     Warning::EitherDay,
     Warning::UnevenStep(PatternField::Seconds),
     Warning::UnevenStep(PatternField::Minutes),
@@ -75,12 +83,11 @@ const ALL_WARNINGS: [Warning; 21] = [
     Warning::LooksLikeField,
     Warning::Percent,
     Warning::NoNewline,
-    Warning::NoZone,
     Warning::CarriageReturn,
     Warning::EmptyItem,
 ];
 
-/// What is looked at of a line that is taken.
+/// What is looked at of a job or a pattern.
 #[derive(Clone, Copy)]
 pub struct Subject<'s, 'j> {
     /// The texts of its fields, where it has fields.
@@ -95,8 +102,6 @@ pub struct Subject<'s, 'j> {
     pub is_crontab: bool,
     /// It has its line feed.
     pub is_fed: bool,
-    /// It sets `CRON_TZ` or `TZ`.
-    pub is_zone: bool,
     /// Its times name no year from the start on.
     pub is_past: bool,
     /// Its times leave no run before year 5000.
@@ -105,7 +110,7 @@ pub struct Subject<'s, 'j> {
     pub is_at_window_end: bool,
 }
 
-/// The warnings of a line, in the order of the table in docs/CRONTAB.md: those that hold, and no other.
+/// The warnings of a job or a pattern, in the order of the table in docs/CRONTAB.md: those that hold, and no other.
 ///
 /// The only error is `OutOfMemory`.
 pub fn warnings_of(alloc: Global, subject: &Subject<'_, '_>) -> Result<Vec<Warning>, CronError>
@@ -115,7 +120,7 @@ pub fn warnings_of(alloc: Global, subject: &Subject<'_, '_>) -> Result<Vec<Warni
     those_that_hold(alloc, subject, &ALL_WARNINGS)
 }
 
-// Of some warnings those that hold of a line.
+// Of some warnings those that hold of a job or a pattern.
 fn those_that_hold(
     alloc: Global,
     subject: &Subject<'_, '_>,
@@ -133,7 +138,7 @@ fn those_that_hold(
     Ok(found)
 }
 
-// Whether a warning holds of a line.
+// Whether a warning holds of a job or a pattern.
 fn holds(alloc: Global, subject: &Subject<'_, '_>, warning: Warning) -> Result<bool, CronError>
     ensures ok { IfOk result (λ yes. yes ≡ holds (subject_seen subject.now) warning) }
     ensures err { IfErr result (λ e. e ≡ CronError.OutOfMemory) }
@@ -149,10 +154,8 @@ fn holds(alloc: Global, subject: &Subject<'_, '_>, warning: Warning) -> Result<b
         Warning::LooksLikeField => Ok(looks_like_field(behind_times(subject))),
         Warning::Percent => Ok(has_percent(subject.command)),
         Warning::NoNewline => Ok(subject.is_crontab && !subject.is_fed),
-        Warning::NoZone => Ok(subject.is_zone),
         Warning::CarriageReturn => Ok(has_carriage_return(subject.command)),
         Warning::EmptyItem => Ok(!subject.is_crontab && has_empty_items(&subject.fields)),
-        Warning::ManyLines => Ok(false),
     }
 }
 

@@ -1,8 +1,8 @@
 //! The names of warnings, and what they say.
 ghost use Rattle.std.specs.Prelude.{◌≡◌};
-ghost use Rattle.croncheck_command.specs.Warnings.{field_of, warning_name};
+ghost use Rattle.croncheck_command.specs.Warnings.{field_of, warning_name, other_name};
 
-use super::Warning;
+use super::{OtherWarning, Warning};
 use super::sides::{Dates, Month};
 use croner::parser::PatternField;
 use std::alloc::AllocError;
@@ -23,10 +23,8 @@ impl Warning {
             Warning::LooksLikeField => "looks-like-field",
             Warning::Percent => "percent",
             Warning::NoNewline => "no-newline",
-            Warning::NoZone => "no-zone",
             Warning::CarriageReturn => "carriage-return",
             Warning::EmptyItem => "empty-item",
-            Warning::ManyLines => "many-lines",
         }
     }
 
@@ -36,7 +34,16 @@ impl Warning {
     {
         match self {
             Warning::UnevenStep(field) | Warning::StepBeyond(field) => Some(field),
-            _ => None,
+            Warning::EitherDay
+            | Warning::WholeHour
+            | Warning::ShortMonths
+            | Warning::Gone
+            | Warning::Never
+            | Warning::LooksLikeField
+            | Warning::Percent
+            | Warning::NoNewline
+            | Warning::CarriageReturn
+            | Warning::EmptyItem => None,
         }
     }
 
@@ -53,10 +60,30 @@ impl Warning {
             Warning::LooksLikeField => LOOKS_LIKE_FIELD,
             Warning::Percent => PERCENT,
             Warning::NoNewline => NO_NEWLINE,
-            Warning::NoZone => NO_ZONE,
             Warning::CarriageReturn => CARRIAGE_RETURN,
             Warning::EmptyItem => EMPTY_ITEM,
-            Warning::ManyLines => MANY_LINES,
+        }
+    }
+}
+
+impl OtherWarning {
+    /// The name by which it is known, as `no-zone`.
+    pub fn name(self) -> &'static str
+        ensures { result.now ≡ other_name self }
+    {
+        match self {
+            OtherWarning::NoNewline => Warning::NoNewline.name(),
+            OtherWarning::NoZone => "no-zone",
+            OtherWarning::ManyLines => "many-lines",
+        }
+    }
+
+    /// What happens, and what to write instead.
+    pub fn text(self) -> &'static str {
+        match self {
+            OtherWarning::NoNewline => Warning::NoNewline.text(),
+            OtherWarning::NoZone => NO_ZONE,
+            OtherWarning::ManyLines => MANY_LINES,
         }
     }
 }
