@@ -12,7 +12,6 @@ use croncheck_command::runs::Listing;
 use croncheck_command::shown::Shared;
 use croncheck_command::words::{Call, Form, NoCall, Span, USAGE, read_call};
 use croncheck_command::zone::{note_of, refusal_of};
-use croner::time::table::TableTime;
 use either::{Either, Left, Right};
 use jiff::Timestamp;
 use jiff::tz::{SystemTimeZone, TimeZone, TimeZoneDatabase};
@@ -119,10 +118,7 @@ fn check(rt: &HostRuntime, call: &Call<'_>, zone: TimeZone<'_>) -> Result<u8, Pr
         },
     };
     let clock = Clock::of(rt.alloc(), &zone, start).map_err(Problem::Clock)?;
-    let Ok(start) = TableTime::new(clock.table(), start) else {
-        return Err(Problem::OutOfMemory);
-    };
-    let Ok(changes) = Changes::of(rt.alloc(), start) else {
+    let Ok(changes) = Changes::of(rt.alloc(), &clock, start) else {
         return Err(Problem::OutOfMemory);
     };
     let settings = Settings {
@@ -130,16 +126,11 @@ fn check(rt: &HostRuntime, call: &Call<'_>, zone: TimeZone<'_>) -> Result<u8, Pr
         parser: call.parser,
         language: call.language,
         changes: &changes,
-        last: clock.last(),
         listing,
         is_strict: call.is_strict,
         compares_jobs: call.compares_jobs,
     };
-    let shared = Shared {
-        zone,
-        stop: clock.stop(),
-        listing,
-    };
+    let shared = Shared::of(zone, &settings);
     check_in(rt, call, &settings, &shared).map_err(Problem::Unwritten)
 }
 

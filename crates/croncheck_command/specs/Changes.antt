@@ -2,9 +2,12 @@
 -- page of Debian's 3.0pl1, "Notes".
 use Rattle.std.specs.Prelude.{◌≡◌, ◌<◌, ◌⊎◌, ◌↔◌, ◌&&◌, ◌||◌, ◌==◌, not, IsTrue, ℕ, nat_lt, Bool, true, false, ℤ, pos, neg_ℤ, ◌+ℤ◌, ◌-ℤ◌, ◌<ℤ◌, ◌≤ℤ◌, unsigned_abs, List, length, slice_index_or, codes, Option, Some, None, is_some}
 use Rattle.std.specs.List.{All}
+use Rattle.croner_base.specs.declared.errors.CronError.{CronError}
+use Rattle.croner_base.specs.declared.errors.CronError.TheVariants.{InvalidTime, OutOfMemory}
 use Rattle.croner_base.specs.declared.time.table.TableTime.{TableTime}
 use Rattle.croner_base.specs.Calm.{IsChange}
 use Rattle.croner_base.specs.Field.{marked_values}
+use Rattle.croner_base.specs.Table.{is_table_second}
 use Rattle.croner_base.specs.TableZone.{table_moment}
 use Rattle.croner_base.specs.Zone.{Zone}
 use Rattle.croner_pattern.specs.Meaning.{Meaning}
@@ -58,6 +61,12 @@ pub record AreChanges (z : Zone) (start : ℤ) (changes : List Change) : Type 0 
 -- the same of the start's own clock
 abbrev pub AreChangesFrom : TableTime → List Change → Type 0
 AreChangesFrom start changes = AreChanges (table_moment start).zone (table_moment start).instant changes
+
+-- why a start has no changes: no clock has this second, or memory is wanting
+abbrev pub IsNoStart : ℤ → CronError → Type 0
+IsNoStart start InvalidTime = is_table_second start ≡ false
+IsNoStart start OutOfMemory = is_table_second start ≡ true
+IsNoStart start other = ⊥
 
 -- ---- a job at a change
 

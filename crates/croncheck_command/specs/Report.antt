@@ -21,6 +21,7 @@ use Rattle.croner.specs.parser.Gives.{Fails}
 use Rattle.croner.specs.parser.Grammar.{Refusal, outcome, Texts}
 use Rattle.croncheck_command.specs.declared.bytes.Kind.TheVariants as kinds
 use Rattle.croncheck_command.specs.declared.changes.meetings.Meetings.{Meetings}
+use Rattle.croncheck_command.specs.declared.clock.stop.Stop.{Stop}
 use Rattle.croncheck_command.specs.declared.line.Dialect.{Dialect}
 use Rattle.croncheck_command.specs.declared.line.Dialect.TheVariants as dialects
 use Rattle.croncheck_command.specs.declared.line.Entry.{Entry}
@@ -44,6 +45,7 @@ use Rattle.croncheck_command.specs.declared.warnings.Warning.{Warning}
 use Rattle.croncheck_command.specs.declared.warnings.sides.Dates.{Dates}
 use Rattle.croncheck_command.specs.Bytes.{front}
 use Rattle.croncheck_command.specs.Changes.{AreMeetings, none_met, are_warned}
+use Rattle.croncheck_command.specs.Clock.{last_before}
 use Rattle.croncheck_command.specs.Entries.{job_seen}
 use Rattle.croncheck_command.specs.Field.{smaller}
 use Rattle.croncheck_command.specs.Line.{Timing, reboot, never, named, Task}
@@ -62,6 +64,14 @@ wording_of tongues.Swedish = swedish
 abbrev pub start_of : Settings → TableTime
 start_of s = s.changes.now.start
 
+-- where the window of the clock stops before year 5000 does: that of the clock whose changes are told
+abbrev pub stop_of : Settings → Option Stop
+stop_of s = s.changes.now.clock.now.stop
+
+-- the last second of that window, where it stops so
+abbrev pub window_end : Settings → Option ℤ
+window_end s = last_before (stop_of s)
+
 -- the pattern names no year from this one on
 abbrev pub NamesNoneFrom : Meaning → ℤ → Type 0
 NamesNoneFrom m year = (later : ℤ) → year ≤ℤ later → is_year_matching m later ≡ false
@@ -75,7 +85,7 @@ pub record IsPastAt (m : Meaning) (w : ℤ) (is_past : Bool) : Type 0 where
 -- a meaning is told as its description, its runs behind the start, and whether its years are past
 pub record IsTold (s : Settings) (m : Meaning) (text : String Global) (runs : Runs) (is_past : Bool) : Type 0 where
   pub described : string_bytes text ≡ description (wording_of s.language) m
-  pub listed : IsListed m (start_of s) s.last s.listing runs
+  pub listed : IsListed m (start_of s) (window_end s) s.listing runs
   pub past : IsPastAt m (reading (table_moment (start_of s))) is_past
 
 -- what was told of a text for a parser: that of its meaning, so that it has one

@@ -1,10 +1,10 @@
 //! What changes of the clock do to a job: which of its seconds are skipped, or shown twice.
-ghost use Rattle.std.specs.Prelude.{◌≡◌, ◌↔◌, true, IsTrue, IfOk, MatchOption, ℤ, pos, ◌-ℤ◌};
+ghost use Rattle.std.specs.Prelude.{◌≡◌, ◌↔◌, true, IsTrue, IfOk, IfErr, MatchOption, ℤ, pos, ◌-ℤ◌};
 ghost use Rattle.croner_base.specs.TableZone.{table_moment};
 ghost use Rattle.croner_base.specs.Zone.{at_instant};
 ghost use Rattle.croner_pattern.specs.Schedule.{is_fixed_time};
 ghost use Rattle.croner.specs.Views.{job_of};
-ghost use Rattle.croncheck_command.specs.Changes.{AreChangesFrom, names_all_hours, Meets, IsMeeting, IsFate, MakesUp, IsFateInCron, has_clock_star};
+ghost use Rattle.croncheck_command.specs.Changes.{AreChangesFrom, IsNoStart, names_all_hours, Meets, IsMeeting, IsFate, MakesUp, IsFateInCron, has_clock_star};
 ghost use Rattle.croncheck_command.specs.Line.{next};
 ghost use Rattle.croncheck_command.specs.Private.Met.{IsToldOf, IsInYears, IsNoneIn, IsFirstIn};
 
@@ -16,10 +16,12 @@ pub mod told;
 use crate::bytes::{Kind, begins_with, cut};
 use crate::changes::found::changes_behind;
 use crate::changes::level::Level;
+use crate::clock::Clock;
 use croner::component::ALL_BIT;
+use croner::errors::CronError;
 use croner::time::table::TableTime;
 use croner::{Cron, JobType};
-use std::alloc::{AllocError, Global};
+use std::alloc::Global;
 
 const HOURS_PER_DAY: usize = 24;
 
@@ -75,22 +77,31 @@ pub struct Meeting {
 /// Those count that come from 0001-01-03T00:00:00 UTC on and before 4999-12-30T00:00:00 UTC.
 #[derive(Drop)]
 pub struct Changes<'t> {
-    /// The start, behind which they lie.
+    /// The clock.
+    pub clock: &'t Clock,
+    /// The start, behind which they lie: a second of that clock.
     pub start: TableTime<'t>,
     level: Level,
     items: Vec<Change>,
+    pub ghost on_clock: { start.table.now ≡ clock.now.table },
     pub ghost all: { AreChangesFrom start items.items },
 }
 
 impl<'t> Changes<'t> {
-    /// The changes behind a start.
-    pub fn of(alloc: Global, start: TableTime<'t>) -> Result<Changes<'t>, AllocError>
-        ensures { IfOk result (λ changes. changes.start ≡ start.entry) }
+    /// The changes of a clock behind a start, which is given in seconds since 1970-01-01T00:00:00 UTC.
+    ///
+    /// The error is `InvalidTime` where no clock has this second, or `OutOfMemory`.
+    pub fn of(alloc: Global, clock: &'t Clock, start: i64) -> Result<Changes<'t>, CronError>
+        ensures clock { IfOk result (λ changes. changes.clock.now ≡ clock.now) }
+        ensures start { IfOk result (λ changes. changes.start.second ≡ start) }
+        ensures err { IfErr result (IsNoStart start) }
     {
+        let time = TableTime::new(clock.table(), start)?;
         let level = Level::new(alloc);
-        let items = changes_behind(alloc, start)?;
+        let items = changes_behind(alloc, time)?;
         Ok(Changes {
-            start,
+            clock,
+            start: time,
             level,
             items,
         })

@@ -8,7 +8,7 @@ ghost use Rattle.croner.specs.parser.Grammar.{Refusal};
 ghost use Rattle.croner.specs.Views.{job_of as meaning_of_job};
 ghost use Rattle.croncheck_command.specs.Entries.{entry_seen, times_seen};
 ghost use Rattle.croncheck_command.specs.Plan.{IsPlanned, EndsPlan, accepted, HasTiming, HasPatternMeaning, HasMeaning, seen, with_job, Adds, Passes, IsPlannedFile, labels, labels_at};
-ghost use Rattle.croncheck_command.specs.Report.{start_of, none_counted, counted, one_more};
+ghost use Rattle.croncheck_command.specs.Report.{start_of, window_end, none_counted, counted, one_more};
 ghost use Rattle.croncheck_command.specs.Runs.{cut_end, most_runs};
 
 use crate::check::{Entries, check};
@@ -419,14 +419,15 @@ impl<'s, 't, W: Write + Drop> Planner<'s, 't, W> {
 
     /// The plan of all jobs that were read.
     pub fn plan(&self) -> Result<Plan<'t>, CronError>
-        ensures planned { IfOk result (IsPlanned (patterns_of self.now.table) (start_of self.now.settings.now) self.now.settings.now.last self.now.settings.now.listing) }
+        ensures planned { IfOk result (IsPlanned (patterns_of self.now.table) (start_of self.now.settings.now) (window_end self.now.settings.now)
+            self.now.settings.now.listing) }
         ensures err { IfErr result (λ e. e ≡ CronError.OutOfMemory) }
     {
         plan_of(
             self.alloc,
             &self.table,
             self.settings.changes.start,
-            self.settings.last,
+            self.settings.last(),
             self.settings.listing,
         )
     }

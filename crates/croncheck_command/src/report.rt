@@ -11,12 +11,13 @@ ghost use Rattle.croner.specs.parser.Gives.{Fails};
 ghost use Rattle.croner.specs.parser.Grammar.{Refusal};
 ghost use Rattle.croner.specs.Views.{job_of as meaning_of_job};
 ghost use Rattle.croncheck_command.specs.Entries.{job_seen, times_seen};
-ghost use Rattle.croncheck_command.specs.Report.{wording_of, NamesNoneFrom, IsPastAt, IsTold, TellsMeaning, TellsTiming, IsRefusalOf, IsUnreadTiming, IsReportOfJob, IsPatternRefused, IsReportOfPattern, blanks_of, IsReport, IsReportOfLine, start_of, is_over, is_at_end_of_window, is_at_window_end, is_never, is_told_past, is_idle, TellsChanges, subject_of, IsWarned, WarnsJob, WarnsPattern, MeetsJob, MeetsPattern, DatesOf, TellsDates, meaning_of_timing, file_and_line, earlier_of, place_for, has_job_warnings, has_warnings, none_counted, counted, begun, is_too_many, is_line_warned, one_more, one_more_if, added, status_of};
+ghost use Rattle.croncheck_command.specs.Report.{wording_of, NamesNoneFrom, IsPastAt, IsTold, TellsMeaning, TellsTiming, IsRefusalOf, IsUnreadTiming, IsReportOfJob, IsPatternRefused, IsReportOfPattern, blanks_of, IsReport, IsReportOfLine, start_of, stop_of, window_end, is_over, is_at_end_of_window, is_at_window_end, is_never, is_told_past, is_idle, TellsChanges, subject_of, IsWarned, WarnsJob, WarnsPattern, MeetsJob, MeetsPattern, DatesOf, TellsDates, meaning_of_timing, file_and_line, earlier_of, place_for, has_job_warnings, has_warnings, none_counted, counted, begun, is_too_many, is_line_warned, one_more, one_more_if, added, status_of};
 ghost use Rattle.croncheck_command.specs.Warnings.{fields_seen, subject_seen};
 
 use crate::bytes::{Kind, cut};
 use crate::changes::Changes;
 use crate::changes::meetings::Meetings;
+use crate::clock::stop::Stop;
 use crate::line::{Dialect, Entry, Fault, Job, Times};
 use crate::parsed::job_of;
 use crate::runs::{End, Listing, Runs, runs_of};
@@ -52,15 +53,30 @@ pub struct Settings<'t> {
     /// The parser of the lines of a file of patterns.
     pub parser: CronParser,
     pub language: Tongue,
-    /// The changes of the clock behind the start, from which runs are listed; it is none itself.
+    /// The clock, the start behind which runs are listed, and the changes of the clock from there on. No run is listed
+    /// behind the clock's window.
     pub changes: &'t Changes<'t>,
-    /// The last second of the clock's window, where it ends before year 5000 does.
-    pub last: Option<i64>,
     pub listing: Listing,
     /// The status is 1 where a line has a warning, too.
     pub is_strict: bool,
     /// Each job is compared with those before it, for `same-job`.
     pub compares_jobs: bool,
+}
+
+impl Settings<'_> {
+    /// Where the window of the clock ends before year 5000 does.
+    pub fn stop(&self) -> Option<Stop>
+        ensures { result ≡ stop_of self.now }
+    {
+        self.changes.clock.stop()
+    }
+
+    /// The last second of that window, where it ends before year 5000 does.
+    pub fn last(&self) -> Option<i64>
+        ensures { result ≡ window_end self.now }
+    {
+        self.changes.clock.last()
+    }
 }
 
 /// What a line is told.
@@ -646,7 +662,7 @@ fn told_of<'t>(alloc: Global, settings: &Settings<'t>, job: &Cron) -> Result<Tol
         alloc,
         job,
         settings.changes.start,
-        settings.last,
+        settings.last(),
         settings.listing,
     )?;
     let is_past = is_past(job, settings.changes.start);

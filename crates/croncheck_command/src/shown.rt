@@ -1,6 +1,7 @@
 //! The text of a report.
 ghost use Rattle.std.specs.Prelude.{◌≡◌, ◌≤◌, [], length, true, false, IfOk, string_bytes};
 ghost use Rattle.jiff.specs.ZoneView.{plain_zone};
+ghost use Rattle.croncheck_command.specs.Report.{stop_of};
 ghost use Rattle.croncheck_command.specs.Shown.{is_told, AreLines, offset_of};
 ghost use Rattle.croncheck_command.specs.Warnings.{field_name};
 
@@ -11,7 +12,7 @@ use crate::escaped::push_shown;
 use crate::line::{Fault, WEEKDAYS};
 use crate::notes;
 use crate::notes::{Note, is_nickname, notes_of, takes};
-use crate::report::{JobReport, Report, Told, Why};
+use crate::report::{JobReport, Report, Settings, Told, Why};
 use crate::runs::{End, Listing, MOST_RUNS, Runs};
 use crate::setting::has;
 use crate::warnings::{Dates, Warning, push_warning_text};
@@ -46,9 +47,24 @@ const LEFT_OUT: &str = "..";
 pub struct Shared<'z> {
     /// The zone whose clock is shown.
     pub zone: TimeZone<'z>,
-    /// Where the clock's window ends before year 5000 does.
-    pub stop: Option<Stop>,
-    pub listing: Listing,
+    // Where the clock's window ends before year 5000 does.
+    pub(crate) stop: Option<Stop>,
+    pub(crate) listing: Listing,
+}
+
+impl<'z> Shared<'z> {
+    /// What the reports by some settings share, whose clock is that of this zone.
+    pub fn of(zone: TimeZone<'z>, settings: &Settings<'_>) -> Shared<'z>
+        ensures zone { result.zone ≡ zone.entry }
+        ensures stop { result.stop ≡ stop_of settings.now }
+        ensures listing { result.listing ≡ settings.now.listing }
+    {
+        Shared {
+            zone,
+            stop: settings.stop(),
+            listing: settings.listing,
+        }
+    }
 }
 
 /// Where a line stands.

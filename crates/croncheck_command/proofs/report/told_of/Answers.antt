@@ -1,10 +1,18 @@
-use Rattle.std.proofs.Common.{refl}
+use Rattle.std.proofs.Common.{ℤ, Option, refl, subst}
 use Rattle.croner.specs.Views.{job_of}
+use Rattle.croncheck_command.specs.Report.{start_of}
+use Rattle.croncheck_command.specs.Runs.{IsListed}
 use Rattle.croncheck_command.proofs.report.told_of.Goals as goal
 
 pub returns-clause-told : goal.returns-clause-told
-returns-clause-told c = (
-  job_of c.args.job.now,
-  refl,
-  record { described = c.in_ok-description.ensures; listed = c.in_ok-runs.ensures.listed; past = c.is_past-is_past.ensures },
-)
+returns-clause-told c =
+    let s = c.args.settings.now in
+    let m = job_of c.args.job.now in (
+      m,
+      refl,
+      record {
+        described = c.in_ok-description.ensures;
+        listed = subst (λ (last : Option ℤ). IsListed m (start_of s) last s.listing c.in_ok-runs.runs) c.last.ensures c.in_ok-runs.ensures.listed;
+        past = c.is_past-is_past.ensures;
+      },
+    )
