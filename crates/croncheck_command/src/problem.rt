@@ -37,7 +37,13 @@ impl Problem {
     {
         match self {
             Problem::SkippedFrom | Problem::SkippedUntil => 2,
-            _ => 3,
+            Problem::Words(_)
+            | Problem::Zone(_)
+            | Problem::NoZone(_)
+            | Problem::Clock(_)
+            | Problem::Now(_)
+            | Problem::Unwritten(_)
+            | Problem::OutOfMemory => 3,
         }
     }
 }
@@ -70,7 +76,7 @@ fn write_reason<W: fmt::Write>(f: &mut fmt::Formatter<W>, reason: NoClock) -> fm
     match reason {
         NoClock::Change(stop) => write_stop(f, stop),
         NoClock::Outside => f.write_str(
-            "--from: runs are listed up to the end of year 5000, and not from before year -9998",
+            "--from: this start has no clock: write one from @-377704764001, which is -9999-01-05T01:59:59Z, to @95649119999, which is 5000-12-31T23:59:59Z",
         ),
         NoClock::OutOfMemory => f.write_str("out of memory"),
     }
@@ -81,7 +87,7 @@ fn write_stop<W: fmt::Write>(f: &mut fmt::Formatter<W>, stop: Stop) -> fmt::Resu
     write!(f, "the zone: its clock is not followed over {stop}")?;
     match stop.reason {
         Reason::Far(_) => Ok(()),
-        _ => write!(
+        Reason::Forward(_) | Reason::Back(_) | Reason::Soon | Reason::Many => write!(
             f,
             "; runs are listed from three days behind that on, by --from @{}",
             stop.second.saturating_add(SECONDS_BEFORE)
