@@ -16,7 +16,7 @@ use Rattle.croncheck_command.specs.declared.report.Settings.{Settings}
 use Rattle.croncheck_command.specs.declared.same.Seen.{Seen}
 use Rattle.croncheck_command.specs.Line.{Line}
 use Rattle.croncheck_command.specs.Report.{file_and_line}
-use Rattle.croncheck_command.specs.Same.{HasTimesCompared, owner_of, JobKey, key_cmp, are_same, IsCompared, place_kept, Finds, FindsAny}
+use Rattle.croncheck_command.specs.Same.{HasTimesCompared, owner_of, JobKey, key_cmp, are_same, IsCompared, place_kept, KeepsPlaces, Finds, FindsAny}
 
 key_cmp_total : IsTotalOrder key_cmp
 key_cmp_total = then_total (on_total (λ (k : JobKey). k.0.items) nat_list_cmp_total) (on_total (λ (k : JobKey). k.1.pattern) pattern_cmp_total)
@@ -44,6 +44,11 @@ lookup_same a b (e ∷ es) h =
 
 kept_same : (seen : Seen) (a b : JobKey) → are_same a b ≡ true → place_kept seen a ≡ place_kept seen b
 kept_same seen a b h = ap (option_map file_and_line) (lookup_same a b seen.jobs.entries (equal_of (key_cmp a b) h))
+
+-- where the entries stay, each job keeps its place
+pub kept_entries : (old new : Seen) → new.jobs.entries ≡ old.jobs.entries → KeepsPlaces old new
+kept_entries old new same = λ key.
+    ap (λ (es : List (JobKey × Same)). option_map file_and_line (lookup (λ k. is_eq (key_cmp key k)) es)) same
 
 -- a job that is found stays where it was, and so does each other
 found_again : (p q : Option (List ℕ × ℕ)) (here : List ℕ × ℕ) (same : Bool) (place : List ℕ × ℕ) → p ≡ Some place → (same ≡ true → p ≡ q)

@@ -1,4 +1,5 @@
 mod Comparisons
+mod Endings
 mod Examples
 mod ExamplesChanges
 mod ExamplesClock

@@ -4,6 +4,7 @@ pub mod Checked
 pub mod Clock
 pub mod Entries
 pub mod Field
+pub mod FileSeen
 pub mod Files
 pub mod Json
 pub mod Line

@@ -63,6 +63,10 @@ IsCompared s line (Some key) = HasTimesCompared s line (Some (job_of key.1)) × 
 abbrev pub place_kept : Seen → JobKey → Option (List ℕ × ℕ)
 place_kept seen key = option_map file_and_line (get key_cmp seen.jobs key)
 
+-- each job has the place that it had
+abbrev pub KeepsPlaces : Seen → Seen → Type 0
+KeepsPlaces old new = (key : JobKey) → place_kept new key ≡ place_kept old key
+
 -- a job at a place is told the place that is kept of it; and each job keeps its place, or has this one from then on, if it has none and is the
 -- same
 pub record Finds (key : JobKey) (here : List ℕ × ℕ) (old new : Seen) (found : Option Same) : Type 0 where

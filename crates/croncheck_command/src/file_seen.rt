@@ -1,4 +1,7 @@
 //! What was seen of the file that is read, and what cron makes of it as a whole.
+ghost use Rattle.std.specs.Prelude.{◌≡◌, ◌++◌, IfOk, OnOk, string_bytes};
+ghost use Rattle.croncheck_command.specs.Entries.{entry_seen};
+ghost use Rattle.croncheck_command.specs.FileSeen.{unread, with_line, with_report, counts, is_refused, if_so, ignored, reasons_of, ending_of};
 
 use crate::line::{Dialect, Entry};
 use crate::report::Report;
@@ -17,7 +20,9 @@ pub struct FileSeen {
 
 impl FileSeen {
     /// A file of which no line was read, by its name as it is shown.
-    pub fn new(name: String) -> FileSeen {
+    pub fn new(name: String) -> FileSeen
+        ensures { result ≡ unread name }
+    {
         FileSeen {
             name,
             has_refused: false,
@@ -26,58 +31,91 @@ impl FileSeen {
     }
 
     /// Its name, as it is shown.
-    pub fn name(&self) -> &str {
+    pub fn name(&self) -> &str
+        ensures { result.now ≡ string_bytes self.now.name }
+    {
         self.name.as_str()
     }
 
     /// Takes up one more line, and whether a line feed ends it.
-    pub fn add_line(&mut self, entry: &Entry<'_>, is_fed: bool) {
+    pub fn add_line(&mut self, entry: &Entry<'_>, is_fed: bool)
+        ensures { self.new ≡ with_line (entry_seen entry.now) is_fed self.old }
+    {
         self.is_unfed = !is_fed && counts(entry);
     }
 
     /// Takes up the report of a line.
-    pub fn add_report(&mut self, report: &Report<'_, '_>) {
-        if let Report::Refused { .. } = report {
+    pub fn add_report(&mut self, report: &Report<'_, '_>)
+        ensures { self.new ≡ with_report report.now self.old }
+    {
+        if is_refused(report) {
             self.has_refused = true;
         }
     }
 
-    /// What cron makes of the file of so many lines as a whole: a line for each reason for which it ignores it. Nothing of a file of patterns,
-    /// which cron doesn't read.
+    /// What cron makes of the file of so many lines as a whole: a line for each reason for which it ignores it. Nothing of
+    /// a file of patterns, which cron doesn't read.
     pub fn ending(
         &self,
         alloc: Global,
         dialect: Dialect,
         lines: u64,
-    ) -> Result<String, AllocError> {
-        let mut text = String::new(alloc);
-        if matches!(dialect, Dialect::Patterns) {
-            return Ok(text);
+    ) -> Result<String, AllocError>
+        ensures { IfOk result (λ text. string_bytes text ≡ ending_of dialect lines self.now) }
+    {
+        match dialect {
+            Dialect::Patterns => Ok(String::new(alloc)),
+            Dialect::User | Dialect::System => self.reasons(alloc, lines),
         }
+    }
+
+    // A line for each reason for which cron ignores a crontab of so many lines.
+    fn reasons(&self, alloc: Global, lines: u64) -> Result<String, AllocError>
+        ensures { IfOk result (λ text. string_bytes text ≡ reasons_of lines self.now) }
+    {
         let name = self.name.as_str();
-        if self.has_refused {
-            push_ignored(&mut text, name, "a line is refused\n")?;
-        }
-        if self.is_unfed {
-            push_ignored(&mut text, name, "its last line has no line feed\n")?;
-        }
-        if are_many_lines(lines) {
-            push_ignored(&mut text, name, "it has more than 10000 lines\n")?;
-        }
+        let mut text = String::new(alloc);
+        push_if(&mut text, self.has_refused, name, "a line is refused\n")?;
+        push_if(&mut text, self.is_unfed, name, "its last line has no line feed\n")?;
+        push_if(&mut text, are_many_lines(lines), name, "it has more than 10000 lines\n")?;
         Ok(text)
     }
 }
 
-fn push_ignored(text: &mut String, name: &str, reason: &str) -> Result<(), AllocError> {
+// The line of a reason, if it holds.
+fn push_if(text: &mut String, holds: bool, name: &str, reason: &str) -> Result<(), AllocError>
+    ensures { OnOk result (string_bytes text.new ≡ string_bytes text.old ++ if_so holds (ignored name.now reason.now)) }
+{
+    if holds {
+        push_ignored(text, name, reason)?;
+    }
+    Ok(())
+}
+
+fn push_ignored(text: &mut String, name: &str, reason: &str) -> Result<(), AllocError>
+    ensures { OnOk result (string_bytes text.new ≡ string_bytes text.old ++ ignored name.now reason.now) }
+{
     text.push_str(name)?;
     text.push_str(": cron ignores the whole file: ")?;
     text.push_str(reason)
 }
 
+// Whether the report of a line is a refusal.
+fn is_refused(report: &Report<'_, '_>) -> bool
+    ensures { result ≡ is_refused report.now }
+{
+    match report {
+        Report::Refused { .. } => true,
+        Report::Silent | Report::Setting { .. } | Report::Job(_) => false,
+    }
+}
+
 // Whether the line of an entry counts for cron where no line feed ends it.
-fn counts(entry: &Entry<'_>) -> bool {
+fn counts(entry: &Entry<'_>) -> bool
+    ensures { result ≡ counts (entry_seen entry.now) }
+{
     match entry {
         Entry::Blank | Entry::Comment => false,
-        _ => true,
+        Entry::Setting { .. } | Entry::Job(_) | Entry::Pattern(_) | Entry::Refused { .. } => true,
     }
 }

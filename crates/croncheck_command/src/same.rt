@@ -1,11 +1,11 @@
 //! The jobs that were seen, of which each has one place: that of the first that is the same.
-ghost use Rattle.std.specs.Prelude.{◌≡◌, true, false, Option, None, Some, codes, option_map, string_bytes, IfOk, OnOk, if◌then◌else◌};
+ghost use Rattle.std.specs.Prelude.{◌≡◌, true, false, Option, None, Some, codes, option_map, string_bytes, IfOk, OnOk, OnErr, if◌then◌else◌};
 ghost use Rattle.std.specs.Str.{bytes_eq};
 ghost use Rattle.croner.specs.Views.{job_of as meaning_of_job};
 ghost use Rattle.croncheck_command.specs.Entries.{entry_seen};
 ghost use Rattle.croncheck_command.specs.Line.{words_of as words_in};
 ghost use Rattle.croncheck_command.specs.Report.{file_and_line};
-ghost use Rattle.croncheck_command.specs.Same.{has_star_day, HasTimesCompared, owner_of, JobKey, IsCompared, are_same, place_kept, Finds, FindsAny};
+ghost use Rattle.croncheck_command.specs.Same.{has_star_day, HasTimesCompared, owner_of, JobKey, IsCompared, are_same, place_kept, KeepsPlaces, Finds, FindsAny};
 
 use crate::line::{Entry, Times, words_of};
 use crate::parsed::job_of;
@@ -40,8 +40,8 @@ impl Seen {
     }
 
     /// The place of the first job that is the same as that of an entry: its times have the same meaning, and its user and its command have
-    /// the same bytes. Where there is none, this one is kept, with its place. Nothing, where the settings compare no jobs, or the entry has
-    /// no job or one without times.
+    /// the same bytes. Where there is none, this one is kept, with its place. Nothing is found and nothing kept where the settings compare no
+    /// jobs, or the entry has no job or one without times. An error leaves what was kept.
     pub fn earlier(
         &mut self,
         alloc: Global,
@@ -50,8 +50,10 @@ impl Seen {
         place: Place<'_>,
     ) -> Result<Option<Same>, AllocError>
         ensures alone { settings.now.compares_jobs ≡ false → IfOk result (λ found. found ≡ None) }
+        ensures unasked { settings.now.compares_jobs ≡ false → self.new ≡ self.old }
         ensures found { settings.now.compares_jobs ≡ true → IfOk result (λ found. (key : Option JobKey) × IsCompared settings.now (entry_seen entry.now) key
             × FindsAny key (place.entry.file.now, place.entry.line) self.old self.new found) }
+        ensures err { OnErr result (KeepsPlaces self.old self.new) }
     {
         if !settings.compares_jobs {
             return Ok(None);
@@ -70,7 +72,8 @@ impl Seen {
         job: Cron,
         place: Place<'_>,
     ) -> Result<Option<Same>, AllocError>
-        ensures { IfOk result (λ found. Finds (words, job) (place.entry.file.now, place.entry.line) self.old self.new found) }
+        ensures found { IfOk result (λ found. Finds (words, job) (place.entry.file.now, place.entry.line) self.old self.new found) }
+        ensures err { OnErr result (KeepsPlaces self.old self.new) }
     {
         let key = (words, job);
         match self.place_of(alloc, &key)? {
@@ -93,14 +96,16 @@ impl Seen {
     }
 
     // Keeps the place of a job of which none is kept.
+    #[tactic(auto, using(crate::proofs::Kept::kept_entries))]
     fn keep(
         &mut self,
         alloc: Global,
         key: (Vec<u8>, Cron),
         place: Place<'_>,
     ) -> Result<(), AllocError>
-        ensures { OnOk result ((other : JobKey) → place_kept self.new other
+        ensures kept { OnOk result ((other : JobKey) → place_kept self.new other
             ≡ (if are_same key other then Some (place.entry.file.now, place.entry.line) else place_kept self.old other)) }
+        ensures err { OnErr result (KeepsPlaces self.old self.new) }
     {
         let same = same_at(alloc, place.file, place.line)?;
         self.jobs.insert(key, same)?;

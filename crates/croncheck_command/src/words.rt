@@ -1,6 +1,6 @@
 //! The words of a call.
 ghost use Rattle.std.specs.Prelude.{◌≡◌, ◌≤◌, IfOk};
-ghost use Rattle.croncheck_command.specs.Moment.{moment_text};
+ghost use Rattle.croncheck_command.specs.Moment.{moment_text, IsNamed};
 ghost use Rattle.croncheck_command.specs.Words.{IsInRange};
 
 use crate::escaped::push_shown;
@@ -99,7 +99,8 @@ impl From<AllocError> for NoCall {
 
 /// Reads the words of a call, the first of which is the program's name.
 pub fn read_call<'w>(alloc: Global, words: &'w [String]) -> Result<Call<'w>, NoCall>
-    ensures { IfOk result (λ call. IsInRange call.span) }
+    ensures span { IfOk result (λ call. IsInRange call.span) }
+    ensures from { IfOk result (λ call. IsNamed call.from) }
 {
     let command = command(alloc)?;
     match command.try_get_matches_from(words) {
@@ -276,7 +277,8 @@ fn field<'w>(alloc: Global, id: &'w str, help: &'w str) -> Result<Arg<'w>, Alloc
 
 // What matches ask for.
 fn call_of<'w>(alloc: Global, matches: &ArgMatches<'w>) -> Result<Call<'w>, NoCall>
-    ensures { IfOk result (λ call. IsInRange call.span) }
+    ensures span { IfOk result (λ call. IsInRange call.span) }
+    ensures from { IfOk result (λ call. IsNamed call.from) }
 {
     let from = moment(alloc, FROM, matches.get_str("from").unwrap_or("now"))?;
     let span = read_span(alloc, matches)?;
@@ -328,7 +330,8 @@ fn read_count(alloc: Global, word: &str) -> Result<Span, NoCall>
 
 // The moment that the word of an option names.
 fn moment(alloc: Global, option: &str, word: &str) -> Result<Moment, NoCall>
-    ensures { IfOk result (λ moment. moment_text moment ≡ word.now) }
+    ensures named { IfOk result IsNamed }
+    ensures text { IfOk result (λ moment. moment_text moment ≡ word.now) }
 {
     match read_moment(alloc, word)? {
         Some(moment) => Ok(moment),

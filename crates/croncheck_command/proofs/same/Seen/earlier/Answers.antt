@@ -12,4 +12,4 @@ returns-in_ok-owner_of-in-Some-clause-found c =
     let HasTimes = λ (job : Option Cron). HasTimesCompared c.args.settings.now line (option_map job_of job) in
     λ compares.
     if_found c.args.settings.now line (c.in_ok-owner_of-in-Some.field-0, c.in-Some.job) (c.args.place.file.now, c.args.place.line) c.args.self.now
-    c.earlier_job.new.self c.earlier_job.result (subst HasTimes c.in-Some.is c.in_ok-job.ensures) c.in_ok-owner_of-in-Some.ensures c.earlier_job.ensures
+    c.earlier_job.new.self c.earlier_job.result (subst HasTimes c.in-Some.is c.in_ok-job.ensures) c.in_ok-owner_of-in-Some.ensures c.earlier_job.ensures.found

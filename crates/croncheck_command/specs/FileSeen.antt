@@ -1,0 +1,59 @@
+-- What cron makes of a file as a whole. Source: docs/CRONTAB.md, of `no-newline`, `many-lines` and a refused line.
+use Rattle.std.specs.Prelude.{ℕ, Bool, true, false, not, ◌&&◌, ◌||◌, List, [], ◌++◌, codes, string_bytes, if◌then◌else◌}
+use Rattle.std.specs.declared.alloc.Global.{Global}
+use Rattle.std.specs.declared.string.String.{String}
+use Rattle.croncheck_command.specs.declared.file_seen.FileSeen.{FileSeen}
+use Rattle.croncheck_command.specs.declared.line.Dialect.{Dialect}
+use Rattle.croncheck_command.specs.declared.line.Dialect.TheVariants as dialects
+use Rattle.croncheck_command.specs.declared.report.Report.{Report}
+use Rattle.croncheck_command.specs.declared.report.Report.TheVariants as reports
+use Rattle.croncheck_command.specs.Line.{Line, blank, comment, setting, job, pattern, refused}
+use Rattle.croncheck_command.specs.Warnings.{are_many_lines}
+
+-- a line counts for cron where no line feed ends it: it is neither blank nor a comment
+abbrev pub counts : Line → Bool
+counts blank = false
+counts comment = false
+counts (setting is_zone) = true
+counts (job task) = true
+counts (pattern text) = true
+counts (refused fault) = true
+
+abbrev pub is_refused : Report → Bool
+is_refused reports.Silent = false
+is_refused (reports.Setting is_zone has_feed) = false
+is_refused (reports.Job j) = false
+is_refused (reports.Refused start end why) = true
+
+-- a file of this name, as it is shown, of which no line was read
+abbrev pub unread : String Global → FileSeen
+unread name = record { name = name; has_refused = false; is_unfed = false }
+
+-- with one more line, which has its line feed or hasn't
+abbrev pub with_line : Line → Bool → FileSeen → FileSeen
+with_line line is_fed f = record f { is_unfed = not is_fed && counts line }
+
+-- with the report of one more line
+abbrev pub with_report : Report → FileSeen → FileSeen
+with_report report f = record f { has_refused = is_refused report || f.has_refused }
+
+-- a reason for which cron ignores the file of a name
+abbrev pub ignored : List ℕ → List ℕ → List ℕ
+ignored name reason = name ++ (codes ": cron ignores the whole file: " ++ reason)
+
+-- a text, or none
+abbrev pub if_so : Bool → List ℕ → List ℕ
+if_so holds text = if holds then text else []
+
+-- the reasons for which cron ignores a crontab of so many lines
+abbrev pub reasons_of : ℕ → FileSeen → List ℕ
+reasons_of lines f =
+    (if_so f.has_refused (ignored (string_bytes f.name) (codes "a line is refused\n"))
+    ++ if_so f.is_unfed (ignored (string_bytes f.name) (codes "its last line has no line feed\n")))
+    ++ if_so (are_many_lines lines) (ignored (string_bytes f.name) (codes "it has more than 10000 lines\n"))
+
+-- what is said of a file of so many lines as a whole: nothing of one of patterns, which cron doesn't read
+abbrev pub ending_of : Dialect → ℕ → FileSeen → List ℕ
+ending_of dialects.User lines f = reasons_of lines f
+ending_of dialects.System lines f = reasons_of lines f
+ending_of dialects.Patterns lines f = []
