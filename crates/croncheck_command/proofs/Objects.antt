@@ -1,10 +1,13 @@
 -- Objects of lines: the remarks in them, and that none has a float.
 use Rattle.std.proofs.Common.{◌≡◌, ◌∙◌, ◌||◌, ℕ, ℤ, pos, negsuc, List, [], ◌∷◌, ◌++◌, Bool, true, false, Option, Some, None, map, ap, sym, subst, refl}
 use Rattle.std.specs.Prelude.{codes, option_map, string_bytes}
+use Rattle.std.proofs.lemmas.Bool.{true≢false}
+use Rattle.std.proofs.lemmas.List.{append_cancel_left, append_cancel_right}
+use Rattle.std.specs.Float.{float_zero}
 use Rattle.std.specs.Io.KnownBytes.{Appends}
 use Rattle.jiff_tz.specs.declared.timezone.TimeZone.{TimeZone}
 use Rattle.croner_base.specs.declared.time.table.TableTime.{TableTime}
-use Rattle.serde_json.specs.Data.{Data, number, unsigned, string, array, object, member, no_members}
+use Rattle.serde_json.specs.Data.{Data, number, unsigned, float, string, array, object, member, no_members}
 use Rattle.serde_json.specs.Find.{is_float, of_integer}
 use Rattle.serde_json.specs.View.{items_of}
 use Rattle.serde_json.specs.Written.{has_float, items_have_float, compact_text}
@@ -115,3 +118,43 @@ object_written o report d text old new is text_is appends =
       sentences = is.0;
       appends = subst (λ t. Appends old new (t ++ 10 ∷ [])) (text_is whole ∙ ap compact_text is.1) appends;
     }
+
+-- ---- what isn't written
+
+-- no value with a float is the object of a line
+pub not_with_float : (o : Origin) (report : Report) (s : Sentences) (d : Data) → has_float d ≡ true → ¬ (d ≡ object_of o report s)
+not_with_float o report s d has same = true≢false (sym has ∙ ap has_float same ∙ object_whole o report s)
+
+-- Any text would do as that of *some* value, if only values without a float decide about it: it is asked nothing of a
+-- value with one. So `WritesObject` names the value, the object of the line's own report.
+each_text_of_some_value : (text : List ℕ) → (d : Data) × (has_float d ≡ false → text ≡ compact_text d)
+each_text_of_some_value text = (number (float float_zero), λ whole. absurd (true≢false whole))
+
+-- what is known behind known bytes
+known_behind : (before text : List ℕ) (after : Option (List ℕ)) → Appends (Some before) after text → after ≡ Some (before ++ text)
+known_behind before text None h = absurd h
+known_behind before text (Some after) h = ap Some h
+
+-- of a report one text alone is written in the same sentences
+pub one_text : (o : Origin) (report : Report) (before : List ℕ) (after other : Option (List ℕ)) (w : WritesObject o report (Some before) after)
+    (v : WritesObject o report (Some before) other) → w.sentences ≡ v.sentences → after ≡ other
+one_text o report before after other w v same =
+    let line : Sentences → List ℕ = λ s. compact_text (object_of o report s) ++ 10 ∷ [] in
+    known_behind before (line w.sentences) after w.appends
+    ∙ ap (λ s. Some (before ++ line s)) same
+    ∙ sym (known_behind before (line v.sentences) other v.appends)
+
+-- a text that is the object of the report in no sentences isn't written for it
+pub no_other_text : (o : Origin) (report : Report) (before text : List ℕ) → ((s : Sentences) → ¬ (text ≡ compact_text (object_of o report s)))
+    → ¬ (WritesObject o report (Some before) (Some (before ++ (text ++ 10 ∷ []))))
+no_other_text o report before text none w =
+    none w.sentences (append_cancel_right text (compact_text (object_of o report w.sentences)) (10 ∷ [])
+    (append_cancel_left before (text ++ 10 ∷ []) (compact_text (object_of o report w.sentences) ++ 10 ∷ []) w.appends))
+
+abbrev is_empty : List ℕ → Bool
+is_empty [] = true
+is_empty (b ∷ bs) = false
+
+-- such a text is the empty one, as each object begins with a brace
+pub no_empty_line : (o : Origin) (report : Report) (before : List ℕ) → ¬ (WritesObject o report (Some before) (Some (before ++ 10 ∷ [])))
+no_empty_line o report before = no_other_text o report before [] (λ s same. true≢false (ap is_empty same))
