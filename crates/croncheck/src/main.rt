@@ -7,8 +7,8 @@ use croncheck_command::files::{Sources, check_files, check_files_as_json, tell_f
 use croncheck_command::moment::second_of;
 use croncheck_command::plan::Planner;
 use croncheck_command::problem::Problem;
-use croncheck_command::report::Settings;
 use croncheck_command::runs::Listing;
+use croncheck_command::settings::Settings;
 use croncheck_command::shown::Shared;
 use croncheck_command::words::{Call, Form, NoCall, Span, USAGE, read_call};
 use croncheck_command::zone::{note_of, refusal_of};

@@ -5,7 +5,7 @@ use Rattle.std.specs.Prelude.{Some, None}
 use Rattle.croncheck_command.specs.declared.clock.stop.Reason.TheVariants as reasons
 use Rattle.croncheck_command.specs.declared.runs.End.TheVariants as ends
 use Rattle.croncheck_command.specs.Clock.{first_of, two_days_before, IsReasonBy}
-use Rattle.croncheck_command.specs.Report.{is_over, is_at_end_of_window}
+use Rattle.croncheck_command.specs.Told.{is_over, is_at_end_of_window}
 use Rattle.croncheck_command.specs.Runs.{end_before, end_in_window, end_of_window, cut_end}
 
 -- Antarctica/Casey in March 2010, from 39,600 to 28,800 seconds ahead of UTC: three hours back

@@ -12,7 +12,7 @@ use Rattle.croner.specs.declared.parser.fault.PatternField.TheVariants as fields
 use Rattle.croner_base.specs.declared.time.table.TableTime.{TableTime}
 use Rattle.croncheck_command.specs.declared.line.Fault.TheVariants as faults
 use Rattle.croncheck_command.specs.declared.report.Report.TheVariants as reports
-use Rattle.croncheck_command.specs.declared.report.Told.TheVariants as tolds
+use Rattle.croncheck_command.specs.declared.told.Told.TheVariants as tolds
 use Rattle.croncheck_command.specs.declared.report.Why.TheVariants as whys
 use Rattle.croncheck_command.specs.declared.runs.End.TheVariants as ends
 use Rattle.croncheck_command.specs.declared.runs.Runs.{Runs}

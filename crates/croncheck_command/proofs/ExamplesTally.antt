@@ -6,9 +6,9 @@ use Rattle.croncheck_command.specs.declared.line.Dialect.{Dialect}
 use Rattle.croncheck_command.specs.declared.line.Dialect.TheVariants as dialects
 use Rattle.croncheck_command.specs.declared.report.Report.{Report}
 use Rattle.croncheck_command.specs.declared.report.Report.TheVariants as reports
-use Rattle.croncheck_command.specs.declared.report.Tally.{Tally}
+use Rattle.croncheck_command.specs.declared.tally.Tally.{Tally}
 use Rattle.croncheck_command.specs.Files.{summary_of}
-use Rattle.croncheck_command.specs.Report.{none_counted, counted, begun, added, status_of}
+use Rattle.croncheck_command.specs.Tally.{none_counted, counted, begun, added, status_of}
 
 -- a tally of this many refused lines, lines with a warning, and lines of the file
 abbrev tally : ℕ → ℕ → ℕ → Tally

@@ -3,11 +3,11 @@ use Rattle.std.proofs.Common.{◌≡◌, ◌<◌, ◌≤◌, ◌+◌, ℕ, suc, 
 use Rattle.std.specs.Prelude.{IfSome, IfOk, OnOk, if◌then◌else◌}
 use Rattle.std.proofs.Math.Seq.{take-suc}
 use Rattle.std.proofs.lemmas.List.{take_all}
-use Rattle.croncheck_command.specs.declared.report.Settings.{Settings}
-use Rattle.croncheck_command.specs.declared.report.Tally.{Tally}
+use Rattle.croncheck_command.specs.declared.settings.Settings.{Settings}
+use Rattle.croncheck_command.specs.declared.tally.Tally.{Tally}
 use Rattle.croncheck_command.specs.Checked.{TakesInTurn}
 use Rattle.croncheck_command.specs.Files.{HaveTexts, AreChecked, IsStatus, IsToldStatus}
-use Rattle.croncheck_command.specs.Report.{none_counted, status_of}
+use Rattle.croncheck_command.specs.Tally.{none_counted, status_of}
 use Rattle.croncheck_command.specs.Reported.{IsChecked}
 use Rattle.croncheck_command.proofs.TakenLines.{in_turn_push}
 

@@ -16,8 +16,8 @@ use Rattle.croncheck_command.specs.declared.json.Remarks.{Remarks}
 use Rattle.croncheck_command.specs.declared.report.JobReport.{JobReport}
 use Rattle.croncheck_command.specs.declared.report.Report.{Report}
 use Rattle.croncheck_command.specs.declared.report.Report.TheVariants as reports
-use Rattle.croncheck_command.specs.declared.report.Told.{Told}
-use Rattle.croncheck_command.specs.declared.report.Told.TheVariants as tolds
+use Rattle.croncheck_command.specs.declared.told.Told.{Told}
+use Rattle.croncheck_command.specs.declared.told.Told.TheVariants as tolds
 use Rattle.croncheck_command.specs.Json.{kind_of, Remark, Origin, Sentences, string_or_null, remark_object, remark_objects, run_object, times_object, job_object, job_data, refusal_data, notes_of_line, warnings_of_line, object_of, WritesObject}
 use Rattle.croncheck_command.specs.Shown.{bytes_shown, offset_of}
 use Rattle.croncheck_command.specs.Private.Remarks.{remarks_seen, texts_of, AreRemarksOf, object_of_remark, objects_of_remarks, object_with}

@@ -4,11 +4,12 @@ use Rattle.std.specs.Prelude.{IfSome, OnOk, option_map}
 use Rattle.croncheck_command.specs.declared.report.Report.{Report}
 use Rattle.croncheck_command.specs.declared.report.Report.TheVariants as reports
 use Rattle.croncheck_command.specs.declared.report.Same.{Same}
-use Rattle.croncheck_command.specs.declared.report.Settings.{Settings}
-use Rattle.croncheck_command.specs.declared.report.Tally.{Tally}
+use Rattle.croncheck_command.specs.declared.settings.Settings.{Settings}
+use Rattle.croncheck_command.specs.declared.tally.Tally.{Tally}
 use Rattle.croncheck_command.specs.Checked.{LineRead, entry_of_line, TakesInTurn, TakesAll}
 use Rattle.croncheck_command.specs.Json.{Noted, Writes}
-use Rattle.croncheck_command.specs.Report.{file_and_line, earlier_of, place_for, IsAlone, begun}
+use Rattle.croncheck_command.specs.Report.{file_and_line, earlier_of, place_for, IsAlone}
+use Rattle.croncheck_command.specs.Tally.{begun}
 use Rattle.croncheck_command.specs.Reported.{Tallies, IsChecked}
 
 -- an entry is told by settings that stay, and its report is added to a tally

@@ -1,7 +1,7 @@
 -- What takes the entries of a file, as a contract sees it.
 use Rattle.std.proofs.Common.{◌≡◌, ◌∙◌, ℕ, Bool, List, [], ◌∷◌, Option, Some, None, Result, Ok, Err, map, ap, subst}
 use Rattle.std.specs.Prelude.{IfSome, OnOk}
-use Rattle.croncheck_command.specs.declared.report.Settings.{Settings}
+use Rattle.croncheck_command.specs.declared.settings.Settings.{Settings}
 use Rattle.croncheck_command.specs.Checked.{LineRead, entry_of_line, TakesInTurn, TakesAll}
 use Rattle.croncheck_command.specs.Lines.{AreLines}
 

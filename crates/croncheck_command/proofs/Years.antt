@@ -8,7 +8,7 @@ use Rattle.croner_base.proofs.tables.TableTests.{both_parts, le_of, le_test}
 use Rattle.croner_base.proofs.zones.ZoneYears.{nonneg_abs}
 use Rattle.croner_pattern.specs.Meaning.{Meaning}
 use Rattle.croner_pattern.specs.Schedule.{is_plain, is_year_matching}
-use Rattle.croncheck_command.specs.Report.{NamesNoneFrom}
+use Rattle.croncheck_command.specs.Told.{NamesNoneFrom}
 
 no_middle : (a b c : Bool) → b ≡ false → ((a && b) && c) ≡ false
 no_middle a true c h = absurd (cc)

@@ -1,10 +1,10 @@
 -- The status of a call that checks files, one behind the other. Source: this crate's documentation of `check_files`.
 use Rattle.std.specs.Prelude.{◌≡◌, ◌⊎◌, ◌==◌, ℕ, Bool, List, [], ◌∷◌, ◌++◌, codes, Option, Some, if◌then◌else◌}
 use Rattle.std.specs.Fmt.{decimal}
-use Rattle.croncheck_command.specs.declared.report.Settings.{Settings}
-use Rattle.croncheck_command.specs.declared.report.Tally.{Tally}
+use Rattle.croncheck_command.specs.declared.settings.Settings.{Settings}
+use Rattle.croncheck_command.specs.declared.tally.Tally.{Tally}
 use Rattle.croncheck_command.specs.Checked.{TakesInTurn}
-use Rattle.croncheck_command.specs.Report.{none_counted, status_of}
+use Rattle.croncheck_command.specs.Tally.{none_counted, status_of}
 use Rattle.croncheck_command.specs.Reported.{IsChecked}
 
 -- each reader of the file of this name gives this text

@@ -17,10 +17,10 @@ use Rattle.croncheck_command.specs.declared.notes.Note.{Note}
 use Rattle.croncheck_command.specs.declared.report.JobReport.{JobReport}
 use Rattle.croncheck_command.specs.declared.report.Report.{Report}
 use Rattle.croncheck_command.specs.declared.report.Report.TheVariants as reports
-use Rattle.croncheck_command.specs.declared.report.Settings.{Settings}
-use Rattle.croncheck_command.specs.declared.report.Tally.{Tally}
-use Rattle.croncheck_command.specs.declared.report.Told.{Told}
-use Rattle.croncheck_command.specs.declared.report.Told.TheVariants as tolds
+use Rattle.croncheck_command.specs.declared.settings.Settings.{Settings}
+use Rattle.croncheck_command.specs.declared.tally.Tally.{Tally}
+use Rattle.croncheck_command.specs.declared.told.Told.{Told}
+use Rattle.croncheck_command.specs.declared.told.Told.TheVariants as tolds
 use Rattle.croncheck_command.specs.declared.report.Why.{Why}
 use Rattle.croncheck_command.specs.declared.report.Why.TheVariants as whys
 use Rattle.croncheck_command.specs.declared.runs.End.{End}
@@ -33,7 +33,8 @@ use Rattle.croncheck_command.specs.Checked.{LineRead, IsEntryOf, entry_of_line, 
 use Rattle.croncheck_command.specs.Line.{Line, blank, comment, setting, job, pattern, refused}
 use Rattle.croncheck_command.specs.Lines.{AreLines}
 use Rattle.croncheck_command.specs.Notes.{note_name, notes_of}
-use Rattle.croncheck_command.specs.Report.{IsReportOfLine, IsAlone, is_too_many, added, one_more}
+use Rattle.croncheck_command.specs.Report.{IsReportOfLine, IsAlone}
+use Rattle.croncheck_command.specs.Tally.{is_too_many, added, one_more}
 use Rattle.croncheck_command.specs.Shown.{bytes_shown, offset_of}
 use Rattle.croncheck_command.specs.Warnings.{warning_name, other_name, field_name, field_of}
 

@@ -22,6 +22,9 @@ pub mod Reported
 pub mod Runs
 pub mod Same
 pub mod Setting
+pub mod Settings
 pub mod Shown
+pub mod Tally
+pub mod Told
 pub mod Warnings
 pub mod Words

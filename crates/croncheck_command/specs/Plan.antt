@@ -21,8 +21,8 @@ use Rattle.croncheck_command.specs.declared.line.Entry.{Entry}
 use Rattle.croncheck_command.specs.declared.plan.Plan.{Plan}
 use Rattle.croncheck_command.specs.declared.plan.Planned.{Planned}
 use Rattle.croncheck_command.specs.declared.report.Report.{Report}
-use Rattle.croncheck_command.specs.declared.report.Settings.{Settings}
-use Rattle.croncheck_command.specs.declared.report.Tally.{Tally}
+use Rattle.croncheck_command.specs.declared.settings.Settings.{Settings}
+use Rattle.croncheck_command.specs.declared.tally.Tally.{Tally}
 use Rattle.croncheck_command.specs.declared.runs.End.{End}
 use Rattle.croncheck_command.specs.declared.runs.End.TheVariants as ends
 use Rattle.croncheck_command.specs.declared.runs.Listing.{Listing}
@@ -31,7 +31,8 @@ use Rattle.croncheck_command.specs.Checked.{LineRead, IsEntryOf, entry_of_line, 
 use Rattle.croncheck_command.specs.Line.{Timing, reboot, never, named, Line, job, pattern}
 use Rattle.croncheck_command.specs.Lines.{AreLines}
 use Rattle.croncheck_command.specs.Parsed.{crontab_settings}
-use Rattle.croncheck_command.specs.Report.{IsReport, counted, one_more}
+use Rattle.croncheck_command.specs.Report.{IsReport}
+use Rattle.croncheck_command.specs.Tally.{counted, one_more}
 use Rattle.croncheck_command.specs.Runs.{most_runs, IsInWindow}
 
 -- ---- the moments

@@ -1,7 +1,5 @@
 -- What a line is told. Source: this crate's documentation of `Report`.
-use Rattle.std.specs.Prelude.{◌≡◌, ◌↔◌, ◌⊎◌, ◌<◌, get_or, not, ◌&&◌, ◌||◌, ◌==◌, ◌≤ℤ◌, ℕ, ◌+◌, Bool, true, false, IsTrue, ℤ, List, length, Option, Some, None, option_map, is_some, Result, Ok, Err, string_bytes, IsUtf8, if◌then◌else◌}
-use Rattle.std.specs.declared.string.String.{String}
-use Rattle.std.specs.declared.alloc.Global.{Global}
+use Rattle.std.specs.Prelude.{◌≡◌, ◌⊎◌, ◌<◌, get_or, not, ◌||◌, ◌==◌, ℕ, ◌+◌, Bool, true, false, List, length, Option, Some, None, option_map, is_some, Result, Ok, Err, string_bytes, IsUtf8}
 use Rattle.croner_base.specs.declared.errors.CronError.{CronError}
 use Rattle.croner_base.specs.declared.errors.CronError.TheVariants.{OutOfMemory}
 use Rattle.croner_base.specs.declared.time.civil.CivilDateTime.{CivilDateTime}
@@ -9,130 +7,34 @@ use Rattle.croner_base.specs.declared.time.table.TableTime.{TableTime}
 use Rattle.croner_base.specs.Civil.{wall_second, weekday_of_second}
 use Rattle.croner_base.specs.TableZone.{table_moment}
 use Rattle.croner_base.specs.Zone.{reading}
-use Rattle.croner_pattern.specs.Description.{description}
 use Rattle.croner_pattern.specs.Meaning.{Meaning}
-use Rattle.croner_pattern.specs.Schedule.{is_year_matching}
-use Rattle.croner_words.specs.English.{english}
-use Rattle.croner_words.specs.Swedish.{swedish}
-use Rattle.croner_words.specs.Wording.{Wording}
 use Rattle.croner.specs.declared.parser.fault.PatternFault.{PatternFault}
 use Rattle.croner.specs.parser.Faults.{IsFault}
 use Rattle.croner.specs.parser.Gives.{Fails}
 use Rattle.croner.specs.parser.Grammar.{Refusal, outcome, Texts}
 use Rattle.croncheck_command.specs.declared.bytes.Kind.TheVariants as kinds
 use Rattle.croncheck_command.specs.declared.changes.meetings.Meetings.{Meetings}
-use Rattle.croncheck_command.specs.declared.clock.stop.Stop.{Stop}
-use Rattle.croncheck_command.specs.declared.line.Dialect.{Dialect}
-use Rattle.croncheck_command.specs.declared.line.Dialect.TheVariants as dialects
-use Rattle.croncheck_command.specs.declared.line.Entry.{Entry}
 use Rattle.croncheck_command.specs.declared.line.Entry.TheVariants as entries
+use Rattle.croncheck_command.specs.declared.line.Entry.{Entry}
 use Rattle.croncheck_command.specs.declared.report.JobReport.{JobReport}
-use Rattle.croncheck_command.specs.declared.report.Report.{Report}
 use Rattle.croncheck_command.specs.declared.report.Report.TheVariants as reports
+use Rattle.croncheck_command.specs.declared.report.Report.{Report}
 use Rattle.croncheck_command.specs.declared.report.Same.{Same}
-use Rattle.croncheck_command.specs.declared.report.Settings.{Settings}
-use Rattle.croncheck_command.specs.declared.report.Tally.{Tally}
-use Rattle.croncheck_command.specs.declared.report.Told.{Told}
-use Rattle.croncheck_command.specs.declared.report.Told.TheVariants as tolds
-use Rattle.croncheck_command.specs.declared.report.Tongue.{Tongue}
-use Rattle.croncheck_command.specs.declared.report.Tongue.TheVariants as tongues
-use Rattle.croncheck_command.specs.declared.report.Why.{Why}
 use Rattle.croncheck_command.specs.declared.report.Why.TheVariants as whys
-use Rattle.croncheck_command.specs.declared.runs.End.{End}
-use Rattle.croncheck_command.specs.declared.runs.End.TheVariants as ends
-use Rattle.croncheck_command.specs.declared.runs.Runs.{Runs}
+use Rattle.croncheck_command.specs.declared.report.Why.{Why}
+use Rattle.croncheck_command.specs.declared.settings.Settings.{Settings}
+use Rattle.croncheck_command.specs.declared.told.Told.TheVariants as tolds
+use Rattle.croncheck_command.specs.declared.told.Told.{Told}
 use Rattle.croncheck_command.specs.declared.warnings.Warning.{Warning}
 use Rattle.croncheck_command.specs.declared.warnings.sides.Dates.{Dates}
 use Rattle.croncheck_command.specs.Bytes.{front}
 use Rattle.croncheck_command.specs.Changes.{AreMeetings, none_met, are_warned}
-use Rattle.croncheck_command.specs.Clock.{last_before}
 use Rattle.croncheck_command.specs.Entries.{job_seen}
-use Rattle.croncheck_command.specs.Field.{smaller}
 use Rattle.croncheck_command.specs.Line.{Timing, reboot, never, named, Task}
 use Rattle.croncheck_command.specs.Parsed.{crontab_settings}
-use Rattle.croncheck_command.specs.Runs.{IsListed}
-use Rattle.croncheck_command.specs.Warnings.{fields_of_schedule, AreFieldsOfPattern, is_either_day, IsMonthOf, NamesDates, is_first_too_many, Subject, warnings_of}
-
--- ---- a job
-
--- what a language is made of
-abbrev pub wording_of : Tongue → Wording
-wording_of tongues.English = english
-wording_of tongues.Swedish = swedish
-
--- where runs are listed from: the start whose changes of the clock are told
-abbrev pub start_of : Settings → TableTime
-start_of s = s.changes.now.start
-
--- where the window of the clock stops before year 5000 does: that of the clock whose changes are told
-abbrev pub stop_of : Settings → Option Stop
-stop_of s = s.changes.now.clock.now.stop
-
--- the last second of that window, where it stops so
-abbrev pub window_end : Settings → Option ℤ
-window_end s = last_before (stop_of s)
-
--- the pattern names no year from this one on
-abbrev pub NamesNoneFrom : Meaning → ℤ → Type 0
-NamesNoneFrom m year = (later : ℤ) → year ≤ℤ later → is_year_matching m later ≡ false
-
--- the pattern names no year from that on which the clock shows at the start
-pub record IsPastAt (m : Meaning) (w : ℤ) (is_past : Bool) : Type 0 where
-  pub shown : CivilDateTime
-  pub shows : wall_second shown ≡ w
-  pub none : IsTrue is_past ↔ NamesNoneFrom m shown.date.year
-
--- a meaning is told as its description, its runs behind the start, and whether its years are past
-pub record IsTold (s : Settings) (m : Meaning) (text : String Global) (runs : Runs) (is_past : Bool) : Type 0 where
-  pub described : string_bytes text ≡ description (wording_of s.language) m
-  pub listed : IsListed m (start_of s) (window_end s) s.listing runs
-  pub past : IsPastAt m (reading (table_moment (start_of s))) is_past
-
--- what was told of a text for a parser: that of its meaning, so that it has one
-abbrev pub TellsMeaning : Settings → Result Meaning Refusal → Told → Type 0
-TellsMeaning s read tolds.Reboot = ⊥
-TellsMeaning s read tolds.Nothing = ⊥
-TellsMeaning s read (tolds.Runs text runs is_past) = (m : Meaning) × (read ≡ Ok m) × IsTold s m text runs is_past
-
--- what was told of a job's times
-abbrev pub TellsTiming : Settings → Timing → Told → Type 0
-TellsTiming s reboot told = told ≡ tolds.Reboot
-TellsTiming s never told = told ≡ tolds.Nothing
-TellsTiming s (named text both) told = TellsMeaning s (outcome (crontab_settings both) text) told
-
--- ---- never
-
-abbrev pub is_over : End → Bool
-is_over ends.More = false
-is_over ends.Over = true
-is_over ends.Cut = false
-is_over ends.Window = false
-is_over (ends.Failed e) = false
-
-abbrev pub is_at_end_of_window : End → Bool
-is_at_end_of_window ends.More = false
-is_at_end_of_window ends.Over = false
-is_at_end_of_window ends.Cut = false
-is_at_end_of_window ends.Window = true
-is_at_end_of_window (ends.Failed e) = false
-
--- its listing ends where the clock's window does
-abbrev pub is_at_window_end : Told → Bool
-is_at_window_end tolds.Reboot = false
-is_at_window_end tolds.Nothing = false
-is_at_window_end (tolds.Runs text runs is_past) = is_at_end_of_window runs.end
-
--- a field names nothing, or the listing is over and has no run
-abbrev pub is_never : Told → Bool
-is_never tolds.Reboot = false
-is_never tolds.Nothing = true
-is_never (tolds.Runs text runs is_past) = is_over runs.end && length runs.items.items == 0
-
--- no year that it names is left at the start, and its listing doesn't end where the clock's window does
-abbrev pub is_told_past : Told → Bool
-is_told_past tolds.Reboot = false
-is_told_past tolds.Nothing = false
-is_told_past (tolds.Runs text runs is_past) = is_past && not (is_at_end_of_window runs.end)
+use Rattle.croncheck_command.specs.Settings.{start_of}
+use Rattle.croncheck_command.specs.Told.{TellsMeaning, TellsTiming, is_at_window_end, is_never, is_told_past, is_idle}
+use Rattle.croncheck_command.specs.Warnings.{fields_of_schedule, AreFieldsOfPattern, is_either_day, IsMonthOf, NamesDates, Subject, warnings_of}
 
 -- ---- warnings
 
@@ -176,10 +78,6 @@ pub record WarnsPattern (is_fed : Bool) (text : List ℕ) (meaning : Option Mean
   pub are : found ≡ warnings_of (subject_of fields meaning None None false is_fed told)
 
 -- ---- changes of the clock
-
--- no run is left
-abbrev pub is_idle : Told → Bool
-is_idle told = is_never told || is_told_past told
 
 -- what is told of changes of the clock to a job of this meaning that was told so: nothing where no run of it is left
 pub record TellsMeetings (s : Settings) (text : Option (List ℕ)) (m : Meaning) (told : Told) (met : Meetings) : Type 0 where
@@ -353,56 +251,3 @@ has_warnings reports.Silent = false
 has_warnings (reports.Setting is_zone has_feed) = is_zone || not has_feed
 has_warnings (reports.Job j) = has_job_warnings j
 has_warnings (reports.Refused start end why) = false
-
--- ---- the tally
-
--- the most that 64 bits hold
-abbrev pub most_counted : ℕ
-most_counted = 18_446_744_073_709_551_615
-
-abbrev pub one_more : ℕ → ℕ
-one_more n = smaller (n + 1) most_counted
-
--- nothing is counted yet
-abbrev pub none_counted : Tally
-none_counted = record { lines = 0; jobs = 0; refused = 0; warned = 0; file_lines = 0 }
-
--- with one more line, of which no warning is counted
-abbrev pub counted : Tally → Report → Tally
-counted t reports.Silent = record t { lines = one_more t.lines }
-counted t (reports.Setting is_zone has_feed) = record t { lines = one_more t.lines }
-counted t (reports.Job j) = record t { lines = one_more t.lines; jobs = one_more t.jobs }
-counted t (reports.Refused start end why) = record t { lines = one_more t.lines; refused = one_more t.refused }
-
--- where a file begins
-abbrev pub begun : Tally → Tally
-begun t = record t { file_lines = 0 }
-
--- `many-lines`: the line behind so many of a crontab is the first that is too many
-abbrev pub is_too_many : Dialect → ℕ → Bool
-is_too_many dialects.User lines = is_first_too_many lines
-is_too_many dialects.System lines = is_first_too_many lines
-is_too_many dialects.Patterns lines = false
-
--- the line behind so many of a file is warned of
-abbrev pub is_line_warned : Dialect → ℕ → Report → Bool
-is_line_warned dialect lines report = has_warnings report || is_too_many dialect lines
-
--- one more, if it counts
-abbrev pub one_more_if : Bool → ℕ → ℕ
-one_more_if counts n = if counts then one_more n else n
-
--- with one more line of the file and its warnings
-abbrev pub added : Dialect → Tally → Report → Tally
-added dialect t report = record (counted t report) {
-  warned = one_more_if (is_line_warned dialect t.file_lines report) t.warned;
-  file_lines = one_more t.file_lines;
-}
-
--- a line is refused, or one has a warning where the call is strict
-abbrev pub has_findings : Bool → Tally → Bool
-has_findings is_strict t = not (t.refused == 0) || (is_strict && not (t.warned == 0))
-
--- 1 where there is a finding, else 0
-abbrev pub status_of : Bool → Tally → ℕ
-status_of is_strict t = if has_findings is_strict t then 1 else 0

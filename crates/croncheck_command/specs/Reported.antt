@@ -2,11 +2,12 @@
 use Rattle.std.specs.Prelude.{◌≡◌, ℕ, List, map}
 use Rattle.croncheck_command.specs.declared.line.Entry.{Entry}
 use Rattle.croncheck_command.specs.declared.report.Report.{Report}
-use Rattle.croncheck_command.specs.declared.report.Settings.{Settings}
-use Rattle.croncheck_command.specs.declared.report.Tally.{Tally}
+use Rattle.croncheck_command.specs.declared.settings.Settings.{Settings}
+use Rattle.croncheck_command.specs.declared.tally.Tally.{Tally}
 use Rattle.croncheck_command.specs.Checked.{LineRead, IsEntryOf, entry_of_line, TakesInTurn}
 use Rattle.croncheck_command.specs.Lines.{AreLines}
-use Rattle.croncheck_command.specs.Report.{IsReportOfLine, IsAlone, added, begun}
+use Rattle.croncheck_command.specs.Report.{IsReportOfLine, IsAlone}
+use Rattle.croncheck_command.specs.Tally.{added, begun}
 
 -- an entry has a report, which is added to the tally with its warnings
 abbrev pub Tallies : Settings → Tally → LineRead → Tally → Type 0

@@ -13,7 +13,7 @@ use Rattle.croner_pattern.specs.Order.{pattern_cmp}
 use Rattle.croner.specs.declared.job.Cron.{Cron}
 use Rattle.croner.specs.Views.{job_of}
 use Rattle.croncheck_command.specs.declared.report.Same.{Same}
-use Rattle.croncheck_command.specs.declared.report.Settings.{Settings}
+use Rattle.croncheck_command.specs.declared.settings.Settings.{Settings}
 use Rattle.croncheck_command.specs.declared.same.Seen.{Seen}
 use Rattle.croncheck_command.specs.Line.{Timing, named, Five, words_of, Line, job}
 use Rattle.croncheck_command.specs.Plan.{HasTiming, HasMeaning}

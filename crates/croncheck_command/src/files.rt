@@ -6,9 +6,10 @@ ghost use Rattle.croncheck_command.specs.Files.{HasText, HaveTexts, asked, IsSta
 use crate::escaped::shown;
 use crate::json::JsonReporter;
 use crate::plan::Planner;
-use crate::report::{Settings, Tally};
 use crate::reporter::{Reporter, status_of};
+use crate::settings::Settings;
 use crate::shown::Shared;
+use crate::tally::Tally;
 use std::alloc::{AllocError, Global};
 use std::io;
 use std::io::{BufRead, Write};
@@ -31,7 +32,7 @@ pub trait Sources {
 /// What tells of the lines of files, one file behind the other.
 pub trait Teller {
     ghost use Rattle.std.specs.Prelude.{◌≡◌, ℕ, List, OnOk, IfSome};
-    ghost use Rattle.croncheck_command.specs.declared.report.Tally.{Tally};
+    ghost use Rattle.croncheck_command.specs.declared.tally.Tally.{Tally};
 
     /// What taking the lines of a text leaves.
     ghost takes: { Self → List ℕ → Self → Type 0 };

@@ -7,7 +7,7 @@ ghost use Rattle.croncheck_command.specs.Entries.{entry_seen};
 ghost use Rattle.croncheck_command.specs.Json.{kind_of_line, kind_of, fault_kind, refusal_kind, end_name, remark_of_warning, remark_of_other, remark_of_note, remark_of_change, remark_without_field, only_if, counts_as, remarks_of_range, remarks_of_changes, warnings_of_job, warnings_of_setting, warnings_of_report, warnings_of_line, notes_of_job, notes_of_refusal, notes_of_line, Sentences, string_or_null, remark_object, run_object, times_object, job_object, job_data, refusal_object, refusal_data, Origin, object_of, WritesObject, IsWritten};
 ghost use Rattle.croncheck_command.specs.Private.Remarks.{remark_seen, remarks_seen, AreRemarksOf, object_of_remark, objects_of_remarks, object_with};
 ghost use Rattle.croncheck_command.specs.Notes.{notes_of as notes_of_bytes};
-ghost use Rattle.croncheck_command.specs.Report.{none_counted, begun};
+ghost use Rattle.croncheck_command.specs.Tally.{none_counted, begun};
 ghost use Rattle.croncheck_command.specs.Reported.{IsChecked};
 ghost use Rattle.croncheck_command.specs.Shown.{bytes_shown};
 ghost use Rattle.croncheck_command.specs.Warnings.{field_name};
@@ -18,12 +18,15 @@ use crate::escaped::shown;
 use crate::line::{Entry, Fault};
 use crate::notes;
 use crate::notes::Note;
-use crate::report::{JobReport, Report, Settings, Tally, Told, Why, is_too_many, report_of_line};
+use crate::report::{JobReport, Report, Why, report_of_line};
 use crate::runs::{End, Runs};
 use crate::same::Seen;
+use crate::settings::Settings;
 use crate::shown::{
     Place, SAME_JOB, Shared, ahead_of, at_fault, field_name, push_reason, push_same,
 };
+use crate::tally::{Tally, is_too_many};
+use crate::told::Told;
 use crate::warnings::{Dates, OtherWarning, Warning, push_warning_text};
 use croner::parser::PatternField;
 use croner::time::table::TableTime;

@@ -8,7 +8,8 @@ ghost use Rattle.croner.specs.parser.Grammar.{Refusal};
 ghost use Rattle.croner.specs.Views.{job_of as meaning_of_job};
 ghost use Rattle.croncheck_command.specs.Entries.{entry_seen, times_seen};
 ghost use Rattle.croncheck_command.specs.Plan.{IsPlanned, EndsPlan, accepted, HasTiming, HasPatternMeaning, HasMeaning, seen, with_job, Adds, Passes, IsPlannedFile, labels, labels_at};
-ghost use Rattle.croncheck_command.specs.Report.{start_of, window_end, none_counted, counted, one_more};
+ghost use Rattle.croncheck_command.specs.Settings.{start_of, window_end};
+ghost use Rattle.croncheck_command.specs.Tally.{none_counted, counted, one_more};
 ghost use Rattle.croncheck_command.specs.Runs.{cut_end, most_runs};
 
 use crate::check::{Entries, check};
@@ -16,11 +17,13 @@ use crate::escaped::shown;
 use crate::file_seen::FileSeen;
 use crate::line::{Entry, Times};
 use crate::parsed::job_of;
-use crate::report::{Report, Settings, Tally, report_of};
+use crate::report::{Report, report_of};
 use crate::runs::{End, Listing, MOST_RUNS, cut_end, end_of_window};
+use crate::settings::Settings;
 use crate::shown::{
     COMMAND_BYTES, Place, Shared, push_clock, push_front, push_window_end, text_of,
 };
+use crate::tally::Tally;
 use croner::Cron;
 use croner::crontable::CronTable;
 use croner::errors::CronError;

@@ -1,83 +1,29 @@
 //! What a line is told: values, and no text but the description.
-ghost use Rattle.std.specs.Prelude.{◌≡◌, ◌↔◌, ◌&&◌, ◌+◌, ◌≤◌, Ok, ℕ, pos, int_le, length, true, false, IsTrue, IfOk, IfErr, None, Some, option_map, Result};
-ghost use Rattle.croner_base.specs.Limits.{last_year};
-ghost use Rattle.croner_base.specs.Zone.{reading};
-ghost use Rattle.croner_base.specs.TableZone.{table_moment};
-ghost use Rattle.croner_pattern.specs.Description.{description};
+ghost use Rattle.std.specs.Prelude.{◌≡◌, ◌+◌, ◌≤◌, Ok, ℕ, length, IfOk, IfErr, None, Some, option_map, Result};
 ghost use Rattle.croner_pattern.specs.Meaning.{Meaning};
-ghost use Rattle.croner_pattern.specs.Schedule.{is_year_matching};
-ghost use Rattle.croner_words.specs.Writes.{Writes};
 ghost use Rattle.croner.specs.parser.Gives.{Fails};
 ghost use Rattle.croner.specs.parser.Grammar.{Refusal};
 ghost use Rattle.croner.specs.Views.{job_of as meaning_of_job};
-ghost use Rattle.croncheck_command.specs.Entries.{job_seen, times_seen};
-ghost use Rattle.croncheck_command.specs.Report.{wording_of, NamesNoneFrom, IsPastAt, IsTold, TellsMeaning, TellsTiming, IsRefusalOf, IsUnreadTiming, IsReportOfJob, IsPatternRefused, IsReportOfPattern, blanks_of, IsReport, IsReportOfLine, start_of, stop_of, window_end, is_over, is_at_end_of_window, is_at_window_end, is_never, is_told_past, is_idle, TellsChanges, subject_of, IsWarned, WarnsJob, WarnsPattern, MeetsJob, MeetsPattern, DatesOf, TellsDates, meaning_of_timing, file_and_line, earlier_of, place_for, has_job_warnings, has_warnings, none_counted, counted, begun, is_too_many, is_line_warned, one_more, one_more_if, added, status_of};
+ghost use Rattle.croncheck_command.specs.Entries.{job_seen};
+ghost use Rattle.croncheck_command.specs.Report.{IsRefusalOf, IsUnreadTiming, IsReportOfJob, IsReportOfPattern, blanks_of, IsReport, IsReportOfLine, TellsChanges, subject_of, IsWarned, WarnsJob, WarnsPattern, MeetsJob, DatesOf, TellsDates, meaning_of_timing, file_and_line, earlier_of, place_for, has_job_warnings, has_warnings};
+ghost use Rattle.croncheck_command.specs.Told.{TellsMeaning, TellsTiming};
 ghost use Rattle.croncheck_command.specs.Warnings.{fields_seen, subject_seen};
 
 use crate::bytes::{Kind, cut};
-use crate::changes::Changes;
 use crate::changes::meetings::Meetings;
-use crate::clock::stop::Stop;
-use crate::line::{Dialect, Entry, Fault, Job, Times};
+use crate::line::{Entry, Fault, Job, Times};
 use crate::parsed::job_of;
-use crate::runs::{End, Listing, Runs, runs_of};
+use crate::settings::Settings;
+use crate::told::{Told, is_idle, told_of};
 use crate::warnings::{
     Dates, Fields, Subject, Warning, dates_in_month_of, fields_of_pattern, fields_of_schedule,
-    is_first_too_many, runs_on_either_day, warnings_of,
+    runs_on_either_day, warnings_of,
 };
 use croner::Cron;
-use croner::describe::lang::english::English;
-use croner::describe::lang::swedish::Swedish;
 use croner::errors::CronError;
-use croner::parser::{CronParser, PatternFault};
-use croner::time::table::TableTime;
-use croner::time::{CivilDateTime, CronDateTime};
+use croner::parser::PatternFault;
+use croner::time::CronDateTime;
 use std::alloc::Global;
-
-/// The years that a pattern can name.
-const FIRST_YEAR: u32 = 1;
-
-const LAST_YEAR: u32 = 5_000;
-
-/// A language of descriptions.
-#[derive(Clone, Copy, Drop)]
-pub enum Tongue {
-    English,
-    Swedish,
-}
-
-/// What reports are made by.
-#[derive(Clone, Copy)]
-pub struct Settings<'t> {
-    pub dialect: Dialect,
-    /// The parser of the lines of a file of patterns.
-    pub parser: CronParser,
-    pub language: Tongue,
-    /// The clock, the start behind which runs are listed, and the changes of the clock from there on. No run is listed
-    /// behind the clock's window.
-    pub changes: &'t Changes<'t>,
-    pub listing: Listing,
-    /// The status is 1 where a line has a warning, too.
-    pub is_strict: bool,
-    /// Each job is compared with those before it, for `same-job`.
-    pub compares_jobs: bool,
-}
-
-impl Settings<'_> {
-    /// Where the window of the clock ends before year 5000 does.
-    pub fn stop(&self) -> Option<Stop>
-        ensures { result ≡ stop_of self.now }
-    {
-        self.changes.clock.stop()
-    }
-
-    /// The last second of that window, where it ends before year 5000 does.
-    pub fn last(&self) -> Option<i64>
-        ensures { result ≡ window_end self.now }
-    {
-        self.changes.clock.last()
-    }
-}
 
 /// What a line is told.
 pub enum Report<'l, 't> {
@@ -154,36 +100,6 @@ impl Drop for Same {
     }
 }
 
-/// When a job runs.
-pub enum Told<'t> {
-    /// As the machine starts.
-    Reboot,
-    /// At no time, since a field names nothing.
-    Nothing,
-    Runs {
-        /// The meaning of its times, as a sentence.
-        description: String,
-        runs: Runs<'t>,
-        /// No year that it names is left at the start.
-        is_past: bool,
-    },
-}
-
-// By hand, as that of `Report`.
-impl Drop for Told<'_> {
-    fn drop(self) {
-        match self {
-            Told::Reboot => {}
-            Told::Nothing => {}
-            Told::Runs {
-                description: _,
-                runs: _,
-                is_past: _,
-            } => {}
-        }
-    }
-}
-
 /// Why a line is refused.
 #[derive(Drop)]
 pub enum Why {
@@ -216,61 +132,6 @@ impl JobReport<'_, '_> {
         ensures { result ≡ has_job_warnings self.now }
     {
         !self.warnings.is_empty() || self.meetings.are_warned() || self.same.is_some()
-    }
-}
-
-impl End {
-    // Nothing is left in the years that are searched.
-    fn is_over(&self) -> bool
-        ensures { result ≡ is_over self.now }
-    {
-        match self {
-            End::Over => true,
-            End::More | End::Cut | End::Window | End::Failed(_) => false,
-        }
-    }
-
-    // The clock's window ends.
-    fn is_at_end_of_window(&self) -> bool
-        ensures { result ≡ is_at_end_of_window self.now }
-    {
-        match self {
-            End::Window => true,
-            End::More | End::Over | End::Cut | End::Failed(_) => false,
-        }
-    }
-}
-
-impl Told<'_> {
-    /// The job never runs: a field names nothing, or no run is left before year 5000. One that runs as the machine starts does run.
-    pub fn is_never(&self) -> bool
-        ensures { result ≡ is_never self.now }
-    {
-        match self {
-            Told::Runs { runs, .. } => runs.end.is_over() && runs.items.is_empty(),
-            Told::Nothing => true,
-            Told::Reboot => false,
-        }
-    }
-
-    // No year that the job names is left at the start, and its listing doesn't end where the clock's window does.
-    fn is_past(&self) -> bool
-        ensures { result ≡ is_told_past self.now }
-    {
-        match self {
-            Told::Runs { is_past, runs, .. } => *is_past && !runs.end.is_at_end_of_window(),
-            Told::Reboot | Told::Nothing => false,
-        }
-    }
-
-    // Its listing ends where the clock's window does.
-    fn is_at_window_end(&self) -> bool
-        ensures { result ≡ is_at_window_end self.now }
-    {
-        match self {
-            Told::Runs { runs, .. } => runs.end.is_at_end_of_window(),
-            Told::Reboot | Told::Nothing => false,
-        }
     }
 }
 
@@ -474,13 +335,6 @@ fn dates_of(job: &Cron, told: &Told<'_>) -> Result<Option<Dates>, CronError>
     }
 }
 
-// No run of a job is left.
-fn is_idle(told: &Told<'_>) -> bool
-    ensures { result ≡ is_idle told.now }
-{
-    told.is_never() || told.is_past()
-}
-
 // What a job of a crontab is told, with its warnings.
 fn with_warnings<'t>(
     alloc: Global,
@@ -650,180 +504,4 @@ fn warnings_of_pattern(
         &subject_of(fields, Some(job), None, None, false, is_fed, told),
     )?;
     Ok(warnings)
-}
-
-// The description and the runs of a job.
-fn told_of<'t>(alloc: Global, settings: &Settings<'t>, job: &Cron) -> Result<Told<'t>, CronError>
-    ensures told { IfOk result (TellsMeaning settings.now (Ok (meaning_of_job job.now))) }
-    ensures err { IfErr result (λ e. e ≡ CronError.OutOfMemory) }
-{
-    let description = description_of(job, settings.language)?;
-    let runs = runs_of(
-        alloc,
-        job,
-        settings.changes.start,
-        settings.last(),
-        settings.listing,
-    )?;
-    let is_past = is_past(job, settings.changes.start);
-    Ok(Told::Runs {
-        description,
-        runs,
-        is_past,
-    })
-}
-
-fn description_of(job: &Cron, language: Tongue) -> Result<String, CronError>
-    ensures { Writes (description (wording_of language) (meaning_of_job job.now)) result }
-{
-    match language {
-        Tongue::English => job.describe_lang(English),
-        Tongue::Swedish => job.describe_lang(Swedish),
-    }
-}
-
-// Whether a job names no year from that on which the clock shows at a start.
-fn is_past(job: &Cron, start: TableTime<'_>) -> bool
-    ensures { IsPastAt (meaning_of_job job.now) (reading (table_moment start.entry)) result }
-{
-    names_none_from(job, start.to_civil())
-}
-
-// Whether a job names no year from that of a date on.
-fn names_none_from(job: &Cron, shown: CivilDateTime) -> bool
-    ensures { IsTrue result ↔ NamesNoneFrom (meaning_of_job job.now) shown.date.year }
-{
-    for year in FIRST_YEAR..LAST_YEAR + 1 {
-        if names_from(job, shown, year) {
-            return false;
-        }
-    }
-    true
-}
-
-// Whether a job names this year, and it comes no earlier than that of a date.
-fn names_from(job: &Cron, shown: CivilDateTime, year: u32) -> bool
-    requires { year ≤ last_year }
-    ensures { result ≡ (int_le shown.date.year (pos year) && is_year_matching (meaning_of_job job.now) (pos year)) }
-{
-    shown.year() <= signed(year) && names(job, signed(year))
-}
-
-fn signed(year: u32) -> i32
-    requires { year ≤ last_year }
-    ensures { result ≡ pos year }
-{
-    year as i32
-}
-
-// Whether a job names a year.
-fn names(job: &Cron, year: i32) -> bool
-    ensures { result ≡ is_year_matching (meaning_of_job job.now) year }
-{
-    match job.pattern.year_match(year) {
-        Ok(named) => named,
-        Err(_) => false,
-    }
-}
-
-/// What was told of the lines so far.
-#[derive(Clone, Copy, Default, Drop)]
-pub struct Tally {
-    /// The lines.
-    pub lines: u64,
-    /// The jobs and patterns that were read.
-    pub jobs: u64,
-    /// The lines that are refused.
-    pub refused: u64,
-    /// The lines that have a warning. A plan counts none.
-    pub warned: u64,
-    /// The lines of the file that is read. A plan counts none.
-    pub file_lines: u64,
-}
-
-impl Tally {
-    /// Nothing is counted yet.
-    pub fn new() -> Tally
-        ensures { result ≡ none_counted }
-    {
-        Tally {
-            lines: 0,
-            jobs: 0,
-            refused: 0,
-            warned: 0,
-            file_lines: 0,
-        }
-    }
-
-    /// Begins a file.
-    pub fn begin(&mut self)
-        ensures { self.new ≡ begun self.old }
-    {
-        self.file_lines = 0;
-    }
-
-    /// Counts one more line of the file, and whether it has a warning, or is the first that a crontab has too many. No count passes
-    /// 2^64 - 1.
-    pub fn add(&mut self, dialect: Dialect, report: &Report<'_, '_>)
-        ensures { self.new ≡ added dialect self.old report.now }
-    {
-        let is_warned = is_line_warned(dialect, self.file_lines, report);
-        self.count(report);
-        self.warned = one_more_if(is_warned, self.warned);
-        self.file_lines = one_more(self.file_lines);
-    }
-
-    /// Counts one more line, and no warning. No count passes 2^64 - 1.
-    pub fn count(&mut self, report: &Report<'_, '_>)
-        ensures { self.new ≡ counted self.old report.now }
-    {
-        self.lines = one_more(self.lines);
-        match report {
-            Report::Job(_) => self.jobs = one_more(self.jobs),
-            Report::Refused { .. } => self.refused = one_more(self.refused),
-            Report::Silent | Report::Setting { .. } => {}
-        }
-    }
-
-    /// The status of a call, if all could be read and written: 1 where a line is refused, or where one has a warning and the call is
-    /// strict, else 0.
-    pub fn status(&self, is_strict: bool) -> u8
-        ensures { result ≡ status_of is_strict self.now }
-    {
-        if self.refused != 0 || is_strict && self.warned != 0 {
-            1
-        } else {
-            0
-        }
-    }
-}
-
-// Whether the line behind so many of a file is warned of.
-fn is_line_warned(dialect: Dialect, lines: u64, report: &Report<'_, '_>) -> bool
-    ensures { result ≡ is_line_warned dialect lines report.now }
-{
-    report.has_warnings() || is_too_many(dialect, lines)
-}
-
-// Whether the line behind so many is the first that a crontab has too many.
-pub(crate) fn is_too_many(dialect: Dialect, lines: u64) -> bool
-    ensures { result ≡ is_too_many dialect lines }
-{
-    match dialect {
-        Dialect::User | Dialect::System => is_first_too_many(lines),
-        Dialect::Patterns => false,
-    }
-}
-
-// One more, if it counts.
-fn one_more_if(counts: bool, count: u64) -> u64
-    ensures { result ≡ one_more_if counts count }
-{
-    if counts { one_more(count) } else { count }
-}
-
-fn one_more(count: u64) -> u64
-    ensures { result ≡ one_more count }
-{
-    count.saturating_add(1)
 }

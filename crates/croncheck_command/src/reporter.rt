@@ -1,15 +1,18 @@
 //! What takes the entries of files and writes what each is told.
 ghost use Rattle.std.specs.Prelude.{◌≡◌, OnOk, IfSome, if◌then◌else◌, ◌||◌, is_err};
-ghost use Rattle.croncheck_command.specs.Report.{IsReportOfLine, none_counted, added, begun, status_of};
+ghost use Rattle.croncheck_command.specs.Report.{IsReportOfLine};
+ghost use Rattle.croncheck_command.specs.Tally.{none_counted, added, begun, status_of};
 ghost use Rattle.croncheck_command.specs.Reported.{IsChecked};
 
 use crate::check::{Entries, check};
 use crate::escaped::shown;
 use crate::file_seen::FileSeen;
 use crate::line::Entry;
-use crate::report::{Report, Settings, Tally, report_of_line};
+use crate::report::{Report, report_of_line};
 use crate::same::Seen;
+use crate::settings::Settings;
 use crate::shown::{Place, Shared, text_of};
+use crate::tally::Tally;
 use std::alloc::Global;
 use std::io;
 use std::io::{BufRead, ErrorKind, Write};

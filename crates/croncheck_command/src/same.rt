@@ -10,7 +10,8 @@ ghost use Rattle.croncheck_command.specs.Same.{has_star_day, HasTimesCompared, o
 use crate::line::{Entry, Times, words_of};
 use crate::parsed::job_of;
 use crate::plan::{accepted, job_of_entry};
-use crate::report::{Same, Settings};
+use crate::report::Same;
+use crate::settings::Settings;
 use crate::shown::Place;
 use croner::Cron;
 use std::alloc::{AllocError, Global};

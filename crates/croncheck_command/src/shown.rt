@@ -1,7 +1,7 @@
 //! The text of a report.
 ghost use Rattle.std.specs.Prelude.{◌≡◌, ◌≤◌, [], length, true, false, IfOk, string_bytes};
 ghost use Rattle.jiff.specs.ZoneView.{plain_zone};
-ghost use Rattle.croncheck_command.specs.Report.{stop_of};
+ghost use Rattle.croncheck_command.specs.Settings.{stop_of};
 ghost use Rattle.croncheck_command.specs.Shown.{is_told, AreLines, offset_of};
 ghost use Rattle.croncheck_command.specs.Warnings.{field_name};
 
@@ -12,9 +12,11 @@ use crate::escaped::push_shown;
 use crate::line::{Fault, WEEKDAYS};
 use crate::notes;
 use crate::notes::{Note, is_nickname, notes_of, takes};
-use crate::report::{JobReport, Report, Settings, Told, Why};
+use crate::report::{JobReport, Report, Why};
 use crate::runs::{End, Listing, MOST_RUNS, Runs};
 use crate::setting::has;
+use crate::settings::Settings;
+use crate::told::Told;
 use crate::warnings::{Dates, Warning, push_warning_text};
 use croner::parser::PatternField;
 use croner::time::table::TableTime;

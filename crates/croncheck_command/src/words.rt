@@ -6,7 +6,7 @@ ghost use Rattle.croncheck_command.specs.Words.{IsInRange};
 use crate::escaped::push_shown;
 use crate::line::Dialect;
 use crate::moment::{Moment, read_moment};
-use crate::report::Tongue;
+use crate::settings::Tongue;
 use clap::error::ErrorKind;
 use clap::{Arg, ArgAction, ArgMatches, Command, value_parser};
 use croner::parser::{CronParser, Seconds, Year};

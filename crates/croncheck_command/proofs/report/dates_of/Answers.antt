@@ -4,7 +4,7 @@ use Rattle.std.specs.Vec.{vec_len}
 use Rattle.std.proofs.lemmas.Bool.Decides.{nat_tests}
 use Rattle.croner_base.specs.declared.time.civil.CivilDate.{CivilDate}
 use Rattle.croner_base.specs.Civil.{weekday_index}
-use Rattle.croncheck_command.specs.declared.report.Told.{Told}
+use Rattle.croncheck_command.specs.declared.told.Told.{Told}
 use Rattle.croncheck_command.specs.Report.{IsFirstListed}
 use Rattle.croncheck_command.specs.Warnings.{IsMonthOf}
 use Rattle.croncheck_command.proofs.report.dates_of.Goals as goal

@@ -1,8 +1,9 @@
 use Rattle.std.proofs.Common.{Ok, Some, sym, subst}
 use Rattle.croner.specs.Views.{job_of}
 use Rattle.croncheck_command.specs.declared.changes.meetings.Meetings.{Meetings}
-use Rattle.croncheck_command.specs.declared.report.Told.{Told}
-use Rattle.croncheck_command.specs.Report.{TellsMeaning, TellsChanges}
+use Rattle.croncheck_command.specs.declared.told.Told.{Told}
+use Rattle.croncheck_command.specs.Report.{TellsChanges}
+use Rattle.croncheck_command.specs.Told.{TellsMeaning}
 use Rattle.croncheck_command.proofs.report.told_of_job.Goals as goal
 
 pub returns-clause-told : goal.returns-clause-told

@@ -1,7 +1,8 @@
 use Rattle.std.proofs.Common.{Result, refl, sym, subst}
 use Rattle.croner_pattern.specs.Meaning.{Meaning}
 use Rattle.croner.specs.parser.Grammar.{Refusal}
-use Rattle.croncheck_command.specs.Report.{TellsMeaning, WarnsPattern, MeetsPattern, DatesOf, meaning_read}
+use Rattle.croncheck_command.specs.Report.{WarnsPattern, MeetsPattern, DatesOf, meaning_read}
+use Rattle.croncheck_command.specs.Told.{TellsMeaning}
 use Rattle.croncheck_command.proofs.report.told_of_pattern.Goals as goal
 
 pub returns-in_ok-warnings-in-Ok-clause-report : goal.returns-in_ok-warnings-in-Ok-clause-report

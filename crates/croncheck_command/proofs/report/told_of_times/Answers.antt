@@ -5,7 +5,8 @@ use Rattle.croner.specs.Views.{job_of}
 use Rattle.croncheck_command.specs.declared.line.Times.{Times}
 use Rattle.croncheck_command.specs.Entries.{times_seen}
 use Rattle.croncheck_command.specs.Parsed.{crontab_settings}
-use Rattle.croncheck_command.specs.Report.{TellsMeaning, TellsTiming, meaning_read, meaning_of_timing, IsWarned, TellsChanges}
+use Rattle.croncheck_command.specs.Report.{meaning_read, meaning_of_timing, IsWarned, TellsChanges}
+use Rattle.croncheck_command.specs.Told.{TellsMeaning, TellsTiming}
 use Rattle.croncheck_command.proofs.report.told_of_times.Goals as goal
 
 pub returns-in_ok-warned-in-Ok-clause-told : goal.returns-in_ok-warned-in-Ok-clause-told

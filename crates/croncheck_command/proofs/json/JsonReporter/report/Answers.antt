@@ -1,7 +1,7 @@
 use Rattle.std.proofs.Common.{◌∙◌, ℕ, List, ap, refl, subst}
 use Rattle.std.specs.Prelude.{IfSome, string_bytes}
 use Rattle.jiff.specs.ZoneView.{plain_zone}
-use Rattle.croncheck_command.specs.declared.report.Tally.{Tally}
+use Rattle.croncheck_command.specs.declared.tally.Tally.{Tally}
 use Rattle.croncheck_command.specs.Json.{Writes, IsWritten}
 use Rattle.croncheck_command.specs.Shown.{bytes_shown}
 use Rattle.croncheck_command.proofs.Reports.{checked_objects}

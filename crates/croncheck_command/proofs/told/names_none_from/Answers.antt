@@ -3,7 +3,7 @@ use Rattle.croner_base.specs.Limits.{last_year}
 use Rattle.croner_pattern.specs.Schedule.{is_year_matching}
 use Rattle.croner.specs.Views.{job_of}
 use Rattle.croncheck_command.proofs.Years.{none_before_next, none_is}
-use Rattle.croncheck_command.proofs.report.names_none_from.Goals as goal
+use Rattle.croncheck_command.proofs.told.names_none_from.Goals as goal
 
 pub loop-year-preserved : goal.loop-year-preserved
 loop-year-preserved c =

@@ -2,9 +2,9 @@ use Rattle.std.proofs.Common.{sym, subst}
 use Rattle.croner_pattern.specs.Description.{description}
 use Rattle.croner_words.specs.Writes.{Writes}
 use Rattle.croner.specs.Views.{job_of}
-use Rattle.croncheck_command.specs.Report.{wording_of}
-use Rattle.croncheck_command.specs.declared.report.Tongue.{Tongue}
-use Rattle.croncheck_command.proofs.report.description_of.Goals as goal
+use Rattle.croncheck_command.specs.Settings.{wording_of}
+use Rattle.croncheck_command.specs.declared.settings.Tongue.{Tongue}
+use Rattle.croncheck_command.proofs.told.description_of.Goals as goal
 
 pub returns-in-English : goal.returns-in-English
 returns-in-English c =

@@ -1,8 +1,8 @@
 use Rattle.std.proofs.Common.{ℤ, Option, refl, subst}
 use Rattle.croner.specs.Views.{job_of}
-use Rattle.croncheck_command.specs.Report.{start_of}
 use Rattle.croncheck_command.specs.Runs.{IsListed}
-use Rattle.croncheck_command.proofs.report.told_of.Goals as goal
+use Rattle.croncheck_command.specs.Settings.{start_of}
+use Rattle.croncheck_command.proofs.told.told_of.Goals as goal
 
 pub returns-clause-told : goal.returns-clause-told
 returns-clause-told c =

@@ -1,0 +1,28 @@
+-- What reports are made by. Source: this crate's documentation of `Settings`.
+use Rattle.std.specs.Prelude.{ℤ, Option}
+use Rattle.croner_base.specs.declared.time.table.TableTime.{TableTime}
+use Rattle.croner_words.specs.English.{english}
+use Rattle.croner_words.specs.Swedish.{swedish}
+use Rattle.croner_words.specs.Wording.{Wording}
+use Rattle.croncheck_command.specs.declared.clock.stop.Stop.{Stop}
+use Rattle.croncheck_command.specs.declared.settings.Settings.{Settings}
+use Rattle.croncheck_command.specs.declared.settings.Tongue.TheVariants as tongues
+use Rattle.croncheck_command.specs.declared.settings.Tongue.{Tongue}
+use Rattle.croncheck_command.specs.Clock.{last_before}
+
+-- what a language is made of
+abbrev pub wording_of : Tongue → Wording
+wording_of tongues.English = english
+wording_of tongues.Swedish = swedish
+
+-- where runs are listed from: the start whose changes of the clock are told
+abbrev pub start_of : Settings → TableTime
+start_of s = s.changes.now.start
+
+-- where the window of the clock stops before year 5000 does: that of the clock whose changes are told
+abbrev pub stop_of : Settings → Option Stop
+stop_of s = s.changes.now.clock.now.stop
+
+-- the last second of that window, where it stops so
+abbrev pub window_end : Settings → Option ℤ
+window_end s = last_before (stop_of s)

@@ -1,0 +1,61 @@
+-- What was told of lines so far, and the status. Source: this crate's documentation of `Tally`.
+use Rattle.std.specs.Prelude.{min, not, ◌&&◌, ◌||◌, ◌==◌, ℕ, ◌+◌, Bool, false, if◌then◌else◌}
+use Rattle.croncheck_command.specs.declared.line.Dialect.TheVariants as dialects
+use Rattle.croncheck_command.specs.declared.line.Dialect.{Dialect}
+use Rattle.croncheck_command.specs.declared.report.Report.TheVariants as reports
+use Rattle.croncheck_command.specs.declared.report.Report.{Report}
+use Rattle.croncheck_command.specs.declared.tally.Tally.{Tally}
+use Rattle.croncheck_command.specs.Report.{has_warnings}
+use Rattle.croncheck_command.specs.Warnings.{is_first_too_many}
+
+-- the most that 64 bits hold
+abbrev pub most_counted : ℕ
+most_counted = 18_446_744_073_709_551_615
+
+-- one more, up to the most
+abbrev pub one_more : ℕ → ℕ
+one_more n = min (n + 1) most_counted
+
+-- nothing is counted yet
+abbrev pub none_counted : Tally
+none_counted = record { lines = 0; jobs = 0; refused = 0; warned = 0; file_lines = 0 }
+
+-- with one more line, of which no warning is counted
+abbrev pub counted : Tally → Report → Tally
+counted t reports.Silent = record t { lines = one_more t.lines }
+counted t (reports.Setting is_zone has_feed) = record t { lines = one_more t.lines }
+counted t (reports.Job j) = record t { lines = one_more t.lines; jobs = one_more t.jobs }
+counted t (reports.Refused start end why) = record t { lines = one_more t.lines; refused = one_more t.refused }
+
+-- where a file begins
+abbrev pub begun : Tally → Tally
+begun t = record t { file_lines = 0 }
+
+-- `many-lines`: the line behind so many of a crontab is the first that is too many
+abbrev pub is_too_many : Dialect → ℕ → Bool
+is_too_many dialects.User lines = is_first_too_many lines
+is_too_many dialects.System lines = is_first_too_many lines
+is_too_many dialects.Patterns lines = false
+
+-- the line behind so many of a file is warned of
+abbrev pub is_line_warned : Dialect → ℕ → Report → Bool
+is_line_warned dialect lines report = has_warnings report || is_too_many dialect lines
+
+-- one more, if it counts
+abbrev pub one_more_if : Bool → ℕ → ℕ
+one_more_if counts n = if counts then one_more n else n
+
+-- with one more line of the file and its warnings
+abbrev pub added : Dialect → Tally → Report → Tally
+added dialect t report = record (counted t report) {
+  warned = one_more_if (is_line_warned dialect t.file_lines report) t.warned;
+  file_lines = one_more t.file_lines;
+}
+
+-- a line is refused, or one has a warning where the call is strict
+abbrev pub has_findings : Bool → Tally → Bool
+has_findings is_strict t = not (t.refused == 0) || (is_strict && not (t.warned == 0))
+
+-- 1 where there is a finding, else 0
+abbrev pub status_of : Bool → Tally → ℕ
+status_of is_strict t = if has_findings is_strict t then 1 else 0

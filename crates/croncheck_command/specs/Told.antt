@@ -1,0 +1,88 @@
+-- When a job runs, as it is told. Source: this crate's documentation of `Told`.
+use Rattle.std.specs.Prelude.{◌≡◌, ◌↔◌, not, ◌&&◌, ◌||◌, ◌==◌, ◌≤ℤ◌, Bool, true, false, IsTrue, ℤ, length, Result, Ok, string_bytes}
+use Rattle.std.specs.declared.string.String.{String}
+use Rattle.std.specs.declared.alloc.Global.{Global}
+use Rattle.croner_base.specs.declared.time.civil.CivilDateTime.{CivilDateTime}
+use Rattle.croner_base.specs.Civil.{wall_second}
+use Rattle.croner_base.specs.TableZone.{table_moment}
+use Rattle.croner_base.specs.Zone.{reading}
+use Rattle.croner_pattern.specs.Description.{description}
+use Rattle.croner_pattern.specs.Meaning.{Meaning}
+use Rattle.croner_pattern.specs.Schedule.{is_year_matching}
+use Rattle.croner.specs.parser.Grammar.{Refusal, outcome}
+use Rattle.croncheck_command.specs.declared.runs.End.TheVariants as ends
+use Rattle.croncheck_command.specs.declared.runs.End.{End}
+use Rattle.croncheck_command.specs.declared.runs.Runs.{Runs}
+use Rattle.croncheck_command.specs.declared.settings.Settings.{Settings}
+use Rattle.croncheck_command.specs.declared.told.Told.TheVariants as tolds
+use Rattle.croncheck_command.specs.declared.told.Told.{Told}
+use Rattle.croncheck_command.specs.Line.{Timing, reboot, never, named}
+use Rattle.croncheck_command.specs.Parsed.{crontab_settings}
+use Rattle.croncheck_command.specs.Runs.{IsListed}
+use Rattle.croncheck_command.specs.Settings.{wording_of, start_of, window_end}
+
+-- the pattern names no year from this one on
+abbrev pub NamesNoneFrom : Meaning → ℤ → Type 0
+NamesNoneFrom m year = (later : ℤ) → year ≤ℤ later → is_year_matching m later ≡ false
+
+-- the pattern names no year from that on which the clock shows at the start
+pub record IsPastAt (m : Meaning) (w : ℤ) (is_past : Bool) : Type 0 where
+  pub shown : CivilDateTime
+  pub shows : wall_second shown ≡ w
+  pub none : IsTrue is_past ↔ NamesNoneFrom m shown.date.year
+
+-- a meaning is told as its description, its runs behind the start, and whether its years are past
+pub record IsTold (s : Settings) (m : Meaning) (text : String Global) (runs : Runs) (is_past : Bool) : Type 0 where
+  pub described : string_bytes text ≡ description (wording_of s.language) m
+  pub listed : IsListed m (start_of s) (window_end s) s.listing runs
+  pub past : IsPastAt m (reading (table_moment (start_of s))) is_past
+
+-- what was told of a text for a parser: that of its meaning, so that it has one
+abbrev pub TellsMeaning : Settings → Result Meaning Refusal → Told → Type 0
+TellsMeaning s read tolds.Reboot = ⊥
+TellsMeaning s read tolds.Nothing = ⊥
+TellsMeaning s read (tolds.Runs text runs is_past) = (m : Meaning) × (read ≡ Ok m) × IsTold s m text runs is_past
+
+-- what was told of a job's times
+abbrev pub TellsTiming : Settings → Timing → Told → Type 0
+TellsTiming s reboot told = told ≡ tolds.Reboot
+TellsTiming s never told = told ≡ tolds.Nothing
+TellsTiming s (named text both) told = TellsMeaning s (outcome (crontab_settings both) text) told
+
+-- ---- never
+
+abbrev pub is_over : End → Bool
+is_over ends.More = false
+is_over ends.Over = true
+is_over ends.Cut = false
+is_over ends.Window = false
+is_over (ends.Failed e) = false
+
+abbrev pub is_at_end_of_window : End → Bool
+is_at_end_of_window ends.More = false
+is_at_end_of_window ends.Over = false
+is_at_end_of_window ends.Cut = false
+is_at_end_of_window ends.Window = true
+is_at_end_of_window (ends.Failed e) = false
+
+-- its listing ends where the clock's window does
+abbrev pub is_at_window_end : Told → Bool
+is_at_window_end tolds.Reboot = false
+is_at_window_end tolds.Nothing = false
+is_at_window_end (tolds.Runs text runs is_past) = is_at_end_of_window runs.end
+
+-- a field names nothing, or the listing is over and has no run
+abbrev pub is_never : Told → Bool
+is_never tolds.Reboot = false
+is_never tolds.Nothing = true
+is_never (tolds.Runs text runs is_past) = is_over runs.end && length runs.items.items == 0
+
+-- no year that it names is left at the start, and its listing doesn't end where the clock's window does
+abbrev pub is_told_past : Told → Bool
+is_told_past tolds.Reboot = false
+is_told_past tolds.Nothing = false
+is_told_past (tolds.Runs text runs is_past) = is_past && not (is_at_end_of_window runs.end)
+
+-- no run is left
+abbrev pub is_idle : Told → Bool
+is_idle told = is_never told || is_told_past told

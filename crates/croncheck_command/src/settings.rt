@@ -1,0 +1,49 @@
+//! What reports are made by.
+ghost use Rattle.std.specs.Prelude.{◌≡◌};
+ghost use Rattle.croncheck_command.specs.Settings.{stop_of, window_end};
+
+use crate::changes::Changes;
+use crate::clock::stop::Stop;
+use crate::line::Dialect;
+use crate::runs::Listing;
+use croner::parser::CronParser;
+
+/// A language of descriptions.
+#[derive(Clone, Copy, Drop)]
+pub enum Tongue {
+    English,
+    Swedish,
+}
+
+/// What reports are made by.
+#[derive(Clone, Copy)]
+pub struct Settings<'t> {
+    pub dialect: Dialect,
+    /// The parser of the lines of a file of patterns.
+    pub parser: CronParser,
+    pub language: Tongue,
+    /// The clock, the start behind which runs are listed, and the changes of the clock from there on. No run is listed
+    /// behind the clock's window.
+    pub changes: &'t Changes<'t>,
+    pub listing: Listing,
+    /// The status is 1 where a line has a warning, too.
+    pub is_strict: bool,
+    /// Each job is compared with those before it, for `same-job`.
+    pub compares_jobs: bool,
+}
+
+impl Settings<'_> {
+    /// Where the window of the clock ends before year 5000 does.
+    pub fn stop(&self) -> Option<Stop>
+        ensures { result ≡ stop_of self.now }
+    {
+        self.changes.clock.stop()
+    }
+
+    /// The last second of that window, where it ends before year 5000 does.
+    pub fn last(&self) -> Option<i64>
+        ensures { result ≡ window_end self.now }
+    {
+        self.changes.clock.last()
+    }
+}

@@ -1,0 +1,109 @@
+//! What was told of lines so far, and the status of a call.
+ghost use Rattle.std.specs.Prelude.{◌≡◌};
+ghost use Rattle.croncheck_command.specs.Tally.{one_more, none_counted, counted, begun, is_too_many, is_line_warned, one_more_if, added, status_of};
+
+use crate::line::Dialect;
+use crate::report::Report;
+use crate::warnings::is_first_too_many;
+
+/// What was told of the lines so far.
+#[derive(Clone, Copy, Default, Drop)]
+pub struct Tally {
+    /// The lines.
+    pub lines: u64,
+    /// The jobs and patterns that were read.
+    pub jobs: u64,
+    /// The lines that are refused.
+    pub refused: u64,
+    /// The lines that have a warning. A plan counts none.
+    pub warned: u64,
+    /// The lines of the file that is read. A plan counts none.
+    pub file_lines: u64,
+}
+
+impl Tally {
+    /// Nothing is counted yet.
+    pub fn new() -> Tally
+        ensures { result ≡ none_counted }
+    {
+        Tally {
+            lines: 0,
+            jobs: 0,
+            refused: 0,
+            warned: 0,
+            file_lines: 0,
+        }
+    }
+
+    /// Begins a file.
+    pub fn begin(&mut self)
+        ensures { self.new ≡ begun self.old }
+    {
+        self.file_lines = 0;
+    }
+
+    /// Counts one more line of the file, and whether it has a warning, or is the first that a crontab has too many. No count passes
+    /// 2^64 - 1.
+    pub fn add(&mut self, dialect: Dialect, report: &Report<'_, '_>)
+        ensures { self.new ≡ added dialect self.old report.now }
+    {
+        let is_warned = is_line_warned(dialect, self.file_lines, report);
+        self.count(report);
+        self.warned = one_more_if(is_warned, self.warned);
+        self.file_lines = one_more(self.file_lines);
+    }
+
+    /// Counts one more line, and no warning. No count passes 2^64 - 1.
+    pub fn count(&mut self, report: &Report<'_, '_>)
+        ensures { self.new ≡ counted self.old report.now }
+    {
+        self.lines = one_more(self.lines);
+        match report {
+            Report::Job(_) => self.jobs = one_more(self.jobs),
+            Report::Refused { .. } => self.refused = one_more(self.refused),
+            Report::Silent | Report::Setting { .. } => {}
+        }
+    }
+
+    /// The status of a call, if all could be read and written: 1 where a line is refused, or where one has a warning and the call is
+    /// strict, else 0.
+    pub fn status(&self, is_strict: bool) -> u8
+        ensures { result ≡ status_of is_strict self.now }
+    {
+        if self.refused != 0 || is_strict && self.warned != 0 {
+            1
+        } else {
+            0
+        }
+    }
+}
+
+// Whether the line behind so many of a file is warned of.
+fn is_line_warned(dialect: Dialect, lines: u64, report: &Report<'_, '_>) -> bool
+    ensures { result ≡ is_line_warned dialect lines report.now }
+{
+    report.has_warnings() || is_too_many(dialect, lines)
+}
+
+// Whether the line behind so many is the first that a crontab has too many.
+pub(crate) fn is_too_many(dialect: Dialect, lines: u64) -> bool
+    ensures { result ≡ is_too_many dialect lines }
+{
+    match dialect {
+        Dialect::User | Dialect::System => is_first_too_many(lines),
+        Dialect::Patterns => false,
+    }
+}
+
+// One more, if it counts.
+fn one_more_if(counts: bool, count: u64) -> u64
+    ensures { result ≡ one_more_if counts count }
+{
+    if counts { one_more(count) } else { count }
+}
+
+fn one_more(count: u64) -> u64
+    ensures { result ≡ one_more count }
+{
+    count.saturating_add(1)
+}

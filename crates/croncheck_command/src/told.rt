@@ -1,0 +1,192 @@
+//! When a job runs, as it is told.
+ghost use Rattle.std.specs.Prelude.{◌≡◌, ◌↔◌, ◌&&◌, ◌≤◌, Ok, pos, int_le, IsTrue, IfOk, IfErr};
+ghost use Rattle.croner_base.specs.Limits.{last_year};
+ghost use Rattle.croner_base.specs.Zone.{reading};
+ghost use Rattle.croner_base.specs.TableZone.{table_moment};
+ghost use Rattle.croner_pattern.specs.Description.{description};
+ghost use Rattle.croner_pattern.specs.Schedule.{is_year_matching};
+ghost use Rattle.croner_words.specs.Writes.{Writes};
+ghost use Rattle.croner.specs.Views.{job_of as meaning_of_job};
+ghost use Rattle.croncheck_command.specs.Settings.{wording_of};
+ghost use Rattle.croncheck_command.specs.Told.{NamesNoneFrom, IsPastAt, TellsMeaning, is_over, is_at_end_of_window, is_at_window_end, is_never, is_told_past, is_idle};
+
+use crate::runs::{End, Runs, runs_of};
+use crate::settings::{Settings, Tongue};
+use croner::Cron;
+use croner::describe::lang::english::English;
+use croner::describe::lang::swedish::Swedish;
+use croner::errors::CronError;
+use croner::time::table::TableTime;
+use croner::time::{CivilDateTime, CronDateTime};
+use std::alloc::Global;
+
+/// The years that a pattern can name.
+const FIRST_YEAR: u32 = 1;
+
+const LAST_YEAR: u32 = 5_000;
+
+/// When a job runs.
+pub enum Told<'t> {
+    /// As the machine starts.
+    Reboot,
+    /// At no time, since a field names nothing.
+    Nothing,
+    Runs {
+        /// The meaning of its times, as a sentence.
+        description: String,
+        runs: Runs<'t>,
+        /// No year that it names is left at the start.
+        is_past: bool,
+    },
+}
+
+// By hand, as that of `Report`.
+impl Drop for Told<'_> {
+    fn drop(self) {
+        match self {
+            Told::Reboot => {}
+            Told::Nothing => {}
+            Told::Runs {
+                description: _,
+                runs: _,
+                is_past: _,
+            } => {}
+        }
+    }
+}
+
+impl End {
+    // Nothing is left in the years that are searched.
+    fn is_over(&self) -> bool
+        ensures { result ≡ is_over self.now }
+    {
+        match self {
+            End::Over => true,
+            End::More | End::Cut | End::Window | End::Failed(_) => false,
+        }
+    }
+
+    // The clock's window ends.
+    fn is_at_end_of_window(&self) -> bool
+        ensures { result ≡ is_at_end_of_window self.now }
+    {
+        match self {
+            End::Window => true,
+            End::More | End::Over | End::Cut | End::Failed(_) => false,
+        }
+    }
+}
+
+impl Told<'_> {
+    /// The job never runs: a field names nothing, or no run is left before year 5000. One that runs as the machine starts does run.
+    pub fn is_never(&self) -> bool
+        ensures { result ≡ is_never self.now }
+    {
+        match self {
+            Told::Runs { runs, .. } => runs.end.is_over() && runs.items.is_empty(),
+            Told::Nothing => true,
+            Told::Reboot => false,
+        }
+    }
+
+    // No year that the job names is left at the start, and its listing doesn't end where the clock's window does.
+    pub(crate) fn is_past(&self) -> bool
+        ensures { result ≡ is_told_past self.now }
+    {
+        match self {
+            Told::Runs { is_past, runs, .. } => *is_past && !runs.end.is_at_end_of_window(),
+            Told::Reboot | Told::Nothing => false,
+        }
+    }
+
+    // Its listing ends where the clock's window does.
+    pub(crate) fn is_at_window_end(&self) -> bool
+        ensures { result ≡ is_at_window_end self.now }
+    {
+        match self {
+            Told::Runs { runs, .. } => runs.end.is_at_end_of_window(),
+            Told::Reboot | Told::Nothing => false,
+        }
+    }
+}
+
+// The description and the runs of a job.
+pub(crate) fn told_of<'t>(alloc: Global, settings: &Settings<'t>, job: &Cron) -> Result<Told<'t>, CronError>
+    ensures told { IfOk result (TellsMeaning settings.now (Ok (meaning_of_job job.now))) }
+    ensures err { IfErr result (λ e. e ≡ CronError.OutOfMemory) }
+{
+    let description = description_of(job, settings.language)?;
+    let runs = runs_of(
+        alloc,
+        job,
+        settings.changes.start,
+        settings.last(),
+        settings.listing,
+    )?;
+    let is_past = is_past(job, settings.changes.start);
+    Ok(Told::Runs {
+        description,
+        runs,
+        is_past,
+    })
+}
+
+fn description_of(job: &Cron, language: Tongue) -> Result<String, CronError>
+    ensures { Writes (description (wording_of language) (meaning_of_job job.now)) result }
+{
+    match language {
+        Tongue::English => job.describe_lang(English),
+        Tongue::Swedish => job.describe_lang(Swedish),
+    }
+}
+
+// Whether a job names no year from that on which the clock shows at a start.
+fn is_past(job: &Cron, start: TableTime<'_>) -> bool
+    ensures { IsPastAt (meaning_of_job job.now) (reading (table_moment start.entry)) result }
+{
+    names_none_from(job, start.to_civil())
+}
+
+// Whether a job names no year from that of a date on.
+fn names_none_from(job: &Cron, shown: CivilDateTime) -> bool
+    ensures { IsTrue result ↔ NamesNoneFrom (meaning_of_job job.now) shown.date.year }
+{
+    for year in FIRST_YEAR..LAST_YEAR + 1 {
+        if names_from(job, shown, year) {
+            return false;
+        }
+    }
+    true
+}
+
+// Whether a job names this year, and it comes no earlier than that of a date.
+fn names_from(job: &Cron, shown: CivilDateTime, year: u32) -> bool
+    requires { year ≤ last_year }
+    ensures { result ≡ (int_le shown.date.year (pos year) && is_year_matching (meaning_of_job job.now) (pos year)) }
+{
+    shown.year() <= signed(year) && names(job, signed(year))
+}
+
+fn signed(year: u32) -> i32
+    requires { year ≤ last_year }
+    ensures { result ≡ pos year }
+{
+    year as i32
+}
+
+// Whether a job names a year.
+fn names(job: &Cron, year: i32) -> bool
+    ensures { result ≡ is_year_matching (meaning_of_job job.now) year }
+{
+    match job.pattern.year_match(year) {
+        Ok(named) => named,
+        Err(_) => false,
+    }
+}
+
+// No run of a job is left.
+pub(crate) fn is_idle(told: &Told<'_>) -> bool
+    ensures { result ≡ is_idle told.now }
+{
+    told.is_never() || told.is_past()
+}
