@@ -45,6 +45,7 @@ fn time_before(time: CivilTime) -> Option<CivilTime>
 }
 
 /// The next day. `None` after 31 December of the last year of `i32`, 2,147,483,647.
+#[tactic(auto, using(crate::proofs::calendar::WallSteps::days_after))]
 pub fn day_after(date: CivilDate) -> Option<CivilDate>
     ensures { MatchOption result (IsLastDate date) (λ moved. day_of_date moved ≡ day_of_date date +ℤ pos 1) }
 {
@@ -61,6 +62,7 @@ pub fn day_after(date: CivilDate) -> Option<CivilDate>
 }
 
 /// The day before. `None` before 1 January of the first year of `i32`, -2,147,483,648.
+#[tactic(auto, using(crate::proofs::calendar::WallSteps::days_before))]
 pub fn day_before(date: CivilDate) -> Option<CivilDate>
     ensures { MatchOption result (IsFirstDate date) (λ moved. day_of_date moved ≡ day_of_date date -ℤ pos 1) }
 {
@@ -79,6 +81,7 @@ pub fn day_before(date: CivilDate) -> Option<CivilDate>
 
 /// The next second: `2024-02-29T00:00:00` after `2024-02-28T23:59:59`. `None` after the last second of the last year of
 /// `i32`.
+#[tactic(auto, using(crate::proofs::calendar::WallSteps::seconds_after))]
 pub fn second_after(civil: CivilDateTime) -> Option<CivilDateTime>
     ensures { MatchOption result (IsLastDate civil.date × (seconds_of_time civil.time ≡ day_seconds - 1))
         (λ moved. wall_second moved ≡ wall_second civil +ℤ pos 1) }
@@ -94,6 +97,7 @@ pub fn second_after(civil: CivilDateTime) -> Option<CivilDateTime>
 
 /// The second before: `2023-12-31T23:59:59` before `2024-01-01T00:00:00`. `None` before the first second of the first year
 /// of `i32`.
+#[tactic(auto, using(crate::proofs::calendar::WallSteps::seconds_before))]
 pub fn second_before(civil: CivilDateTime) -> Option<CivilDateTime>
     ensures { MatchOption result (IsFirstDate civil.date × (seconds_of_time civil.time ≡ 0))
         (λ moved. wall_second moved ≡ wall_second civil -ℤ pos 1) }

@@ -1,6 +1,6 @@
 -- What the clock of a calm table reads, and which instants read a wall second.
 use Rattle.std.proofs.Common.{◌≡◌, ◌↔◌, ◌⊎◌, inl, inr, ◌∙◌, ap, true, false, refl, arith, ℕ, zero, suc, ◌<◌, ◌≤◌, ℤ, pos, ◌+ℤ◌, ◌-ℤ◌, ◌<ℤ◌, ◌≤ℤ◌, int_le, List, [], ◌∷◌, length, get_or}
-use Rattle.std.proofs.lemmas.Int.{ints, by_lt_z}
+use Rattle.std.proofs.lemmas.Int.{ints, to_z-of_z, by_lt_z}
 use Rattle.jiff_core.proofs.SignedLemmas.{signed_arith}
 use Rattle.croner_base.specs.declared.time.value.Resolution.{Resolution}
 use Rattle.croner_base.specs.declared.time.value.Resolution.TheVariants.{Single, Ambiguous, Gap}
@@ -90,6 +90,13 @@ past_is_offset o cs (suc n) h le = each_offset o cs n (pos 0, pos 0) (omega arit
 
 pub each_is_offset : (o : ℤ) (cs : List (ℤ × ℤ)) (k : ℕ) (x : ℤ × ℤ) → is_calm_table o cs ≡ true → k < length cs → x ≡ get_or cs k x → is_offset x.1 ≡ true
 each_is_offset o cs k x h lt e = rw e (each_offset o cs k x lt (calm_parts o cs h).changes)
+
+-- of a calm table the first offset and that of each change are offsets
+pub calm_offsets : (o : ℤ) (cs : List (ℤ × ℤ)) → is_calm_table o cs ≡ true
+    → (is_calm_table o cs ≡ true) × (is_offset o ≡ true) × ((k : ℕ) (d : ℤ × ℤ) → k < length cs → is_offset (get_or cs k d).1 ≡ true)
+calm_offsets o cs h = (h, (calm_parts o cs h).offset_in, λ k d lt. each_offset o cs k d lt (calm_parts o cs h).changes)
+
+pub ruleset offsets = (ints, to_z-of_z, calm_offsets)
 
 -- what the clock reads
 pub reads_by : (a r o : ℤ) (cs : List (ℤ × ℤ)) (i : ℤ) → r ≡ offset_at o cs i → a ≡ i +ℤ r → a ≡ clock_reads o cs i

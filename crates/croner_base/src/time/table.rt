@@ -73,6 +73,7 @@ impl ClockTable {
     /// ```
     /// let ahead = paris.first_offset(); // 3600
     /// ```
+    #[tactic(auto, using(crate::proofs::tables::TableReadings::offsets))]
     pub fn first_offset(&self) -> i32
         ensures value { result ≡ self.now.first_offset }
         ensures bound { IsTrue (Spec.is_offset result) }
@@ -105,6 +106,7 @@ impl ClockTable {
     }
 
     // The offset in force after so many changes.
+    #[tactic(auto, using(crate::proofs::tables::TableReadings::offsets))]
     fn offset_past(&self, count: usize) -> i64
         requires { count ≤ vec_len self.now.changes }
         ensures value { result ≡ offset_past self.now.first_offset self.now.changes.items count }
@@ -239,6 +241,7 @@ impl<'t> TableTime<'t> {
     }
 
     // What the clock reads.
+    #[tactic(auto, using(crate::proofs::tables::TableReadings::offsets), unfolding(crate::specs::TableZone::clock))]
     fn wall(&self) -> i64
         ensures value { result ≡ reading (table_moment self.now) }
         ensures low { first_reading ≤ℤ result }
@@ -290,6 +293,7 @@ impl<'t> TableTime<'t> {
     }
 
     // The second that reads a wall second if the offset after so many changes is in force.
+    #[tactic(auto, using(crate::proofs::tables::TableReadings::offsets))]
     fn by_offset_past(&self, count: usize, wall: i64) -> TableTime<'t>
         requires count { count ≤ vec_len self.now.table.now.changes }
         requires low { first_resolved ≤ℤ wall }
