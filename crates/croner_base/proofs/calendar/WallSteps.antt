@@ -1,12 +1,12 @@
 -- The days and the seconds next to one.
-use Rattle.std.proofs.Common.{◌≡◌, ℕ, ◌+◌, ◌≤◌, ◌-◌, ◌<◌, arith, ap, refl, sym, ◌∙◌, ℤ, pos, ◌+ℤ◌, ◌-ℤ◌, ◌*ℤ◌}
+use Rattle.std.proofs.Common.{◌≡◌, ◌+◌, ◌≤◌, ◌-◌, arith, refl, sym, ◌∙◌, pos, ◌+ℤ◌, ◌-ℤ◌, ◌*ℤ◌}
 use Rattle.std.proofs.lemmas.Int.{ints, to_z-of_z}
 use Rattle.jiff_core.specs.Calendar.{days_in_month}
 use Rattle.croner_base.specs.declared.time.civil.CivilDateTime.{CivilDateTime}
 use Rattle.croner_base.specs.declared.time.civil.CivilDate.{CivilDate}
 use Rattle.croner_base.specs.declared.time.civil.CivilTime.{CivilTime}
-use Rattle.croner_base.specs.Calendar.{day_number, day_seconds}
-use Rattle.croner_base.specs.Civil.{HasYmd, wall_second, day_of_date, seconds_of_time}
+use Rattle.croner_base.specs.Calendar.{day_seconds}
+use Rattle.croner_base.specs.Civil.{wall_second, day_of_date, seconds_of_time}
 use Rattle.croner_base.proofs.calendar.DayNumbers.{day_number-day, day_number-next_month, day_number-next_year}
 use Rattle.croner_base.proofs.calendar.JiffSeconds.{wall_second-parts}
 
@@ -19,38 +19,31 @@ last_of_year a month last =
 
 -- b is the day after a: in its month, its year, and behind its year
 module _ (a b : CivilDate) where
-  next_day : b.year ≡ a.year → b.month ≡ a.month → b.day ≡ a.day + 1 → day_of_date b ≡ day_of_date a +ℤ pos 1
-  next_day f g h = rw (f, g, h) (day_number-day a.year a.month a.day 1)
-
-  next_month : b.year ≡ a.year → b.month ≡ a.month + 1 → b.day ≡ 1 → days_in_month a.year a.month ≤ a.day → day_of_date b ≡ day_of_date a +ℤ pos 1
-  next_month f g h last =
-      let day : a.day ≡ days_in_month a.year a.month = omega (arith, a.real.1.1) in
-      rw (f, g, h) (day_number-next_month a.year a.month a.day a.real.0.0 day)
-
-  next_year : b.year ≡ a.year +ℤ pos 1 → b.month ≡ 1 → b.day ≡ 1 → a.month ≡ 12 → a.day ≡ 31 → day_of_date b ≡ day_of_date a +ℤ pos 1
-  next_year f g h month day = rw (f, g, h, month, day) (day_number-next_year a.year)
-
   pub after_day : b.year ≡ a.year → b.month ≡ a.month → b.day ≡ a.day + 1 → day_of_date b ≡ day_of_date a +ℤ pos 1
-  after_day = next_day
+  after_day f g h = rw (f, g, h) (day_number-day a.year a.month a.day 1)
 
   pub after_month : b.year ≡ a.year → b.month ≡ a.month + 1 → b.day ≡ 1 → days_in_month a.year a.month ≤ a.day → day_of_date b ≡ day_of_date a +ℤ pos 1
-  after_month = next_month
+  after_month f g h last =
+      let day : a.day ≡ days_in_month a.year a.month = omega (arith, a.real.1.1) in
+      rw (f, g, h) (day_number-next_month a.year a.month a.day a.real.0.0 day)
 
   pub after_year : b.year ≡ a.year +ℤ pos 1 → b.month ≡ 1 → b.day ≡ 1 → 12 ≤ a.month → days_in_month a.year a.month ≤ a.day → day_of_date b ≡ day_of_date a +ℤ pos 1
   after_year f g h late last =
       let month : a.month ≡ 12 = omega (arith, a.real.0.1) in
-      next_year f g h month (last_of_year a month last)
+      rw (f, g, h, month, last_of_year a month last) (day_number-next_year a.year)
 
+  -- and a the day before b
   pub before_day : a.year ≡ b.year → a.month ≡ b.month → a.day + 1 ≡ b.day → day_of_date a ≡ day_of_date b -ℤ pos 1
-  before_day f g h = let e = next_day (sym f) (sym g) (sym h) in omega (arith, ints)
+  before_day f g h = let e = after_day (sym f) (sym g) (sym h) in omega (arith, ints)
 
   pub before_month : a.year ≡ b.year → a.month + 1 ≡ b.month → a.day ≡ days_in_month a.year a.month → b.day ≡ 1 → day_of_date a ≡ day_of_date b -ℤ pos 1
-  before_month f g last h = let e = next_month (sym f) (sym g) h (omega arith) in omega (arith, ints)
+  before_month f g last h = let e = after_month (sym f) (sym g) h (omega arith) in omega (arith, ints)
 
   pub before_year : a.year ≡ b.year -ℤ pos 1 → a.month ≡ 12 → a.day ≡ 31 → b.month ≡ 1 → b.day ≡ 1 → day_of_date a ≡ day_of_date b -ℤ pos 1
   before_year f g h month day =
       let year : b.year ≡ a.year +ℤ pos 1 = omega (arith, ints) in
-      let e = next_year year month day g h in
+      let last : days_in_month a.year a.month ≤ a.day = rw (g, h) (omega arith) in
+      let e = after_year year month day (omega arith) last in
       omega (arith, ints)
 
 -- the last day of the last year
@@ -58,6 +51,7 @@ pub last_date : (a : CivilDate) → 12 ≤ a.month → days_in_month a.year a.mo
 last_date a late last = let month : a.month ≡ 12 = omega (arith, a.real.0.1) in (month, last_of_year a month last)
 
 pub ruleset days_after = (ints, to_z-of_z, after_day, after_month, after_year, last_date)
+
 pub ruleset days_before = (ints, to_z-of_z, before_day, before_month, before_year)
 
 -- the second after one of the same day, and of the day before
@@ -75,6 +69,7 @@ pub second_before_midnight : (c n : CivilDateTime) → day_of_date n.date ≡ da
 second_before_midnight c n before first last = omega (arith, ints, wall_second-parts n, wall_second-parts c)
 
 pub ruleset seconds_after = (second_after_day, second_after_midnight)
+
 pub ruleset seconds_before = (second_before_day, second_before_midnight)
 
 pub second_of : (r : CivilDateTime) (d : CivilDate) (t : CivilTime) → r.date ≡ d → r.time ≡ t → wall_second r ≡ day_of_date d *ℤ pos day_seconds +ℤ pos (seconds_of_time t)

@@ -1,5 +1,5 @@
 -- What the seconds of a table do as moments.
-use Rattle.std.proofs.Common.{◌≡◌, inl, inr, ap, sym, subst, true, false, refl, ℤ, ◌+ℤ◌, Some, None}
+use Rattle.std.proofs.Common.{◌≡◌, inl, inr, ap, sym, subst, true, false, refl, ℤ, Some}
 use Rattle.croner_base.specs.declared.errors.CronError.TheVariants.{InvalidDate}
 use Rattle.croner_base.specs.declared.time.civil.CivilDateTime.{CivilDateTime}
 use Rattle.croner_base.specs.declared.time.table.ClockTable.{ClockTable}
@@ -8,9 +8,8 @@ use Rattle.croner_base.specs.declared.time.value.Resolution.{Resolution}
 use Rattle.croner_base.specs.declared.time.value.Resolution.TheVariants.{Single, Ambiguous, Gap}
 use Rattle.croner_base.specs.Civil.{wall_second}
 use Rattle.croner_base.specs.Calm.{NamesAll}
-use Rattle.croner_base.specs.Zone.{Names, IsResolved, IsUnheld, IsMoved}
+use Rattle.croner_base.specs.Zone.{Names, IsResolved, IsUnheld}
 use Rattle.croner_base.specs.ZonedZone.{is_near_year}
-use Rattle.croner_base.specs.Table.{is_table_second}
 use Rattle.croner_base.specs.TableZone.{clock, instants_of, table_zone, table_moment}
 use Rattle.croner_base.specs.Private.TableSteps.{AreOn, seconds_of}
 use Rattle.croner_base.proofs.tables.TableReadings.{names_instants}
@@ -37,12 +36,3 @@ resolved_to t c r year on e =
     by (Single x) on n v = (named t (wall_second c) x on ((n x.second).1 refl), v)
     by (Ambiguous x y) on n v = (named t (wall_second c) x on.0 ((n.1 x.second).1 (inl refl)), named t (wall_second c) y on.1 ((n.1 y.second).1 (inr refl)), n.0, v)
     by Gap on n v = v
-
--- so many seconds later
-pub moved : (t : TableTime) (x : TableTime) (n : ℤ) → x.second ≡ t.second +ℤ n → x.table.now ≡ t.table.now → IsMoved table_moment (table_moment t) n (Some x)
-unfolding clock
-moved t x n e same = (rw (same, e), rw (← e) x.held)
-
-pub not_moved : (t : TableTime) (n : ℤ) → is_table_second (t.second +ℤ n) ≡ false → IsMoved table_moment (table_moment t) n None
-unfolding clock
-not_moved t n h = h

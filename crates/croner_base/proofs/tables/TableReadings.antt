@@ -1,5 +1,5 @@
 -- What the clock of a calm table reads, and which instants read a wall second.
-use Rattle.std.proofs.Common.{◌≡◌, ◌↔◌, ◌⊎◌, inl, inr, ◌∙◌, ap, true, false, refl, arith, ℕ, zero, suc, ◌<◌, ◌≤◌, ℤ, pos, ◌+ℤ◌, ◌-ℤ◌, ◌<ℤ◌, ◌≤ℤ◌, int_le, List, [], ◌∷◌, length, get_or}
+use Rattle.std.proofs.Common.{◌≡◌, ◌↔◌, ◌⊎◌, inl, inr, ◌∙◌, true, false, refl, arith, ℕ, zero, suc, ◌<◌, ◌≤◌, ℤ, pos, ◌+ℤ◌, ◌-ℤ◌, ◌<ℤ◌, ◌≤ℤ◌, int_le, List, [], ◌∷◌, length, get_or}
 use Rattle.std.proofs.lemmas.Int.{ints, to_z-of_z, by_lt_z}
 use Rattle.jiff_core.proofs.SignedLemmas.{signed_arith}
 use Rattle.croner_base.specs.declared.time.value.Resolution.{Resolution}
@@ -84,23 +84,12 @@ resolved_last o (c ∷ cs) w (suc n) u e =
     rw (t, ← past_shift o c cs n) (resolved_last c.1 cs w n u.1 (omega (arith, e)))
 
 -- each offset of a table is at most a day
-pub past_is_offset : (o : ℤ) (cs : List (ℤ × ℤ)) (n : ℕ) → is_calm_table o cs ≡ true → n ≤ length cs → is_offset (offset_past o cs n) ≡ true
-past_is_offset o cs zero h le = (calm_parts o cs h).offset_in
-past_is_offset o cs (suc n) h le = each_offset o cs n (pos 0, pos 0) (omega arith) (calm_parts o cs h).changes
-
-pub each_is_offset : (o : ℤ) (cs : List (ℤ × ℤ)) (k : ℕ) (x : ℤ × ℤ) → is_calm_table o cs ≡ true → k < length cs → x ≡ get_or cs k x → is_offset x.1 ≡ true
-each_is_offset o cs k x h lt e = rw e (each_offset o cs k x lt (calm_parts o cs h).changes)
-
 -- of a calm table the first offset and that of each change are offsets
 pub calm_offsets : (o : ℤ) (cs : List (ℤ × ℤ)) → is_calm_table o cs ≡ true
     → (is_calm_table o cs ≡ true) × (is_offset o ≡ true) × ((k : ℕ) (d : ℤ × ℤ) → k < length cs → is_offset (get_or cs k d).1 ≡ true)
 calm_offsets o cs h = (h, (calm_parts o cs h).offset_in, λ k d lt. each_offset o cs k d lt (calm_parts o cs h).changes)
 
 pub ruleset offsets = (ints, to_z-of_z, calm_offsets)
-
--- what the clock reads
-pub reads_by : (a r o : ℤ) (cs : List (ℤ × ℤ)) (i : ℤ) → r ≡ offset_at o cs i → a ≡ i +ℤ r → a ≡ clock_reads o cs i
-reads_by a r o cs i p q = q ∙ ap (λ (x : ℤ). i +ℤ x) p
 
 -- at a change and behind it the others decide, before it the first offset is in force
 pub passed : (o : ℤ) (c : ℤ × ℤ) (cs : List (ℤ × ℤ)) (i : ℤ) → c.0 ≤ℤ i → offset_at o (c ∷ cs) i ≡ offset_at c.1 cs i

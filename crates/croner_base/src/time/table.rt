@@ -353,6 +353,7 @@ impl<'t> CronDateTime for TableTime<'t> {
         Ok(self.resolved(civil.wall_second()))
     }
 
+    #[tactic(auto, using(crate::proofs::tables::TableReadings::offsets), unfolding(crate::specs::TableZone::clock))]
     fn checked_add_seconds(
         &self,
         _alloc: Global,
