@@ -18,7 +18,7 @@ use Rattle.croner.specs.Private.crontable.Met.{MetAnswers, new_met, Decides, Dec
 use Rattle.croner.specs.Private.search.Held.{IsBackendError}
 use Rattle.croner.specs.search.Limit.{InSpan}
 use Rattle.croner.specs.search.Premises.{StartsCalm, IsSearchable}
-use Rattle.croner.proofs.crontable.TableRuns.{Searched, searched_none, none_met, outside_met, test_refused, found_met, refused_in_room}
+use Rattle.croner.proofs.crontable.TableRuns.{Searched, searched_none, none_met, outside_met, test_refused, found_met, refused_in_room, room_refused}
 
 -- a copy of jobs has their patterns
 pub copied_jobs : (xs ys : List Cron) → AllZip (λ a b. job_of b ≡ job_of a) xs ys → map job_of ys ≡ map job_of xs
@@ -60,11 +60,14 @@ module _ {T : Type 0} (moment : T → Moment) (lack : Bool) (direction : Directi
         subst P items (found_met moment direction inclusive patterns start met s answer.0 at inside)
     decided_found places (Err e) same decides = tt
 
--- an answer that is refused in room is refused
+-- an answer that is refused in room is refused. The first part of the conclusion shows `grind` what to match
 pub answered_in_room : {X : Type 0} (lack : Bool) (direction : Direction) (inclusive : Bool) (patterns : List Meaning) (start : Moment) (result : Result X CronError) → IfErr result (IsRefusedInRoom lack direction inclusive patterns start)
-    → IfErr result (IsTableRefused direction inclusive patterns start)
-answered_in_room lack direction inclusive patterns start (Ok x) why = tt
-answered_in_room lack direction inclusive patterns start (Err e) why = refused_in_room lack direction inclusive patterns start e why
+    → IfErr result (IsRefusedInRoom lack direction inclusive patterns start) × IfErr result (IsTableRefused direction inclusive patterns start)
+answered_in_room lack direction inclusive patterns start (Ok x) why = (why, tt)
+answered_in_room lack direction inclusive patterns start (Err e) why = (why, refused_in_room lack direction inclusive patterns start e why)
+
+-- why a search is refused, before it has room and once it has
+pub ruleset room_refusals = (room_refused, answered_in_room)
 
 same_some : {A : Type 0} (x y : A) → Some x ≡ Some y → x ≡ y
 same_some x y e = cc

@@ -86,6 +86,7 @@ impl CronTable {
     /// let old = table.replace(0, Cron::from_str(alloc, "0 0 * * TUE")?); // the job of Mondays
     /// let none = table.replace(1, Cron::from_str(alloc, "0 0 * * SUN")?); // None: there is no place 1
     /// ```
+    #[tactic(auto, using(crate::proofs::crontable::TableChanges::changed_tables))]
     pub fn replace(&mut self, place: usize, job: Cron) -> Option<Cron>
         ensures old { option_map job_of result ≡ slice_get (patterns_of self.old) place }
         ensures replaced { IfSome result (λ old. patterns_of self.new ≡ slice_set (patterns_of self.old) place (job_of job)) }
@@ -110,6 +111,7 @@ impl CronTable {
     /// let mondays = table.remove(0); // the job of Mondays; the other one stands at place 0 now
     /// let none = table.remove(1); // None: there is no place 1 any more
     /// ```
+    #[tactic(auto, using(crate::proofs::crontable::TableChanges::changed_tables))]
     pub fn remove(&mut self, place: usize) -> Option<Cron>
         ensures old { option_map job_of result ≡ slice_get (patterns_of self.old) place }
         ensures removed { IfSome result (λ old. patterns_of self.new ≡ remove (patterns_of self.old) place) }
@@ -277,6 +279,7 @@ impl CronTable {
 
     // Takes room for as many places as there are jobs, and searches in it. Only the request for that room lacks memory where the
     // backend can't.
+    #[tactic(auto, using(crate::proofs::crontable::TableSearch::room_refusals))]
     fn search_jobs<T: CronDateTime>(
         &self,
         start: &T,
