@@ -167,6 +167,7 @@ impl<T: CronDateTime> Iterator for CronIterator<T> {
 
     ghost next_gives = { Steps T.moment T.can_lack_memory };
 
+    #[tactic(auto, using(crate::proofs::iterator::Iterating::settles))]
     fn next(&mut self) -> Option<T> {
         let inclusive = self.counts_position();
         let answer = self

@@ -20,30 +20,29 @@ memory_refused lack direction inclusive timetable start found is memory = record
 }
 
 -- a call does what its search and what comes of it say
-pub steps : {T : Type 0} (moment : T → Moment) (lack : Bool) (old new : CronIterator T) (answer : Result T CronError) (result : Option T) (inclusive : Bool)
-    → inclusive ≡ counts_position (standing_of moment old)
-    → IfOk answer (λ t. IsFound old.direction inclusive (timetable_of (standing_of moment old).pattern) (moment old.position) (moment t))
-    → IfErr answer (IsRefused lack old.direction inclusive (timetable_of (standing_of moment old).pattern) (moment old.position))
+steps : {T : Type 0} (moment : T → Moment) (lack : Bool) (old new : CronIterator T) (answer : Result T CronError) (result : Option T)
     → Settles moment lack (standing_of moment old) answer result (standing_of moment new)
+    → IfOk answer (λ t. IsFound old.direction (counts_position (standing_of moment old)) (timetable_of (standing_of moment old).pattern) (moment old.position) (moment t))
+    → IfErr answer (IsRefused lack old.direction (counts_position (standing_of moment old)) (timetable_of (standing_of moment old).pattern) (moment old.position))
     → Steps moment lack old result new
-steps moment lack old new (Ok t) (Some item) inclusive is found refused settled =
+steps moment lack old new (Ok t) (Some item) settled found refused =
     let s = standing_of moment old in
-    let P : Bool → Type 0 = λ b. IsFound s.direction b (timetable_of s.pattern) s.position (moment t) in
-    let Q : Moment → Type 0 = λ m. IsFound s.direction (counts_position s) (timetable_of s.pattern) s.position m in
-    record {
-      stands = settled.1 ∙ ap (moved s) (sym settled.0);
-      found = subst Q (sym settled.0) (subst P is found);
-    }
-steps moment lack old new (Ok t) None inclusive is found refused settled =
+    let P : Moment → Type 0 = λ m. IsFound s.direction (counts_position s) (timetable_of s.pattern) s.position m in
+    record { stands = settled.1 ∙ ap (moved s) (sym settled.0); found = subst P (sym settled.0) found }
+steps moment lack old new (Ok t) None settled found refused =
     let s = standing_of moment old in
-    let P : Bool → Type 0 = λ b. IsFound s.direction b (timetable_of s.pattern) s.position (moment t) in
     record {
       refusal = OutOfMemory;
-      refused = memory_refused lack s.direction (counts_position s) (timetable_of s.pattern) s.position (moment t) (subst P is found) settled.0;
+      refused = memory_refused lack s.direction (counts_position s) (timetable_of s.pattern) s.position (moment t) found settled.0;
       stands = settled.1;
     }
-steps moment lack old new (Err e) (Some item) inclusive is found refused settled = absurd settled
-steps moment lack old new (Err e) None inclusive is found refused settled =
-    let s = standing_of moment old in
-    let P : Bool → Type 0 = λ b. IsRefused lack s.direction b (timetable_of s.pattern) s.position e in
-    record { refusal = e; refused = subst P is refused; stands = settled }
+steps moment lack old new (Err e) (Some item) settled found refused = absurd settled
+steps moment lack old new (Err e) None settled found refused = record { refusal = e; refused = refused; stands = settled }
+
+-- the first part of the conclusion shows `grind` what to match
+pub settles : {T : Type 0} (moment : T → Moment) (lack : Bool) (old new : CronIterator T) (answer : Result T CronError) (result : Option T)
+    → Settles moment lack (standing_of moment old) answer result (standing_of moment new)
+    → IfOk answer (λ t. IsFound old.direction (counts_position (standing_of moment old)) (timetable_of (standing_of moment old).pattern) (moment old.position) (moment t))
+    → IfErr answer (IsRefused lack old.direction (counts_position (standing_of moment old)) (timetable_of (standing_of moment old).pattern) (moment old.position))
+    → Settles moment lack (standing_of moment old) answer result (standing_of moment new) × Steps moment lack old result new
+settles moment lack old new answer result settled found refused = (settled, steps moment lack old new answer result settled found refused)

@@ -1,7 +1,0 @@
-use Rattle.croner.proofs.iterator.Iterating.{steps}
-use Rattle.croner.proofs.iterator.CronIteratorIterator.next.Goals as goal
-
-pub returns-clause-steps : goal.returns-clause-steps
-returns-clause-steps g c =
-    steps g.T.CronDateTime.moment g.T.CronDateTime.can_lack_memory c.args.self.now c.settle.new.self c.find_occurrence-answer.result c.settle.result c.counts_position-inclusive.result c.counts_position-inclusive.ensures
-    c.find_occurrence-answer.ensures.found c.find_occurrence-answer.ensures.refused c.settle.ensures
