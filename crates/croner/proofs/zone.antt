@@ -6,5 +6,6 @@ pub mod HalfEdges
 pub mod SearchLimit
 pub mod Walks
 pub mod WallSeconds
+pub mod WallYears
 pub mod ZoneOrder
 pub mod Windows

@@ -13,7 +13,7 @@ use Rattle.croner.specs.search.Limit.{IsWithin, InSpan}
 use Rattle.croner.specs.search.Premises.{IsCalmStart, StartsCalm}
 use Rattle.croner.specs.Private.search.Halves.{edge_limit, HasTwin, EdgeOf, moment_from, IsEdge}
 use Rattle.croner.specs.Private.search.Held.{HoldsSecond}
-use Rattle.croner.proofs.zone.Ahead.{Direction, Forward, Backward, opposite_way, along, Precedes, Reaches, offset_from, along-offset, along-opposite, either, offset_within, opposite, precedes_unless, opposite-reaches, reaches-equal, reaches-same, same_or_ahead, zero_on}
+use Rattle.croner.proofs.zone.Ahead.{Direction, Forward, Backward, opposite_way, along, Precedes, Reaches, offset_from, along-offset, along-opposite, either, offset_within, opposite, opposite-reaches, reaches-equal, reaches-same, same_or_ahead, zero_on}
 use Rattle.croner.proofs.zone.ZoneOrder.{Exactly, calm_of, exact_of, Calm, cases_lt_z, put_back, not_twice, steady, edge_breaks, edge_line, past_break, reads_on}
 
 -- ---- the half that an instant is on
@@ -71,17 +71,6 @@ test_one direction m c t at is start =
 pub test_gap : (direction : Direction) (m : Moment) (c : CivilDateTime) → wall_second c ≡ reading m → m.zone.resolves c ≡ Some Gap
     → IsCalmStart m.zone m.fraction → IsTrue false ↔ HasTwin direction m.zone.reads m.instant
 test_gap direction m c at is start = (λ f. absurd (false≢true f), λ twin. absurd (exactly_here m.zone m.instant c Gap start.calm at is m.instant refl))
-
--- a whole second lies behind another one where a second on it is not past it
-pub behind_test : (direction : Direction) (start instant next : Moment) (b : Bool) → start.fraction ≡ 0 → instant.fraction ≡ 0 → next ≡ moment_from direction instant 1
-    → (IsTrue b ↔ Precedes direction (nanos_of start) (nanos_of next)) → IsTrue (not b) ↔ Precedes direction instant.instant start.instant
-behind_test direction start instant next b whole whole2 at test =
-    let order = order_whole direction start next whole (ap (λ (m : Moment). m.fraction) at ∙ whole2) in
-    let more = not_test b (Precedes direction (nanos_of start) (nanos_of next)) test in
-    let on = ap (λ (m : Moment). along direction m.instant) at ∙ along-offset direction instant.instant 1 in (
-      λ t. precedes_unless direction instant.instant start.instant (λ le. more.0 t (order.1 (omega (arith, ints)))),
-      λ h. more.1 (λ k. omega (arith, ints, order.0 k)),
-    )
 
 -- a test at a moved moment, said of the start's own zone
 pub test_moved : (direction : Direction) (m there : Moment) (n : ℕ) (test : Result Bool CronError) → there ≡ moment_from direction m n

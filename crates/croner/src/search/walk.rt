@@ -35,6 +35,7 @@ pub(crate) enum Passed<T> {
 
 impl<'s, T: CronDateTime, S: Schedule> Search<'s, T, S> {
     // Whether an instant lies behind the start by a second or more: a start with a fraction keeps its own second in play.
+    #[tactic(auto, using(std::proofs::lemmas::Int::ints))]
     fn is_behind(&self, instant: &T) -> Result<bool, CronError>
         ensures value { (start_of T.moment self.now).fraction ≡ 0 → (T.moment instant.now).fraction ≡ 0
             → IfOk result (λ b. IsTrue b

@@ -21,6 +21,7 @@ pub(crate) fn one_second_on(civil: CivilDateTime, direction: Direction) -> Optio
 }
 
 /// Whether the year lies before 5000 forward, after 1 backward.
+#[tactic(auto, using(crate::proofs::zone::WallYears::wall_years))]
 pub(crate) fn is_within(civil: CivilDateTime, direction: Direction) -> bool
     ensures { IsTrue result ↔ IsWithin direction (wall_second civil) }
 {
