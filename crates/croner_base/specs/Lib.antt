@@ -3,6 +3,7 @@ pub mod Civil
 pub mod Ends
 pub mod CivilText
 pub mod Zone
+pub mod Clocked
 pub mod CivilZone
 pub mod ZonedZone
 pub mod ZonedValue

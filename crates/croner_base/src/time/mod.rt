@@ -8,11 +8,13 @@ ghost use Rattle.jiff_core.specs.Calendar.{is_leap_year as leap, days_in_month a
 ghost use Rattle.croner_base.specs.Calendar.{IsRealDate, place_in_year};
 
 mod civil;
+mod clocked;
 pub mod jiff_impl;
 pub mod table;
 mod value;
 
 pub use civil::{CivilDate, CivilDateTime, CivilTime, Weekday};
+pub use clocked::Clocked;
 pub use value::{CronDateTime, Resolution};
 
 /// The way in which a search goes through time.
