@@ -1,3 +1,4 @@
+pub mod CronRuns
 pub mod ExamplesJson
 pub mod JsonTexts
 pub mod Matching

@@ -3,6 +3,7 @@ pub use Rattle.croner_base.specs.Calendar
 pub use Rattle.croner_base.specs.Calm
 pub use Rattle.croner_base.specs.Civil
 pub use Rattle.croner_base.specs.CivilZone
+pub use Rattle.croner_base.specs.Clocked
 pub use Rattle.croner_base.specs.Field
 pub use Rattle.croner_base.specs.Limits
 pub use Rattle.croner_base.specs.Table
@@ -26,6 +27,7 @@ pub mod search
 pub mod iterator
 pub mod laws
 pub mod Json
+pub mod Recurring
 pub mod Views
 pub mod Private
 pub mod crontable

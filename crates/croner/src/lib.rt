@@ -9,12 +9,13 @@ mod json;
 pub mod laws;
 mod occurrence;
 pub mod parser;
+mod recurring;
 mod search;
 
 pub use croner_base::component::CronComponent;
 pub use croner_base::time::{
-    CivilDate, CivilDateTime, CivilTime, CronDateTime, Direction, Resolution, TimeComponent,
-    Weekday, YEAR_LOWER_LIMIT, YEAR_UPPER_LIMIT,
+    CivilDate, CivilDateTime, CivilTime, Clocked, CronDateTime, Direction, Resolution,
+    TimeComponent, Weekday, YEAR_LOWER_LIMIT, YEAR_UPPER_LIMIT,
 };
 pub use croner_base::{component, errors, time};
 pub use croner_pattern::describe;
@@ -22,3 +23,4 @@ pub use croner_pattern::pattern::CronPattern;
 pub use croner_words::english_form;
 pub use iterator::CronIterator;
 pub use job::{Cron, JobType};
+pub use recurring::Recurring;
