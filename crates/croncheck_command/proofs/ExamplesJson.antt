@@ -10,7 +10,7 @@ use Rattle.jiff_tz.specs.declared.timezone.TimeZone.TheVariants as zones
 use Rattle.jiff_tz.specs.Zone.{offset_at}
 use Rattle.croner.specs.declared.parser.fault.PatternField.TheVariants as fields
 use Rattle.croner_base.specs.declared.time.table.TableTime.{TableTime}
-use Rattle.croncheck_command.specs.declared.line.Fault.TheVariants as faults
+use Rattle.crontab.specs.declared.line.Fault.TheVariants as faults
 use Rattle.croncheck_command.specs.declared.report.Report.TheVariants as reports
 use Rattle.croncheck_command.specs.declared.told.Told.TheVariants as tolds
 use Rattle.croncheck_command.specs.declared.report.Why.TheVariants as whys

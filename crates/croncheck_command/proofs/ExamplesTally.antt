@@ -2,8 +2,8 @@
 use Rattle.std.proofs.Common.{◌≡◌, ℕ, true, false, refl}
 use Rattle.std.specs.Prelude.{codes}
 use Rattle.std.specs.Fmt.{digits}
-use Rattle.croncheck_command.specs.declared.line.Dialect.{Dialect}
-use Rattle.croncheck_command.specs.declared.line.Dialect.TheVariants as dialects
+use Rattle.crontab.specs.declared.line.Dialect.{Dialect}
+use Rattle.crontab.specs.declared.line.Dialect.TheVariants as dialects
 use Rattle.croncheck_command.specs.declared.report.Report.{Report}
 use Rattle.croncheck_command.specs.declared.report.Report.TheVariants as reports
 use Rattle.croncheck_command.specs.declared.tally.Tally.{Tally}

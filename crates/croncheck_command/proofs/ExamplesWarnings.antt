@@ -7,9 +7,9 @@ use Rattle.croner.specs.declared.parser.fault.PatternField.{PatternField}
 use Rattle.croner.specs.declared.parser.fault.PatternField.TheVariants as fields
 use Rattle.croner.specs.parser.Grammar.{Texts, meaning}
 use Rattle.croner_pattern.specs.Meaning.{Meaning}
+use Rattle.crontab.specs.Line.{words_of}
+use Rattle.crontab.specs.Parsed.{crontab_settings}
 use Rattle.croncheck_command.specs.declared.warnings.Warning.TheVariants as warnings
-use Rattle.croncheck_command.specs.Line.{words_of}
-use Rattle.croncheck_command.specs.Parsed.{crontab_settings}
 use Rattle.croncheck_command.specs.Warnings.{Subject, holds, texts_of_five, has_uneven_step, has_step_beyond, has_empty_item, is_either_day, is_whole_hour, are_late, is_leap_day, looks_like_field, has_percent, has_carriage_return, are_many_lines}
 
 abbrev texts : List ℕ → Texts

@@ -5,11 +5,10 @@ use Rattle.std.proofs.Math.Seq.{take-suc}
 use Rattle.std.proofs.lemmas.List.{take_all}
 use Rattle.croncheck_command.specs.declared.settings.Settings.{Settings}
 use Rattle.croncheck_command.specs.declared.tally.Tally.{Tally}
-use Rattle.croncheck_command.specs.Checked.{TakesInTurn}
+use Rattle.crontab.specs.Checked.{TakesInTurn}
 use Rattle.croncheck_command.specs.Files.{HaveTexts, AreChecked, IsStatus, IsToldStatus}
 use Rattle.croncheck_command.specs.Tally.{none_counted, status_of}
 use Rattle.croncheck_command.specs.Reported.{IsChecked}
-use Rattle.croncheck_command.proofs.TakenLines.{in_turn_push}
 
 -- what holds where a reader's text is known, of a reader whose text is known
 pub of_text : {T E : Type 0} (r : Result T E) (remaining : Option (List ℕ)) (text : List ℕ) (P : List ℕ → Type 0) → remaining ≡ Some text

@@ -11,10 +11,11 @@ use Rattle.std.specs.declared.cmp.Ordering.{Ordering}
 use Rattle.std.specs.declared.cmp.Ordering.TheVariants.{Less, Equal, Greater}
 use Rattle.croner_pattern.specs.Order.{pattern_cmp_total}
 use Rattle.croner.specs.Views.{job_of}
+use Rattle.crontab.specs.Line.{Line}
 use Rattle.croncheck_command.specs.declared.report.Same.{Same}
 use Rattle.croncheck_command.specs.declared.settings.Settings.{Settings}
 use Rattle.croncheck_command.specs.declared.same.Seen.{Seen}
-use Rattle.croncheck_command.specs.Line.{Line}
+use Rattle.crontab.specs.Line.{Line}
 use Rattle.croncheck_command.specs.Report.{file_and_line}
 use Rattle.croncheck_command.specs.Same.{HasTimesCompared, owner_of, JobKey, key_cmp, are_same, IsCompared, place_kept, KeepsPlaces, Finds, FindsAny}
 

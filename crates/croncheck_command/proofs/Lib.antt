@@ -15,16 +15,12 @@ mod ListedChanges
 mod Listings
 mod Meetings
 mod Moments
-mod NoteRows
 mod Objects
 mod OwnRuns
-mod Parts
 mod Plans
-mod ReadLines
 mod Reports
 mod ShownBytes
 mod Stops
-mod TakenLines
 mod Viewed
 mod WatchedYears
 mod Years

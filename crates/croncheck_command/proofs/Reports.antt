@@ -6,7 +6,7 @@ use Rattle.croncheck_command.specs.declared.report.Report.TheVariants as reports
 use Rattle.croncheck_command.specs.declared.report.Same.{Same}
 use Rattle.croncheck_command.specs.declared.settings.Settings.{Settings}
 use Rattle.croncheck_command.specs.declared.tally.Tally.{Tally}
-use Rattle.croncheck_command.specs.Checked.{LineRead, entry_of_line, TakesInTurn, TakesAll}
+use Rattle.crontab.specs.Checked.{LineRead, entry_of_line, TakesInTurn, TakesAll}
 use Rattle.croncheck_command.specs.Json.{Noted, Writes}
 use Rattle.croncheck_command.specs.Report.{file_and_line, earlier_of, place_for, IsAlone}
 use Rattle.croncheck_command.specs.Tally.{begun}

@@ -2,8 +2,8 @@
 use Rattle.std.proofs.Common.{◌≡◌, ◌∙◌, ℕ, Bool, List, [], ◌∷◌, Option, Some, None, Result, Ok, Err, map, ap, subst}
 use Rattle.std.specs.Prelude.{IfSome, OnOk}
 use Rattle.croncheck_command.specs.declared.settings.Settings.{Settings}
-use Rattle.croncheck_command.specs.Checked.{LineRead, entry_of_line, TakesInTurn, TakesAll}
-use Rattle.croncheck_command.specs.Lines.{AreLines}
+use Rattle.crontab.specs.Checked.{LineRead, entry_of_line, TakesInTurn, TakesAll}
+use Rattle.crontab.specs.Lines.{AreLines}
 
 module _ {S V : Type 0} (view : S → V) (settings_of : S → Settings) (Leaves : Settings → V → LineRead → V → Type 0) where
   -- an entry is taken by settings that stay

@@ -14,8 +14,8 @@ use Rattle.croner_pattern.specs.Meaning.{Meaning}
 use Rattle.croner_pattern.specs.Schedule.{IsScheduled, is_fixed_time}
 use Rattle.croner.specs.search.PatternJob.{pattern_job}
 use Rattle.croner.specs.search.Runs.{CarriedRun}
-use Rattle.croncheck_command.specs.Bytes.{begins_with}
-use Rattle.croncheck_command.specs.Line.{next}
+use Rattle.crontab.specs.Bytes.{begins_with}
+use Rattle.crontab.specs.Line.{next}
 use Rattle.croncheck_command.specs.declared.changes.Change.{Change}
 use Rattle.croncheck_command.specs.declared.changes.Fate.{Fate}
 use Rattle.croncheck_command.specs.declared.changes.Fate.TheVariants as fates

@@ -3,11 +3,11 @@ use Rattle.std.specs.Prelude.{ℕ, Bool, true, false, not, ◌&&◌, ◌||◌, L
 use Rattle.std.specs.declared.alloc.Global.{Global}
 use Rattle.std.specs.declared.string.String.{String}
 use Rattle.croncheck_command.specs.declared.file_seen.FileSeen.{FileSeen}
-use Rattle.croncheck_command.specs.declared.line.Dialect.{Dialect}
-use Rattle.croncheck_command.specs.declared.line.Dialect.TheVariants as dialects
+use Rattle.crontab.specs.declared.line.Dialect.{Dialect}
+use Rattle.crontab.specs.declared.line.Dialect.TheVariants as dialects
 use Rattle.croncheck_command.specs.declared.report.Report.{Report}
 use Rattle.croncheck_command.specs.declared.report.Report.TheVariants as reports
-use Rattle.croncheck_command.specs.Line.{Line, blank, comment, setting, job, pattern, refused}
+use Rattle.crontab.specs.Line.{Line, blank, comment, setting, job, pattern, refused}
 use Rattle.croncheck_command.specs.Warnings.{are_many_lines}
 
 -- a line counts for cron where no line feed ends it: it is neither blank nor a comment

@@ -3,7 +3,7 @@ use Rattle.std.specs.Prelude.{◌≡◌, ◌⊎◌, ◌==◌, ℕ, Bool, List, [
 use Rattle.std.specs.Fmt.{decimal}
 use Rattle.croncheck_command.specs.declared.settings.Settings.{Settings}
 use Rattle.croncheck_command.specs.declared.tally.Tally.{Tally}
-use Rattle.croncheck_command.specs.Checked.{TakesInTurn}
+use Rattle.crontab.specs.Checked.{TakesInTurn}
 use Rattle.croncheck_command.specs.Tally.{none_counted, status_of}
 use Rattle.croncheck_command.specs.Reported.{IsChecked}
 

@@ -8,12 +8,16 @@ use Rattle.serde_json.specs.View.{items_of}
 use Rattle.serde_json.specs.Written.{compact_text}
 use Rattle.jiff_tz.specs.declared.timezone.TimeZone.{TimeZone}
 use Rattle.croner_base.specs.declared.time.table.TableTime.{TableTime}
+use Rattle.crontab.specs.declared.line.Entry.{Entry}
+use Rattle.crontab.specs.declared.line.Fault.{Fault}
+use Rattle.crontab.specs.declared.line.Fault.TheVariants as faults
+use Rattle.crontab.specs.declared.notes.Note.{Note}
+use Rattle.crontab.specs.Checked.{LineRead, IsEntryOf, entry_of_line, TakesInTurn}
+use Rattle.crontab.specs.Line.{Line, blank, comment, setting, job, pattern, refused}
+use Rattle.crontab.specs.Lines.{AreLines}
+use Rattle.crontab.specs.Notes.{note_name, notes_of}
 use Rattle.croncheck_command.specs.declared.changes.meetings.Compared.{Compared}
 use Rattle.croncheck_command.specs.declared.changes.meetings.Meetings.{Meetings}
-use Rattle.croncheck_command.specs.declared.line.Entry.{Entry}
-use Rattle.croncheck_command.specs.declared.line.Fault.{Fault}
-use Rattle.croncheck_command.specs.declared.line.Fault.TheVariants as faults
-use Rattle.croncheck_command.specs.declared.notes.Note.{Note}
 use Rattle.croncheck_command.specs.declared.report.JobReport.{JobReport}
 use Rattle.croncheck_command.specs.declared.report.Report.{Report}
 use Rattle.croncheck_command.specs.declared.report.Report.TheVariants as reports
@@ -29,10 +33,10 @@ use Rattle.croncheck_command.specs.declared.warnings.OtherWarning.{OtherWarning}
 use Rattle.croncheck_command.specs.declared.warnings.OtherWarning.TheVariants as others
 use Rattle.croncheck_command.specs.declared.warnings.Warning.{Warning}
 use Rattle.croncheck_command.specs.Changes.{is_harmful, name_of}
-use Rattle.croncheck_command.specs.Checked.{LineRead, IsEntryOf, entry_of_line, TakesInTurn}
-use Rattle.croncheck_command.specs.Line.{Line, blank, comment, setting, job, pattern, refused}
-use Rattle.croncheck_command.specs.Lines.{AreLines}
-use Rattle.croncheck_command.specs.Notes.{note_name, notes_of}
+use Rattle.crontab.specs.Checked.{LineRead, IsEntryOf, entry_of_line, TakesInTurn}
+use Rattle.crontab.specs.Line.{Line, blank, comment, setting, job, pattern, refused}
+use Rattle.crontab.specs.Lines.{AreLines}
+use Rattle.crontab.specs.Notes.{note_name, notes_of}
 use Rattle.croncheck_command.specs.Report.{IsReportOfLine, IsAlone}
 use Rattle.croncheck_command.specs.Tally.{is_too_many, added, one_more}
 use Rattle.croncheck_command.specs.Shown.{bytes_shown, offset_of}

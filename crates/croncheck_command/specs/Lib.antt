@@ -1,19 +1,9 @@
-pub mod Bytes
 pub mod Changes
-pub mod Checked
 pub mod Clock
-pub mod Entries
-pub mod Field
 pub mod FileSeen
 pub mod Files
 pub mod Json
-pub mod Line
-pub mod Lines
-pub mod List
 pub mod Moment
-pub mod Notes
-pub mod Parsed
-pub mod Place
 pub mod Plan
 pub mod Private
 pub mod Problem
@@ -21,7 +11,6 @@ pub mod Report
 pub mod Reported
 pub mod Runs
 pub mod Same
-pub mod Setting
 pub mod Settings
 pub mod Shown
 pub mod Tally

@@ -17,7 +17,11 @@ use Rattle.croner.specs.crontable.TableItems.{item_instants, table_items, Begins
 use Rattle.croner.specs.crontable.TableListing.{TableStanding, new_table_standing, IsTableLeft}
 use Rattle.croner.specs.parser.Grammar.{Refusal, outcome}
 use Rattle.croner.specs.parser.Settings.{Settings as ParserSettings}
-use Rattle.croncheck_command.specs.declared.line.Entry.{Entry}
+use Rattle.crontab.specs.declared.line.Entry.{Entry}
+use Rattle.crontab.specs.Checked.{LineRead, IsEntryOf, entry_of_line, TakesInTurn}
+use Rattle.crontab.specs.Line.{Timing, reboot, never, named, Line, job, pattern}
+use Rattle.crontab.specs.Lines.{AreLines}
+use Rattle.crontab.specs.Parsed.{crontab_settings}
 use Rattle.croncheck_command.specs.declared.plan.Plan.{Plan}
 use Rattle.croncheck_command.specs.declared.plan.Planned.{Planned}
 use Rattle.croncheck_command.specs.declared.report.Report.{Report}
@@ -27,10 +31,10 @@ use Rattle.croncheck_command.specs.declared.runs.End.{End}
 use Rattle.croncheck_command.specs.declared.runs.End.TheVariants as ends
 use Rattle.croncheck_command.specs.declared.runs.Listing.{Listing}
 use Rattle.croncheck_command.specs.declared.runs.Listing.TheVariants as listings
-use Rattle.croncheck_command.specs.Checked.{LineRead, IsEntryOf, entry_of_line, TakesInTurn}
-use Rattle.croncheck_command.specs.Line.{Timing, reboot, never, named, Line, job, pattern}
-use Rattle.croncheck_command.specs.Lines.{AreLines}
-use Rattle.croncheck_command.specs.Parsed.{crontab_settings}
+use Rattle.crontab.specs.Checked.{LineRead, IsEntryOf, entry_of_line, TakesInTurn}
+use Rattle.crontab.specs.Line.{Timing, reboot, never, named, Line, job, pattern}
+use Rattle.crontab.specs.Lines.{AreLines}
+use Rattle.crontab.specs.Parsed.{crontab_settings}
 use Rattle.croncheck_command.specs.Report.{IsReport}
 use Rattle.croncheck_command.specs.Tally.{counted, one_more}
 use Rattle.croncheck_command.specs.Runs.{most_runs, IsInWindow}

@@ -12,10 +12,19 @@ use Rattle.croner.specs.declared.parser.fault.PatternFault.{PatternFault}
 use Rattle.croner.specs.parser.Faults.{IsFault}
 use Rattle.croner.specs.parser.Gives.{Fails}
 use Rattle.croner.specs.parser.Grammar.{Refusal, outcome, Texts}
-use Rattle.croncheck_command.specs.declared.bytes.Kind.TheVariants as kinds
+use Rattle.crontab.specs.declared.bytes.Kind.TheVariants as kinds
+use Rattle.crontab.specs.declared.line.Dialect.{Dialect}
+use Rattle.crontab.specs.declared.line.Dialect.TheVariants as dialects
+use Rattle.crontab.specs.declared.line.Entry.{Entry}
+use Rattle.crontab.specs.declared.line.Entry.TheVariants as entries
+use Rattle.crontab.specs.Bytes.{front}
+use Rattle.crontab.specs.Entries.{job_seen}
+use Rattle.crontab.specs.Field.{smaller}
+use Rattle.crontab.specs.Line.{Timing, reboot, never, named, Task}
+use Rattle.crontab.specs.Parsed.{crontab_settings}
 use Rattle.croncheck_command.specs.declared.changes.meetings.Meetings.{Meetings}
-use Rattle.croncheck_command.specs.declared.line.Entry.TheVariants as entries
-use Rattle.croncheck_command.specs.declared.line.Entry.{Entry}
+use Rattle.crontab.specs.declared.line.Entry.TheVariants as entries
+use Rattle.crontab.specs.declared.line.Entry.{Entry}
 use Rattle.croncheck_command.specs.declared.report.JobReport.{JobReport}
 use Rattle.croncheck_command.specs.declared.report.Report.TheVariants as reports
 use Rattle.croncheck_command.specs.declared.report.Report.{Report}
@@ -27,11 +36,10 @@ use Rattle.croncheck_command.specs.declared.told.Told.TheVariants as tolds
 use Rattle.croncheck_command.specs.declared.told.Told.{Told}
 use Rattle.croncheck_command.specs.declared.warnings.Warning.{Warning}
 use Rattle.croncheck_command.specs.declared.warnings.sides.Dates.{Dates}
-use Rattle.croncheck_command.specs.Bytes.{front}
 use Rattle.croncheck_command.specs.Changes.{AreMeetings, none_met, are_warned}
-use Rattle.croncheck_command.specs.Entries.{job_seen}
-use Rattle.croncheck_command.specs.Line.{Timing, reboot, never, named, Task}
-use Rattle.croncheck_command.specs.Parsed.{crontab_settings}
+use Rattle.crontab.specs.Entries.{job_seen}
+use Rattle.crontab.specs.Line.{Timing, reboot, never, named, Task}
+use Rattle.crontab.specs.Parsed.{crontab_settings}
 use Rattle.croncheck_command.specs.Settings.{start_of}
 use Rattle.croncheck_command.specs.Told.{TellsMeaning, TellsTiming, is_at_window_end, is_never, is_told_past, is_idle}
 use Rattle.croncheck_command.specs.Warnings.{fields_of_schedule, AreFieldsOfPattern, is_either_day, IsMonthOf, NamesDates, Subject, warnings_of}

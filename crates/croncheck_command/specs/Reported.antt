@@ -1,11 +1,13 @@
 -- What is told of a whole file.
 use Rattle.std.specs.Prelude.{◌≡◌, ℕ, List, map}
-use Rattle.croncheck_command.specs.declared.line.Entry.{Entry}
+use Rattle.crontab.specs.declared.line.Entry.{Entry}
+use Rattle.crontab.specs.Checked.{LineRead, IsEntryOf, entry_of_line, TakesInTurn}
+use Rattle.crontab.specs.Lines.{AreLines}
 use Rattle.croncheck_command.specs.declared.report.Report.{Report}
 use Rattle.croncheck_command.specs.declared.settings.Settings.{Settings}
 use Rattle.croncheck_command.specs.declared.tally.Tally.{Tally}
-use Rattle.croncheck_command.specs.Checked.{LineRead, IsEntryOf, entry_of_line, TakesInTurn}
-use Rattle.croncheck_command.specs.Lines.{AreLines}
+use Rattle.crontab.specs.Checked.{LineRead, IsEntryOf, entry_of_line, TakesInTurn}
+use Rattle.crontab.specs.Lines.{AreLines}
 use Rattle.croncheck_command.specs.Report.{IsReportOfLine, IsAlone}
 use Rattle.croncheck_command.specs.Tally.{added, begun}
 

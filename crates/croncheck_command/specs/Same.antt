@@ -12,10 +12,10 @@ use Rattle.croner_pattern.specs.Meaning.{Meaning}
 use Rattle.croner_pattern.specs.Order.{pattern_cmp}
 use Rattle.croner.specs.declared.job.Cron.{Cron}
 use Rattle.croner.specs.Views.{job_of}
+use Rattle.crontab.specs.Line.{Timing, named, Five, words_of, Line, job}
 use Rattle.croncheck_command.specs.declared.report.Same.{Same}
 use Rattle.croncheck_command.specs.declared.settings.Settings.{Settings}
 use Rattle.croncheck_command.specs.declared.same.Seen.{Seen}
-use Rattle.croncheck_command.specs.Line.{Timing, named, Five, words_of, Line, job}
 use Rattle.croncheck_command.specs.Plan.{HasTiming, HasMeaning}
 use Rattle.croncheck_command.specs.Report.{file_and_line}
 

@@ -1,7 +1,7 @@
 -- What was told of lines so far, and the status. Source: this crate's documentation of `Tally`.
 use Rattle.std.specs.Prelude.{min, not, ◌&&◌, ◌||◌, ◌==◌, ℕ, ◌+◌, Bool, false, if◌then◌else◌}
-use Rattle.croncheck_command.specs.declared.line.Dialect.TheVariants as dialects
-use Rattle.croncheck_command.specs.declared.line.Dialect.{Dialect}
+use Rattle.crontab.specs.declared.line.Dialect.TheVariants as dialects
+use Rattle.crontab.specs.declared.line.Dialect.{Dialect}
 use Rattle.croncheck_command.specs.declared.report.Report.TheVariants as reports
 use Rattle.croncheck_command.specs.declared.report.Report.{Report}
 use Rattle.croncheck_command.specs.declared.tally.Tally.{Tally}

@@ -16,8 +16,8 @@ use Rattle.croncheck_command.specs.declared.runs.Runs.{Runs}
 use Rattle.croncheck_command.specs.declared.settings.Settings.{Settings}
 use Rattle.croncheck_command.specs.declared.told.Told.TheVariants as tolds
 use Rattle.croncheck_command.specs.declared.told.Told.{Told}
-use Rattle.croncheck_command.specs.Line.{Timing, reboot, never, named}
-use Rattle.croncheck_command.specs.Parsed.{crontab_settings}
+use Rattle.crontab.specs.Line.{Timing, reboot, never, named}
+use Rattle.crontab.specs.Parsed.{crontab_settings}
 use Rattle.croncheck_command.specs.Runs.{IsListed}
 use Rattle.croncheck_command.specs.Settings.{wording_of, start_of, window_end}
 

@@ -14,10 +14,10 @@ use Rattle.croner.specs.declared.parser.fault.PatternField.TheVariants as fields
 use Rattle.croner.specs.parser.Grammar.{Texts, seven}
 use Rattle.croner.specs.parser.Words.{AreWords}
 use Rattle.croner.specs.Views.{job_of}
-use Rattle.croncheck_command.specs.declared.bytes.Kind.TheVariants as kinds
-use Rattle.croncheck_command.specs.declared.field.Names.TheVariants as names
-use Rattle.croncheck_command.specs.declared.field.Place.{Place}
-use Rattle.croncheck_command.specs.declared.field.Part.{Part}
+use Rattle.crontab.specs.declared.bytes.Kind.TheVariants as kinds
+use Rattle.crontab.specs.declared.field.Names.TheVariants as names
+use Rattle.crontab.specs.declared.field.Place.{Place}
+use Rattle.crontab.specs.declared.field.Part.{Part}
 use Rattle.croncheck_command.specs.declared.warnings.OtherWarning.{OtherWarning}
 use Rattle.croncheck_command.specs.declared.warnings.OtherWarning.TheVariants as others
 use Rattle.croncheck_command.specs.declared.warnings.Subject.{Subject as GivenSubject}
@@ -28,9 +28,6 @@ use Rattle.croncheck_command.specs.declared.warnings.command.Met.TheVariants as 
 use Rattle.croncheck_command.specs.declared.warnings.fields.Fields.{Fields}
 use Rattle.croncheck_command.specs.declared.warnings.sides.Dates.{Dates}
 use Rattle.croncheck_command.specs.declared.warnings.sides.Month.{Month}
-use Rattle.croncheck_command.specs.Bytes.{is_digit, front, begins_with}
-use Rattle.croncheck_command.specs.Line.{Five, words_of, minute_place, hour_place, day_place, month_place, weekday_place}
-use Rattle.croncheck_command.specs.List.{parts_of}
 
 -- ---- the texts of the fields
 

@@ -5,7 +5,7 @@ ghost use Rattle.croner_base.specs.Zone.{at_instant};
 ghost use Rattle.croner_pattern.specs.Schedule.{is_fixed_time};
 ghost use Rattle.croner.specs.Views.{job_of};
 ghost use Rattle.croncheck_command.specs.Changes.{AreChangesFrom, IsNoStart, names_all_hours, Meets, IsMeeting, IsFate, MakesUp, IsFateInCron, has_clock_star};
-ghost use Rattle.croncheck_command.specs.Line.{next};
+ghost use Rattle.crontab.specs.Line.{next};
 ghost use Rattle.croncheck_command.specs.Private.Met.{IsToldOf, IsInYears, IsNoneIn, IsFirstIn};
 
 mod found;
@@ -13,7 +13,6 @@ mod level;
 pub mod meetings;
 pub mod told;
 
-use crate::bytes::{Kind, begins_with, cut};
 use crate::changes::found::changes_behind;
 use crate::changes::level::Level;
 use crate::clock::Clock;

@@ -1,11 +1,11 @@
 //! What was seen of the file that is read, and what cron makes of it as a whole.
 ghost use Rattle.std.specs.Prelude.{◌≡◌, ◌++◌, IfOk, OnOk, string_bytes};
-ghost use Rattle.croncheck_command.specs.Entries.{entry_seen};
+ghost use Rattle.crontab.specs.Entries.{entry_seen};
 ghost use Rattle.croncheck_command.specs.FileSeen.{unread, with_line, with_report, counts, is_refused, if_so, ignored, reasons_of, ending_of};
 
-use crate::line::{Dialect, Entry};
 use crate::report::Report;
 use crate::warnings::are_many_lines;
+use crontab::line::{Dialect, Entry};
 use std::alloc::{AllocError, Global};
 
 /// What was seen of the lines of a file.

@@ -1,6 +1,6 @@
 //! The files of a call, one behind the other.
 ghost use Rattle.std.specs.Prelude.{◌≡◌, ℕ, true, false, List, map, string_bytes, IfOk, if◌then◌else◌};
-ghost use Rattle.croncheck_command.specs.Checked.{TakesInTurn};
+ghost use Rattle.crontab.specs.Checked.{TakesInTurn};
 ghost use Rattle.croncheck_command.specs.Files.{HasText, HaveTexts, asked, IsStatus, IsToldStatus, noun_of, summary_of, warned_text};
 
 use crate::escaped::shown;

@@ -4,15 +4,15 @@ ghost use Rattle.croner_pattern.specs.Meaning.{Meaning};
 ghost use Rattle.croner.specs.parser.Gives.{Fails};
 ghost use Rattle.croner.specs.parser.Grammar.{Refusal};
 ghost use Rattle.croner.specs.Views.{job_of as meaning_of_job};
-ghost use Rattle.croncheck_command.specs.Entries.{job_seen};
+ghost use Rattle.crontab.specs.Entries.{job_seen};
 ghost use Rattle.croncheck_command.specs.Report.{IsRefusalOf, IsUnreadTiming, IsReportOfJob, IsReportOfPattern, blanks_of, IsReport, IsReportOfLine, TellsChanges, subject_of, IsWarned, WarnsJob, WarnsPattern, MeetsJob, DatesOf, TellsDates, meaning_of_timing, file_and_line, earlier_of, place_for, has_job_warnings, has_warnings};
 ghost use Rattle.croncheck_command.specs.Told.{TellsMeaning, TellsTiming};
 ghost use Rattle.croncheck_command.specs.Warnings.{fields_seen, subject_seen};
 
-use crate::bytes::{Kind, cut};
+use crontab::bytes::{Kind, cut};
 use crate::changes::meetings::Meetings;
-use crate::line::{Entry, Fault, Job, Times};
-use crate::parsed::job_of;
+use crontab::line::{Entry, Fault, Job, Times};
+use crontab::parsed::job_of;
 use crate::settings::Settings;
 use crate::told::{Told, is_idle, told_of};
 use crate::warnings::{

@@ -4,10 +4,9 @@ ghost use Rattle.croncheck_command.specs.Report.{IsReportOfLine};
 ghost use Rattle.croncheck_command.specs.Tally.{none_counted, added, begun, status_of};
 ghost use Rattle.croncheck_command.specs.Reported.{IsChecked};
 
-use crate::check::{Entries, check};
 use crate::escaped::shown;
 use crate::file_seen::FileSeen;
-use crate::line::Entry;
+use crontab::line::Entry;
 use crate::report::{Report, report_of_line};
 use crate::same::Seen;
 use crate::settings::Settings;

@@ -2,18 +2,18 @@
 ghost use Rattle.std.specs.Prelude.{◌≡◌, true, false, Option, None, Some, codes, option_map, string_bytes, IfOk, OnOk, OnErr, if◌then◌else◌};
 ghost use Rattle.std.specs.Str.{bytes_eq};
 ghost use Rattle.croner.specs.Views.{job_of as meaning_of_job};
-ghost use Rattle.croncheck_command.specs.Entries.{entry_seen};
-ghost use Rattle.croncheck_command.specs.Line.{words_of as words_in};
+ghost use Rattle.crontab.specs.Entries.{entry_seen};
+ghost use Rattle.crontab.specs.Line.{words_of as words_in};
 ghost use Rattle.croncheck_command.specs.Report.{file_and_line};
 ghost use Rattle.croncheck_command.specs.Same.{has_star_day, HasTimesCompared, owner_of, JobKey, IsCompared, are_same, place_kept, KeepsPlaces, Finds, FindsAny};
 
-use crate::line::{Entry, Times, words_of};
-use crate::parsed::job_of;
 use crate::plan::{accepted, job_of_entry};
 use crate::report::Same;
 use crate::settings::Settings;
 use crate::shown::Place;
 use croner::Cron;
+use crontab::line::{Entry, Times, words_of};
+use crontab::parsed::job_of;
 use std::alloc::{AllocError, Global};
 use std::collections::BTreeMap;
 

@@ -4,7 +4,7 @@ ghost use Rattle.croncheck_command.specs.Settings.{stop_of, window_end};
 
 use crate::changes::Changes;
 use crate::clock::stop::Stop;
-use crate::line::Dialect;
+use crontab::line::Dialect;
 use crate::runs::Listing;
 use croner::parser::CronParser;
 

@@ -2,7 +2,7 @@
 ghost use Rattle.std.specs.Prelude.{◌≡◌};
 ghost use Rattle.croncheck_command.specs.Tally.{one_more, none_counted, counted, begun, is_too_many, is_line_warned, one_more_if, added, status_of};
 
-use crate::line::Dialect;
+use crontab::line::Dialect;
 use crate::report::Report;
 use crate::warnings::is_first_too_many;
 

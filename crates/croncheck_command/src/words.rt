@@ -4,12 +4,12 @@ ghost use Rattle.croncheck_command.specs.Moment.{moment_text, IsNamed};
 ghost use Rattle.croncheck_command.specs.Words.{IsInRange};
 
 use crate::escaped::push_shown;
-use crate::line::Dialect;
 use crate::moment::{Moment, read_moment};
 use crate::settings::Tongue;
 use clap::error::ErrorKind;
 use clap::{Arg, ArgAction, ArgMatches, Command, value_parser};
 use croner::parser::{CronParser, Seconds, Year};
+use crontab::line::Dialect;
 use std::alloc::{AllocError, Global};
 
 /// The last line of what is told where the words of a call are not of its form.

@@ -3,8 +3,8 @@ ghost use Rattle.std.specs.Prelude.{◌≡◌, fold};
 ghost use Rattle.std.specs.List.{list_all};
 ghost use Rattle.croncheck_command.specs.Warnings.{is_field_sign, looks_like_field, met_next, is_percent, has_percent, has_carriage_return};
 
-use crate::bytes::is_digit;
-use crate::line::word;
+use crontab::bytes::is_digit;
+use crontab::line::word;
 
 fn is_field_sign(byte: u8) -> bool
     ensures { result ≡ is_field_sign byte }

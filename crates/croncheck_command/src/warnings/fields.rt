@@ -3,15 +3,15 @@ ghost use Rattle.std.specs.Prelude.{◌≡◌, nat_lt, IfOk, IfErr, map, option_
 ghost use Rattle.std.specs.List.{list_any};
 ghost use Rattle.croner.specs.parser.Grammar.{seven};
 ghost use Rattle.croner.specs.parser.Words.{AreWords};
-ghost use Rattle.croncheck_command.specs.Line.{words_of};
+ghost use Rattle.crontab.specs.Line.{words_of};
 ghost use Rattle.croncheck_command.specs.Warnings.{texts_of_five, fields_of_schedule, AreFieldsOfPattern, place_of_field, text_of_field, parts_in, turn_of, is_uneven, has_uneven_step, has_step_beyond, has_empty_item, has_empty_items, fields_seen};
 
-use crate::bytes::begins_with;
-use crate::field::{Names, Part, Place};
-use crate::line::word;
-use crate::list::parts_of;
 use croner::errors::CronError;
 use croner::parser::PatternField;
+use crontab::bytes::begins_with;
+use crontab::field::{Names, Part, Place};
+use crontab::line::word;
+use crontab::list::parts_of;
 use std::alloc::{AllocError, Global};
 
 /// The texts of the fields of a job or a pattern, as they are written. Where there are no seconds they are `0`, and where there are no years

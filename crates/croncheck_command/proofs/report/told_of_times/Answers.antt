@@ -2,9 +2,9 @@ use Rattle.std.proofs.Common.{◌≡◌, ◌∙◌, ℕ, List, Option, Some, Res
 use Rattle.croner_pattern.specs.Meaning.{Meaning}
 use Rattle.croner.specs.parser.Grammar.{Refusal, outcome}
 use Rattle.croner.specs.Views.{job_of}
-use Rattle.croncheck_command.specs.declared.line.Times.{Times}
-use Rattle.croncheck_command.specs.Entries.{times_seen}
-use Rattle.croncheck_command.specs.Parsed.{crontab_settings}
+use Rattle.crontab.specs.declared.line.Times.{Times}
+use Rattle.crontab.specs.Entries.{times_seen}
+use Rattle.crontab.specs.Parsed.{crontab_settings}
 use Rattle.croncheck_command.specs.Report.{meaning_read, meaning_of_timing, IsWarned, TellsChanges}
 use Rattle.croncheck_command.specs.Told.{TellsMeaning, TellsTiming}
 use Rattle.croncheck_command.proofs.report.told_of_times.Goals as goal

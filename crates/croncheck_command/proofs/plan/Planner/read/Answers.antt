@@ -1,7 +1,7 @@
 use Rattle.std.proofs.Common.{ℕ, List, map, refl, sym, subst}
 use Rattle.std.specs.Prelude.{IfSome}
-use Rattle.croncheck_command.specs.Checked.{entry_of_line, TakesInTurn}
-use Rattle.croncheck_command.specs.Lines.{AreLines}
+use Rattle.crontab.specs.Checked.{entry_of_line, TakesInTurn}
+use Rattle.crontab.specs.Lines.{AreLines}
 use Rattle.croncheck_command.specs.Plan.{Plans, Seen, seen}
 use Rattle.croncheck_command.proofs.Reports.{always}
 use Rattle.croncheck_command.proofs.Viewed.{seen_of_file}

@@ -1,7 +1,7 @@
 use Rattle.std.proofs.Common.{Option, option_map, subst}
 use Rattle.croner.specs.declared.job.Cron.{Cron}
 use Rattle.croner.specs.Views.{job_of}
-use Rattle.croncheck_command.specs.Entries.{entry_seen}
+use Rattle.crontab.specs.Entries.{entry_seen}
 use Rattle.croncheck_command.specs.Same.{HasTimesCompared}
 use Rattle.croncheck_command.proofs.Kept.{if_found}
 use Rattle.croncheck_command.proofs.same.Seen.earlier.Goals as goal

@@ -1,0 +1,5 @@
+mod Examples
+mod NoteRows
+mod Parts
+mod ReadLines
+pub mod TakenLines

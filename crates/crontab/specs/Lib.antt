@@ -1,0 +1,11 @@
+pub mod Bytes
+pub mod Checked
+pub mod Entries
+pub mod Field
+pub mod Line
+pub mod Lines
+pub mod List
+pub mod Notes
+pub mod Parsed
+pub mod Place
+pub mod Setting

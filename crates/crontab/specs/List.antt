@@ -1,0 +1,62 @@
+-- The list of parts of a field, and the text of a field that says the same to croner's parser.
+use Rattle.std.specs.Prelude.{ℕ, Bool, ◌&&◌, ◌==◌, nat_lt, List, [], ◌∷◌, ◌++◌, length, fold, codes, Option, Some, None, option_map, if◌then◌else◌}
+use Rattle.std.specs.Fmt.{decimal}
+use Rattle.std.specs.List.{slice_split}
+use Rattle.crontab.specs.declared.field.Place.{Place}
+use Rattle.crontab.specs.declared.field.Part.{Part}
+use Rattle.crontab.specs.Bytes.{begins_with}
+use Rattle.crontab.specs.Field.{part_of, smaller}
+
+-- ---- the parts
+
+-- a part that was read, and those behind it: they count where a comma follows at once, and else the field ends. The byte 255 may not
+-- follow, since cron takes it for the end of the file
+abbrev pub joined : Option (Part × List ℕ) → Option (List Part) → Option (List Part)
+joined None more = None
+joined (Some read) more =
+    if begins_with 255 read.1 then None
+    else if length read.1 == 0 then option_map (λ parts. read.0 ∷ parts) more else Some (read.0 ∷ [])
+
+-- the parts of a field that is cut at its commas
+abbrev pub parts_of_pieces : Place → List (List ℕ) → Option (List Part)
+parts_of_pieces place [] = Some []
+parts_of_pieces place (piece ∷ pieces) = joined (part_of place piece) (parts_of_pieces place pieces)
+
+-- the parts of a field, where cron takes it
+abbrev pub parts_of : Place → List ℕ → Option (List Part)
+parts_of place field = parts_of_pieces place (slice_split (λ b. b == 44) field)
+
+-- ---- the text
+
+-- the range runs down
+abbrev pub names_nothing : Part → Bool
+names_nothing part = nat_lt part.last part.first
+
+-- a step of 10,000 or more is past the values of every field, and one of 9,999 says the same
+abbrev pub step_text : ℕ → List ℕ
+step_text step = if step == 1 then [] else 47 ∷ decimal (smaller step 9999)
+
+-- a part without a star: a number, or a range
+abbrev pub range_text : Part → List ℕ
+range_text part =
+    if part.first == part.last && part.step == 1 then decimal part.first
+    else decimal part.first ++ (45 ∷ (decimal part.last ++ step_text part.step))
+
+-- one more part behind those of a text; a star that does not stand first is the range that it means
+abbrev pub added : List ℕ → Part → List ℕ
+added text part =
+    if names_nothing part then text
+    else if length text == 0 then range_text part else text ++ (44 ∷ range_text part)
+
+-- the first part
+abbrev pub first_text : Part → List ℕ
+first_text part = if part.is_star then 42 ∷ step_text part.step else added [] part
+
+-- the text of a field, which is empty where it names nothing; behind a star without a step nothing is added
+abbrev pub text_of : List Part → List ℕ
+text_of [] = []
+text_of (part ∷ parts) = if part.is_star && part.step == 1 then codes "*" else fold added (first_text part) parts
+
+-- the text of a field that cron takes
+abbrev pub field_text : Place → List ℕ → Option (List ℕ)
+field_text place field = option_map text_of (parts_of place field)

@@ -1,0 +1,201 @@
+-- The notes of a line of a crontab: where cron(8) reads it otherwise than croner's parser reads the same five fields, or refuses what
+-- that parser takes. Each is a property of the line's bytes. Source: docs/CRONTAB.md, 'Where cron and the crate differ'.
+use Rattle.std.specs.Prelude.{ℕ, ◌^◌, Bool, true, false, not, ◌&&◌, ◌||◌, ◌==◌, nat_lt, nat_le, List, [], ◌∷◌, length, take, drop, fold, filter, map, codes, Option, Some, None}
+use Rattle.std.specs.Char.{to_ascii_lowercase}
+use Rattle.std.specs.List.{list_all, list_any, slice_split, prefix_len}
+use Rattle.std.specs.Option.{is_some, is_none}
+use Rattle.std.specs.Str.{bytes_eq}
+use Rattle.crontab.specs.declared.bytes.Kind.{Kind}
+use Rattle.crontab.specs.declared.bytes.Kind.TheVariants as kinds
+use Rattle.crontab.specs.declared.field.Names.TheVariants as names
+use Rattle.crontab.specs.declared.field.Part.{Part}
+use Rattle.crontab.specs.declared.field.Place.{Place}
+use Rattle.crontab.specs.declared.line.Fault.{Fault}
+use Rattle.crontab.specs.declared.line.Fault.TheVariants as faults
+use Rattle.crontab.specs.declared.notes.Note.{Note}
+use Rattle.crontab.specs.declared.notes.Note.TheVariants as notes
+use Rattle.crontab.specs.declared.notes.Sign.{Sign}
+use Rattle.crontab.specs.declared.notes.Sign.TheVariants as signs
+use Rattle.crontab.specs.Bytes.{is_of, is_digit, front, behind, begins_with, rest_of}
+use Rattle.crontab.specs.Field.{with_digit, name_of, part_of}
+use Rattle.crontab.specs.List.{parts_of, names_nothing}
+use Rattle.crontab.specs.Line.{Five, minute_place, hour_place, day_place, month_place, weekday_place, next, words_of, are_both, nickname_of}
+use Rattle.crontab.specs.Setting.{has}
+
+-- ---- names
+
+-- the name by which a note is known
+abbrev pub note_name : Note → List ℕ
+note_name notes.StarDay = codes "star-day"
+note_name notes.RangeDown = codes "range-down"
+note_name notes.PassedOver = codes "passed-over"
+note_name notes.StarAmongParts = codes "star-among-parts"
+note_name notes.LargeNumber = codes "large-number"
+note_name notes.EmptyPart = codes "empty-part"
+note_name notes.OtherName = codes "other-name"
+note_name notes.Modifier = codes "modifier"
+note_name notes.CapitalNickname = codes "capital-nickname"
+note_name notes.Seconds = codes "seconds"
+
+-- ---- signs in a field: of a piece between its commas, or of a word of letters and digits
+
+-- cron passes over bytes behind this part
+abbrev pub is_followed : Option (Part × List ℕ) → Bool
+is_followed None = false
+is_followed (Some read) = nat_lt 0 (length read.1)
+
+-- a number that 32 bits don't hold
+abbrev pub is_large : List ℕ → Bool
+is_large word = list_all is_digit word && nat_le (2 ^ 32) (fold with_digit 0 word)
+
+-- the name of a month or of a weekday
+abbrev pub is_named : List ℕ → Bool
+is_named word = is_some (name_of names.Months word) || is_some (name_of names.Weekdays word)
+
+-- the word is these small letters, in capitals or small
+abbrev pub reads : List ℕ → List ℕ → Bool
+reads letters word = bytes_eq (map to_ascii_lowercase word) letters
+
+-- digits, one at least, and behind them these letters
+abbrev pub is_numbered : List ℕ → List ℕ → Bool
+is_numbered letters word = nat_lt 0 (prefix_len is_digit word) && reads letters (drop (prefix_len is_digit word) word)
+
+-- a weekday's name, and behind it an L
+abbrev pub is_named_last : List ℕ → Bool
+is_named_last word = reads (codes "l") (drop 3 word) && is_some (name_of names.Weekdays (take 3 word))
+
+abbrev pub passes : Sign → Place → List ℕ → Bool
+passes signs.Followed place piece = is_followed (part_of place piece)
+passes signs.Large place word = is_large word
+passes signs.Empty place piece = length piece == 0
+passes signs.OtherName place word = is_named word && is_none (name_of place.names word)
+passes signs.NamedStep place piece = is_named (front kinds.Alphanumeric (rest_of (behind (kinds.But 47) piece)))
+passes signs.DayModifier place word = reads (codes "l") word || (reads (codes "lw") word || is_numbered (codes "w") word)
+passes signs.WeekdayModifier place word = reads (codes "l") word || (is_numbered (codes "l") word || is_named_last word)
+
+-- one of the runs of bytes of a kind passes
+abbrev pub any_run : Sign → Place → Kind → List ℕ → Bool
+any_run sign place kind text = list_any (passes sign place) (slice_split (λ b. not (is_of kind b)) text)
+
+-- ---- what cron takes and reads otherwise
+
+-- a star that names all values of its field
+abbrev pub is_whole_star : Part → Bool
+is_whole_star part = part.is_star && part.step == 1
+
+abbrev pub has_range_down : Option (List Part) → Bool
+has_range_down None = false
+has_range_down (Some parts) = list_any names_nothing parts
+
+abbrev pub has_star_among : Option (List Part) → Bool
+has_star_among None = false
+has_star_among (Some parts) = nat_lt 1 (length parts) && list_any is_whole_star parts
+
+-- a note of a field that cron takes. Where bytes are passed over, only that is told of numbers
+abbrev pub is_field_noted : Note → Place → List ℕ → Bool
+is_field_noted notes.RangeDown place field = has_range_down (parts_of place field)
+is_field_noted notes.StarAmongParts place field = has_star_among (parts_of place field)
+is_field_noted notes.PassedOver place field = any_run signs.Followed place (kinds.But 44) field
+is_field_noted notes.LargeNumber place field =
+    not (any_run signs.Followed place (kinds.But 44) field) && any_run signs.Large place kinds.Alphanumeric field
+is_field_noted other place field = false
+
+abbrev pub any_field : (Place → List ℕ → Bool) → Five → Bool
+any_field test w =
+    test minute_place w.minutes || (test hour_place w.hours || (test day_place w.days || (test month_place w.months || test weekday_place w.weekdays)))
+
+-- a day field begins with a star, and neither is a star alone: both must match
+abbrev pub is_star_day : Five → Bool
+is_star_day w = are_both w && not (bytes_eq w.days (codes "*") || bytes_eq w.weekdays (codes "*"))
+
+-- a note of the five words of a job
+abbrev pub are_words_noted : Note → Five → Bool
+are_words_noted notes.StarDay w = is_star_day w
+are_words_noted note w = any_field (is_field_noted note) w
+
+-- a note of a job, from its first byte that is no blank on
+abbrev pub is_job_noted : Note → List ℕ → Bool
+is_job_noted note text = not (begins_with 64 text) && are_words_noted note (words_of text)
+
+-- ---- what cron refuses and croner's parser takes
+
+-- the word of a field that is at fault
+abbrev pub field_at : Fault → Five → Option (Place × List ℕ)
+field_at faults.Minutes w = Some (minute_place, w.minutes)
+field_at faults.Hours w = Some (hour_place, w.hours)
+field_at faults.Days w = Some (day_place, w.days)
+field_at faults.Months w = Some (month_place, w.months)
+field_at faults.Weekdays w = Some (weekday_place, w.weekdays)
+field_at other w = None
+
+-- the field has a modifier of croner's: L, W or `?` in days, L, `?` or a `+` in front in weekdays
+abbrev pub has_modifier : Fault → Place → List ℕ → Bool
+has_modifier faults.Days place field = has 63 field || any_run signs.DayModifier place kinds.Alphanumeric field
+has_modifier faults.Weekdays place field = has 63 field || (begins_with 43 field || any_run signs.WeekdayModifier place kinds.Alphanumeric field)
+has_modifier other place field = false
+
+-- a note of a field that is at fault
+abbrev pub is_fault_noted : Note → Fault → Place → List ℕ → Bool
+is_fault_noted notes.EmptyPart fault place field = nat_lt 0 (length field) && any_run signs.Empty place (kinds.But 44) field
+is_fault_noted notes.OtherName fault place field =
+    any_run signs.OtherName place kinds.Alphanumeric field || any_run signs.NamedStep place (kinds.But 44) field
+is_fault_noted notes.Modifier fault place field = has_modifier fault place field
+is_fault_noted other fault place field = false
+
+-- cron takes the field
+abbrev pub takes : Place → List ℕ → Bool
+takes place field = is_some (parts_of place field)
+
+abbrev pub is_refused_field_noted : Note → Fault → Option (Place × List ℕ) → Bool
+is_refused_field_noted note fault None = false
+is_refused_field_noted note fault (Some at) = not (takes at.0 at.1) && is_fault_noted note fault at.0 at.1
+
+abbrev pub takes_all : Five → Bool
+takes_all w =
+    takes minute_place w.minutes && (takes hour_place w.hours && (takes day_place w.days && (takes month_place w.months && takes weekday_place w.weekdays)))
+
+-- a field of seconds stands before five that cron takes
+abbrev pub has_seconds : List ℕ → Bool
+has_seconds text = takes minute_place (front kinds.Word text) && takes_all (words_of (next text))
+
+-- small letters
+abbrev pub lowered : List ℕ → List ℕ
+lowered word = map to_ascii_lowercase word
+
+-- the fault is that of a field, or of a command that begins with a star
+abbrev pub is_of_fields : Fault → Bool
+is_of_fields faults.Command = true
+is_of_fields faults.Minutes = true
+is_of_fields faults.Hours = true
+is_of_fields faults.Days = true
+is_of_fields faults.Months = true
+is_of_fields faults.Weekdays = true
+is_of_fields other = false
+
+abbrev pub is_of_nickname : Fault → Bool
+is_of_nickname faults.Nickname = true
+is_of_nickname other = false
+
+-- a note of a line that is refused for this fault
+abbrev pub is_refusal_noted : Note → Fault → List ℕ → Bool
+is_refusal_noted notes.CapitalNickname fault text =
+    is_of_nickname fault && is_some (nickname_of (lowered (front kinds.Word (rest_of text))))
+is_refusal_noted notes.Seconds fault text = is_of_fields fault && has_seconds text
+is_refusal_noted note fault text = is_refused_field_noted note fault (field_at fault (words_of text))
+
+-- ---- the line
+
+-- a line has a note, of which the fault is told that cron refuses it for, if it does
+abbrev pub is_noted : Note → Option Fault → List ℕ → Bool
+is_noted note None line = is_job_noted note (behind kinds.Blank line)
+is_noted note (Some fault) line = is_refusal_noted note fault (behind kinds.Blank line)
+
+-- all notes, in the order in which they are given
+abbrev pub all_notes : List Note
+all_notes =
+    notes.StarDay ∷ notes.RangeDown ∷ notes.PassedOver ∷ notes.StarAmongParts ∷ notes.LargeNumber
+    ∷ notes.EmptyPart ∷ notes.OtherName ∷ notes.Modifier ∷ notes.CapitalNickname ∷ notes.Seconds ∷ []
+
+-- the notes of a line of a crontab, which is a job or is refused for this fault
+abbrev pub notes_of : Option Fault → List ℕ → List Note
+notes_of fault line = filter (λ note. is_noted note fault line) all_notes

@@ -1,0 +1,58 @@
+-- Where in its line a fault lies. A place is that of two texts that both reach to the line's end: it begins where the first begins, and ends
+-- where the second does. Source: this repository's page on the lines of a crontab.
+use Rattle.std.specs.Prelude.{◌≡◌, ℕ, Bool, ◌-◌, List, [], length, Option, Some, None, ⊤, if◌then◌else◌}
+use Rattle.crontab.specs.declared.bytes.Kind.TheVariants as kinds
+use Rattle.crontab.specs.declared.line.Entry.{Entry}
+use Rattle.crontab.specs.declared.line.Entry.TheVariants as entries
+use Rattle.crontab.specs.declared.line.Fault.{Fault}
+use Rattle.crontab.specs.declared.line.Fault.TheVariants as faults
+use Rattle.crontab.specs.Bytes.{behind, begins_with, rest_of}
+use Rattle.crontab.specs.Line.{next, Line, refused}
+
+-- what stands behind the times: `@` and a word, or five words
+abbrev pub behind_times : List ℕ → List ℕ
+behind_times text = if begins_with 64 text then next text else next (next (next (next (next text))))
+
+-- the command, behind the times: in a crontab of the system a user and one blank stand before it
+abbrev pub command_of : Bool → List ℕ → List ℕ
+command_of system rest = if system then rest_of (behind kinds.Word rest) else rest
+
+-- the text from the first byte of a fault on: the first byte 0, a word, or the command
+abbrev pub from_fault : Bool → List ℕ → Fault → List ℕ
+from_fault system text faults.Nul = behind (kinds.But 0) text
+from_fault system text faults.Minutes = text
+from_fault system text faults.Hours = next text
+from_fault system text faults.Days = next (next text)
+from_fault system text faults.Months = next (next (next text))
+from_fault system text faults.Weekdays = next (next (next (next text)))
+from_fault system text faults.Nickname = text
+from_fault system text faults.User = behind_times text
+from_fault system text faults.Command = command_of system (behind_times text)
+from_fault system text faults.LongCommand = command_of system (behind_times text)
+
+-- the text behind its last byte: behind one byte, behind the word, or none
+abbrev pub behind_fault : Bool → List ℕ → Fault → List ℕ
+behind_fault system text faults.Nul = rest_of (behind (kinds.But 0) text)
+behind_fault system text faults.Command = []
+behind_fault system text faults.LongCommand = []
+behind_fault system text fault = behind kinds.Word (from_fault system text fault)
+
+-- a place in a line from where one text begins to where another does
+abbrev pub IsBetween : List ℕ → List ℕ → List ℕ → ℕ → ℕ → Type 0
+IsBetween line from past start end = (start ≡ length line - length from) × (end ≡ length line - length past)
+
+-- the place of a fault of a line, whose text stands behind its blanks
+abbrev pub IsPlaceOf : Bool → List ℕ → List ℕ → Fault → ℕ → ℕ → Type 0
+IsPlaceOf system line text fault start end = IsBetween line (from_fault system text fault) (behind_fault system text fault) start end
+
+-- the place of the fault of a line, if it is refused
+abbrev pub place_of : Bool → List ℕ → Line → Option (ℕ × ℕ)
+place_of system line (refused fault) =
+    let text = behind kinds.Blank line in
+    Some (length line - length (from_fault system text fault), length line - length (behind_fault system text fault))
+place_of system line other = None
+
+-- a refused line names the place of its fault
+abbrev pub NamesPlace : Bool → List ℕ → Entry → Type 0
+NamesPlace system line (entries.Refused fault start end) = IsPlaceOf system line (behind kinds.Blank line) fault start end
+NamesPlace system line other = ⊤

@@ -1,0 +1,130 @@
+//! The bytes of a line, and the cuts that cron makes in it.
+ghost use Rattle.std.specs.Prelude.{◌≡◌, ◌≤◌, ◌+◌, length};
+ghost use Rattle.std.specs.List.{prefix_len, suffix_len};
+ghost use Rattle.crontab.specs.Bytes.{is_blank, is_space, is_quote, is_digit, is_alphanumeric, is_of, front, behind, begins_with, rest_of, until, trimmed};
+
+/// A kind of bytes, to cut a text at its end.
+#[derive(Clone, Copy)]
+pub enum Kind {
+    /// A space or a tab: what stands between fields.
+    Blank,
+    /// What is no blank.
+    Word,
+    /// What C calls a space.
+    Space,
+    /// A letter or a digit of ASCII.
+    Alphanumeric,
+    /// What a name without quotes is made of: neither a space nor `=`.
+    Name,
+    /// Every byte but this one.
+    But(u8),
+}
+
+fn is_blank(byte: u8) -> bool
+    ensures { result ≡ is_blank byte }
+{
+    byte == b' ' || byte == b'\t'
+}
+
+fn is_space(byte: u8) -> bool
+    ensures { result ≡ is_space byte }
+{
+    byte == b' ' || (9 <= byte && byte <= 13)
+}
+
+/// Whether a byte is a quote, double or single.
+pub fn is_quote(byte: u8) -> bool
+    ensures { result ≡ is_quote byte }
+{
+    byte == b'"' || byte == b'\''
+}
+
+/// Whether a byte is a digit of ASCII.
+pub fn is_digit(byte: u8) -> bool
+    ensures { result ≡ is_digit byte }
+{
+    b'0' <= byte && byte <= b'9'
+}
+
+fn is_alphanumeric(byte: u8) -> bool
+    ensures { result ≡ is_alphanumeric byte }
+{
+    is_digit(byte) || (b'A' <= byte && byte <= b'Z') || (b'a' <= byte && byte <= b'z')
+}
+
+/// Whether a byte is of a kind.
+pub fn is_of(kind: Kind, byte: u8) -> bool
+    ensures { result ≡ is_of kind byte }
+{
+    match kind {
+        Kind::Blank => is_blank(byte),
+        Kind::Word => !is_blank(byte),
+        Kind::Space => is_space(byte),
+        Kind::Alphanumeric => is_alphanumeric(byte),
+        Kind::Name => !(is_space(byte) || byte == b'='),
+        Kind::But(other) => byte != other,
+    }
+}
+
+fn front_len(text: &[u8], kind: Kind) -> usize
+    ensures len { result ≡ prefix_len (is_of kind) text.now }
+    ensures within { result ≤ length text.now }
+{
+    text.iter().take_while(|byte| is_of(kind, **byte)).count()
+}
+
+/// The bytes of a kind that a text begins with, and what stands behind them.
+pub fn cut(text: &[u8], kind: Kind) -> (&[u8], &[u8])
+    ensures front { result.0.now ≡ front kind text.now }
+    ensures behind { result.1.now ≡ behind kind text.now }
+    ensures lengths { length result.0.now + length result.1.now ≡ length text.now }
+{
+    text.split_at(front_len(text, kind))
+}
+
+/// Whether a text begins with this byte.
+pub fn begins_with(text: &[u8], byte: u8) -> bool
+    ensures { result ≡ begins_with byte text.now }
+{
+    match text {
+        [first, ..] => *first == byte,
+        [] => false,
+    }
+}
+
+/// The text without its first byte. An empty text stays empty.
+pub fn rest_of(text: &[u8]) -> &[u8]
+    ensures { result.now ≡ rest_of text.now }
+{
+    match text {
+        [_, rest @ ..] => rest,
+        [] => text,
+    }
+}
+
+/// The text up to what stands behind in it: without as many of its last bytes as `behind` has, and empty where `behind`
+/// is the longer.
+pub fn until<'l>(text: &'l [u8], behind: &[u8]) -> &'l [u8]
+    ensures { result.now ≡ until text.now behind.now }
+{
+    let (front, _) = text.split_at(text.len().saturating_sub(behind.len()));
+    front
+}
+
+fn back_len(text: &[u8]) -> usize
+    ensures len { result ≡ suffix_len is_space text.now }
+    ensures within { result ≤ length text.now }
+{
+    text.iter()
+        .rev()
+        .take_while(|byte| is_space(**byte))
+        .count()
+}
+
+/// The text without what C calls spaces at its end.
+pub fn trimmed(text: &[u8]) -> &[u8]
+    ensures { result.now ≡ trimmed text.now }
+{
+    let (front, _) = text.split_at(text.len() - back_len(text));
+    front
+}

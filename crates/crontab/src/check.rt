@@ -1,0 +1,61 @@
+//! The entries of a file, one a line.
+ghost use Rattle.std.specs.Prelude.{OnOk};
+ghost use Rattle.crontab.specs.Checked.{entry_of_line, TakesAll};
+
+use crate::line::{Dialect, Entry, entry_of};
+use crate::lines::{read_line, unfed};
+use std::alloc::Global;
+use std::io;
+use std::io::{BufRead, ErrorKind};
+
+/// What takes the entries of a file, in the order of its lines.
+pub trait Entries {
+    ghost use Rattle.std.specs.Prelude.{OnOk};
+    ghost use Rattle.crontab.specs.Checked.{LineRead, line_seen};
+
+    /// What taking the entry of a line leaves.
+    ghost takes: { Self → LineRead → Self → Type 0 };
+
+    /// Takes the entry of the next line, which is given without its line feed, and whether the line ends with one.
+    ///
+    /// The error is that of what the entries are written to, or says that memory is lacking.
+    fn take(&mut self, line: &[u8], entry: Entry<'_>, is_fed: bool) -> io::Result<()>
+        ensures { OnOk result (takes self.old (line_seen line.now entry.entry is_fed) self.new) };
+}
+
+// Takes the entry of a line.
+fn take_line<S: Entries>(
+    alloc: Global,
+    dialect: Dialect,
+    line: &[u8],
+    sink: &mut S,
+) -> io::Result<()>
+    ensures { OnOk result (S.takes sink.old (entry_of_line dialect line.now) sink.new) }
+{
+    let (text, is_fed) = unfed(line);
+    let entry = entry_of(alloc, dialect, text)?;
+    sink.take(text, entry, is_fed)
+}
+
+/// Gives the entry of each line of a file to what takes them, in order, in a dialect. It holds one line at a time.
+///
+/// The error is that of the reader or of what takes the entries, or says that memory is lacking. The entries of the
+/// lines before are taken then.
+pub fn check<R: BufRead, S: Entries>(
+    alloc: Global,
+    dialect: Dialect,
+    reader: &mut R,
+    sink: &mut S,
+) -> io::Result<()>
+    ensures { OnOk result (TakesAll S.takes dialect (R.remaining reader.old) sink.old sink.new) }
+{
+    let mut line = Vec::new(alloc);
+    for _turn in 0..u64::MAX {
+        read_line(reader, &mut line)?;
+        if line.is_empty() {
+            return Ok(());
+        }
+        take_line(alloc, dialect, line.as_slice(), sink)?;
+    }
+    Err(io::Error::from(ErrorKind::Other))
+}

@@ -1,0 +1,30 @@
+//! The lines of a file.
+ghost use Rattle.std.specs.Prelude.{◌≡◌, OnOk};
+ghost use Rattle.crontab.specs.Lines.{ReadsLine, unfed, is_fed};
+
+use std::io;
+use std::io::BufRead;
+
+/// Reads the next line, with its line feed, in place of what `line` held. It is empty where the file ends.
+///
+/// The error is that of the reader, or says that memory is lacking. What `line` holds then is not said.
+pub fn read_line<R: BufRead>(reader: &mut R, line: &mut Vec<u8>) -> io::Result<()>
+    ensures { OnOk result (ReadsLine (R.remaining reader.old) (R.remaining reader.new) line.new.items) }
+{
+    line.clear();
+    reader.read_until(b'\n', line)?;
+    Ok(())
+}
+
+/// A line without its line feed, and whether it has one.
+pub fn unfed(line: &[u8]) -> (&[u8], bool)
+    ensures text { result.0.now ≡ unfed line.now }
+    ensures fed { result.1 ≡ is_fed line.now }
+{
+    let last = line.len().saturating_sub(1);
+    let (text, end) = line.split_at(last);
+    match end {
+        [b'\n'] => (text, true),
+        _ => (line, false),
+    }
+}

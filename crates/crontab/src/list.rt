@@ -1,0 +1,124 @@
+//! The list of parts of a field, and the text that says the same to croner's parser.
+ghost use Rattle.std.specs.Prelude.{◌≡◌, fold, option_map, string_bytes, IfOk, OnOk};
+ghost use Rattle.crontab.specs.List.{parts_of, names_nothing, step_text, range_text, added, first_text, text_of, field_text};
+
+use crate::bytes::begins_with;
+use crate::field::{Part, Place, part_of};
+use std::alloc::{AllocError, Global};
+
+/// The byte that cron takes for the end of the file, where it follows a part.
+const END_OF_FILE: u8 = 255;
+
+/// A step as far as it is told: from here on it is past the values of every field.
+const MOST_STEP: u64 = 9_999;
+
+/// The parts of a field, in order, or nothing where cron refuses it. Behind the first part that isn't followed by a
+/// comma at once nothing is read.
+///
+/// The only error is want of memory.
+pub fn parts_of(alloc: Global, place: Place, field: &[u8]) -> Result<Option<Vec<Part>>, AllocError>
+    ensures { IfOk result (λ found. option_map (λ parts. parts.items) found ≡ parts_of place field.now) }
+{
+    let mut parts = Vec::new(alloc);
+    for piece in field.split(|byte| *byte == b',') {
+        let Some((part, tail)) = part_of(place, piece) else {
+            return Ok(None);
+        };
+        if begins_with(tail, END_OF_FILE) {
+            return Ok(None);
+        }
+        parts.push(part)?;
+        if !tail.is_empty() {
+            return Ok(Some(parts));
+        }
+    }
+    Ok(Some(parts))
+}
+
+// Whether a part names no value.
+pub(crate) fn names_nothing(part: &Part) -> bool
+    ensures { result ≡ names_nothing part.now }
+{
+    part.last < part.first
+}
+
+// The step of a part behind its range.
+fn step_text(alloc: Global, step: u64) -> Result<String, AllocError>
+    ensures { IfOk result (λ text. string_bytes text ≡ step_text step) }
+{
+    if step == 1 {
+        return Ok(String::new(alloc));
+    }
+    let told = step.min(MOST_STEP);
+    format!(in alloc; "/{told}")
+}
+
+fn range_text(alloc: Global, part: &Part) -> Result<String, AllocError>
+    ensures { IfOk result (λ text. string_bytes text ≡ range_text part.now) }
+{
+    let (first, last) = (part.first, part.last);
+    if first == last && part.step == 1 {
+        return format!(in alloc; "{first}");
+    }
+    let step = step_text(alloc, part.step)?;
+    format!(in alloc; "{first}-{last}{step}")
+}
+
+fn add(alloc: Global, text: &mut String, part: &Part) -> Result<(), AllocError>
+    ensures { OnOk result (string_bytes text.new ≡ added (string_bytes text.old) part.now) }
+{
+    if names_nothing(part) {
+        return Ok(());
+    }
+    if !text.is_empty() {
+        text.push(',')?;
+    }
+    let range = range_text(alloc, part)?;
+    text.push_str(range.as_str())
+}
+
+fn first_text(alloc: Global, part: &Part) -> Result<String, AllocError>
+    ensures { IfOk result (λ text. string_bytes text ≡ first_text part.now) }
+{
+    if part.is_star {
+        let step = step_text(alloc, part.step)?;
+        return format!(in alloc; "*{step}");
+    }
+    let mut text = String::new(alloc);
+    add(alloc, &mut text, part)?;
+    Ok(text)
+}
+
+fn all_text(alloc: Global, first: &Part, more: &[Part]) -> Result<String, AllocError>
+    ensures { IfOk result (λ text. string_bytes text ≡ fold added (first_text first.now) more.now) }
+{
+    let mut text = first_text(alloc, first)?;
+    for part in more {
+        add(alloc, &mut text, part)?;
+    }
+    Ok(text)
+}
+
+fn text_of(alloc: Global, parts: &[Part]) -> Result<String, AllocError>
+    ensures { IfOk result (λ text. string_bytes text ≡ text_of parts.now) }
+{
+    match parts {
+        [] => Ok(String::new(alloc)),
+        [first, ..] if first.is_star && first.step == 1 => String::from_str(alloc, "*"),
+        [first, more @ ..] => all_text(alloc, first, more),
+    }
+}
+
+/// The text of a field that says the same to croner's parser, or nothing where cron refuses the field. It is empty
+/// where the field names no value.
+///
+/// The only error is want of memory.
+pub fn field_text(alloc: Global, place: Place, field: &[u8]) -> Result<Option<String>, AllocError>
+    ensures { IfOk result (λ text. option_map string_bytes text ≡ field_text place field.now) }
+{
+    let Some(parts) = parts_of(alloc, place, field)? else {
+        return Ok(None);
+    };
+    let text = text_of(alloc, parts.as_slice())?;
+    Ok(Some(text))
+}

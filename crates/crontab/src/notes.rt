@@ -1,0 +1,483 @@
+//! The notes of a line: where cron reads it otherwise than croner's parser reads the same five fields, or refuses what
+//! that parser takes.
+ghost use Rattle.std.specs.Prelude.{◌≡◌, ◌≤◌, ◌||◌, not, length, option_map, take, filter, IfOk};
+ghost use Rattle.std.specs.Option.{is_some, is_none};
+ghost use Rattle.std.specs.List.{list_any, prefix_len};
+ghost use Rattle.crontab.specs.declared.bytes.Kind.TheVariants as kinds;
+ghost use Rattle.crontab.specs.Bytes.{is_digit, front, behind, rest_of};
+ghost use Rattle.crontab.specs.Entries.{words_seen};
+ghost use Rattle.crontab.specs.Field.{name_of, part_of};
+ghost use Rattle.crontab.specs.Line.{nickname_of};
+ghost use Rattle.crontab.specs.Line.{words_of as words_in};
+ghost use Rattle.crontab.specs.List.{names_nothing, parts_of};
+ghost use Rattle.crontab.specs.Notes.{is_followed, is_large, is_named, reads, is_numbered, is_named_last, passes, any_run, is_whole_star, has_range_down, has_star_among, is_field_noted, any_field, is_star_day, are_words_noted, is_job_noted, field_at, has_modifier, is_fault_noted, takes, is_refused_field_noted, takes_all, has_seconds, lowered, is_of_fields, is_of_nickname, is_refusal_noted, is_noted, note_name, notes_of};
+
+use crate::bytes::{Kind, begins_with, cut, is_digit, is_of, rest_of};
+use crate::field::{Names, Part, Place, all_digits, digits, is_name, name_of, part_of};
+use crate::line::{DAYS, Fault, HOURS, MINUTES, MONTHS, WEEKDAYS, Words, are_both, word, words_of};
+use crate::list::{names_nothing, parts_of};
+use crate::setting::has;
+use std::alloc::{AllocError, Global};
+
+/// How many numbers 32 bits hold.
+const NUMBERS: u64 = 4_294_967_296;
+
+/// How many letters the name of a weekday has.
+const NAME_LENGTH: usize = 3;
+
+/// What is told of a line beside its meaning or its refusal.
+#[derive(Clone, Copy, Drop)]
+pub enum Note {
+    /// A day field begins with `*`, and neither day field is `*` alone: both must match.
+    StarDay,
+    /// A range that goes down, which names nothing.
+    RangeDown,
+    /// Bytes behind a part are passed over, with the rest of the field.
+    PassedOver,
+    /// A `*` stands beside other parts.
+    StarAmongParts,
+    /// A number of 2^32 or more, of which the rest after division by 2^32 counts.
+    LargeNumber,
+    /// A part between commas is empty.
+    EmptyPart,
+    /// The name of a month or of a weekday where the field has no such names.
+    OtherName,
+    /// `L`, `W`, `?` or `+` in a day field.
+    Modifier,
+    /// A nickname that isn't in small letters.
+    CapitalNickname,
+    /// A field of seconds stands before five that cron takes.
+    Seconds,
+}
+
+impl Note {
+    /// All of them, in the order in which they are told.
+    pub const ALL: [Note; 10] = [
+        Note::StarDay,
+        Note::RangeDown,
+        Note::PassedOver,
+        Note::StarAmongParts,
+        Note::LargeNumber,
+        Note::EmptyPart,
+        Note::OtherName,
+        Note::Modifier,
+        Note::CapitalNickname,
+        Note::Seconds,
+    ];
+
+    /// The name by which it is known, as `star-day`.
+    pub fn name(self) -> &'static str
+        ensures { result.now ≡ note_name self }
+    {
+        match self {
+            Note::StarDay => "star-day",
+            Note::RangeDown => "range-down",
+            Note::PassedOver => "passed-over",
+            Note::StarAmongParts => "star-among-parts",
+            Note::LargeNumber => "large-number",
+            Note::EmptyPart => "empty-part",
+            Note::OtherName => "other-name",
+            Note::Modifier => "modifier",
+            Note::CapitalNickname => "capital-nickname",
+            Note::Seconds => "seconds",
+        }
+    }
+}
+
+// What is looked for in a field: in each of its pieces between commas, or in each of its words of letters and digits.
+#[derive(Clone, Copy)]
+enum Sign {
+    // A piece with bytes behind its part.
+    Followed,
+    // A word that is a number of 2^32 or more.
+    Large,
+    // A piece without a byte.
+    Empty,
+    // A word that is a name of another field.
+    OtherName,
+    // A piece of which a name is the step.
+    NamedStep,
+    // A word that is a modifier in a field of days.
+    DayModifier,
+    // A word that is a modifier in a field of weekdays.
+    WeekdayModifier,
+}
+
+// ---- signs
+
+fn is_followed(place: Place, piece: &[u8]) -> bool
+    ensures { result ≡ is_followed (part_of place piece.now) }
+{
+    match part_of(place, piece) {
+        Some((_, behind)) => !behind.is_empty(),
+        None => false,
+    }
+}
+
+fn is_large(word: &[u8]) -> bool
+    ensures { result ≡ is_large word.now }
+{
+    all_digits(word) && NUMBERS <= digits(word)
+}
+
+fn is_named(word: &[u8]) -> bool
+    ensures { result ≡ is_named word.now }
+{
+    name_of(Names::Months, word).is_some() || name_of(Names::Weekdays, word).is_some()
+}
+
+fn digit_count(word: &[u8]) -> usize
+    ensures len { result ≡ prefix_len is_digit word.now }
+    ensures within { result ≤ length word.now }
+{
+    word.iter().take_while(|byte| is_digit(**byte)).count()
+}
+
+// Whether a word is digits, one at least, and behind them these letters.
+fn is_numbered(word: &[u8], letters: &str) -> bool
+    ensures { result ≡ is_numbered (lowered letters.now) word.now }
+{
+    let count = digit_count(word);
+    let (_, behind) = word.split_at(count);
+    0 < count && is_name(behind, letters)
+}
+
+// Whether a word is a weekday's name and an L.
+fn is_named_last(word: &[u8]) -> bool
+    ensures { result ≡ is_named_last word.now }
+{
+    if word.len() < NAME_LENGTH {
+        return false;
+    }
+    let (name, behind) = word.split_at(NAME_LENGTH);
+    is_name(behind, "l") && name_of(Names::Weekdays, name).is_some()
+}
+
+fn is_named_step(piece: &[u8]) -> bool
+    ensures { result ≡ is_named (front kinds.Alphanumeric (rest_of (behind (kinds.But 47) piece.now))) }
+{
+    let (_, slash) = cut(piece, Kind::But(b'/'));
+    let (step, _) = cut(rest_of(slash), Kind::Alphanumeric);
+    is_named(step)
+}
+
+fn passes(sign: Sign, place: Place, run: &[u8]) -> bool
+    ensures { result ≡ passes sign place run.now }
+{
+    match sign {
+        Sign::Followed => is_followed(place, run),
+        Sign::Large => is_large(run),
+        Sign::Empty => run.is_empty(),
+        Sign::OtherName => is_named(run) && name_of(place.names, run).is_none(),
+        Sign::NamedStep => is_named_step(run),
+        Sign::DayModifier => is_name(run, "l") || is_name(run, "lw") || is_numbered(run, "w"),
+        Sign::WeekdayModifier => is_name(run, "l") || is_numbered(run, "l") || is_named_last(run),
+    }
+}
+
+// Whether one of the runs of bytes of a kind passes.
+fn any_run(sign: Sign, place: Place, kind: Kind, text: &[u8]) -> bool
+    ensures { result ≡ any_run sign place kind text.now }
+{
+    text.split(|byte| !is_of(kind, *byte))
+        .any(|run| passes(sign, place, run))
+}
+
+// ---- what cron takes and reads otherwise
+
+fn is_whole_star(part: &Part) -> bool
+    ensures { result ≡ is_whole_star part.now }
+{
+    part.is_star && part.step == 1
+}
+
+fn any_down(parts: &[Part]) -> bool
+    ensures { result ≡ list_any names_nothing parts.now }
+{
+    parts.iter().any(|part| names_nothing(part))
+}
+
+fn any_whole_star(parts: &[Part]) -> bool
+    ensures { result ≡ list_any is_whole_star parts.now }
+{
+    parts.iter().any(|part| is_whole_star(part))
+}
+
+fn has_range_down(alloc: Global, place: Place, field: &[u8]) -> Result<bool, AllocError>
+    ensures { IfOk result (λ b. b ≡ has_range_down (parts_of place field.now)) }
+{
+    match parts_of(alloc, place, field)? {
+        Some(parts) => Ok(any_down(parts.as_slice())),
+        None => Ok(false),
+    }
+}
+
+fn has_star_among(alloc: Global, place: Place, field: &[u8]) -> Result<bool, AllocError>
+    ensures { IfOk result (λ b. b ≡ has_star_among (parts_of place field.now)) }
+{
+    match parts_of(alloc, place, field)? {
+        Some(parts) => Ok(1 < parts.len() && any_whole_star(parts.as_slice())),
+        None => Ok(false),
+    }
+}
+
+fn is_field_noted(alloc: Global, note: Note, place: Place, field: &[u8]) -> Result<bool, AllocError>
+    ensures { IfOk result (λ b. b ≡ is_field_noted note place field.now) }
+{
+    match note {
+        Note::RangeDown => has_range_down(alloc, place, field),
+        Note::StarAmongParts => has_star_among(alloc, place, field),
+        Note::PassedOver => Ok(any_run(Sign::Followed, place, Kind::But(b','), field)),
+        Note::LargeNumber => Ok(
+            !any_run(Sign::Followed, place, Kind::But(b','), field)
+                && any_run(Sign::Large, place, Kind::Alphanumeric, field),
+        ),
+        _ => Ok(false),
+    }
+}
+
+fn any_field(alloc: Global, note: Note, words: Words<'_>) -> Result<bool, AllocError>
+    ensures { IfOk result (λ b. b ≡ any_field (is_field_noted note) (words_seen words.entry)) }
+{
+    let minutes = is_field_noted(alloc, note, MINUTES, words.minutes)?;
+    let hours = is_field_noted(alloc, note, HOURS, words.hours)?;
+    let days = is_field_noted(alloc, note, DAYS, words.days)?;
+    let months = is_field_noted(alloc, note, MONTHS, words.months)?;
+    let weekdays = is_field_noted(alloc, note, WEEKDAYS, words.weekdays)?;
+    Ok(minutes || hours || days || months || weekdays)
+}
+
+fn is_star_day(words: Words<'_>) -> bool
+    ensures { result ≡ is_star_day (words_seen words.entry) }
+{
+    are_both(words) && !(words.days == "*".as_bytes() || words.weekdays == "*".as_bytes())
+}
+
+fn are_words_noted(alloc: Global, note: Note, words: Words<'_>) -> Result<bool, AllocError>
+    ensures { IfOk result (λ b. b ≡ are_words_noted note (words_seen words.entry)) }
+{
+    match note {
+        Note::StarDay => Ok(is_star_day(words)),
+        _ => any_field(alloc, note, words),
+    }
+}
+
+fn is_job_noted(alloc: Global, note: Note, text: &[u8]) -> Result<bool, AllocError>
+    ensures { IfOk result (λ b. b ≡ is_job_noted note text.now) }
+{
+    if begins_with(text, b'@') {
+        return Ok(false);
+    }
+    are_words_noted(alloc, note, words_of(text))
+}
+
+// ---- what cron refuses and croner's parser takes
+
+// The word of a field that is at fault, and the values that it may have.
+fn field_at<'l>(fault: Fault, words: Words<'l>) -> Option<(Place, &'l [u8])>
+    ensures { option_map (λ f. (f.0, f.1.now)) result ≡ field_at fault (words_seen words.entry) }
+{
+    match fault {
+        Fault::Minutes => Some((MINUTES, words.minutes)),
+        Fault::Hours => Some((HOURS, words.hours)),
+        Fault::Days => Some((DAYS, words.days)),
+        Fault::Months => Some((MONTHS, words.months)),
+        Fault::Weekdays => Some((WEEKDAYS, words.weekdays)),
+        _ => None,
+    }
+}
+
+fn has_modifier(fault: Fault, place: Place, field: &[u8]) -> bool
+    ensures { result ≡ has_modifier fault place field.now }
+{
+    match fault {
+        Fault::Days => has(field, b'?')
+            || any_run(Sign::DayModifier, place, Kind::Alphanumeric, field),
+        Fault::Weekdays => has(field, b'?')
+            || begins_with(field, b'+')
+            || any_run(Sign::WeekdayModifier, place, Kind::Alphanumeric, field),
+        _ => false,
+    }
+}
+
+fn is_fault_noted(note: Note, fault: Fault, place: Place, field: &[u8]) -> bool
+    ensures { result ≡ is_fault_noted note fault place field.now }
+{
+    match note {
+        Note::EmptyPart => !field.is_empty() && any_run(Sign::Empty, place, Kind::But(b','), field),
+        Note::OtherName => any_run(Sign::OtherName, place, Kind::Alphanumeric, field)
+            || any_run(Sign::NamedStep, place, Kind::But(b','), field),
+        Note::Modifier => has_modifier(fault, place, field),
+        _ => false,
+    }
+}
+
+/// Whether cron takes a field.
+///
+/// The only error is want of memory.
+pub fn takes(alloc: Global, place: Place, field: &[u8]) -> Result<bool, AllocError>
+    ensures { IfOk result (λ b. b ≡ takes place field.now) }
+{
+    match parts_of(alloc, place, field)? {
+        Some(_) => Ok(true),
+        None => Ok(false),
+    }
+}
+
+fn is_refused_field_noted(
+    alloc: Global,
+    note: Note,
+    fault: Fault,
+    words: Words<'_>,
+) -> Result<bool, AllocError>
+    ensures { IfOk result (λ b. b ≡ is_refused_field_noted note fault (field_at fault (words_seen words.entry))) }
+{
+    match field_at(fault, words) {
+        Some((place, field)) => {
+            let is_taken = takes(alloc, place, field)?;
+            Ok(!is_taken && is_fault_noted(note, fault, place, field))
+        }
+        None => Ok(false),
+    }
+}
+
+fn takes_all(alloc: Global, words: Words<'_>) -> Result<bool, AllocError>
+    ensures { IfOk result (λ b. b ≡ takes_all (words_seen words.entry)) }
+{
+    let minutes = takes(alloc, MINUTES, words.minutes)?;
+    let hours = takes(alloc, HOURS, words.hours)?;
+    let days = takes(alloc, DAYS, words.days)?;
+    let months = takes(alloc, MONTHS, words.months)?;
+    let weekdays = takes(alloc, WEEKDAYS, words.weekdays)?;
+    Ok(minutes && hours && days && months && weekdays)
+}
+
+fn has_seconds(alloc: Global, text: &[u8]) -> Result<bool, AllocError>
+    ensures { IfOk result (λ b. b ≡ has_seconds text.now) }
+{
+    let (first, rest) = word(text);
+    let is_first = takes(alloc, MINUTES, first)?;
+    let are_behind = takes_all(alloc, words_of(rest))?;
+    Ok(is_first && are_behind)
+}
+
+/// Whether a word is a nickname, in capitals or small.
+pub fn is_nickname(name: &[u8]) -> bool
+    ensures { result ≡ is_some (nickname_of (lowered name.now)) }
+{
+    is_name(name, "reboot")
+        || is_name(name, "yearly")
+        || is_name(name, "annually")
+        || is_name(name, "monthly")
+        || is_name(name, "weekly")
+        || is_name(name, "daily")
+        || is_name(name, "midnight")
+        || is_name(name, "hourly")
+}
+
+fn is_of_fields(fault: Fault) -> bool
+    ensures { result ≡ is_of_fields fault }
+{
+    match fault {
+        Fault::Command
+        | Fault::Minutes
+        | Fault::Hours
+        | Fault::Days
+        | Fault::Months
+        | Fault::Weekdays => true,
+        _ => false,
+    }
+}
+
+fn is_refusal_noted(
+    alloc: Global,
+    note: Note,
+    fault: Fault,
+    text: &[u8],
+) -> Result<bool, AllocError>
+    ensures { IfOk result (λ b. b ≡ is_refusal_noted note fault text.now) }
+{
+    match note {
+        Note::CapitalNickname => {
+            let (name, _) = cut(rest_of(text), Kind::Word);
+            Ok(matches!(fault, Fault::Nickname) && is_nickname(name))
+        }
+        Note::Seconds if is_of_fields(fault) => has_seconds(alloc, text),
+        Note::Seconds => Ok(false),
+        _ => is_refused_field_noted(alloc, note, fault, words_of(text)),
+    }
+}
+
+// ---- the line
+
+/// Whether a line of a crontab has a note. The line is a job, or one that cron refuses for this fault, and is given
+/// without its line feed.
+///
+/// The only error is want of memory.
+pub fn is_noted(
+    alloc: Global,
+    note: Note,
+    fault: Option<Fault>,
+    line: &[u8],
+) -> Result<bool, AllocError>
+    ensures { IfOk result (λ b. b ≡ is_noted note fault line.now) }
+{
+    let (_, text) = cut(line, Kind::Blank);
+    match fault {
+        None => is_job_noted(alloc, note, text),
+        Some(fault) => is_refusal_noted(alloc, note, fault, text),
+    }
+}
+
+/// The notes of a line of a crontab, in the order in which they are told. The line is a job, or one that cron refuses
+/// for this fault, and is given without its line feed.
+///
+/// The only error is want of memory.
+pub fn notes_of(alloc: Global, fault: Option<Fault>, line: &[u8]) -> Result<Vec<Note>, AllocError>
+    ensures { IfOk result (λ found. found.items ≡ notes_of fault line.now) }
+{
+    those_noted(alloc, fault, line, &Note::ALL)
+}
+
+// Of some notes those that a line has.
+fn those_noted(
+    alloc: Global,
+    fault: Option<Fault>,
+    line: &[u8],
+    notes: &[Note],
+) -> Result<Vec<Note>, AllocError>
+    ensures { IfOk result (λ found. found.items ≡ filter (λ note. is_noted note fault line.now) notes.now) }
+{
+    let mut found = Vec::new(alloc);
+    for note in notes {
+        if is_noted(alloc, *note, fault, line)? {
+            found.push(*note)?;
+        }
+    }
+    Ok(found)
+}
+
+/// What a note says: what cron does, and what to write.
+pub fn text(note: Note) -> &'static str {
+    match note {
+        Note::StarDay =>
+            "both day fields must match, since one begins with *; where either may, write that one as a range, as 1-31/2 for */2",
+        Note::RangeDown =>
+            "a range that goes down names nothing to cron: write 22-23,0-4 for 22-4, and fri-7 for fri-sun",
+        Note::PassedOver =>
+            "cron passes over what stands behind a number, a name or a star and is no comma, with the rest of the field: 1#2 is 1, 0~5 is 0; write only what counts",
+        Note::StarAmongParts =>
+            "a * among other parts names each value, so that they add nothing: write * alone, or leave it out",
+        Note::LargeNumber =>
+            "cron keeps of a number what is left after division by 4294967296: write that number",
+        Note::EmptyPart =>
+            "cron takes no empty part: write one comma between two parts, and no blank beside it",
+        Note::OtherName =>
+            "cron knows names of months among months alone, those of weekdays among weekdays, and none as a step: write the number",
+        Note::Modifier =>
+            "cron has no L, W, ? and +: write * for ?, leave + out, and let the command test for a last or a nearest day",
+        Note::CapitalNickname => "cron knows a nickname in small letters alone: write it so",
+        Note::Seconds =>
+            "cron has no field of seconds: leave out the first field, since cron takes the five behind it",
+    }
+}

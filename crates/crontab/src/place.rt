@@ -1,0 +1,109 @@
+//! The place of a fault in its line.
+ghost use Rattle.std.specs.Prelude.{◌≡◌, ◌≤◌, ◌+◌, [], length};
+ghost use Rattle.crontab.specs.declared.bytes.Kind.TheVariants as kinds;
+ghost use Rattle.crontab.specs.Bytes.{behind, rest_of};
+ghost use Rattle.crontab.specs.Line.{next};
+ghost use Rattle.crontab.specs.Place.{behind_times, command_of, IsBetween, IsPlaceOf};
+
+use crate::bytes::{Kind, begins_with, cut, rest_of};
+use crate::line::{Fault, word};
+
+/// Some bytes of a line, from 0.
+pub struct Span {
+    /// The first one.
+    pub start: usize,
+    /// The one behind the last.
+    pub end: usize,
+}
+
+// The bytes of a line from where `text` begins to where `behind` does; both reach to its end.
+fn between(line: &[u8], text: &[u8], behind: &[u8]) -> Span
+    requires { length behind.now ≤ length text.now }
+    ensures place { IsBetween line.now text.now behind.now result.start result.end }
+    ensures order { result.start ≤ result.end }
+    ensures within { result.end ≤ length line.now }
+{
+    Span {
+        start: line.len().saturating_sub(text.len()),
+        end: line.len().saturating_sub(behind.len()),
+    }
+}
+
+// The word that a text begins with.
+fn word_at(line: &[u8], text: &[u8]) -> Span
+    ensures place { IsBetween line.now text.now (behind kinds.Word text.now) result.start result.end }
+    ensures order { result.start ≤ result.end }
+    ensures within { result.end ≤ length line.now }
+{
+    let (_, behind) = cut(text, Kind::Word);
+    between(line, text, behind)
+}
+
+// What stands behind the first word and the blanks after it.
+fn next(text: &[u8]) -> &[u8]
+    ensures { result.now ≡ next text.now }
+{
+    let (_, rest) = word(text);
+    rest
+}
+
+// What stands behind four words and the blanks after them.
+fn behind_four(text: &[u8]) -> &[u8]
+    ensures { result.now ≡ next (next (next (next text.now))) }
+{
+    next(next(next(next(text))))
+}
+
+// What stands behind the times.
+fn behind_times(text: &[u8]) -> &[u8]
+    ensures { result.now ≡ behind_times text.now }
+{
+    if begins_with(text, b'@') {
+        next(text)
+    } else {
+        next(behind_four(text))
+    }
+}
+
+// The command, which reaches to the line's end: in a crontab of the system it stands behind a user and one blank.
+fn command_at(line: &[u8], system: bool, rest: &[u8]) -> Span
+    ensures place { IsBetween line.now (command_of system rest.now) [] result.start result.end }
+    ensures order { result.start ≤ result.end }
+    ensures within { result.end ≤ length line.now }
+{
+    if system {
+        let (_, behind) = cut(rest, Kind::Word);
+        return between(line, rest_of(behind), &[]);
+    }
+    between(line, rest, &[])
+}
+
+// The first byte 0.
+fn nul_at(line: &[u8], text: &[u8]) -> Span
+    ensures place { IsBetween line.now (behind (kinds.But 0) text.now) (rest_of (behind (kinds.But 0) text.now)) result.start result.end }
+    ensures order { result.start ≤ result.end }
+    ensures within { result.end ≤ length line.now }
+{
+    let (_, from) = cut(text, Kind::But(0));
+    between(line, from, rest_of(from))
+}
+
+/// The place of a fault in a line of a crontab of the system or of a user, which is given with its text from the first
+/// byte on that is no blank: the word of a field, of a nickname or of a user, the command, or the byte 0. It is empty,
+/// at the line's end, where that word is missing.
+pub fn place_of(line: &[u8], text: &[u8], system: bool, fault: Fault) -> Span
+    ensures place { IsPlaceOf system line.now text.now fault result.start result.end }
+    ensures order { result.start ≤ result.end }
+    ensures within { result.end ≤ length line.now }
+{
+    match fault {
+        Fault::Nul => nul_at(line, text),
+        Fault::Nickname | Fault::Minutes => word_at(line, text),
+        Fault::Hours => word_at(line, next(text)),
+        Fault::Days => word_at(line, next(next(text))),
+        Fault::Months => word_at(line, next(next(next(text)))),
+        Fault::Weekdays => word_at(line, behind_four(text)),
+        Fault::User => word_at(line, behind_times(text)),
+        Fault::Command | Fault::LongCommand => command_at(line, system, behind_times(text)),
+    }
+}

@@ -1,0 +1,119 @@
+//! Lines that set a variable.
+ghost use Rattle.std.specs.Prelude.{◌≡◌, ◌≤◌, length, take, option_map};
+ghost use Rattle.crontab.specs.Setting.{setting_length, has, behind_quoted, behind_name, is_value, is_assigned, is_setting, name_of, sets_zone};
+
+use crate::bytes::{Kind, begins_with, cut, is_quote, rest_of};
+
+/// How many bytes of a line cron looks at.
+const SETTING_LENGTH: usize = 998;
+
+/// Whether the text of a line, from its first byte that is no blank on, sets a variable.
+pub fn is_setting(text: &[u8]) -> bool
+    ensures { result ≡ is_setting text.now }
+{
+    is_assigned(behind_name(start_of(text)))
+}
+
+/// Whether a setting's variable is `CRON_TZ` or `TZ`.
+pub fn sets_zone(text: &[u8]) -> bool
+    ensures { result ≡ sets_zone text.now }
+{
+    let name = name_of(start_of(text));
+    name == "CRON_TZ".as_bytes() || name == "TZ".as_bytes()
+}
+
+// The name, without its quotes.
+fn name_of(text: &[u8]) -> &[u8]
+    ensures { result.now ≡ name_of text.now }
+{
+    match text {
+        [] => text,
+        [first, rest @ ..] => {
+            if is_quote(*first) {
+                let (name, _) = cut(rest, Kind::But(*first));
+                name
+            } else {
+                let (name, _) = cut(text, Kind::Name);
+                name
+            }
+        }
+    }
+}
+
+// The bytes that cron looks at.
+fn start_of(text: &[u8]) -> &[u8]
+    ensures { result.now ≡ take setting_length text.now }
+{
+    if text.len() <= SETTING_LENGTH {
+        return text;
+    }
+    let (start, _) = text.split_at(SETTING_LENGTH);
+    start
+}
+
+/// Whether a text has this byte.
+pub fn has(text: &[u8], byte: u8) -> bool
+    ensures { result ≡ has byte text.now }
+{
+    let (_, behind) = cut(text, Kind::But(byte));
+    0 < behind.len()
+}
+
+// What stands behind a name in quotes, of which the first is taken off.
+fn behind_quoted(text: &[u8], quote: u8) -> Option<&[u8]>
+    ensures { option_map (λ t. t.now) result ≡ behind_quoted quote text.now }
+{
+    let (name, behind) = cut(text, Kind::But(quote));
+    if has(text, quote) && !has(name, b'=') {
+        Some(rest_of(behind))
+    } else {
+        None
+    }
+}
+
+// What stands behind the name.
+fn behind_name(text: &[u8]) -> Option<&[u8]>
+    ensures { option_map (λ t. t.now) result ≡ behind_name text.now }
+{
+    match text {
+        [] => None,
+        [first, rest @ ..] => {
+            if is_quote(*first) {
+                behind_quoted(rest, *first)
+            } else {
+                let (_, behind) = cut(text, Kind::Name);
+                Some(behind)
+            }
+        }
+    }
+}
+
+fn is_value(text: &[u8]) -> bool
+    ensures { result ≡ is_value text.now }
+{
+    match text {
+        [] => false,
+        [first, rest @ ..] => {
+            if is_quote(*first) {
+                let (_, behind) = cut(rest, Kind::But(*first));
+                let (_, more) = cut(rest_of(behind), Kind::Space);
+                has(rest, *first) && more.is_empty()
+            } else {
+                true
+            }
+        }
+    }
+}
+
+fn is_assigned(behind: Option<&[u8]>) -> bool
+    ensures { result ≡ is_assigned (option_map (λ t. t.now) behind.entry) }
+{
+    match behind {
+        None => false,
+        Some(text) => {
+            let (_, sign) = cut(text, Kind::Space);
+            let (_, value) = cut(rest_of(sign), Kind::Space);
+            begins_with(sign, b'=') && is_value(value)
+        }
+    }
+}
