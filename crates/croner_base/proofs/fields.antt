@@ -8,6 +8,7 @@ pub mod ModifierSets
 pub mod PartsInTurn
 pub mod ReadingsInTurn
 pub mod SignPlaces
+pub mod StarAlone
 pub mod SteppedParts
 pub mod StepsMarked
 pub mod TextPieces

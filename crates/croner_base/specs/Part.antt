@@ -152,9 +152,19 @@ parts_of f [] = nothing
 parts_of f (part ∷ parts) =
     (if length (trim part) == 0 then nothing else part_of f (trim part)) then parts_of f parts
 
+-- how many parts stand in front of the first that is refused
+abbrev pub parts_read : Shape → List (List ℕ) → ℕ
+parts_read f [] = 0
+parts_read f (part ∷ parts) = if (parts_of f (part ∷ [])).accepted then parts_read f parts + 1 else 0
+
+-- a lone star
+abbrev pub star_read : Shape → Reading
+star_read f = did stars then all_marked f plain_bit (range_with_len (f.min + f.offset) ((f.max + 1) - f.min))
+
 -- a whole field: a star, or a list
 abbrev pub field_of : Shape → List ℕ → Reading
-field_of f text =
-    if bytes_eq text (codes "*")
-    then (did stars then all_marked f plain_bit (range_with_len (f.min + f.offset) ((f.max + 1) - f.min)))
-    else parts_of f (pieces_at comma text)
+field_of f text = if bytes_eq text (codes "*") then star_read f else parts_of f (pieces_at comma text)
+
+-- the part that is refused, by how many stand in front of it
+abbrev pub refused_part : Shape → List ℕ → ℕ
+refused_part f text = parts_read f (pieces_at comma text)

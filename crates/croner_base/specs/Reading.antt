@@ -1,7 +1,8 @@
 -- What reading a text does to a field, and whether it accepts the text.
-use Rattle.std.specs.Prelude.{◌≡◌, ℕ, Bool, true, false, List, [], ◌∷◌, ◌++◌, Option, Some, None, Result, bit_or, if◌then◌else◌}
+use Rattle.std.specs.Prelude.{◌≡◌, ℕ, Bool, true, false, List, [], ◌∷◌, ◌++◌, Option, Some, None, Result, Ok, Err, bit_or, if◌then◌else◌}
+use Rattle.croner_base.specs.declared.component.parts.RefusedPart.{RefusedPart}
 use Rattle.croner_base.specs.declared.errors.CronError.{CronError}
-use Rattle.croner_base.specs.Answers.{SucceedsIff}
+use Rattle.croner_base.specs.Answers.{SucceedsIff, IsFieldError}
 use Rattle.croner_base.specs.Field.{Field, with_mark}
 
 -- one thing that reading does to a field
@@ -48,7 +49,17 @@ abbrev pub applied : List Effect → Field → Field
 applied [] f = f
 applied (effect ∷ effects) f = applied effects (applied_one effect f)
 
+-- the call succeeds where the test is true, and else is refused at that part by the error of a field
+abbrev pub StopsAt : Bool → ℕ → Result (Unit {0}) RefusedPart → Type 0
+StopsAt accepted part (Ok x) = accepted ≡ true
+StopsAt accepted part (Err e) = (accepted ≡ false) × (e.part ≡ part) × IsFieldError e.error
+
 -- the call did what reading does, up to the end or the fault, and succeeds where reading accepts
 pub record Reads {X : Type 0} (reading : Reading) (old new : Field) (result : Result X CronError) : Type 0 where
   pub answer : SucceedsIff reading.accepted result
+  pub state : new ≡ applied reading.done old
+
+-- the same, and a refusal has the number of the part that is refused
+pub record ReadsParts (reading : Reading) (part : ℕ) (old new : Field) (result : Result (Unit {0}) RefusedPart) : Type 0 where
+  pub answer : StopsAt reading.accepted part result
   pub state : new ≡ applied reading.done old

@@ -13,6 +13,7 @@ ghost use Rattle.croner_base.specs.Reading.{Reads};
 
 use crate::errors::CronError;
 use marks::Marks;
+pub use parts::RefusedPart;
 use std::alloc::{AllocError, Global};
 use std::marker::Model;
 

@@ -1,11 +1,11 @@
 //! Reading the text of a field: a star or a list, and the forms that a part of a list can have.
 
-ghost use Rattle.std.specs.Prelude.{◌≡◌, ◌≤◌, ◌<◌, ◌+◌, ◌&&◌, nat_le};
+ghost use Rattle.std.specs.Prelude.{◌≡◌, ◌≤◌, ◌<◌, ◌+◌, ◌&&◌, ◌==◌, nat_le, length, if◌then◌else◌};
 ghost use Rattle.croner_base.specs.Answers.{Finds};
 ghost use Rattle.croner_base.specs.Field.{values_between};
-ghost use Rattle.croner_base.specs.Part.{all_marked, field_of, parts_of, part_of, nearest_weekday, single, one_number, tag_of, two_of, pieces_at, number_of, ranged, stepping, step_bounds, stepped_marks, is_starred};
+ghost use Rattle.croner_base.specs.Part.{all_marked, field_of, parts_of, part_of, parts_read, refused_part, star_read, nearest_weekday, single, one_number, tag_of, two_of, pieces_at, number_of, ranged, stepping, step_bounds, stepped_marks, is_starred};
 ghost use Rattle.croner_base.specs.Private.Signs.{byte_of};
-ghost use Rattle.croner_base.specs.Reading.{Reads};
+ghost use Rattle.croner_base.specs.Reading.{Reads, ReadsParts, nothing};
 
 use super::text::{Form, Part, Sign, has, number};
 use super::{
@@ -13,6 +13,15 @@ use super::{
     NTH_4TH_BIT, NTH_5TH_BIT, NTH_ALL,
 };
 use crate::errors::CronError;
+
+/// The part of a list that a field refused: how many stand in front of it, empty ones counted too, and why.
+#[derive(Debug, Drop)]
+pub struct RefusedPart {
+    /// Its place among the parts, from 0.
+    pub part: usize,
+    /// The error of [`CronComponent::parse`].
+    pub error: CronError,
+}
 
 impl CronComponent {
     /// Adds the marks that a field's text names to those that stand already.
@@ -35,13 +44,40 @@ impl CronComponent {
     pub fn parse(&mut self, field: &str) -> Result<(), CronError>
         ensures { Reads (field_of self.old.shape field.now) self.old self.new result }
     {
+        match self.parse_parts(field) {
+            Ok(()) => Ok(()),
+            Err(refused) => Err(refused.error),
+        }
+    }
+
+    /// [`parse`](Self::parse), with the place of the part that is refused: how many parts of the list stand in front of it, empty
+    /// ones counted too. It is 0 where a lone `*` is refused.
+    ///
+    /// What it reads, what it refuses and what a refusal leaves are those of `parse`.
+    ///
+    /// ```
+    /// let mut minutes = CronComponent::new(alloc, 0, 59, NONE_BIT, 0)?;
+    /// let refused = minutes.parse_parts("5,10,99"); // Err: part 2, and the error of parse
+    /// ```
+    pub fn parse_parts(&mut self, field: &str) -> Result<(), RefusedPart>
+        ensures { ReadsParts (field_of self.old.shape field.now) (refused_part self.old.shape field.now) self.old self.new result }
+    {
         if field == "*" {
-            self.from_wildcard = true;
-            let first = self.min + self.input_offset;
-            let last = self.marks.max() + self.input_offset;
-            return self.mark_all(first, last, ALL_BIT);
+            return self.mark_star();
         }
         self.parse_list(field)
+    }
+
+    fn mark_star(&mut self) -> Result<(), RefusedPart>
+        ensures { ReadsParts (star_read self.old.shape) 0 self.old self.new result }
+    {
+        self.from_wildcard = true;
+        let first = self.min + self.input_offset;
+        let last = self.marks.max() + self.input_offset;
+        match self.mark_all(first, last, ALL_BIT) {
+            Ok(()) => Ok(()),
+            Err(error) => Err(RefusedPart { part: 0, error }),
+        }
     }
 
     /// Adds the marks of one part with a `/`, which isn't trimmed: `*/n`, `a-b/n`, and where ranges are sloppy also
@@ -62,16 +98,32 @@ impl CronComponent {
         self.handle_step(&Part::new(part))
     }
 
-    fn parse_list(&mut self, list: &str) -> Result<(), CronError>
-        ensures { Reads (parts_of self.old.shape (pieces_at 44 list.now)) self.old self.new result }
+    fn parse_list(&mut self, list: &str) -> Result<(), RefusedPart>
+        ensures { ReadsParts (parts_of self.old.shape (pieces_at 44 list.now)) (parts_read self.old.shape (pieces_at 44 list.now)) self.old self.new result }
     {
+        let mut number = 0;
         for part in list.split(',') {
-            let part = part.trim();
-            if !part.is_empty() {
-                self.parse_part(part)?;
+            match self.parse_trimmed(part.trim()) {
+                Ok(()) => number += 1,
+                Err(error) => {
+                    return Err(RefusedPart {
+                        part: number,
+                        error,
+                    });
+                }
             }
         }
         Ok(())
+    }
+
+    /// A part of a list, trimmed: an empty one is skipped.
+    fn parse_trimmed(&mut self, part: &str) -> Result<(), CronError>
+        ensures { Reads (if length part.now == 0 then nothing else part_of self.old.shape part.now) self.old self.new result }
+    {
+        if part.is_empty() {
+            return Ok(());
+        }
+        self.parse_part(part)
     }
 
     fn parse_part(&mut self, part: &str) -> Result<(), CronError>
