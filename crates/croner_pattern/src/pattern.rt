@@ -54,8 +54,9 @@ pub struct CronPattern {
     pub days: CronComponent,
     /// Months, 1 to 12.
     pub months: CronComponent,
-    /// Weekdays, 0 for Sunday to 6 for Saturday. The field has a place 7 besides, which no day matches: no text names it, a
-    /// lone `*` in Quartz mode marks it with all others, and a description calls it Sunday.
+    /// Weekdays, 0 for Sunday to 6 for Saturday. The field has a place 7 besides, which no day matches and which a description
+    /// calls Sunday. Of the texts that a parser reads a lone `*` in Quartz mode alone leaves it marked, with all others; the
+    /// field's own `parse` also marks it for `7`, but not in Quartz mode.
     pub days_of_week: CronComponent,
     /// Years, 1 to 5000.
     pub years: CronComponent,
