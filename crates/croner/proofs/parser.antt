@@ -4,6 +4,7 @@ pub mod Examples
 pub mod ExamplesFaults
 pub mod Expanded
 pub mod FieldReads
+pub mod Illegal
 pub mod Names
 pub mod NoTexts
 pub mod OwnCuts

@@ -12,7 +12,7 @@ use Rattle.croner_base.specs.Part.{contains_byte}
 use Rattle.croner_pattern.specs.Meaning.{Meaning}
 use Rattle.croner.specs.parser.Gives.{Fails}
 use Rattle.croner.specs.parser.Cut.{Piece, letters, IsCut, cut_of, expansion, replaced}
-use Rattle.croner.specs.parser.Grammar.{Texts, Refusal, Empty, Invalid, Illegal, Component, outcome, of_trimmed, of_letter, of_replaced, of_fields, of_settled, of_legal, fields_of, settled, has_plus, are_legal, are_read, illegal_field, illegal_word, unread_field, nickname_of, nicknamed, meaning}
+use Rattle.croner.specs.parser.Grammar.{Texts, Refusal, Empty, Invalid, Illegal, outcome, of_trimmed, of_letter, of_replaced, of_fields, of_settled, of_legal, fields_of, settled, has_plus, are_legal, are_read, illegal_field, illegal_word, unread, nickname_of, nicknamed, meaning}
 use Rattle.croner.specs.parser.Settings.{Settings, seconds_required, year_required}
 use Rattle.croner.specs.parser.Words.{words}
 use Rattle.croner.proofs.parser.Cuts.{cut_found}
@@ -39,8 +39,8 @@ record Accepts (s : Settings) (text : List ℕ) (m : Meaning) : Type 0 where
 
 legal_text : (s : Settings) (text : List ℕ) (t : Texts) (and : Bool) (m : Meaning) → of_legal s text t and ≡ Ok m → m.text ≡ text
 legal_text s text t and m e = elim (cases_Bool (are_read s t)) [
-  | inl is_so ↦ sym (ap (λ x. x.text) (ok_same (meaning s text t and) m (sym (cond-true (are_read s t) (Ok (meaning s text t and)) (Err (Component (unread_field s t))) is_so) ∙ e)))
-  | inr is_not ↦ absurd (err_ok (Component (unread_field s t)) m (sym (cond-false (are_read s t) (Ok (meaning s text t and)) (Err (Component (unread_field s t))) is_not) ∙ e))
+  | inl is_so ↦ sym (ap (λ x. x.text) (ok_same (meaning s text t and) m (sym (cond-true (are_read s t) (Ok (meaning s text t and)) (Err (unread s t)) is_so) ∙ e)))
+  | inr is_not ↦ absurd (err_ok (unread s t) m (sym (cond-false (are_read s t) (Ok (meaning s text t and)) (Err (unread s t)) is_not) ∙ e))
 ]
 
 settled_parts : (s : Settings) (text : List ℕ) (t : Texts) (and : Bool) (m : Meaning) → of_settled s text t and ≡ Ok m → (are_legal t ≡ true) × (m.text ≡ text)

@@ -83,11 +83,11 @@ quartz_star : weekday_marks 1 in_quartz_mode (codes "* * * * *") ≡ Some (0 ∷
 unfolding trim_start trim_end chars lib.Utf8.encode
 quartz_star = refl
 
-quartz_zero : outcome in_quartz_mode (codes "* * * * 0") ≡ Err (Component fields.Weekday)
+quartz_zero : outcome in_quartz_mode (codes "* * * * 0") ≡ Err (Component fields.Weekday 0)
 unfolding trim_start trim_end chars lib.Utf8.encode
 quartz_zero = refl
 
-quartz_backward_range : outcome in_quartz_mode (codes "* * * * SAT-SUN") ≡ Err (Component fields.Weekday)
+quartz_backward_range : outcome in_quartz_mode (codes "* * * * SAT-SUN") ≡ Err (Component fields.Weekday 0)
 unfolding trim_start trim_end chars lib.Utf8.encode
 quartz_backward_range = refl
 
@@ -95,7 +95,7 @@ quartz_whole_week : weekday_marks 1 in_quartz_mode (codes "0 0 * * SUN-SAT") ≡
 unfolding trim_start trim_end chars lib.Utf8.encode
 quartz_whole_week = refl
 
-quartz_eight : outcome in_quartz_mode (codes "0 0 * * 8") ≡ Err (Component fields.Weekday)
+quartz_eight : outcome in_quartz_mode (codes "0 0 * * 8") ≡ Err (Component fields.Weekday 0)
 unfolding trim_start trim_end chars lib.Utf8.encode
 quartz_eight = refl
 
@@ -225,7 +225,7 @@ sloppy_nothing : minutes_of with_sloppy_steps (codes "/10 * * * *") ≡ Some (0 
 unfolding trim_start trim_end chars lib.Utf8.encode
 sloppy_nothing = refl
 
-not_sloppy : outcome default_settings (codes "5/10 * * * *") ≡ Err (Component fields.Minutes)
+not_sloppy : outcome default_settings (codes "5/10 * * * *") ≡ Err (Component fields.Minutes 0)
 unfolding trim_start trim_end chars lib.Utf8.encode
 not_sloppy = refl
 
@@ -242,7 +242,7 @@ near_a_day : is_read default_settings (codes "0 0 15W? * *") ≡ Some (true ∷ 
 unfolding trim_start trim_end chars lib.Utf8.encode
 near_a_day = refl
 
-near_a_range : outcome default_settings (codes "0 0 15W-20 * *") ≡ Err (Component fields.DayOfMonth)
+near_a_range : outcome default_settings (codes "0 0 15W-20 * *") ≡ Err (Component fields.DayOfMonth 0)
 unfolding trim_start trim_end chars lib.Utf8.encode
 near_a_range = refl
 
@@ -262,11 +262,11 @@ last_with_any_nth : is_read default_settings (codes "0 0 * * 5#*L") ≡ Some (tr
 unfolding trim_start trim_end chars lib.Utf8.encode
 last_with_any_nth = refl
 
-a_star_with_nth : outcome default_settings (codes "0 0 * * *#2") ≡ Err (Component fields.Weekday)
+a_star_with_nth : outcome default_settings (codes "0 0 * * *#2") ≡ Err (Component fields.Weekday 0)
 unfolding trim_start trim_end chars lib.Utf8.encode
 a_star_with_nth = refl
 
-a_star_in_a_list : outcome default_settings (codes "*,5 * * * *") ≡ Err (Component fields.Minutes)
+a_star_in_a_list : outcome default_settings (codes "*,5 * * * *") ≡ Err (Component fields.Minutes 0)
 unfolding trim_start trim_end chars lib.Utf8.encode
 a_star_in_a_list = refl
 
@@ -278,19 +278,19 @@ twenty_digits : minutes_of default_settings (codes "00000000000000000005 * * * *
 unfolding trim_start trim_end chars lib.Utf8.encode
 twenty_digits = refl
 
-no_end : outcome default_settings (codes "5- * * * *") ≡ Err (Component fields.Minutes)
+no_end : outcome default_settings (codes "5- * * * *") ≡ Err (Component fields.Minutes 0)
 unfolding trim_start trim_end chars lib.Utf8.encode
 no_end = refl
 
-no_step : outcome default_settings (codes "*/ * * * *") ≡ Err (Component fields.Minutes)
+no_step : outcome default_settings (codes "*/ * * * *") ≡ Err (Component fields.Minutes 0)
 unfolding trim_start trim_end chars lib.Utf8.encode
 no_step = refl
 
-no_day : outcome default_settings (codes "0 0 W * *") ≡ Err (Component fields.DayOfMonth)
+no_day : outcome default_settings (codes "0 0 W * *") ≡ Err (Component fields.DayOfMonth 0)
 unfolding trim_start trim_end chars lib.Utf8.encode
 no_day = refl
 
-no_nth : outcome default_settings (codes "0 0 * * 5#") ≡ Err (Component fields.Weekday)
+no_nth : outcome default_settings (codes "0 0 * * 5#") ≡ Err (Component fields.Weekday 0)
 unfolding trim_start trim_end chars lib.Utf8.encode
 no_nth = refl
 
@@ -302,11 +302,11 @@ a_far_step_in_weekdays : weekday_marks 1 default_settings (codes "0 0 * * */6553
 unfolding trim_start trim_end chars lib.Utf8.encode
 a_far_step_in_weekdays = refl
 
-a_step_too_far : outcome default_settings (codes "0 0 */65535 * *") ≡ Err (Component fields.DayOfMonth)
+a_step_too_far : outcome default_settings (codes "0 0 */65535 * *") ≡ Err (Component fields.DayOfMonth 0)
 unfolding trim_start trim_end chars lib.Utf8.encode
 a_step_too_far = refl
 
-a_step_too_far_in_quartz_mode : outcome in_quartz_mode (codes "0 0 * * */65535") ≡ Err (Component fields.Weekday)
+a_step_too_far_in_quartz_mode : outcome in_quartz_mode (codes "0 0 * * */65535") ≡ Err (Component fields.Weekday 0)
 unfolding trim_start trim_end chars lib.Utf8.encode
 a_step_too_far_in_quartz_mode = refl
 

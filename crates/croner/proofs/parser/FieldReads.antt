@@ -4,7 +4,7 @@ use Rattle.std.specs.Prelude.{codes, if◌then◌else◌}
 use Rattle.std.specs.Str.{trim, str_to_ascii_uppercase}
 use Rattle.std.proofs.lemmas.Bool.{and_from, cond-true, cond-false}
 use Rattle.croner_base.specs.Field.{Shape, Field, empty_field, with_sloppy, has_all}
-use Rattle.croner_base.specs.Part.{field_of, contains_byte}
+use Rattle.croner_base.specs.Part.{contains_byte}
 use Rattle.croner_base.specs.Reading.{Reading}
 use Rattle.croner_base.proofs.fields.ReadingsInTurn.{shape-applied}
 use Rattle.croner_pattern.specs.Meaning.{Meaning}
@@ -13,34 +13,33 @@ use Rattle.croner.specs.parser.Cut.{replaced}
 use Rattle.croner.specs.parser.Settings.{Settings, seconds_required, year_required}
 use Rattle.croner.specs.declared.parser.fault.PatternField.{PatternField}
 use Rattle.croner.specs.declared.parser.fault.PatternField.TheVariants as fields
-use Rattle.croner.specs.declared.parser.stop.Cause.TheVariants as causes
 use Rattle.croner.specs.declared.parser.stop.Stop.{Stop}
 use Rattle.croner.specs.declared.parser.stop.Stop.TheVariants as stops
-use Rattle.croner.specs.parser.Grammar.{Texts, Empty, Component, outcome, of_trimmed, of_replaced, nicknamed, nickname_of, reading_of, value_of, start_of, weekdays_of, are_read, settled_weekdays, is_star, meaning, of_legal, unread_field}
+use Rattle.croner.specs.parser.Grammar.{Texts, Empty, Component, outcome, of_trimmed, of_replaced, nicknamed, nickname_of, reading_of, value_of, start_of, weekdays_of, are_read, settled_weekdays, is_star, meaning, of_legal, text_of_field, unread, unread_field, unread_part}
 use Rattle.croner.specs.Private.parser.Steps.{read_meaning, refusal_of, ReadsField, Stops, StopsField, StopsOne, TakesSunday}
 
 -- what a call did to a field that was empty
 pub reads_field : (r : Result (Unit {0}) Stop) (s : Settings) (shape : Shape) (text : List ℕ) (old new : Field) (name : PatternField) (sloppy : Bool) → s.sloppy ≡ sloppy → old ≡ empty_field shape
-    → ReadsField (field_of (with_sloppy old sloppy).shape text) (with_sloppy old sloppy) new name r → ReadsField (reading_of s shape text) (start_of s shape) new name r
+    → ReadsField (with_sloppy old sloppy).shape text (with_sloppy old sloppy) new name r → ReadsField (start_of s shape).shape text (start_of s shape) new name r
 reads_field r s shape text old new name sloppy same e h =
-    subst (λ b. ReadsField (field_of (with_sloppy (empty_field shape) b).shape text) (with_sloppy (empty_field shape) b) new name r) (sym same)
-    (subst (λ f. ReadsField (field_of (with_sloppy f sloppy).shape text) (with_sloppy f sloppy) new name r) e h)
+    subst (λ b. ReadsField (with_sloppy (empty_field shape) b).shape text (with_sloppy (empty_field shape) b) new name r) (sym same)
+    (subst (λ f. ReadsField (with_sloppy f sloppy).shape text (with_sloppy f sloppy) new name r) e h)
 
 pub field_read : (s : Settings) (shape : Shape) (text : List ℕ) (old new : Field) (name : PatternField) (sloppy : Bool) → s.sloppy ≡ sloppy → old ≡ empty_field shape
-    → ReadsField (field_of (with_sloppy old sloppy).shape text) (with_sloppy old sloppy) new name (Ok tt) → ((reading_of s shape text).accepted ≡ true) × (new ≡ value_of s shape text)
+    → ReadsField (with_sloppy old sloppy).shape text (with_sloppy old sloppy) new name (Ok tt) → ((reading_of s shape text).accepted ≡ true) × (new ≡ value_of s shape text)
 field_read s shape text old new name sloppy same e h = reads_field (Ok tt) s shape text old new name sloppy same e h
 
 -- what stops at a field stops at the first of all seven, where that field is the first
 pub field_stops : (s : Settings) (t : Texts) (reading : Reading) (name : PatternField) (stop : Stop)
-    → (reading.accepted ≡ false → (are_read s t ≡ false) × (unread_field s t ≡ name)) → StopsField reading name stop → StopsOne s t stop
+    → (reading.accepted ≡ false → (are_read s t ≡ false) × (unread_field s t ≡ name)) → StopsField reading (unread_part s name (text_of_field name t)) name stop → StopsOne s t stop
 field_stops s t reading name stops.OutOfMemory first h = tt
 field_stops s t reading name (stops.Refused cause) first h =
-    let p = first h.0 in (p.0, h.1 ∙ ap causes.Component (sym p.1))
+    let p = first h.0 in (p.0, ap refusal_of h.1 ∙ ap (λ n. Component n (unread_part s n (text_of_field n t))) (sym p.1))
 
 pub stopped_fields : (s : Settings) (text : List ℕ) (t : Texts) (and : Bool) (stop : Stop) → StopsOne s t stop → Stops stop (of_legal s text t and)
 stopped_fields s text t and stops.OutOfMemory h = tt
 stopped_fields s text t and (stops.Refused cause) h =
-    cond-false (are_read s t) (Ok (meaning s text t and)) (Err (Component (unread_field s t))) h.0 ∙ ap (λ c. Err (refusal_of c)) (sym h.1)
+    cond-false (are_read s t) (Ok (meaning s text t and)) (Err (unread s t)) h.0 ∙ ap Err (sym h.1)
 
 -- the shape of a weekday field without an offset lets 7 be moved
 takes_sunday : (sloppy : Bool) (bit : ℕ) → has_all 127 bit ≡ true → TakesSunday (with_sloppy (empty_field (weekday_shape 0)) sloppy).shape bit
@@ -58,7 +57,7 @@ finished s text t and old new weekdays accepted e f g =
     let of_weekdays : Field → Meaning = λ w. record old { days_of_week = w; star_day = is_star t.days; star_weekday = is_star t.days_of_week; and = and } in
     let of_old : Meaning → Meaning = λ o. record o { days_of_week = settled_weekdays s o.days_of_week; star_day = is_star t.days; star_weekday = is_star t.days_of_week; and = and } in
     let is_new : new ≡ meaning s text t and = g ∙ ap of_weekdays f ∙ ap of_old e in
-    ap (λ b. cond b (Ok (meaning s text t and)) (Err (Component (unread_field s t)))) accepted ∙ ap Ok (sym is_new)
+    ap (λ b. cond b (Ok (meaning s text t and)) (Err (unread s t))) accepted ∙ ap Ok (sym is_new)
 
 pub same_fields : (text : List ℕ) (a1 a2 a3 a4 a5 a6 a7 b1 b2 b3 b4 b5 b6 b7 : Field) → a1 ≡ b1 → a2 ≡ b2 → a3 ≡ b3 → a4 ≡ b4 → a5 ≡ b5 → a6 ≡ b6 → a7 ≡ b7 → ◌≡◌ {A = Meaning} (record (new_meaning text) { seconds = a1; minutes = a2; hours = a3; days = a4; months = a5; days_of_week = a6; years = a7 }) (record (new_meaning text) { seconds = b1; minutes = b2; hours = b3; days = b4; months = b5; days_of_week = b6; years = b7 })
 same_fields text a1 a2 a3 a4 a5 a6 a7 b1 b2 b3 b4 b5 b6 b7 e1 e2 e3 e4 e5 e6 e7 = rw (e1, e2, e3, e4, e5, e6, e7) refl

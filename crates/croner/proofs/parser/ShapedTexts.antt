@@ -9,7 +9,7 @@ use Rattle.croner_pattern.specs.declared.pattern.CronPattern.{CronPattern}
 use Rattle.croner_pattern.specs.Meaning.{Meaning, meaning_of}
 use Rattle.croner.specs.Private.parser.Steps.{Reads}
 use Rattle.croner_pattern.specs.Shapes.{sixty_shape, hour_shape, day_shape, month_shape, weekday_shape, year_shape, is_like, has_field_shapes}
-use Rattle.croner.specs.parser.Grammar.{Texts, Refusal, Empty, Invalid, Component, Illegal, outcome, of_trimmed, of_letter, of_replaced, of_fields, of_settled, of_legal, fields_of, has_plus, nicknamed, settled, are_legal, are_read, illegal_field, illegal_word, unread_field, meaning, value_of, reading_of, start_of, weekdays_of, settled_weekdays, sunday_moved, weekday_modifiers}
+use Rattle.croner.specs.parser.Grammar.{Texts, Refusal, Empty, Invalid, Illegal, outcome, of_trimmed, of_letter, of_replaced, of_fields, of_settled, of_legal, fields_of, has_plus, nicknamed, settled, are_legal, are_read, illegal_field, illegal_word, unread, meaning, value_of, reading_of, start_of, weekdays_of, settled_weekdays, sunday_moved, weekday_modifiers}
 use Rattle.croner.specs.parser.Cut.{replaced}
 use Rattle.croner.specs.parser.Settings.{Settings}
 use Rattle.croner.specs.parser.Words.{words}
@@ -59,7 +59,7 @@ meaning_shaped s text t and =
 
 legal_shaped : (s : Settings) (text : List ℕ) (t : Texts) (and : Bool) → IsShaped (of_legal s text t and)
 legal_shaped s text t and =
-    cond_both (are_read s t) (Ok (meaning s text t and)) (Err (Component (unread_field s t))) IsShaped (λ _. ok_shaped (meaning s text t and) (meaning_shaped s text t and)) (λ _. err_shaped (Component (unread_field s t)))
+    cond_both (are_read s t) (Ok (meaning s text t and)) (Err (unread s t)) IsShaped (λ _. ok_shaped (meaning s text t and) (meaning_shaped s text t and)) (λ _. err_shaped (unread s t))
 
 settled_shaped : (s : Settings) (text : List ℕ) (t : Texts) (and : Bool) → IsShaped (of_settled s text t and)
 settled_shaped s text t and =

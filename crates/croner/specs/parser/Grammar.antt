@@ -3,7 +3,7 @@ use Rattle.std.specs.Prelude.{ℕ, Bool, false, not, ◌&&◌, ◌||◌, ◌==�
 use Rattle.std.specs.List.{list_all}
 use Rattle.std.specs.Str.{trim, bytes_eq, str_to_ascii_uppercase}
 use Rattle.croner_base.specs.Field.{Shape, Field, empty_field, with_sloppy, with_mark, without_mark, is_marked}
-use Rattle.croner_base.specs.Part.{contains_byte, field_of, plain_bit, last_bit}
+use Rattle.croner_base.specs.Part.{contains_byte, field_of, refused_part, plain_bit, last_bit}
 use Rattle.croner_base.specs.Reading.{Reading, applied}
 use Rattle.croner_pattern.specs.Meaning.{Meaning}
 use Rattle.croner_pattern.specs.Shapes.{sixty_shape, hour_shape, day_shape, month_shape, weekday_shape, year_shape}
@@ -34,10 +34,11 @@ abbrev pub digit_9 : ℕ
 digit_9 = 57
 
 -- why a text has no meaning: it is empty, its count of fields is wrong, a field has a character that is not legal there, or
--- a field can't be read
+-- a field can't be read from a part of its list on, which is told by how many stand in front of it
 pub data Refusal : Type 0 where
   Empty Invalid : Refusal
-  Illegal Component : PatternField → Refusal
+  Illegal : PatternField → Refusal
+  Component : PatternField → ℕ → Refusal
 
 -- ---- nicknames
 
@@ -209,6 +210,24 @@ is_read s field text = (reading_of s (shape_of s field) text).accepted
 abbrev pub unread_field : Settings → Texts → PatternField
 unread_field s t = first_failing (is_read s) t
 
+-- how many parts of a field's list stand in front of the first that it can't read
+abbrev pub unread_part : Settings → PatternField → List ℕ → ℕ
+unread_part s field text = refused_part (start_of s (shape_of s field)).shape text
+
+-- the text of a field
+abbrev pub text_of_field : PatternField → Texts → List ℕ
+text_of_field names.Seconds t = t.seconds
+text_of_field names.Minutes t = t.minutes
+text_of_field names.Hours t = t.hours
+text_of_field names.DayOfMonth t = t.days
+text_of_field names.Month t = t.months
+text_of_field names.Weekday t = t.days_of_week
+text_of_field names.Year t = t.years
+
+-- the refusal of fields that can't be read: the first of them, and the first part of its list that can't
+abbrev pub unread : Settings → Texts → Refusal
+unread s t = let field = unread_field s t in Component field (unread_part s field (text_of_field field t))
+
 -- what stands in a field when its text is read
 abbrev pub value_of : Settings → Shape → List ℕ → Field
 value_of s shape text = applied (reading_of s shape text).done (start_of s shape)
@@ -249,7 +268,7 @@ meaning s text t and = record {
 
 -- the fields as they are read
 abbrev pub of_legal : Settings → List ℕ → Texts → Bool → Result Meaning Refusal
-of_legal s text t and = if are_read s t then Ok (meaning s text t and) else Err (Component (unread_field s t))
+of_legal s text t and = if are_read s t then Ok (meaning s text t and) else Err (unread s t)
 
 -- the fields as they are tested for their characters
 abbrev pub of_settled : Settings → List ℕ → Texts → Bool → Result Meaning Refusal

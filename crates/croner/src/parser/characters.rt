@@ -1,13 +1,15 @@
 //! Which characters a field takes, and the first field that has another one.
 
-ghost use Rattle.std.specs.Prelude.{◌≡◌, IfOk};
+ghost use Rattle.std.specs.Prelude.{◌≡◌, IfOk, MatchOption};
 ghost use Rattle.std.specs.List.{list_all};
 ghost use Rattle.croner.specs.parser.Grammar.{is_list_character, is_for_days, is_for_weekdays, are_legal, takes, takes_all, without_sign, illegal_field, is_word_legal, illegal_word};
+ghost use Rattle.croner.specs.parser.Faults.{from_illegal};
+ghost use Rattle.croner.specs.Private.parser.Steps.{IsBehindLegal};
 ghost use Rattle.croner.specs.Views.{texts_of};
 
 use super::fault::PatternField;
 use super::fields::FieldTexts;
-use super::prepare::replaced;
+use super::prepare::{behind_name, replaced};
 use super::settle::without_plus;
 use std::alloc::{AllocError, Global};
 
@@ -147,7 +149,7 @@ fn is_word_legal(
 }
 
 /// A word of a field without its sign in front: one `+` of the weekdays.
-fn without_sign(field: PatternField, word: &str) -> &str
+pub fn without_sign(field: PatternField, word: &str) -> &str
     ensures { result.now ≡ without_sign field word.now }
 {
     match field {
@@ -158,6 +160,31 @@ fn without_sign(field: PatternField, word: &str) -> &str
         | PatternField::DayOfMonth
         | PatternField::Month
         | PatternField::Year => word,
+    }
+}
+
+/// A word in capitals from its first character on that the field doesn't take and that is in no name; nothing where it has
+/// none.
+pub fn from_illegal(field: PatternField, word: &str) -> &str
+    ensures { result.now ≡ from_illegal field word.now }
+{
+    let mut rest = word;
+    while let Some(behind) = behind_legal(field, rest) {
+        rest = behind;
+    }
+    rest
+}
+
+/// What stands behind the name or the character that a text begins with, where the field takes it.
+fn behind_legal(field: PatternField, text: &str) -> Option<&str>
+    ensures { MatchOption result (from_illegal field text.now ≡ text.now) (λ rest. IsBehindLegal field text.now rest.now) }
+{
+    if let Some(rest) = behind_name(text) {
+        return Some(rest);
+    }
+    match text.as_bytes() {
+        [first, ..] if takes(field, *first) => Some(&text[1..]),
+        _ => None,
     }
 }
 

@@ -21,8 +21,9 @@ impl CronParser {
     /// Why a text is refused; nothing where [`CronParser::parse`] accepts it.
     ///
     /// The fault has the kind of `parse`'s refusal and a place in the text as it is handed in, in bytes from 0 on bounds of
-    /// characters: one illegal character, a piece of a part that can't be read, or the field at which a count is wrong. It
-    /// names the field in which it lies, but for a wrong count and a text with `@`. The only error is `OutOfMemory`.
+    /// characters: the first illegal character of a field, a piece of the first part of a field's list that can't be read, or
+    /// the whole word at which a count is wrong. It names the field, but for a wrong count and a text with `@`; the place in such
+    /// a text has an `@`. The only error is `OutOfMemory`.
     ///
     /// ```
     /// let parser = CronParser::new();
@@ -65,7 +66,7 @@ impl CronParser {
             Cause::Empty => CronError::EmptyPattern,
             Cause::Invalid => CronError::InvalidPattern(message),
             Cause::Illegal(_) => CronError::IllegalCharacters(message),
-            Cause::Component(_) => CronError::ComponentError(message),
+            Cause::Component(_, _) => CronError::ComponentError(message),
         }
     }
 

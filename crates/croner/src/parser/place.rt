@@ -1,13 +1,16 @@
 //! The place of a fault in a text: it is tested before a fault is made of it.
 
-ghost use Rattle.std.specs.Prelude.{◌≡◌, ◌+◌, ◌∷◌, ◌<◌, ◌≤◌, [], true, length, take, IfOk, IfSome, IsCharBoundary};
+ghost use Rattle.std.specs.Prelude.{◌≡◌, ◌+◌, ◌∷◌, ◌<◌, ◌≤◌, [], true, length, slice_range, string_bytes, take, IfOk, IfSome, IsCharBoundary};
 ghost use Rattle.std.specs.Str.{chars};
-ghost use Rattle.croner.specs.parser.Faults.{IsCounted, IsFault, IsInField, IsInNamed, IsLeast, counted_word, is_whole, named_field, unwritten};
+ghost use Rattle.croner_base.specs.Part.{contains_byte, pieces_at};
+ghost use Rattle.croner.specs.parser.Faults.{IsCounted, IsFault, IsIllegal, IsInField, IsInNamed, IsInPart, IsLeast, IsWord, counted_word, is_whole, named_field, place_of_word, rest_of_word, unwritten, word_at, word_of};
+ghost use Rattle.croner.specs.parser.Grammar.{at_sign};
 ghost use Rattle.croner.specs.parser.Words.{words};
 ghost use Rattle.croner.specs.Private.parser.Steps.{refusal_of};
 
 use super::CronParser;
-use super::fault::{Expected, FaultKind, PatternFault, PatternField};
+use super::characters::{from_illegal, without_sign};
+use super::fault::{Expected, PatternFault, PatternField};
 use super::prepare::has_byte;
 use super::split::words;
 use super::stop::Cause;
@@ -31,12 +34,11 @@ pub fn fault_at(
 ) -> Result<Option<PatternFault>, AllocError>
     ensures { IfOk result (λ o. IfSome o (λ f. IsFault parser.now text.now (refusal_of cause) f)) }
 {
-    let kind = cause.kind();
     let (start, end) = (found.start, found.end);
-    if !is_piece(text, start, end) {
+    if !is_piece(text, start, end) || !has_its_sign(text, start, end) {
         return Ok(None);
     }
-    if !is_least(alloc, parser, text, kind, start, end)? {
+    if !is_least(alloc, parser, text, cause, start, end)? {
         return Ok(None);
     }
     let field = named_field(text, cause);
@@ -44,7 +46,7 @@ pub fn fault_at(
         return Ok(None);
     }
     Ok(Some(PatternFault {
-        kind,
+        kind: cause.kind(),
         field,
         start,
         end,
@@ -77,25 +79,35 @@ fn is_piece(text: &str, start: usize, end: usize) -> bool
     start < end || start == end && text.is_empty()
 }
 
-/// Whether the bytes are the least piece that a fault of this kind means.
+/// Whether the bytes have an `@` where the text has one.
+fn has_its_sign(text: &str, start: usize, end: usize) -> bool
+    requires starts { IsCharBoundary text.now start }
+    requires ends { IsCharBoundary text.now end }
+    requires order { start ≤ end }
+    ensures { result ≡ true → contains_byte at_sign text.now ≡ true → contains_byte at_sign (slice_range text.now start end) ≡ true }
+{
+    !has_byte(text, b'@') || has_byte(&text[start..end], b'@')
+}
+
+/// Whether the bytes are the least piece that is meant by a refusal.
 fn is_least(
     alloc: Global,
     parser: &CronParser,
     text: &str,
-    kind: FaultKind,
+    cause: Cause,
     start: usize,
     end: usize,
 ) -> Result<bool, AllocError>
     requires starts { IsCharBoundary text.now start }
     requires ends { IsCharBoundary text.now end }
     requires order { start ≤ end }
-    ensures { IfOk result (λ b. b ≡ true → IsLeast parser.now kind text.now start end) }
+    ensures { IfOk result (λ b. b ≡ true → IsLeast parser.now (refusal_of cause) text.now start end) }
 {
-    match kind {
-        FaultKind::EmptyPattern => Ok(start == 0 && end == text.len()),
-        FaultKind::InvalidPattern => is_counted(alloc, parser, text, start, end),
-        FaultKind::IllegalCharacters => Ok(character_count(&text[start..end]) == 1),
-        FaultKind::ComponentError => Ok(!has_byte(&text[start..end], b',')),
+    match cause {
+        Cause::Empty => Ok(start == 0 && end == text.len()),
+        Cause::Invalid => is_counted(alloc, parser, text, start, end),
+        Cause::Illegal(field) => is_illegal(alloc, text, field, start, end),
+        Cause::Component(field, part) => is_in_part(alloc, text, field, part, start, end),
     }
 }
 
@@ -115,13 +127,135 @@ fn is_counted(
     if is_whole(parser, text) {
         return Ok(start == 0 && end == text.len());
     }
+    let wanted = counted_word(alloc, parser, text)?;
+    is_word(alloc, text, wanted, start, end)
+}
+
+/// Whether the bytes are the whole word of a number, from 1.
+fn is_word(
+    alloc: Global,
+    text: &str,
+    number: usize,
+    start: usize,
+    end: usize,
+) -> Result<bool, AllocError>
+    requires starts { IsCharBoundary text.now start }
+    requires ends { IsCharBoundary text.now end }
+    requires order { start ≤ end }
+    ensures { IfOk result (λ b. b ≡ true → IsWord text.now number start end) }
+{
     if !is_one_word(alloc, &text[start..end])? {
         return Ok(false);
     }
+    let (front, _) = text.split_at(start);
+    let (_, behind) = text.split_at(end);
+    let in_front = word_count(alloc, front)?;
+    let behind = word_count(alloc, behind)?;
+    let count = word_count(alloc, text)?;
+    Ok(number > 0 && in_front == number - 1 && number <= count && behind == count - number)
+}
+
+/// Whether one character begins at a place, the first of the field's word that the field doesn't take. No word of a text with
+/// `@` is a field's.
+fn is_illegal(
+    alloc: Global,
+    text: &str,
+    field: PatternField,
+    start: usize,
+    end: usize,
+) -> Result<bool, AllocError>
+    requires starts { IsCharBoundary text.now start }
+    requires ends { IsCharBoundary text.now end }
+    requires order { start ≤ end }
+    ensures { IfOk result (λ b. b ≡ true → IsIllegal text.now field start end) }
+{
+    if character_count(&text[start..end]) != 1 {
+        return Ok(false);
+    }
+    if has_byte(text, b'@') {
+        return Ok(true);
+    }
+    let word = word_of(alloc, text, field)?;
+    let rest = rest_of_word(alloc, text, start)?;
+    let illegal = from_illegal(field, without_sign(field, word.as_str()));
+    Ok(are_same(illegal, rest.as_str()))
+}
+
+/// Whether the bytes lie in a part of the field's word. No word of a text with `@` is a field's.
+fn is_in_part(
+    alloc: Global,
+    text: &str,
+    field: PatternField,
+    part: usize,
+    start: usize,
+    end: usize,
+) -> Result<bool, AllocError>
+    requires starts { IsCharBoundary text.now start }
+    requires ends { IsCharBoundary text.now end }
+    requires order { start ≤ end }
+    ensures { IfOk result (λ b. b ≡ true → IsInPart text.now field part start end) }
+{
+    if has_byte(&text[start..end], b',') {
+        return Ok(false);
+    }
+    if has_byte(text, b'@') {
+        return Ok(true);
+    }
     let (front, _) = text.split_at(end);
-    let word = word_count(alloc, front)?;
-    let wanted = counted_word(alloc, parser, text)?;
-    Ok(word == wanted)
+    let place = place_of_word(alloc, text, field)?;
+    let parts = part_count(word_at(alloc, front, place)?);
+    Ok(parts > 0 && parts - 1 == part)
+}
+
+/// How many parts a list has, empty ones counted too.
+fn part_count(list: &str) -> usize
+    ensures { result ≡ length (pieces_at 44 list.now) }
+{
+    list.split(',').count()
+}
+
+fn are_same(one: &str, other: &str) -> bool
+    ensures { result ≡ true → one.now ≡ other.now }
+{
+    one == other
+}
+
+/// The word of a field, in capitals; nothing where it isn't written.
+fn word_of(alloc: Global, text: &str, field: PatternField) -> Result<String, AllocError>
+    ensures { IfOk result (λ word. string_bytes word ≡ word_of text.now field) }
+{
+    let place = place_of_word(alloc, text, field)?;
+    let word = word_at(alloc, text, place)?;
+    word.to_ascii_uppercase(alloc)
+}
+
+/// What stands from a byte on to the end of its word, in capitals.
+fn rest_of_word(alloc: Global, text: &str, start: usize) -> Result<String, AllocError>
+    requires { IsCharBoundary text.now start }
+    ensures { IfOk result (λ rest. string_bytes rest ≡ rest_of_word text.now start) }
+{
+    let (_, behind) = text.split_at(start);
+    let rest = word_at(alloc, behind, 0)?;
+    rest.to_ascii_uppercase(alloc)
+}
+
+/// The place of a field's word among the words of a text, from 0.
+fn place_of_word(alloc: Global, text: &str, field: PatternField) -> Result<usize, AllocError>
+    ensures { IfOk result (λ place. place ≡ place_of_word text.now field) }
+{
+    let unwritten = unwritten(alloc, text)?;
+    Ok(field.place().saturating_sub(unwritten))
+}
+
+/// The word of a text at a place from 0; nothing where there is none.
+fn word_at(alloc: Global, text: &str, place: usize) -> Result<&str, AllocError>
+    ensures { IfOk result (λ word. word.now ≡ word_at text.now place) }
+{
+    let words = words(alloc, text)?;
+    match words.as_slice().get(place) {
+        Some(word) => Ok(*word),
+        None => Ok(""),
+    }
 }
 
 /// Whether a wrong count is a fault of the whole text.

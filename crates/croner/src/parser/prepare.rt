@@ -4,7 +4,7 @@ ghost use Rattle.std.specs.Prelude.{◌≡◌, Err, ◌++◌, ◌<◌, nat_le, B
 ghost use Rattle.croner_base.specs.Part.{contains_byte};
 ghost use Rattle.croner.specs.parser.Cut.{months, weekdays, place_of, name_of, decimal_of, is_lost, weekday_number, replaced};
 ghost use Rattle.croner.specs.parser.Grammar.{nickname_of, nicknamed, of_replaced};
-ghost use Rattle.croner.specs.Private.parser.Steps.{HasNoName, IsShown, AdvancesOrLost, Prepares, refusal_of};
+ghost use Rattle.croner.specs.Private.parser.Steps.{HasNoName, IsBehindName, IsShown, AdvancesOrLost, Prepares, refusal_of};
 
 use super::CronParser;
 use super::characters::illegal_word;
@@ -163,6 +163,17 @@ fn number_of(name: &str, after_dash: bool, quartz: bool) -> Option<u8>
     }
     let place = weekday_place(name)?;
     Some(weekday_number(place, after_dash, quartz))
+}
+
+/// What stands behind the name that a text in capitals begins with; nothing where it begins with none.
+pub fn behind_name(text: &str) -> Option<&str>
+    ensures { MatchOption result (HasNoName text.now) (λ rest. IsBehindName text.now rest.now) }
+{
+    let Some((name, rest)) = text.split_at_checked(NAME_LENGTH) else {
+        return None;
+    };
+    number_of(name, false, false)?;
+    Some(rest)
 }
 
 /// Whether a text may begin with a letter: no digit, and none of the signs in front of the letters.

@@ -2,7 +2,6 @@
 
 ghost use Rattle.std.specs.Prelude.{◌≡◌, ℕ, List};
 ghost use Rattle.croner_base.specs.Field.{with_sloppy};
-ghost use Rattle.croner_base.specs.Part.{field_of};
 ghost use Rattle.croner_pattern.specs.Meaning.{meaning_of};
 ghost use Rattle.croner.specs.Private.parser.Steps.{ReadsAll, ReadsField, Reads, start_meaning};
 ghost use Rattle.croner.specs.parser.Settings.{Settings};
@@ -50,20 +49,22 @@ impl CronParser {
     }
 }
 
-/// Reads the text of a field into it; a refusal is of that field.
+/// Reads the text of a field into it; a refusal is of that field, and of the part of its list at which reading stopped.
 fn read_field(
     component: &mut CronComponent,
     text: &str,
     sloppy: bool,
     field: PatternField,
 ) -> Result<(), Stop>
-    ensures { ReadsField (field_of (with_sloppy component.old sloppy).shape text.now) (with_sloppy component.old sloppy) component.new field result }
+    ensures { ReadsField (with_sloppy component.old sloppy).shape text.now (with_sloppy component.old sloppy) component.new field result }
 {
     component.set_sloppy_ranges(sloppy);
-    match component.parse(text) {
+    match component.parse_parts(text) {
         Ok(()) => Ok(()),
-        Err(CronError::OutOfMemory) => Err(Stop::OutOfMemory),
-        Err(_) => Err(Stop::Refused(Cause::Component(field))),
+        Err(refused) => match refused.error {
+            CronError::OutOfMemory => Err(Stop::OutOfMemory),
+            _ => Err(Stop::Refused(Cause::Component(field, refused.part))),
+        },
     }
 }
 

@@ -9,9 +9,6 @@ use super::prepare::{name_at, replaced};
 use super::settle::starred;
 use super::stop::{Cause, Stop};
 use super::{CronParser, Seconds, Year};
-use croner_base::component::CronComponent;
-use croner_base::errors::CronError;
-use croner_pattern::pattern::CronPattern;
 use std::alloc::{AllocError, Global};
 
 /// How many words make a pattern whose first is the seconds.
@@ -62,7 +59,7 @@ pub fn find_fault(
         Cause::Empty => None,
         Cause::Invalid => Some(wrong_count(alloc, parser, text, words)?),
         Cause::Illegal(field) => illegal_character(alloc, parser, text, words, field)?,
-        Cause::Component(field) => refused_part(alloc, parser, words, field)?,
+        Cause::Component(field, part) => refused_part(alloc, parser, words, field, part)?,
     };
     match found {
         Some(found) => Ok(found),
@@ -362,12 +359,12 @@ fn nickname_in_fields(word: &str) -> Option<&'static str> {
 
 // ---- characters
 
-/// The place among the words of a field's word; none where the field is not written.
-fn place_of(field: PatternField, count: usize) -> Option<usize> {
-    if count == LEAST_FIELDS {
-        return field.place().checked_sub(1);
-    }
-    Some(field.place())
+/// The word of a field, and its place among the words; nothing where the field is not written.
+fn word_of<'t>(words: &[Piece<'t>], field: PatternField) -> Option<(usize, Piece<'t>)> {
+    let unwritten = if words.len() == LEAST_FIELDS { 1 } else { 0 };
+    let place = field.place().checked_sub(unwritten)?;
+    let word = words.get(place)?;
+    Some((place, *word))
 }
 
 /// The first character of a field's word that is not legal there, or the `@` of a text with one: it may get fields that are
@@ -382,16 +379,13 @@ fn illegal_character(
     if let Some(start) = text.find('@') {
         return Ok(Some(at_sign(start)));
     }
-    let Some(place) = place_of(field, words.len()) else {
+    let Some((place, word)) = word_of(words, field) else {
         return Ok(None);
     };
-    let Some(word) = words.get(place) else {
+    let Some(illegal) = illegal_in_word(alloc, word, field)? else {
         return Ok(None);
     };
-    let Some(illegal) = illegal_in_word(alloc, *word, field)? else {
-        return Ok(None);
-    };
-    if let Some(step) = illegal.step_of(*word, field) {
+    if let Some(step) = illegal.step_of(word, field) {
         return Ok(Some(illegal.found_as(Expected::StepAlone { step })));
     }
     let hint = illegal.hint(place, words, field);
@@ -597,17 +591,18 @@ fn illegal_in_word(
 
 // ---- parts
 
-/// The first part of a field's word that the field refuses.
+/// The part of a field's word that the field refused.
 fn refused_part(
     alloc: Global,
     parser: &CronParser,
     words: &[Piece<'_>],
     field: PatternField,
+    part: usize,
 ) -> Result<Option<Finding>, AllocError> {
-    let Some(place) = place_of(field, words.len()) else {
+    let Some((place, word)) = word_of(words, field) else {
         return Ok(None);
     };
-    let Some(word) = words.get(place) else {
+    let Some(written) = part_of(word, field, part) else {
         return Ok(None);
     };
     let rules = Rules {
@@ -616,12 +611,26 @@ fn refused_part(
         sloppy: parser.sloppy_ranges,
         hint: hint_of(parser.year, field, words, place),
     };
-    let Ok(mut pattern) = CronPattern::new_in_mode(alloc, "", parser.alternative_weekdays) else {
-        return Err(AllocError);
+    let read = as_read(alloc, written.text, rules.quartz)?;
+    let refused = Part {
+        written,
+        read: read.as_str(),
     };
-    let component = component_of(&mut pattern, field);
-    component.set_sloppy_ranges(parser.sloppy_ranges);
-    refused_in_word(alloc, component, *word, rules)
+    let (place, expected) = fault_of_part(refused, rules);
+    Ok(Some(place.found(expected)))
+}
+
+/// The part of a word at a place from 0, without the sign in front of the word.
+fn part_of(word: Piece<'_>, field: PatternField, part: usize) -> Option<Piece<'_>> {
+    let mut start = word.start;
+    for (place, text) in word.text.split(',').enumerate() {
+        let here = Piece { text, start };
+        if place == part {
+            return Some(without_plus(here, word.start, field));
+        }
+        start = here.end().saturating_add(1);
+    }
+    None
 }
 
 /// Why a refused part may stand in the word at a place: a space beside a sign, or six fields that end in a year.
@@ -682,46 +691,6 @@ fn is_year(word: &str) -> bool {
     word.len() == 4 && word.as_bytes().iter().all(|b| b.is_ascii_digit())
 }
 
-fn component_of(pattern: &mut CronPattern, field: PatternField) -> &mut CronComponent {
-    match field {
-        PatternField::Seconds => &mut pattern.seconds,
-        PatternField::Minutes => &mut pattern.minutes,
-        PatternField::Hours => &mut pattern.hours,
-        PatternField::DayOfMonth => &mut pattern.days,
-        PatternField::Month => &mut pattern.months,
-        PatternField::Weekday => &mut pattern.days_of_week,
-        PatternField::Year => &mut pattern.years,
-    }
-}
-
-/// The first part of a word that its field refuses.
-fn refused_in_word(
-    alloc: Global,
-    component: &mut CronComponent,
-    word: Piece<'_>,
-    rules: Rules,
-) -> Result<Option<Finding>, AllocError> {
-    let mut start = word.start;
-    for written in word.text.split(',') {
-        let here = Piece {
-            text: written,
-            start,
-        };
-        let part = without_plus(here, word.start, rules.field);
-        let read = as_read(alloc, part.text, rules.quartz)?;
-        if is_refused(component, read.as_str())? {
-            let whole = Part {
-                written: part,
-                read: read.as_str(),
-            };
-            let (place, expected) = fault_of_part(whole, rules);
-            return Ok(Some(place.found(expected)));
-        }
-        start = here.end().saturating_add(1);
-    }
-    Ok(None)
-}
-
 /// The first part of the weekday field, without one `+` in front.
 fn without_plus(part: Piece<'_>, first: usize, field: PatternField) -> Piece<'_> {
     if field == PatternField::Weekday && part.start == first {
@@ -745,17 +714,5 @@ fn as_read(alloc: Global, part: &str, quartz: bool) -> Result<String, AllocError
     match starred(alloc, numbers.as_str())? {
         Some(starred) => Ok(starred),
         None => Ok(numbers),
-    }
-}
-
-/// Whether a field refuses a part of a list, as it is read.
-fn is_refused(component: &mut CronComponent, read: &str) -> Result<bool, AllocError> {
-    if read == "*" {
-        return Ok(true);
-    }
-    match component.parse(read) {
-        Ok(()) => Ok(false),
-        Err(CronError::OutOfMemory) => Err(AllocError),
-        Err(_) => Ok(true),
     }
 }

@@ -3,7 +3,7 @@
 use super::fault::{FaultKind, PatternField};
 use std::alloc::AllocError;
 
-/// Why a text is refused, and the field that refused it.
+/// Why a text is refused, and where: the field that refused it, and the part of the field's list.
 #[derive(Clone, Copy, Drop)]
 pub enum Cause {
     /// Nothing but white space.
@@ -12,8 +12,9 @@ pub enum Cause {
     Invalid,
     /// A character that is not legal in this field, the first that has one.
     Illegal(PatternField),
-    /// A text that this field can't read, the first of these.
-    Component(PatternField),
+    /// A text that this field can't read, the first of these, and how many parts of its list stand in front of the first that it
+    /// can't.
+    Component(PatternField, usize),
 }
 
 impl Cause {
@@ -29,7 +30,7 @@ impl Cause {
             Cause::Empty => FaultKind::EmptyPattern,
             Cause::Invalid => FaultKind::InvalidPattern,
             Cause::Illegal(_) => FaultKind::IllegalCharacters,
-            Cause::Component(_) => FaultKind::ComponentError,
+            Cause::Component(_, _) => FaultKind::ComponentError,
         }
     }
 
@@ -39,7 +40,7 @@ impl Cause {
     {
         match self {
             Cause::Empty | Cause::Invalid => None,
-            Cause::Illegal(field) | Cause::Component(field) => Some(field),
+            Cause::Illegal(field) | Cause::Component(field, _) => Some(field),
         }
     }
 }

@@ -1,10 +1,11 @@
 -- The steps in which a text is cut and its fields are read. Private contracts alone cite these definitions.
-use Rattle.std.specs.Prelude.{◌≡◌, ℕ, ◌<◌, ◌++◌, ◌==◌, Bool, true, false, List, Option, Some, None, MatchOption, option_map, Result, Ok, Err, slice_index, length, take, string_bytes}
+use Rattle.std.specs.Prelude.{◌≡◌, ℕ, ◌<◌, ◌≤◌, ◌++◌, ◌==◌, Bool, true, false, List, Option, Some, None, MatchOption, option_map, Result, Ok, Err, slice_index, length, take, drop, string_bytes}
 use Rattle.std.specs.declared.alloc.Global.{Global}
 use Rattle.std.specs.declared.string.String.{String}
 use denote.Ref.{Bor}
 use Rattle.std.specs.Str.{IsUtf8}
 use Rattle.croner_base.specs.Field.{Shape, Field, empty_field, can_ask, can_mark}
+use Rattle.croner_base.specs.Part.{field_of, refused_part}
 use Rattle.croner_base.specs.Reading.{Reading, applied}
 use Rattle.croner_pattern.specs.Meaning.{Meaning}
 use Rattle.croner_pattern.specs.Shapes.{sixty_shape, hour_shape, day_shape, month_shape, year_shape, new_meaning}
@@ -16,7 +17,8 @@ use Rattle.croner.specs.declared.parser.stop.Stop.{Stop}
 use Rattle.croner.specs.declared.parser.stop.Stop.TheVariants as stops
 use Rattle.croner.specs.declared.parser.fault.PatternField.{PatternField}
 use Rattle.croner.specs.parser.Cut.{Piece, name_of, shown, is_dash, decimal_of, replaced}
-use Rattle.croner.specs.parser.Grammar.{Texts, Refusal, Empty, Invalid, Illegal, Component, unread_field, outcome, of_fields, fields_of, starred, without_plus, are_read, value_of, weekdays_of}
+use Rattle.croner.specs.parser.Faults.{from_illegal}
+use Rattle.croner.specs.parser.Grammar.{Texts, Refusal, Empty, Invalid, Illegal, Component, unread, outcome, of_fields, fields_of, starred, without_plus, are_read, value_of, weekdays_of}
 use Rattle.croner.specs.parser.Settings.{Settings}
 use Rattle.croner.specs.parser.Words.{words}
 use Rattle.croner.specs.Views.{texts_of}
@@ -28,7 +30,7 @@ abbrev pub refusal_of : Cause → Refusal
 refusal_of causes.Empty = Empty
 refusal_of causes.Invalid = Invalid
 refusal_of (causes.Illegal field) = Illegal field
-refusal_of (causes.Component field) = Component field
+refusal_of (causes.Component field part) = Component field part
 
 -- a reading stopped since its text is refused so, or for want of memory, which says nothing of the text
 abbrev pub Stops : {Y : Type 0} → Stop → Result Y Refusal → Type 0
@@ -76,6 +78,18 @@ IsShown quartz after_dash name n =
 abbrev pub HasNoName : List ℕ → Type 0
 HasNoName text = name_of (take 3 text) ≡ None
 
+-- the text begins with a name, and the rest stands behind it
+pub record IsBehindName (text rest : List ℕ) : Type 0 where
+  pub name : Piece
+  pub begins : name_of (take 3 text) ≡ Some name
+  pub some : 3 ≤ length text
+  pub back : rest ≡ drop 3 text
+
+-- the text begins with what the field takes, a name or a character, and the rest stands behind it
+pub record IsBehindLegal (field : PatternField) (text rest : List ℕ) : Type 0 where
+  pub shorter : length rest < length text
+  pub same : from_illegal field text ≡ from_illegal field rest
+
 -- what stands for the first piece of the text was put behind what was written, and the rest is left
 pub record Advances (quartz after_dash : Bool) (text written now rest : List ℕ) : Type 0 where
   pub shorter : length rest < length text
@@ -112,19 +126,19 @@ read_meaning s text t = record (new_meaning text) {
   years = value_of s year_shape t.years;
 }
 
--- a field refused its text, or memory ran out
-abbrev pub StopsField : Reading → PatternField → Stop → Type 0
-StopsField reading field (stops.Refused cause) = (reading.accepted ≡ false) × (cause ≡ causes.Component field)
-StopsField reading field stops.OutOfMemory = Unit {0}
+-- a field refused its text at a part of it, or memory ran out
+abbrev pub StopsField : Reading → ℕ → PatternField → Stop → Type 0
+StopsField reading part field (stops.Refused cause) = (reading.accepted ≡ false) × (cause ≡ causes.Component field part)
+StopsField reading part field stops.OutOfMemory = Unit {0}
 
 -- a field was read
-abbrev pub ReadsField : Reading → Field → Field → PatternField → Result (Unit {0}) Stop → Type 0
-ReadsField reading old new field (Ok x) = (reading.accepted ≡ true) × (new ≡ applied reading.done old)
-ReadsField reading old new field (Err stop) = StopsField reading field stop
+abbrev pub ReadsField : Shape → List ℕ → Field → Field → PatternField → Result (Unit {0}) Stop → Type 0
+ReadsField f text old new field (Ok x) = ((field_of f text).accepted ≡ true) × (new ≡ applied (field_of f text).done old)
+ReadsField f text old new field (Err stop) = StopsField (field_of f text) (refused_part f text) field stop
 
 -- the first of seven fields that isn't accepted refused its text, or memory ran out
 abbrev pub StopsOne : Settings → Texts → Stop → Type 0
-StopsOne s t (stops.Refused cause) = (are_read s t ≡ false) × (cause ≡ causes.Component (unread_field s t))
+StopsOne s t (stops.Refused cause) = (are_read s t ≡ false) × (refusal_of cause ≡ unread s t)
 StopsOne s t stops.OutOfMemory = Unit {0}
 
 -- each field was read

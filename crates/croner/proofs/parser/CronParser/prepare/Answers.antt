@@ -1,4 +1,4 @@
-use Rattle.std.proofs.Common.{rules, ◌≡◌, ◌∙◌, ap, sym, subst, true, false, eqb, length, Some, None, string_bytes}
+use Rattle.std.proofs.Common.{rules, ◌≡◌, ◌∙◌, ap, sym, true, false, eqb, length, Some, None, string_bytes}
 use Rattle.std.specs.Str.{trim, str_to_ascii_uppercase}
 use Rattle.croner.specs.parser.Cut.{replaced}
 use Rattle.croner.specs.parser.Grammar.{nicknamed}
