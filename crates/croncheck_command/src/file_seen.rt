@@ -55,12 +55,7 @@ impl FileSeen {
 
     /// What cron makes of the file of so many lines as a whole: a line for each reason for which it ignores it. Nothing of
     /// a file of patterns, which cron doesn't read.
-    pub fn ending(
-        &self,
-        alloc: Global,
-        dialect: Dialect,
-        lines: u64,
-    ) -> Result<String, AllocError>
+    pub fn ending(&self, alloc: Global, dialect: Dialect, lines: u64) -> Result<String, AllocError>
         ensures { IfOk result (λ text. string_bytes text ≡ ending_of dialect lines self.now) }
     {
         match dialect {
@@ -76,8 +71,18 @@ impl FileSeen {
         let name = self.name.as_str();
         let mut text = String::new(alloc);
         push_if(&mut text, self.has_refused, name, "a line is refused\n")?;
-        push_if(&mut text, self.is_unfed, name, "its last line has no line feed\n")?;
-        push_if(&mut text, are_many_lines(lines), name, "it has more than 10000 lines\n")?;
+        push_if(
+            &mut text,
+            self.is_unfed,
+            name,
+            "its last line has no line feed\n",
+        )?;
+        push_if(
+            &mut text,
+            are_many_lines(lines),
+            name,
+            "it has more than 10000 lines\n",
+        )?;
         Ok(text)
     }
 }

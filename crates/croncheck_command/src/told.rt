@@ -111,7 +111,11 @@ impl Told<'_> {
 }
 
 // The description and the runs of a job.
-pub(crate) fn told_of<'t>(alloc: Global, settings: &Settings<'t>, job: &Cron) -> Result<Told<'t>, CronError>
+pub(crate) fn told_of<'t>(
+    alloc: Global,
+    settings: &Settings<'t>,
+    job: &Cron,
+) -> Result<Told<'t>, CronError>
     ensures told { IfOk result (TellsMeaning settings.now (Ok (meaning_of_job job.now))) }
     ensures err { IfErr result (λ e. e ≡ CronError.OutOfMemory) }
 {

@@ -2,8 +2,8 @@
 ghost use Rattle.std.specs.Prelude.{◌≡◌};
 ghost use Rattle.croncheck_command.specs.Warnings.{field_of, warning_name, other_name};
 
-use super::{OtherWarning, Warning};
 use super::sides::{Dates, Month};
+use super::{OtherWarning, Warning};
 use croner::parser::PatternField;
 use std::alloc::AllocError;
 
