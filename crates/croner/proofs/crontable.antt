@@ -7,4 +7,5 @@ pub mod TableItems
 pub mod TableIterating
 pub mod TableRuns
 pub mod TableSearch
+pub mod TableUntil
 pub mod TakenRuns

@@ -5,3 +5,4 @@ pub mod ItemsGiven
 pub mod Iterating
 pub mod Listings
 pub mod ThereAndBack
+pub mod Until

@@ -2,3 +2,4 @@
 pub mod parser
 pub mod search
 pub mod crontable
+pub mod Until

@@ -74,6 +74,13 @@ impl<T: CronDateTime> CronIterator<T> {
         self.fault.as_ref()
     }
 
+    // The way in which it goes.
+    pub(crate) fn direction(&self) -> Direction
+        ensures { result ≡ (standing_of T.moment self.now).direction }
+    {
+        self.direction
+    }
+
     // Whether the next search counts the position.
     fn counts_position(&self) -> bool
         ensures { result ≡ counts_position (standing_of T.moment self.now) }

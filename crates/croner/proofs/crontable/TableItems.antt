@@ -62,7 +62,7 @@ pub record TableGoes (old cur : TableStanding) (items : List (ℤ × List ℕ)) 
   pub places : StartsCalm old.position → HavePlaces old items
 
 -- a call without an item
-goes_on : (old cur new : TableStanding) (items : List (ℤ × List ℕ)) → TableGoes old cur items → GivesNoTableItem cur new → TableGoes old new items
+pub goes_on : (old cur new : TableStanding) (items : List (ℤ × List ℕ)) → TableGoes old cur items → GivesNoTableItem cur new → TableGoes old new items
 goes_on old cur new items g n =
     let P : TableStanding → Type 0 = λ s. TableGoes old s items in
     subst P (sym n.stands) (record {
@@ -126,7 +126,7 @@ searchable_at : (cur : TableStanding) (item : Moment) (places : List ℕ) (new :
 searchable_at cur item places new g held = searchable_there cur item places new g held.starts held
 
 -- a call with an item
-goes_to : (old cur new : TableStanding) (items : List (ℤ × List ℕ)) (item : Moment) (places : List ℕ) → TableGoes old cur items → GivesTableItem cur item places new
+pub goes_to : (old cur new : TableStanding) (items : List (ℤ × List ℕ)) (item : Moment) (places : List ℕ) → TableGoes old cur items → GivesTableItem cur item places new
     → TableGoes old new (items ++ (item.instant, places) ∷ [])
 goes_to old cur new items item places g n =
     let P : TableStanding → Type 0 = λ s. TableGoes old s (items ++ (item.instant, places) ∷ []) in
@@ -178,7 +178,7 @@ limit_without cur new n without =
     no_fault_is_limit n.refusal (sym (ap fault n.stands) ∙ without)
 
 -- a call without an item and without a fault says so
-is_over : (old cur new : TableStanding) (items : List (ℤ × List ℕ)) → TableGoes old cur items → GivesNoTableItem cur new → new.fault ≡ None → IsTableOver old new
+pub is_over : (old cur new : TableStanding) (items : List (ℤ × List ℕ)) → TableGoes old cur items → GivesNoTableItem cur new → new.fault ≡ None → IsTableOver old new
 is_over old cur new items g n without =
     let P : TableStanding → Type 0 = λ s. IsTableOver old s in
     subst P (sym n.stands) (λ p i left span.
@@ -189,7 +189,7 @@ pub gave_all_table : (old cur : TableStanding) (items : List (ℤ × List ℕ)) 
 gave_all_table old cur items g over p = all_given old.direction (IsTableLeft old) (IsTableLeft cur) (InSpan old.direction old.position.zone.reads) (item_instants items) (g.splits p) (over p)
 
 -- where what a search needs is held, a call without an item keeps nothing but want of memory
-memory_alone : (cur new : TableStanding) → GivesNoTableItem cur new → IsSearchable cur.position → IsMemoryAlone true new.fault
+pub memory_alone : (cur new : TableStanding) → GivesNoTableItem cur new → IsSearchable cur.position → IsMemoryAlone true new.fault
 memory_alone cur new n p =
     let fault : TableStanding → Option CronError = λ s. s.fault in
     elim (n.refused.promised p) [

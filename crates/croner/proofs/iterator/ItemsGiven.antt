@@ -129,7 +129,7 @@ memory_alone lack cur new n p =
     ]
 
 -- and without want of memory nothing at all
-without_fault : (lack : Bool) (cur new : Standing) → GivesNone lack cur new → lack ≡ false → IsSearchable cur.position → new.fault ≡ None
+pub without_fault : (lack : Bool) (cur new : Standing) → GivesNone lack cur new → lack ≡ false → IsSearchable cur.position → new.fault ≡ None
 without_fault lack cur new n memory p =
     elim (memory_alone lack cur new n p) [
       | inl none ↦ none

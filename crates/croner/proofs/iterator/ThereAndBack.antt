@@ -47,7 +47,7 @@ in_span m start r j le =
     stays_late start.zone r.calm.calm start.instant j low (omega (arith, ints))
 
 -- each run shows a second of the years 1 to 5000, so what a search needs held stays held from each run on
-searched_run : (m : Meaning) (z : Zone) (i : ℤ) → Run (pattern_job m z) i → IsSearched (z.reads i)
+pub searched_run : (m : Meaning) (z : Zone) (i : ℤ) → Run (pattern_job m z) i → IsSearched (z.reads i)
 searched_run m z i run = elim run [ inl own ↦ scheduled_searched m (z.reads i) own.0 | inr carried ↦ matched_searched m (z.reads i) carried.2 ]
 
 holds_from : (m : Meaning) (start : Moment) → IsCalm start.zone → HoldsAround start → (i : ℤ) → Run (pattern_job m start.zone) i

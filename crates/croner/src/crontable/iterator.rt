@@ -84,6 +84,13 @@ impl<'t, T: CronDateTime> CronTableIterator<'t, T> {
         self.fault.as_ref()
     }
 
+    // The way in which it goes.
+    pub(crate) fn direction(&self) -> Direction
+        ensures { result ≡ (table_standing_of T.moment self.now).direction }
+    {
+        self.direction
+    }
+
     // Whether the next search counts the position.
     fn counts_position(&self) -> bool
         ensures { result ≡ counts_table_position (table_standing_of T.moment self.now) }

@@ -2,14 +2,19 @@
 //!
 //! When a zone is calm is said at [`CronDateTime`].
 ghost use Rattle.std.specs.Prelude.{◌≡◌, ◌≤◌, ◌<◌, ◌+◌, ◌↔◌, ℕ, ℤ, true, false, IfOk, IfErr, IsTrue, length, vec_len, vec_capacity};
+ghost use Rattle.croner_base.specs.TableZone.{table_moment};
 ghost use Rattle.croner.specs.iterator.Faults.{IsMemoryAlone};
+ghost use Rattle.croner.specs.laws.Until.{ListsTableUntil};
+ghost use Rattle.croner.specs.Private.Until.{TakesTableUntil};
 ghost use Rattle.croner.specs.search.Premises.{StartsCalm, IsSearchable};
 ghost use Rattle.croner.specs.crontable.Tables.{patterns_of};
 ghost use Rattle.croner.specs.crontable.TableListing.{TableStanding, table_standing_of, new_table_standing, table_moved, IsLeftAt};
 ghost use Rattle.croner.specs.crontable.TableItems.{BeginsTableRest, GaveTable, GaveAllTable, table_items, TakesTable, TakesTableInTurn};
 
 use crate::crontable::{CronTable, CronTableIterator};
+use crate::laws::listing::{ListingEnd, comes_by};
 use croner_base::errors::CronError;
+use croner_base::time::table::TableTime;
 use croner_base::time::{CronDateTime, Direction};
 use std::alloc::Global;
 
@@ -53,6 +58,37 @@ pub fn next_table_runs<T: CronDateTime>(
     Ok((runs, is_over))
 }
 
+/// The items that come no later in the iterator's direction than a second, where there is one, and so many at most; and how their
+/// listing ended. The iterator goes on the clock of a table of offsets, which is calm. The second is counted from
+/// 1970-01-01T00:00:00 UTC.
+///
+/// It is as [`next_runs_until`](crate::laws::listing::next_runs_until) of one pattern, each item with exactly the places that count
+/// at its instant; but the places of an item can lack memory, which then refuses the search. A run past the second was pulled out of
+/// the iterator, which goes on behind it; an iterator that is [`resumed_table`] from the last item gives it again.
+///
+/// The only error is `OutOfMemory`, for the room of `most` items, which is taken first: the iterator then stands where it stood.
+pub fn next_table_runs_until<'t>(
+    alloc: Global,
+    iterator: &mut CronTableIterator<'_, TableTime<'t>>,
+    until: Option<i64>,
+    most: u32,
+) -> Result<(Vec<(TableTime<'t>, Vec<usize>)>, ListingEnd), CronError>
+    ensures lists { IfOk result
+        (λ r. ListsTableUntil (table_standing_of table_moment iterator.old) (table_standing_of table_moment iterator.new) until most r.0.items r.1) }
+    ensures kept { IfErr result (λ e. table_standing_of table_moment iterator.new ≡ table_standing_of table_moment iterator.old) }
+    ensures err { IfErr result (λ e. e ≡ CronError.OutOfMemory) }
+{
+    let Ok(mut runs) = Vec::with_capacity(alloc, most as usize) else {
+        return Err(CronError::OutOfMemory);
+    };
+    for _call in 0..most {
+        if let Some(end) = take_next_until(iterator, &mut runs, until) {
+            return Ok((runs, end));
+        }
+    }
+    Ok((runs, ListingEnd::Full))
+}
+
 /// An iterator that goes on from an item, which it does not give again.
 ///
 /// Whatever iterator gave the item, over the same patterns and in the same direction: both have the same runs yet to give, each
@@ -85,5 +121,31 @@ fn take_next<T: CronDateTime>(
             false
         }
         None => iterator.fault().is_none(),
+    }
+}
+
+// Puts the item of one call behind the others unless it lies past the second; or answers how the listing ends.
+fn take_next_until<'t>(
+    iterator: &mut CronTableIterator<'_, TableTime<'t>>,
+    runs: &mut Vec<(TableTime<'t>, Vec<usize>)>,
+    until: Option<i64>,
+) -> Option<ListingEnd>
+    requires room { vec_len runs.old < vec_capacity runs.old }
+    ensures takes { TakesTableUntil until (table_standing_of table_moment iterator.old) (table_standing_of table_moment iterator.new)
+        runs.old.items runs.new.items result }
+    ensures room { vec_capacity runs.new ≡ vec_capacity runs.old }
+{
+    let direction = iterator.direction();
+    match iterator.next() {
+        Some(item) => {
+            let second = item.0.second();
+            if !comes_by(direction, until, second) {
+                return Some(ListingEnd::Past(second));
+            }
+            runs.push_reserved(item);
+            None
+        }
+        None if iterator.fault().is_none() => Some(ListingEnd::Over),
+        None => Some(ListingEnd::Refused),
     }
 }

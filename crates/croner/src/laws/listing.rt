@@ -2,11 +2,14 @@
 //!
 //! When a zone is calm is said at [`CronDateTime`].
 ghost use Rattle.std.specs.Prelude.{◌≡◌, ◌≤◌, ◌<◌, ◌+◌, ◌↔◌, ◌⊎◌, ℤ, Bool, false, [], IfOk, IfErr, IsTrue, length, vec_len, vec_capacity};
+ghost use Rattle.croner_base.specs.TableZone.{table_moment};
 ghost use Rattle.std.specs.List.{All, AllPairs};
 ghost use Rattle.croner_pattern.specs.Meaning.{meaning_of};
 ghost use Rattle.croner.specs.iterator.Faults.{IsMemoryAlone};
 ghost use Rattle.croner.specs.iterator.Listing.{Standing, standing_of, new_standing, moved, instants, IsLeft, BeginsRest, Gave, GaveAll, Takes, TakesInTurn};
 ghost use Rattle.croner.specs.laws.Neighbours.{AreCompared, IsWholeIn, onward};
+ghost use Rattle.croner.specs.laws.Until.{ComesBy, ListsUntil};
+ghost use Rattle.croner.specs.Private.Until.{TakesUntil};
 ghost use Rattle.croner.specs.search.Runs.{Precedes};
 ghost use Rattle.croner.specs.search.PatternJob.{timetable_of};
 ghost use Rattle.croner.specs.search.Premises.{IsSearchable, StartsCalm};
@@ -16,9 +19,23 @@ ghost use Rattle.croner.specs.Views.{job_of};
 use crate::Cron;
 use crate::iterator::CronIterator;
 use croner_base::errors::CronError;
+use croner_base::time::table::TableTime;
 use croner_base::time::{CronDateTime, Direction};
 use std::alloc::Global;
 use std::cmp::Ordering;
+
+/// How a listing up to a second ended.
+#[derive(Debug, Clone, Copy, Drop)]
+pub enum ListingEnd {
+    /// There are as many items as were asked for at most. No call was made behind the last of them.
+    Full,
+    /// The run behind the items lies past the second, at this one. The iterator has given it and goes on behind it.
+    Past(i64),
+    /// No run is left in the searched years.
+    Over,
+    /// A search was refused, and not by the end of the searched years: the iterator keeps the error.
+    Refused,
+}
 
 /// The items of so many calls of `next`, whatever calls without an item come between, and a mark: whether the last call gave none
 /// and kept no fault.
@@ -61,6 +78,36 @@ pub fn next_runs<T: CronDateTime>(
         is_over = take_next(iterator, &mut runs);
     }
     Ok((runs, is_over))
+}
+
+/// The items that come no later in the iterator's direction than a second, where there is one, and so many at most; and how their
+/// listing ended. The iterator goes on the clock of a table, which is calm. The second is counted from 1970-01-01T00:00:00 UTC.
+///
+/// The items begin the listing of what the iterator had yet to give, and each is a whole second of its clock. Calls are made until
+/// there are `most` items, a run lies past the second, or a call gives none: so either none is left out up to the second, or there
+/// are `most`, or a search was refused, which none is from a start that the table holds enough around. A run past the second was
+/// pulled out of the iterator, which goes on behind it; an iterator that is [`resumed`] from the last item gives it again.
+///
+/// The only error is `OutOfMemory`, for the room of `most` items, which is taken first: the iterator then stands where it stood.
+pub fn next_runs_until<'t>(
+    alloc: Global,
+    iterator: &mut CronIterator<TableTime<'t>>,
+    until: Option<i64>,
+    most: u32,
+) -> Result<(Vec<TableTime<'t>>, ListingEnd), CronError>
+    ensures lists { IfOk result (λ r. ListsUntil (standing_of table_moment iterator.old) (standing_of table_moment iterator.new) until most r.0.items r.1) }
+    ensures kept { IfErr result (λ e. standing_of table_moment iterator.new ≡ standing_of table_moment iterator.old) }
+    ensures err { IfErr result (λ e. e ≡ CronError.OutOfMemory) }
+{
+    let Ok(mut runs) = Vec::with_capacity(alloc, most as usize) else {
+        return Err(CronError::OutOfMemory);
+    };
+    for _call in 0..most {
+        if let Some(end) = take_next_until(iterator, &mut runs, until) {
+            return Ok((runs, end));
+        }
+    }
+    Ok((runs, ListingEnd::Full))
 }
 
 /// An iterator that goes on from an item, which it does not give again.
@@ -162,5 +209,41 @@ fn take_next<T: CronDateTime>(iterator: &mut CronIterator<T>, runs: &mut Vec<T>)
             false
         }
         None => iterator.fault().is_none(),
+    }
+}
+
+// Puts the item of one call behind the others unless it lies past the second; or answers how the listing ends.
+fn take_next_until<'t>(
+    iterator: &mut CronIterator<TableTime<'t>>,
+    runs: &mut Vec<TableTime<'t>>,
+    until: Option<i64>,
+) -> Option<ListingEnd>
+    requires room { vec_len runs.old < vec_capacity runs.old }
+    ensures takes { TakesUntil until (standing_of table_moment iterator.old) (standing_of table_moment iterator.new) runs.old.items runs.new.items result }
+    ensures room { vec_capacity runs.new ≡ vec_capacity runs.old }
+{
+    let direction = iterator.direction();
+    match iterator.next() {
+        Some(run) => {
+            let second = run.second();
+            if !comes_by(direction, until, second) {
+                return Some(ListingEnd::Past(second));
+            }
+            runs.push_reserved(run);
+            None
+        }
+        None if iterator.fault().is_none() => Some(ListingEnd::Over),
+        None => Some(ListingEnd::Refused),
+    }
+}
+
+// Whether an instant comes no later in a direction than a second, where there is one.
+pub(crate) fn comes_by(direction: Direction, until: Option<i64>, instant: i64) -> bool
+    ensures { IsTrue result ↔ ComesBy direction until instant }
+{
+    match (until, direction) {
+        (None, _) => true,
+        (Some(until), Direction::Forward) => instant <= until,
+        (Some(until), Direction::Backward) => until <= instant,
     }
 }
