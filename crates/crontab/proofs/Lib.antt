@@ -1,4 +1,5 @@
 mod Examples
+mod ExamplesContent
 mod NoteRows
 mod Parts
 mod ReadLines

@@ -1,5 +1,6 @@
 pub mod Bytes
 pub mod Checked
+pub mod Content
 pub mod Entries
 pub mod Field
 pub mod Line

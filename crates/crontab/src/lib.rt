@@ -5,6 +5,7 @@
 
 pub mod bytes;
 pub mod check;
+pub mod content;
 pub mod field;
 pub mod line;
 pub mod lines;
