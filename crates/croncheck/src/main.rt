@@ -3,13 +3,17 @@
 
 use croncheck_command::changes::Changes;
 use croncheck_command::clock::Clock;
-use croncheck_command::files::{Sources, check_files, check_files_as_json, tell_files};
+use croncheck_command::files::{Sources, tell_files};
+use croncheck_command::json_reporter::JsonReporter;
 use croncheck_command::moment::second_of;
-use croncheck_command::plan::Planner;
+use croncheck_command::planner::Planner;
 use croncheck_command::problem::Problem;
+use croncheck_command::progress::Terms;
+use croncheck_command::reporter::Reporter;
 use croncheck_command::runs::Listing;
 use croncheck_command::settings::Settings;
 use croncheck_command::shown::Shared;
+use croncheck_command::sink::Sink;
 use croncheck_command::words::{Call, Form, NoCall, Span, USAGE, read_call};
 use croncheck_command::zone::{note_of, refusal_of};
 use either::{Either, Left, Right};
@@ -54,7 +58,7 @@ fn stopped(rt: &HostRuntime, problem: &Problem) -> u8 {
 
 fn status(rt: &HostRuntime, words: &[String]) -> u8 {
     match read_call(rt.alloc(), words) {
-        Ok(call) => match in_zone(rt, &call) {
+        Ok(call) => match check(rt, &call) {
             Ok(status) => status,
             Err(problem) => stopped(rt, &problem),
         },
@@ -67,34 +71,48 @@ fn status(rt: &HostRuntime, words: &[String]) -> u8 {
     }
 }
 
-// Checks in the zone that the words name.
-fn in_zone(rt: &HostRuntime, call: &Call<'_>) -> Result<u8, Problem> {
-    if let Ok(zone) = TimeZone::posix(call.zone) {
-        return in_ruled_zone(rt, call, zone);
-    }
-    let zones = TimeZoneDatabase::from_env(rt).map_err(Problem::Zone)?;
-    if call.zone == "local" {
-        let system = SystemTimeZone::read(rt).map_err(Problem::Zone)?;
-        let zone = system.time_zone(&zones).map_err(Problem::Zone)?;
-        return check(rt, call, zone);
-    }
-    match zones.get(call.zone) {
-        Ok(zone) => check(rt, call, zone),
-        Err(jiff::Error::TimeZoneNotFound) => Err(no_zone(rt, call.zone)),
-        Err(error) => Err(Problem::Zone(error)),
-    }
+// The zones among which a call's word names one.
+#[derive(Drop)]
+enum Zones {
+    // The word is a rule.
+    Rule(TimeZone<'static>),
+    Named(TimeZoneDatabase),
+    // With the machine's own.
+    System(TimeZoneDatabase, SystemTimeZone),
 }
 
-// Checks in the zone of a rule, and says before which way it is off UTC, where that is easily taken for the other.
-fn in_ruled_zone(rt: &HostRuntime, call: &Call<'_>, zone: TimeZone<'_>) -> Result<u8, Problem> {
-    match note_of(rt.alloc(), call.zone, &zone) {
-        Ok(Some(note)) => {
-            let _ = eprintln!(rt; "croncheck: {note}");
+impl Zones {
+    fn of(rt: &HostRuntime, word: &str) -> Result<Zones, Problem> {
+        if let Ok(zone) = TimeZone::posix(word) {
+            return Ok(Zones::Rule(zone));
         }
-        Ok(None) => {}
-        Err(_) => return Err(Problem::OutOfMemory),
+        let named = TimeZoneDatabase::from_env(rt).map_err(Problem::Zone)?;
+        if word != "local" {
+            return Ok(Zones::Named(named));
+        }
+        let system = SystemTimeZone::read(rt).map_err(Problem::Zone)?;
+        Ok(Zones::System(named, system))
     }
-    check(rt, call, zone)
+
+    // The zone that the word names. Of a rule it says which way it is off UTC, where that is easily taken for the other.
+    fn zone(&self, rt: &HostRuntime, word: &str) -> Result<TimeZone<'_>, Problem> {
+        match self {
+            Zones::Rule(zone) => match note_of(rt.alloc(), word, zone) {
+                Ok(Some(note)) => {
+                    let _ = eprintln!(rt; "croncheck: {note}");
+                    Ok(*zone)
+                }
+                Ok(None) => Ok(*zone),
+                Err(_) => Err(Problem::OutOfMemory),
+            },
+            Zones::Named(named) => match named.get(word) {
+                Ok(zone) => Ok(zone),
+                Err(jiff::Error::TimeZoneNotFound) => Err(no_zone(rt, word)),
+                Err(error) => Err(Problem::Zone(error)),
+            },
+            Zones::System(named, system) => system.time_zone(named).map_err(Problem::Zone),
+        }
+    }
 }
 
 // What is wrong with the word of a zone that is none.
@@ -105,18 +123,25 @@ fn no_zone(rt: &HostRuntime, word: &str) -> Problem {
     }
 }
 
-fn check(rt: &HostRuntime, call: &Call<'_>, zone: TimeZone<'_>) -> Result<u8, Problem> {
-    let now = Timestamp::now(rt).map_err(Problem::Now)?.as_second();
-    let Some(start) = second_of(call.from, &zone, now) else {
+// The second that runs are listed from, and which are.
+fn span_of(call: &Call<'_>, zone: &TimeZone<'_>, now: i64) -> Result<(i64, Listing), Problem> {
+    let Some(start) = second_of(call.from, zone, now) else {
         return Err(Problem::SkippedFrom);
     };
-    let listing = match call.span {
-        Span::Count(count) => Listing::Count(count),
-        Span::Until(moment) => match second_of(moment, &zone, now) {
-            Some(second) => Listing::Until(second),
-            None => return Err(Problem::SkippedUntil),
+    match call.span {
+        Span::Count(count) => Ok((start, Listing::Count(count))),
+        Span::Until(moment) => match second_of(moment, zone, now) {
+            Some(second) => Ok((start, Listing::Until(second))),
+            None => Err(Problem::SkippedUntil),
         },
-    };
+    }
+}
+
+fn check(rt: &HostRuntime, call: &Call<'_>) -> Result<u8, Problem> {
+    let zones = Zones::of(rt, call.zone)?;
+    let zone = zones.zone(rt, call.zone)?;
+    let now = Timestamp::now(rt).map_err(Problem::Now)?.as_second();
+    let (start, listing) = span_of(call, &zone, now)?;
     let clock = Clock::of(rt.alloc(), &zone, start).map_err(Problem::Clock)?;
     let Ok(changes) = Changes::of(rt.alloc(), &clock, start) else {
         return Err(Problem::OutOfMemory);
@@ -131,7 +156,12 @@ fn check(rt: &HostRuntime, call: &Call<'_>, zone: TimeZone<'_>) -> Result<u8, Pr
         compares_jobs: call.compares_jobs,
     };
     let shared = Shared::of(zone, &settings);
-    check_in(rt, call, &settings, &shared).map_err(Problem::Unwritten)
+    let terms = Terms {
+        alloc: rt.alloc(),
+        settings: &settings,
+        shared: &shared,
+    };
+    tell(rt, call, terms).map_err(Problem::Unwritten)
 }
 
 // The files of the machine, and its standard input.
@@ -156,43 +186,23 @@ impl Sources for Machine<'_> {
     }
 }
 
-fn check_in(
-    rt: &HostRuntime,
-    call: &Call<'_>,
-    settings: &Settings<'_>,
-    shared: &Shared<'_>,
-) -> io::Result<u8> {
+// Tells of the files in the form that the call asks for.
+fn tell(rt: &HostRuntime, call: &Call<'_>, terms: Terms<'_, '_>) -> io::Result<u8> {
     let out = BufWriter::new(rt.alloc(), rt.stdout())?;
     let (names, machine) = (call.files.as_slice(), Machine { rt });
+    let mut notes = rt.stderr();
     match call.form {
-        Form::Report => check_files(
-            rt.alloc(),
-            settings,
-            shared,
-            &machine,
-            names,
-            out,
-            &mut rt.stderr(),
-        ),
-        Form::Plan => {
-            let planner = Planner::new(rt.alloc(), settings, shared, out);
-            tell_files(
-                rt.alloc(),
-                settings.is_strict,
-                &machine,
-                names,
-                planner,
-                &mut rt.stderr(),
-            )
+        Form::Report => {
+            let mut sink = Sink::new(terms, Reporter, out);
+            tell_files(&machine, names, &mut sink, &mut notes)
         }
-        Form::Json => check_files_as_json(
-            rt.alloc(),
-            settings,
-            shared,
-            &machine,
-            names,
-            out,
-            &mut rt.stderr(),
-        ),
+        Form::Plan => {
+            let mut sink = Sink::new(terms, Planner::new(rt.alloc()), out);
+            tell_files(&machine, names, &mut sink, &mut notes)
+        }
+        Form::Json => {
+            let mut sink = Sink::new(terms, JsonReporter, out);
+            tell_files(&machine, names, &mut sink, &mut notes)
+        }
     }
 }

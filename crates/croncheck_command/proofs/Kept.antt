@@ -15,7 +15,6 @@ use Rattle.crontab.specs.Line.{Line}
 use Rattle.croncheck_command.specs.declared.report.Same.{Same}
 use Rattle.croncheck_command.specs.declared.settings.Settings.{Settings}
 use Rattle.croncheck_command.specs.declared.same.Seen.{Seen}
-use Rattle.crontab.specs.Line.{Line}
 use Rattle.croncheck_command.specs.Report.{file_and_line}
 use Rattle.croncheck_command.specs.Same.{HasTimesCompared, owner_of, JobKey, key_cmp, are_same, IsCompared, place_kept, KeepsPlaces, Finds, FindsAny}
 

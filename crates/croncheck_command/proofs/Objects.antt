@@ -16,11 +16,17 @@ use Rattle.croncheck_command.specs.declared.json.Remarks.{Remarks}
 use Rattle.croncheck_command.specs.declared.report.JobReport.{JobReport}
 use Rattle.croncheck_command.specs.declared.report.Report.{Report}
 use Rattle.croncheck_command.specs.declared.report.Report.TheVariants as reports
+use Rattle.croncheck_command.specs.declared.settings.Settings.{Settings}
 use Rattle.croncheck_command.specs.declared.told.Told.{Told}
 use Rattle.croncheck_command.specs.declared.told.Told.TheVariants as tolds
-use Rattle.croncheck_command.specs.Json.{kind_of, Remark, Origin, Sentences, string_or_null, remark_object, remark_objects, run_object, times_object, job_object, job_data, refusal_data, notes_of_line, warnings_of_line, object_of, WritesObject}
-use Rattle.croncheck_command.specs.Shown.{bytes_shown, offset_of}
+use Rattle.crontab.specs.Checked.{LineRead}
+use Rattle.croncheck_command.specs.Json.{kind_of_line, kind_of, Remark, Origin, Sentences, string_or_null, remark_object, remark_objects, run_object, times_object, job_object, job_data, refusal_data, notes_of_line, warnings_of_line, object_of, WritesObject, Writes}
+use Rattle.croncheck_command.specs.Output.{Written}
 use Rattle.croncheck_command.specs.Private.Remarks.{remarks_seen, texts_of, AreRemarksOf, object_of_remark, objects_of_remarks, object_with}
+use Rattle.croncheck_command.specs.Tally.{is_too_many}
+use Rattle.croncheck_command.specs.Reported.{Reports}
+use Rattle.croncheck_command.specs.Shown.{bytes_shown, offset_of}
+use Rattle.croncheck_command.specs.Stand.{Stand}
 
 -- the objects of remarks are those of what is seen of them, with their sentences
 pub objects_seen : (all : List Held) → remark_objects (remarks_seen all) (texts_of all) ≡ objects_of_remarks all
@@ -117,6 +123,32 @@ object_written o report d text old new is text_is appends =
     record {
       sentences = is.0;
       appends = subst (λ t. Appends old new (t ++ 10 ∷ [])) (text_is whole ∙ ap compact_text is.1) appends;
+    }
+
+-- the object of the next line was written
+pub line_written : (s : Settings) (zone : TimeZone) (old : Stand) (before : Written) (y : LineRead) (new : Stand) (after : Written) (report : Report) (o : Origin)
+    → Reports s old y report new → o ≡ record {
+      zone = zone;
+      kind = kind_of_line y.is;
+      text = y.bytes;
+      file = new.file;
+      line = new.lines;
+      is_too_many = is_too_many s.dialect old.tally.file_lines;
+    } → WritesObject o report before.contents after.contents → Writes s zone old before y new after
+line_written s zone old before y new after report o told is written =
+    let Wrote : List ℕ → ℕ → Type 0 = λ file line. WritesObject (record {
+      zone = zone;
+      kind = kind_of_line y.is;
+      text = y.bytes;
+      file = file;
+      line = line;
+      is_too_many = is_too_many s.dialect old.tally.file_lines;
+    }) report before.contents after.contents in
+    let wrote : Wrote new.file new.lines = subst (λ (x : Origin). WritesObject x report before.contents after.contents) is written in
+    record {
+      report = report;
+      reported = told;
+      written = subst (λ (line : ℕ). Wrote old.file line) told.next (subst (λ (file : List ℕ). Wrote file new.lines) told.file wrote);
     }
 
 -- ---- what isn't written

@@ -27,7 +27,8 @@ use Rattle.croncheck_command.specs.declared.plan.Plan.{Plan}
 use Rattle.croncheck_command.specs.declared.runs.End.{End}
 use Rattle.croncheck_command.specs.declared.runs.End.TheVariants as ends
 use Rattle.croncheck_command.specs.declared.runs.Listing.TheVariants as listings
-use Rattle.croncheck_command.specs.Plan.{plan_starts, moments, GavePlanUntil, IsPlanOver, IsPlanAtWindowEnd, IsPlanEnd, IsPlannedFrom, IsPlanned, EndsPlan, label_at, labels_at}
+use Rattle.croncheck_command.specs.Plan.{plan_starts, moments, GavePlanUntil, IsPlanOver, IsPlanAtWindowEnd, IsPlanEnd, IsPlannedFrom, IsPlanned, EndsPlan}
+use Rattle.croncheck_command.specs.Planner.{label_at, labels_at}
 use Rattle.croncheck_command.specs.Runs.{most_runs, IsInWindow, end_of_window, cut_end}
 use Rattle.croncheck_command.proofs.Listings.{starts_calm, searchable, begins_first, first_complete, taken_at, not_le}
 

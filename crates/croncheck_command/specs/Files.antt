@@ -1,11 +1,7 @@
--- The status of a call that checks files, one behind the other. Source: this crate's documentation of `check_files`.
-use Rattle.std.specs.Prelude.{◌≡◌, ◌⊎◌, ◌==◌, ℕ, Bool, List, [], ◌∷◌, ◌++◌, codes, Option, Some, if◌then◌else◌}
+-- The files of a call, and what is said at its end. Source: this crate's documentation of `tell_files`.
+use Rattle.std.specs.Prelude.{◌≡◌, ◌==◌, ℕ, List, [], ◌∷◌, ◌++◌, codes, Option, Some, if◌then◌else◌}
 use Rattle.std.specs.Fmt.{decimal}
-use Rattle.croncheck_command.specs.declared.settings.Settings.{Settings}
 use Rattle.croncheck_command.specs.declared.tally.Tally.{Tally}
-use Rattle.crontab.specs.Checked.{TakesInTurn}
-use Rattle.croncheck_command.specs.Tally.{none_counted, status_of}
-use Rattle.croncheck_command.specs.Reported.{IsChecked}
 
 -- each reader of the file of this name gives this text
 abbrev pub HasText : (List ℕ → Option (List ℕ) → Type 0) → List ℕ → List ℕ → Type 0
@@ -19,19 +15,6 @@ HaveTexts holds text_of = (name : List ℕ) → HasText holds name (text_of name
 abbrev pub asked : List (List ℕ) → List (List ℕ)
 asked [] = codes "-" ∷ []
 asked (name ∷ names) = name ∷ names
-
--- each line of each text, one text after the other, has a report that is added to the tally
-abbrev pub AreChecked : Settings → List (List ℕ) → Tally → Tally → Type 0
-AreChecked s texts old new = TakesInTurn (λ a text b. IsChecked s text a b) old texts new
-
--- a file failed, or all were read: then the status is that of what is told of their lines
-abbrev pub IsStatus : Settings → List (List ℕ) → ℕ → Type 0
-IsStatus s texts status = (status ≡ 3) ⊎ ((tally : Tally) × AreChecked s texts none_counted tally × (status ≡ status_of s.is_strict tally))
-
--- the same of what tells of lines in any form: it took each text, one after the other, and the status is that of what it counted
-abbrev pub IsToldStatus : {T : Type 0} → (T → List ℕ → T → Type 0) → (T → Tally) → Bool → T → List (List ℕ) → ℕ → Type 0
-IsToldStatus {T} takes tally_of is_strict first texts status =
-    (status ≡ 3) ⊎ ((last : T) × TakesInTurn takes first texts last × (status ≡ status_of is_strict (tally_of last)))
 
 -- the noun of so many jobs
 abbrev pub noun_of : ℕ → List ℕ

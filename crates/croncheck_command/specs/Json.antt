@@ -22,7 +22,6 @@ use Rattle.croncheck_command.specs.declared.report.JobReport.{JobReport}
 use Rattle.croncheck_command.specs.declared.report.Report.{Report}
 use Rattle.croncheck_command.specs.declared.report.Report.TheVariants as reports
 use Rattle.croncheck_command.specs.declared.settings.Settings.{Settings}
-use Rattle.croncheck_command.specs.declared.tally.Tally.{Tally}
 use Rattle.croncheck_command.specs.declared.told.Told.{Told}
 use Rattle.croncheck_command.specs.declared.told.Told.TheVariants as tolds
 use Rattle.croncheck_command.specs.declared.report.Why.{Why}
@@ -33,13 +32,12 @@ use Rattle.croncheck_command.specs.declared.warnings.OtherWarning.{OtherWarning}
 use Rattle.croncheck_command.specs.declared.warnings.OtherWarning.TheVariants as others
 use Rattle.croncheck_command.specs.declared.warnings.Warning.{Warning}
 use Rattle.croncheck_command.specs.Changes.{is_harmful, name_of}
-use Rattle.crontab.specs.Checked.{LineRead, IsEntryOf, entry_of_line, TakesInTurn}
-use Rattle.crontab.specs.Line.{Line, blank, comment, setting, job, pattern, refused}
-use Rattle.crontab.specs.Lines.{AreLines}
-use Rattle.crontab.specs.Notes.{note_name, notes_of}
-use Rattle.croncheck_command.specs.Report.{IsReportOfLine, IsAlone}
-use Rattle.croncheck_command.specs.Tally.{is_too_many, added, one_more}
+use Rattle.crontab.specs.Checked.{LineRead}
+use Rattle.croncheck_command.specs.Output.{Written}
+use Rattle.croncheck_command.specs.Tally.{is_too_many, one_more}
+use Rattle.croncheck_command.specs.Reported.{Reports}
 use Rattle.croncheck_command.specs.Shown.{bytes_shown, offset_of}
+use Rattle.croncheck_command.specs.Stand.{Stand}
 use Rattle.croncheck_command.specs.Warnings.{warning_name, other_name, field_name, field_of}
 
 -- ---- kinds
@@ -269,45 +267,24 @@ object_of o report s = object
 
 -- ---- what is written
 
--- what was written so far, where it is known; what was told; the zone whose clock is shown; and the file's name, as it is shown, with how
--- many of its lines were read
-pub record Noted : Type 0 where
-  pub contents : Option (List ℕ)
-  pub tally : Tally
-  pub zone : TimeZone
-  pub file : List ℕ
-  pub line : ℕ
-
 -- the object of a report was written, in some sentences, and a line feed
 pub record WritesObject (o : Origin) (report : Report) (old new : Option (List ℕ)) : Type 0 where
   pub sentences : Sentences
   pub appends : Appends old new (compact_text (object_of o report sentences) ++ 10 ∷ [])
 
--- the origin of the next line
-abbrev pub next_origin : Settings → Noted → LineRead → Origin
-next_origin s old y = record {
-  zone = old.zone;
+-- the origin of the next line, where this zone's clock is shown
+abbrev pub next_origin : Settings → TimeZone → Stand → LineRead → Origin
+next_origin s zone old y = record {
+  zone = zone;
   kind = kind_of_line y.is;
   text = y.bytes;
   file = old.file;
-  line = one_more old.line;
+  line = one_more old.lines;
   is_too_many = is_too_many s.dialect old.tally.file_lines;
 }
 
--- what a line leaves: the object of its report was written, which is added to the tally with its warnings
-pub record Writes (s : Settings) (old : Noted) (y : LineRead) (new : Noted) : Type 0 where
-  pub entry : Entry
+-- what a line leaves: the object of its report was written
+pub record Writes (s : Settings) (zone : TimeZone) (old : Stand) (before : Written) (y : LineRead) (new : Stand) (after : Written) : Type 0 where
   pub report : Report
-  pub seen : IsEntryOf y entry
-  pub reported : IsReportOfLine y.is_fed s y.bytes entry report
-  pub alone : IsAlone s report
-  pub same : new.file ≡ old.file
-  pub same_zone : new.zone ≡ old.zone
-  pub next : new.line ≡ one_more old.line
-  pub tallied : new.tally ≡ added s.dialect old.tally report
-  pub written : WritesObject (next_origin s old y) report old.contents new.contents
-
--- each line of a text has exactly one object, and they were written in order
-abbrev pub IsWritten : Settings → List ℕ → Noted → Noted → Type 0
-IsWritten s text old new =
-    (lines : List (List ℕ)) × AreLines text lines × TakesInTurn (Writes s) old (map (entry_of_line s.dialect) lines) new
+  pub reported : Reports s old y report new
+  pub written : WritesObject (next_origin s zone old y) report before.contents after.contents

@@ -4,7 +4,9 @@ pub mod FileSeen
 pub mod Files
 pub mod Json
 pub mod Moment
+pub mod Output
 pub mod Plan
+pub mod Planner
 pub mod Private
 pub mod Problem
 pub mod Report
@@ -13,6 +15,8 @@ pub mod Runs
 pub mod Same
 pub mod Settings
 pub mod Shown
+pub mod Sink
+pub mod Stand
 pub mod Tally
 pub mod Told
 pub mod Warnings

@@ -1,5 +1,5 @@
--- Plans: one list of the runs of all jobs of all files, in order of time. Source: this crate's documentation of `Plan` and `Planner`.
-use Rattle.std.specs.Prelude.{◌≡◌, ◌⊎◌, ℕ, ℤ, ◌≤ℤ◌, ◌≤◌, Bool, true, false, List, [], ◌∷◌, ◌++◌, length, map, slice_get, Option, Some, None, Result, Ok, Err, IsUtf8, string_bytes}
+-- Plans: one list of the runs of all jobs of all files, in order of time. Source: this crate's documentation of `Plan`.
+use Rattle.std.specs.Prelude.{◌≡◌, ◌⊎◌, ℕ, ℤ, ◌≤ℤ◌, ◌≤◌, Bool, true, false, List, length, Option, Some, None, Result, Ok, Err, IsUtf8}
 use Rattle.std.specs.List.{All, Contains}
 use Rattle.std.specs.declared.alloc.Global.{Global}
 use Rattle.std.specs.declared.vec.Vec.{Vec}
@@ -11,32 +11,18 @@ use Rattle.croner_base.specs.Calm.{IsStart}
 use Rattle.croner_base.specs.TableZone.{table_moment}
 use Rattle.croner_base.specs.Zone.{reading}
 use Rattle.croner_pattern.specs.Meaning.{Meaning}
-use Rattle.croner.specs.declared.crontable.CronTable.{CronTable}
-use Rattle.croner.specs.crontable.Tables.{patterns_of}
 use Rattle.croner.specs.crontable.TableItems.{item_instants, table_items, BeginsTableRest, GaveAllTable}
 use Rattle.croner.specs.crontable.TableListing.{TableStanding, new_table_standing, IsTableLeft}
 use Rattle.croner.specs.parser.Grammar.{Refusal, outcome}
 use Rattle.croner.specs.parser.Settings.{Settings as ParserSettings}
-use Rattle.crontab.specs.declared.line.Entry.{Entry}
-use Rattle.crontab.specs.Checked.{LineRead, IsEntryOf, entry_of_line, TakesInTurn}
-use Rattle.crontab.specs.Line.{Timing, reboot, never, named, Line, job, pattern}
-use Rattle.crontab.specs.Lines.{AreLines}
-use Rattle.crontab.specs.Parsed.{crontab_settings}
 use Rattle.croncheck_command.specs.declared.plan.Plan.{Plan}
-use Rattle.croncheck_command.specs.declared.plan.Planned.{Planned}
-use Rattle.croncheck_command.specs.declared.report.Report.{Report}
 use Rattle.croncheck_command.specs.declared.settings.Settings.{Settings}
-use Rattle.croncheck_command.specs.declared.tally.Tally.{Tally}
 use Rattle.croncheck_command.specs.declared.runs.End.{End}
 use Rattle.croncheck_command.specs.declared.runs.End.TheVariants as ends
 use Rattle.croncheck_command.specs.declared.runs.Listing.{Listing}
 use Rattle.croncheck_command.specs.declared.runs.Listing.TheVariants as listings
-use Rattle.crontab.specs.Checked.{LineRead, IsEntryOf, entry_of_line, TakesInTurn}
 use Rattle.crontab.specs.Line.{Timing, reboot, never, named, Line, job, pattern}
-use Rattle.crontab.specs.Lines.{AreLines}
 use Rattle.crontab.specs.Parsed.{crontab_settings}
-use Rattle.croncheck_command.specs.Report.{IsReport}
-use Rattle.croncheck_command.specs.Tally.{counted, one_more}
 use Rattle.croncheck_command.specs.Runs.{most_runs, IsInWindow}
 
 -- ---- the moments
@@ -127,72 +113,3 @@ abbrev pub HasMeaning : Settings → Line → Option Meaning → Type 0
 HasMeaning s (job task) found = HasTiming task.times found
 HasMeaning s (pattern text) found = HasPatternMeaning s.parser text found
 HasMeaning s other found = found ≡ None
-
--- what a planner knows: the pattern of each job in order, its file and line, what was told so far, and the file and line that it is at
-pub record Seen : Type 0 where
-  pub patterns : List Meaning
-  pub places : List (ℕ × ℕ)
-  pub tally : Tally
-  pub file : ℕ
-  pub line : ℕ
-
-abbrev pub seen : CronTable → Vec Planned Global → Tally → ℕ → ℕ → Seen
-seen table jobs tally file line = record {
-  patterns = patterns_of table;
-  places = map (λ j. (j.file, j.line)) jobs.items;
-  tally = tally;
-  file = file;
-  line = line;
-}
-
--- at the start of the next file
-abbrev pub at_file : Seen → Seen
-at_file s = record s { file = one_more s.file; line = 0 }
-
--- with one more line, which has a job
-abbrev pub with_job : Tally → Tally
-with_job t = record t { lines = one_more t.lines; jobs = one_more t.jobs }
-
--- at the next line of a file
-abbrev pub at_line : Seen → Seen
-at_line s = record s { line = one_more s.line }
-
--- one more job, with the place of the line
-abbrev pub with_meaning : Meaning → Seen → Seen
-with_meaning m s = record s { patterns = s.patterns ++ m ∷ []; places = s.places ++ (s.file, s.line) ∷ []; tally = with_job s.tally }
-
-abbrev pub Adds : Meaning → Seen → Seen → Type 0
-Adds m old new = new ≡ with_meaning m old
-
--- a line without a place in the plan is told as in a report; warnings are not counted
-abbrev pub Passes : Settings → List ℕ → Entry → Seen → Seen → Type 0
-Passes s text entry old new = (report : Report) × IsReport s text entry report × (new ≡ record old { tally = counted old.tally report })
-
--- what a line with that meaning leaves
-abbrev pub PlansMeaning : Settings → LineRead → Option Meaning → Seen → Seen → Type 0
-PlansMeaning s y (Some m) old new = Adds m old new
-PlansMeaning s y None old new = (entry : Entry) × IsEntryOf y entry × Passes s y.bytes entry old new
-
--- the job of a line that has one is added, with the place of the line
-abbrev pub Plans : Settings → Seen → LineRead → Seen → Type 0
-Plans s old y new = (found : Option Meaning) × HasMeaning s y.is found × PlansMeaning s y found (at_line old) new
-
--- the jobs of the lines of a file are added behind those of the files before, each once and in order
-abbrev pub IsPlannedFile : Settings → List ℕ → Seen → Seen → Type 0
-IsPlannedFile s text old new =
-    (lines : List (List ℕ)) × AreLines text lines × TakesInTurn (Plans s) (at_file old) (map (entry_of_line s.dialect) lines) new
-
--- ---- the text
-
--- what is shown of each job
-abbrev pub labels : List Planned → List (List ℕ)
-labels jobs = map (λ j. string_bytes j.label) jobs
-
-abbrev pub label_at : Option (List ℕ) → List ℕ
-label_at None = []
-label_at (Some label) = label
-
--- what is shown of the jobs at some places, in this order
-abbrev pub labels_at : List (List ℕ) → List ℕ → List ℕ
-labels_at all [] = []
-labels_at all (k ∷ ks) = label_at (slice_get all k) ++ labels_at all ks

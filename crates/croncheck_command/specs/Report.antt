@@ -23,8 +23,6 @@ use Rattle.crontab.specs.Field.{smaller}
 use Rattle.crontab.specs.Line.{Timing, reboot, never, named, Task}
 use Rattle.crontab.specs.Parsed.{crontab_settings}
 use Rattle.croncheck_command.specs.declared.changes.meetings.Meetings.{Meetings}
-use Rattle.crontab.specs.declared.line.Entry.TheVariants as entries
-use Rattle.crontab.specs.declared.line.Entry.{Entry}
 use Rattle.croncheck_command.specs.declared.report.JobReport.{JobReport}
 use Rattle.croncheck_command.specs.declared.report.Report.TheVariants as reports
 use Rattle.croncheck_command.specs.declared.report.Report.{Report}
@@ -37,9 +35,6 @@ use Rattle.croncheck_command.specs.declared.told.Told.{Told}
 use Rattle.croncheck_command.specs.declared.warnings.Warning.{Warning}
 use Rattle.croncheck_command.specs.declared.warnings.sides.Dates.{Dates}
 use Rattle.croncheck_command.specs.Changes.{AreMeetings, none_met, are_warned}
-use Rattle.crontab.specs.Entries.{job_seen}
-use Rattle.crontab.specs.Line.{Timing, reboot, never, named, Task}
-use Rattle.crontab.specs.Parsed.{crontab_settings}
 use Rattle.croncheck_command.specs.Settings.{start_of}
 use Rattle.croncheck_command.specs.Told.{TellsMeaning, TellsTiming, is_at_window_end, is_never, is_told_past, is_idle}
 use Rattle.croncheck_command.specs.Warnings.{fields_of_schedule, AreFieldsOfPattern, is_either_day, IsMonthOf, NamesDates, Subject, warnings_of}

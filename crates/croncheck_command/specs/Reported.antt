@@ -1,23 +1,52 @@
--- What is told of a whole file.
-use Rattle.std.specs.Prelude.{◌≡◌, ℕ, List, map}
+-- What a line leaves that is told as a report, and the text of that report. Source: this crate's documentation of `Progress` and `Reporter`.
+use Rattle.std.specs.Prelude.{◌≡◌, ℕ, true, false, List, [], Option, None, option_map}
 use Rattle.crontab.specs.declared.line.Entry.{Entry}
-use Rattle.crontab.specs.Checked.{LineRead, IsEntryOf, entry_of_line, TakesInTurn}
-use Rattle.crontab.specs.Lines.{AreLines}
 use Rattle.croncheck_command.specs.declared.report.Report.{Report}
+use Rattle.croncheck_command.specs.declared.report.Same.{Same}
 use Rattle.croncheck_command.specs.declared.settings.Settings.{Settings}
-use Rattle.croncheck_command.specs.declared.tally.Tally.{Tally}
-use Rattle.crontab.specs.Checked.{LineRead, IsEntryOf, entry_of_line, TakesInTurn}
-use Rattle.crontab.specs.Lines.{AreLines}
-use Rattle.croncheck_command.specs.Report.{IsReportOfLine, IsAlone}
-use Rattle.croncheck_command.specs.Tally.{added, begun}
+use Rattle.croncheck_command.specs.declared.same.Seen.{Seen}
+use Rattle.crontab.specs.Checked.{LineRead, IsEntryOf}
+use Rattle.crontab.specs.Line.{Line}
+use Rattle.croncheck_command.specs.Output.{Written, WritesApart}
+use Rattle.croncheck_command.specs.Report.{IsReportOfLine, earlier_of, file_and_line, place_for}
+use Rattle.croncheck_command.specs.Tally.{added, one_more}
+use Rattle.croncheck_command.specs.Same.{JobKey, IsCompared, FindsAny}
+use Rattle.croncheck_command.specs.Shown.{is_told, AreLines}
+use Rattle.croncheck_command.specs.Stand.{Stand}
 
--- an entry has a report, which is added to the tally with its warnings
-abbrev pub Tallies : Settings → Tally → LineRead → Tally → Type 0
-Tallies s old y new =
-    (entry : Entry) × (report : Report) × IsEntryOf y entry × IsReportOfLine y.is_fed s y.bytes entry report × IsAlone s report
-    × (new ≡ added s.dialect old report)
+-- what was found of a line at a place: the first job that is the same, where the settings compare jobs, and else nothing
+pub record IsFound (s : Settings) (line : Line) (here : List ℕ × ℕ) (old new : Seen) (found : Option Same) : Type 0 where
+  pub alone : s.compares_jobs ≡ false → found ≡ None
+  pub compared : s.compares_jobs ≡ true → (key : Option JobKey) × IsCompared s line key × FindsAny key here old new found
 
--- each line of a file's text has exactly one entry, whose report is added to the tally, in order
-abbrev pub IsChecked : Settings → List ℕ → Tally → Tally → Type 0
-IsChecked s text old new =
-    (lines : List (List ℕ)) × AreLines text lines × TakesInTurn (Tallies s) (begun old) (map (entry_of_line s.dialect) lines) new
+-- the next line of a file has this report, which was added to the tally with its warnings
+pub record Reports (s : Settings) (old : Stand) (y : LineRead) (report : Report) (new : Stand) : Type 0 where
+  pub entry : Entry
+  pub found : Option Same
+  pub seen : IsEntryOf y entry
+  pub reported : IsReportOfLine y.is_fed s y.bytes entry report
+  pub sought : IsFound s y.is (old.file, one_more old.lines) old.seen new.seen found
+  pub passed : earlier_of report ≡ place_for report (option_map file_and_line found)
+  pub tallied : new.tally ≡ added s.dialect old.tally report
+  pub file : new.file ≡ old.file
+  pub files : new.files ≡ old.files
+  pub next : new.lines ≡ one_more old.lines
+
+-- ---- as a text
+
+-- the text of a report: nothing where there is nothing to tell, and else whole lines
+pub record IsTextOf (report : Report) (text : List ℕ) : Type 0 where
+  pub silent : is_told report ≡ false → text ≡ []
+  pub told : is_told report ≡ true → AreLines text
+
+-- the text of a report was written, set apart
+abbrev pub WritesReport : Report → Written → Written → Type 0
+WritesReport report old new = (text : List ℕ) × IsTextOf report text × WritesApart text old new
+
+-- some text was written, set apart, or none
+abbrev pub WritesSome : Written → Written → Type 0
+WritesSome old new = (text : List ℕ) × WritesApart text old new
+
+-- what a line leaves: the text of its report was written
+abbrev pub Tells : Settings → Stand → Written → LineRead → Stand → Written → Type 0
+Tells s old before y new after = (report : Report) × Reports s old y report new × WritesReport report before after

@@ -20,6 +20,9 @@ use Rattle.crontab.specs.declared.field.Place.{Place}
 use Rattle.crontab.specs.declared.field.Part.{Part}
 use Rattle.croncheck_command.specs.declared.warnings.OtherWarning.{OtherWarning}
 use Rattle.croncheck_command.specs.declared.warnings.OtherWarning.TheVariants as others
+use Rattle.crontab.specs.Bytes.{is_digit, front, begins_with}
+use Rattle.crontab.specs.Line.{Five, words_of, minute_place, hour_place, day_place, month_place, weekday_place}
+use Rattle.crontab.specs.List.{parts_of}
 use Rattle.croncheck_command.specs.declared.warnings.Subject.{Subject as GivenSubject}
 use Rattle.croncheck_command.specs.declared.warnings.Warning.{Warning}
 use Rattle.croncheck_command.specs.declared.warnings.Warning.TheVariants as warnings

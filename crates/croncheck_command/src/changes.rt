@@ -20,6 +20,7 @@ use croner::component::ALL_BIT;
 use croner::errors::CronError;
 use croner::time::table::TableTime;
 use croner::{Cron, JobType};
+use crontab::bytes::{Kind, begins_with, cut};
 use std::alloc::Global;
 
 const HOURS_PER_DAY: usize = 24;

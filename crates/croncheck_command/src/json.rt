@@ -1,26 +1,19 @@
-//! Reports as JSON: one object a line of input.
-ghost use Rattle.std.specs.Prelude.{◌≡◌, ◌++◌, ℕ, List, map, length, option_map, is_some, false, true, not, IfOk, IfSome, OnOk, string_bytes};
+//! The object of a line, as JSON.
+ghost use Rattle.std.specs.Prelude.{◌≡◌, ◌++◌, map, option_map, is_some, false, true, not, IfOk, OnOk};
 ghost use Rattle.serde_json.specs.Data.{array};
 ghost use Rattle.serde_json.specs.View.{view, items_of};
 ghost use Rattle.jiff.specs.ZoneView.{plain_zone};
 ghost use Rattle.crontab.specs.Entries.{entry_seen};
-ghost use Rattle.croncheck_command.specs.Json.{kind_of_line, kind_of, fault_kind, refusal_kind, end_name, remark_of_warning, remark_of_other, remark_of_note, remark_of_change, remark_without_field, only_if, counts_as, remarks_of_range, remarks_of_changes, warnings_of_job, warnings_of_setting, warnings_of_report, warnings_of_line, notes_of_job, notes_of_refusal, notes_of_line, Sentences, string_or_null, remark_object, run_object, times_object, job_object, job_data, refusal_object, refusal_data, Origin, object_of, WritesObject, IsWritten};
+ghost use Rattle.croncheck_command.specs.Json.{kind_of_line, kind_of, fault_kind, refusal_kind, end_name, remark_of_warning, remark_of_other, remark_of_note, remark_of_change, remark_without_field, only_if, counts_as, remarks_of_range, remarks_of_changes, warnings_of_job, warnings_of_setting, warnings_of_report, warnings_of_line, notes_of_job, notes_of_refusal, notes_of_line, Sentences, string_or_null, remark_object, run_object, times_object, job_object, job_data, refusal_object, refusal_data, object_of};
 ghost use Rattle.croncheck_command.specs.Private.Remarks.{remark_seen, remarks_seen, AreRemarksOf, object_of_remark, objects_of_remarks, object_with};
 ghost use Rattle.crontab.specs.Notes.{notes_of as notes_of_bytes};
-ghost use Rattle.croncheck_command.specs.Tally.{none_counted, begun};
-ghost use Rattle.croncheck_command.specs.Reported.{IsChecked};
 ghost use Rattle.croncheck_command.specs.Shown.{bytes_shown};
 ghost use Rattle.croncheck_command.specs.Warnings.{field_name};
 
 use crate::changes::meetings::{Compared, Meetings};
 use crate::escaped::shown;
-use crontab::line::{Entry, Fault};
-use crontab::notes;
-use crontab::notes::Note;
-use crate::report::{JobReport, Report, Why, report_of_line};
+use crate::report::{JobReport, Report, Why};
 use crate::runs::{End, Runs};
-use crate::same::Seen;
-use crate::settings::Settings;
 use crate::shown::{
     Place, SAME_JOB, Shared, ahead_of, at_fault, field_name, push_reason, push_same,
 };
@@ -31,190 +24,17 @@ use croner::parser::PatternField;
 use croner::time::table::TableTime;
 use crontab::check::{Entries, check};
 use crontab::line::{Entry, Fault};
-use crontab::notes;
 use crontab::notes::Note;
+use crontab::notes;
 use serde_json::{Value, json};
 use std::alloc::{AllocError, Global};
-use std::io;
-use std::io::{BufRead, ErrorKind, Write};
 
 /// The version of the form of these objects.
 pub const VERSION: u32 = 1;
 
-/// Writes an object for each line of files, one file behind the other.
-pub struct JsonReporter<'s, 't, W> {
-    alloc: Global,
-    settings: &'s Settings<'t>,
-    shared: &'s Shared<'t>,
-    out: W,
-    tally: Tally,
-    seen: Seen,
-    // The lines of the file that were read.
-    line: u64,
-    // Its name, as it is shown.
-    name: String,
-    is_refused: bool,
-}
-
-// By hand, so that a function that lets one go calls this one: its proof doesn't go through the fields at each exit.
-impl<W: Drop> Drop for JsonReporter<'_, '_, W> {
-    fn drop(self) {
-        let JsonReporter {
-            alloc: _,
-            settings: _,
-            shared: _,
-            out: _,
-            tally: _,
-            seen: _,
-            line: _,
-            name: _,
-            is_refused: _,
-        } = self;
-    }
-}
-
-impl<'s, 't, W: Write + Drop> JsonReporter<'s, 't, W> {
-    /// A reporter that writes to `out`, and told nothing yet.
-    pub fn new(
-        alloc: Global,
-        settings: &'s Settings<'t>,
-        shared: &'s Shared<'t>,
-        out: W,
-    ) -> JsonReporter<'s, 't, W>
-        ensures settings { result.settings.now ≡ settings.now }
-        ensures nothing { result.tally ≡ none_counted }
-        ensures out { result.out ≡ out }
-    {
-        JsonReporter {
-            alloc,
-            settings,
-            shared,
-            out,
-            tally: Tally::new(),
-            seen: Seen::new(alloc),
-            line: 0,
-            name: String::new(alloc),
-            is_refused: false,
-        }
-    }
-
-    /// What was told so far.
-    pub fn tally(&self) -> Tally
-        ensures { result ≡ self.now.tally }
-    {
-        self.tally
-    }
-
-    /// Whether what is written to refused a text: nothing more can be written then.
-    pub fn is_refused(&self) -> bool
-        ensures { result ≡ self.now.is_refused }
-    {
-        self.is_refused
-    }
-
-    /// Writes the object of each line of a file, each on a line of its own.
-    ///
-    /// The error is that of the reader or of what is written to, or says that memory is lacking.
-    pub fn report<R: BufRead>(&mut self, name: &str, reader: &mut R) -> io::Result<()>
-        ensures written { OnOk result (IfSome (R.remaining reader.old) (λ text. IsWritten self.old.settings.now text
-            (record { contents = W.contents self.old.out; tally = begun self.old.tally; zone = plain_zone self.old.shared.now.zone; file = bytes_shown name.now; line = 0 })
-            (record { contents = W.contents self.new.out; tally = self.new.tally; zone = plain_zone self.new.shared.now.zone; file = string_bytes self.new.name; line = self.new.line }))) }
-        ensures checked { OnOk result (IfSome (R.remaining reader.old) (λ text.
-            IsChecked self.old.settings.now text self.old.tally self.new.tally × (self.new.settings.now ≡ self.old.settings.now))) }
-    {
-        self.name = shown(self.alloc, name.as_bytes())?;
-        self.line = 0;
-        self.tally.begin();
-        check(self.alloc, self.settings.dialect, reader, self)
-    }
-
-    /// Passes on what was written.
-    pub fn flush(&mut self) -> io::Result<()>
-        ensures { self.new.tally ≡ self.old.tally }
-    {
-        let flushed = self.out.flush();
-        if flushed.is_err() {
-            self.is_refused = true;
-        }
-        flushed
-    }
-
-    // Writes the object of a line of this text, of this kind of entry, with its report; of a crontab it may be the first line too many.
-    #[tactic(auto, using(crate::proofs::Objects::object_written))]
-    fn tell(
-        &mut self,
-        kind: &str,
-        line: &[u8],
-        is_too_many: bool,
-        report: &Report<'_, '_>,
-    ) -> io::Result<()>
-        ensures written { OnOk result (WritesObject (record {
-          zone = plain_zone self.old.shared.now.zone;
-          kind = kind.now;
-          text = line.now;
-          file = string_bytes self.old.name;
-          line = self.old.line;
-          is_too_many = is_too_many;
-        }) report.now (W.contents self.old.out) (W.contents self.new.out)) }
-        ensures tally { self.new.tally ≡ self.old.tally }
-        ensures place { (self.new.name ≡ self.old.name) × (self.new.line ≡ self.old.line) }
-        ensures zone { self.new.shared.now ≡ self.old.shared.now }
-        ensures settings { self.new.settings.now ≡ self.old.settings.now }
-    {
-        let mut text = {
-            let object = object_of(
-                self.alloc,
-                self.shared,
-                kind,
-                Place {
-                    file: self.name.as_str(),
-                    line: self.line,
-                },
-                report,
-                line,
-                is_too_many,
-            )?;
-            object.to_string(self.alloc)?
-        };
-        text.push('\n')?;
-        let written = self.out.write_all(text.as_bytes());
-        if written.is_err() {
-            self.is_refused = true;
-        }
-        written
-    }
-}
-
-impl<'s, 't, W: Write + Drop> Entries for JsonReporter<'s, 't, W> {
-    ghost use Rattle.croncheck_command.specs.Json.{Writes};
-    ghost use Rattle.jiff.specs.ZoneView.{plain_zone};
-    ghost use Rattle.std.specs.Prelude.{◌≡◌, string_bytes};
-
-    ghost takes = { λ old y new. Writes old.settings.now
-        (record { contents = W.contents old.out; tally = old.tally; zone = plain_zone old.shared.now.zone; file = string_bytes old.name; line = old.line }) y
-        (record { contents = W.contents new.out; tally = new.tally; zone = plain_zone new.shared.now.zone; file = string_bytes new.name; line = new.line }) × (new.settings.now ≡ old.settings.now) };
-
-    #[tactic(auto, using(crate::proofs::Reports::alone))]
-    fn take(&mut self, line: &[u8], entry: Entry<'_>, is_fed: bool) -> io::Result<()> {
-        self.line = self.line.saturating_add(1);
-        let kind = kind_of_entry(&entry);
-        let place = Place {
-            file: self.name.as_str(),
-            line: self.line,
-        };
-        let same = self.seen.earlier(self.alloc, self.settings, &entry, place)?;
-        let Ok(report) = report_of_line(self.alloc, self.settings, line, entry, is_fed, same) else {
-            return Err(io::Error::from(ErrorKind::OutOfMemory));
-        };
-        let is_too_many = is_too_many(self.settings.dialect, self.tally.file_lines);
-        self.tally.add(self.settings.dialect, &report);
-        self.tell(kind, line, is_too_many, &report)
-    }
-}
-
 // ---- kinds
 
-fn kind_of_entry(entry: &Entry<'_>) -> &'static str
+pub(crate) fn kind_of_entry(entry: &Entry<'_>) -> &'static str
     ensures { result.now ≡ kind_of_line (entry_seen entry.now) }
 {
     match entry {
@@ -268,7 +88,7 @@ fn kind_of_why(why: &Why) -> &'static str
 // ---- objects
 
 // The object of a line.
-fn object_of(
+pub(crate) fn object_of(
     alloc: Global,
     shared: &Shared<'_>,
     kind: &str,

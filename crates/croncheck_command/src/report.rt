@@ -9,10 +9,7 @@ ghost use Rattle.croncheck_command.specs.Report.{IsRefusalOf, IsUnreadTiming, Is
 ghost use Rattle.croncheck_command.specs.Told.{TellsMeaning, TellsTiming};
 ghost use Rattle.croncheck_command.specs.Warnings.{fields_seen, subject_seen};
 
-use crontab::bytes::{Kind, cut};
 use crate::changes::meetings::Meetings;
-use crontab::line::{Entry, Fault, Job, Times};
-use crontab::parsed::job_of;
 use crate::settings::Settings;
 use crate::told::{Told, is_idle, told_of};
 use crate::warnings::{
@@ -23,6 +20,9 @@ use croner::Cron;
 use croner::errors::CronError;
 use croner::parser::PatternFault;
 use croner::time::CronDateTime;
+use crontab::bytes::{Kind, cut};
+use crontab::line::{Entry, Fault, Job, Times};
+use crontab::parsed::job_of;
 use std::alloc::Global;
 
 /// What a line is told.

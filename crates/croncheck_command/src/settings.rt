@@ -4,9 +4,9 @@ ghost use Rattle.croncheck_command.specs.Settings.{stop_of, window_end};
 
 use crate::changes::Changes;
 use crate::clock::stop::Stop;
-use crontab::line::Dialect;
 use crate::runs::Listing;
 use croner::parser::CronParser;
+use crontab::line::Dialect;
 
 /// A language of descriptions.
 #[derive(Clone, Copy, Drop)]

@@ -2,9 +2,9 @@
 ghost use Rattle.std.specs.Prelude.{◌≡◌};
 ghost use Rattle.croncheck_command.specs.Tally.{one_more, none_counted, counted, begun, is_too_many, is_line_warned, one_more_if, added, status_of};
 
-use crontab::line::Dialect;
 use crate::report::Report;
 use crate::warnings::is_first_too_many;
+use crontab::line::Dialect;
 
 /// What was told of the lines so far.
 #[derive(Clone, Copy, Default, Drop)]

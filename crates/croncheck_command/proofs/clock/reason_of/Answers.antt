@@ -1,5 +1,4 @@
-use Rattle.std.proofs.Common.{◌≡◌, ◌∙◌, ap, pos, ◌-ℤ◌, true, w64, FitsSigned, ℤ, rules}
-use Rattle.std.proofs.lemmas.Int.{to_z-of_z}
+use Rattle.std.proofs.Common.{◌≡◌, pos, ◌-ℤ◌, true, rules}
 use Rattle.jiff.specs.ZoneView.{plain_zone}
 use Rattle.croner_base.specs.Table.{is_offset}
 use Rattle.croner_base.specs.ZoneTable.{ahead_at}

@@ -1,4 +1,4 @@
-use Rattle.std.proofs.Common.{◌≡◌, ℤ, Option, Some, w64, FitsSigned, sym, subst, rules}
+use Rattle.std.proofs.Common.{ℤ, Option, Some, w64, FitsSigned, sym, subst, rules}
 use Rattle.std.proofs.lemmas.Int.{to_z-of_z}
 use Rattle.croner.specs.Views.{job_of}
 use Rattle.croncheck_command.specs.declared.runs.Listing.TheVariants as listings

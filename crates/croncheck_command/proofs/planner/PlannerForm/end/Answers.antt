@@ -1,0 +1,25 @@
+use Rattle.std.proofs.Common.{ℕ, List, Vec, Global, subst}
+use Rattle.croner_base.specs.declared.time.table.TableTime.{TableTime}
+use Rattle.croncheck_command.specs.declared.planner.Planned.{Planned}
+use Rattle.crontab.specs.Checked.{TakesInTurn}
+use Rattle.croncheck_command.specs.Output.{written_of}
+use Rattle.croncheck_command.specs.Planner.{labels, WritesMoment}
+use Rattle.croncheck_command.proofs.ToldFiles.{if_ok}
+use Rattle.croncheck_command.proofs.planner.PlannerForm.end.Goals as goal
+
+pub returns : goal.returns
+returns g c =
+    let before = written_of g.W.Write.contents c.args.output.now in
+    let between = written_of g.W.Write.contents c.write_moments.new.output in
+    let Wrote : List Planned → List (TableTime × Vec ℕ Global) → Type 0 =
+    λ jobs items. TakesInTurn (WritesMoment (labels jobs)) before items between in
+    if_ok c.write_apart.result
+    (λ writes. record {
+      plan = c.in-Ok.plan;
+      between = between;
+      planned = c.in-Ok.ensures.planned;
+      moments = subst (Wrote c.args.self.now.jobs.items) c.as_slice-2.ensures.value
+          (subst (λ (jobs : List Planned). Wrote jobs c.as_slice-2.result.now) c.as_slice.ensures.value c.in_ok-write_moments.ensures);
+      end = (c.as_str.result.now, writes);
+    })
+    c.write_apart.ensures.written

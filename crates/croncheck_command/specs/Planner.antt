@@ -1,0 +1,95 @@
+-- What a planner takes of files, and what it writes. Source: this crate's documentation of `Planner`.
+use Rattle.std.specs.Prelude.{◌≡◌, ℕ, List, [], ◌∷◌, ◌++◌, map, slice_get, Option, Some, None, string_bytes}
+use Rattle.std.specs.declared.alloc.Global.{Global}
+use Rattle.std.specs.declared.vec.Vec.{Vec}
+use Rattle.croner_base.specs.declared.time.table.TableTime.{TableTime}
+use Rattle.croner_pattern.specs.Meaning.{Meaning}
+use Rattle.croner.specs.declared.crontable.CronTable.{CronTable}
+use Rattle.croner.specs.crontable.Tables.{patterns_of}
+use Rattle.crontab.specs.declared.line.Entry.{Entry}
+use Rattle.croncheck_command.specs.declared.plan.Plan.{Plan}
+use Rattle.croncheck_command.specs.declared.planner.Planned.{Planned}
+use Rattle.croncheck_command.specs.declared.report.Report.{Report}
+use Rattle.croncheck_command.specs.declared.settings.Settings.{Settings}
+use Rattle.croncheck_command.specs.declared.tally.Tally.{Tally}
+use Rattle.crontab.specs.Checked.{LineRead, IsEntryOf, TakesInTurn}
+use Rattle.croncheck_command.specs.Output.{Written, WritesApart}
+use Rattle.croncheck_command.specs.Plan.{HasMeaning, IsPlanned}
+use Rattle.croncheck_command.specs.Report.{IsReport}
+use Rattle.croncheck_command.specs.Settings.{start_of, window_end}
+use Rattle.croncheck_command.specs.Tally.{counted, one_more}
+use Rattle.croncheck_command.specs.Reported.{WritesReport, WritesSome}
+use Rattle.croncheck_command.specs.Stand.{Stand, at_line}
+
+-- ---- the jobs
+
+-- what a planner knows: the pattern of each job in order, its file and line, what was read so far, and what was written
+pub record Seen : Type 0 where
+  pub patterns : List Meaning
+  pub places : List (ℕ × ℕ)
+  pub stand : Stand
+  pub written : Written
+
+abbrev pub seen : CronTable → Vec Planned Global → Stand → Written → Seen
+seen table jobs stand written = record {
+  patterns = patterns_of table;
+  places = map (λ j. (j.file, j.line)) jobs.items;
+  stand = stand;
+  written = written;
+}
+
+-- with one more line, which has a job
+abbrev pub with_job : Tally → Tally
+with_job t = record t { lines = one_more t.lines; jobs = one_more t.jobs }
+
+-- one more job, with the place of the line, and nothing was written
+pub record Adds (m : Meaning) (old new : Seen) : Type 0 where
+  pub patterns : new.patterns ≡ old.patterns ++ m ∷ []
+  pub places : new.places ≡ old.places ++ (old.stand.files, old.stand.lines) ∷ []
+  pub stand : new.stand ≡ record old.stand { tally = with_job old.stand.tally }
+  pub written : new.written ≡ old.written
+
+-- a line without a place in the plan is told as in a report; warnings are not counted
+pub record Passes (s : Settings) (text : List ℕ) (entry : Entry) (old new : Seen) : Type 0 where
+  pub report : Report
+  pub reported : IsReport s text entry report
+  pub patterns : new.patterns ≡ old.patterns
+  pub places : new.places ≡ old.places
+  pub stand : new.stand ≡ record old.stand { tally = counted old.stand.tally report }
+  pub written : WritesReport report old.written new.written
+
+-- what a line with that meaning leaves
+abbrev pub PlansMeaning : Settings → LineRead → Option Meaning → Seen → Seen → Type 0
+PlansMeaning s y (Some m) old new = Adds m old new
+PlansMeaning s y None old new = (entry : Entry) × IsEntryOf y entry × Passes s y.bytes entry old new
+
+-- the job of a line that has one is added, with the place of the line
+abbrev pub Plans : Settings → Seen → LineRead → Seen → Type 0
+Plans s old y new = (found : Option Meaning) × HasMeaning s y.is found × PlansMeaning s y found (record old { stand = at_line old.stand }) new
+
+-- ---- the text
+
+-- what is shown of each job
+abbrev pub labels : List Planned → List (List ℕ)
+labels jobs = map (λ j. string_bytes j.label) jobs
+
+abbrev pub label_at : Option (List ℕ) → List ℕ
+label_at None = []
+label_at (Some label) = label
+
+-- what is shown of the jobs at some places, in this order
+abbrev pub labels_at : List (List ℕ) → List ℕ → List ℕ
+labels_at all [] = []
+labels_at all (k ∷ ks) = label_at (slice_get all k) ++ labels_at all ks
+
+-- a moment was written, set apart: a line that shows it, and what is shown of the jobs that run then
+abbrev pub WritesMoment : List (List ℕ) → Written → TableTime × Vec ℕ Global → Written → Type 0
+WritesMoment all old item new = (clock : List ℕ) × WritesApart (clock ++ 10 ∷ labels_at all item.1.items) old new
+
+-- the plan of the jobs of these patterns was written, of which this is shown: each moment, in order, and what stands behind them
+pub record WritesPlan (s : Settings) (patterns : List Meaning) (all : List (List ℕ)) (old new : Written) : Type 0 where
+  pub plan : Plan
+  pub between : Written
+  pub planned : IsPlanned patterns (start_of s) (window_end s) s.listing plan
+  pub moments : TakesInTurn (WritesMoment all) old plan.items.items between
+  pub end : WritesSome between new

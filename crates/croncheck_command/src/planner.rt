@@ -1,0 +1,282 @@
+//! The form of a plan: the jobs of all files, and behind them one list of their runs.
+ghost use Rattle.std.specs.Prelude.{◌≡◌, ◌<◌, ◌++◌, [], IfOk, IfErr, OnOk, length, string_bytes};
+ghost use Rattle.croner.specs.crontable.Tables.{patterns_of};
+ghost use Rattle.croner.specs.Views.{job_of as meaning_of_job};
+ghost use Rattle.crontab.specs.Checked.{TakesInTurn};
+ghost use Rattle.croncheck_command.specs.Output.{Written, written_of};
+ghost use Rattle.croncheck_command.specs.Plan.{IsPlanned};
+ghost use Rattle.croncheck_command.specs.Planner.{seen, with_job, Adds, Passes, labels, labels_at, WritesMoment};
+ghost use Rattle.croncheck_command.specs.Settings.{start_of, window_end};
+ghost use Rattle.croncheck_command.specs.Stand.{stand_of};
+
+use crate::form::Form;
+use crate::output::Output;
+use crate::plan::{Plan, job_of_entry, plan_of};
+use crate::progress::{Line, Progress, Terms, one_more};
+use crate::report::report_of;
+use crate::reporter::{write_ending, write_report};
+use crate::runs::{End, Listing, MOST_RUNS};
+use crate::shown::{COMMAND_BYTES, Place, Shared, push_clock, push_front, push_window_end};
+use crate::tally::Tally;
+use croner::Cron;
+use croner::crontable::CronTable;
+use croner::errors::CronError;
+use croner::time::table::TableTime;
+use crontab::line::Entry;
+use std::alloc::{AllocError, Global};
+use std::io;
+use std::io::{ErrorKind, Write};
+
+/// A job of a plan.
+#[derive(Drop)]
+pub struct Planned {
+    /// The number of its file, from 1.
+    pub file: u64,
+    /// The number of its line in that file, from 1.
+    pub line: u64,
+    // Its place, and its command or pattern, as they are shown.
+    label: String,
+}
+
+/// Takes the jobs of files, and writes the plan of all of them. What has no time and what is refused is told as in a
+/// report.
+#[derive(Drop)]
+pub struct Planner {
+    table: CronTable,
+    jobs: Vec<Planned>,
+}
+
+impl Planner {
+    /// It knows no job yet.
+    pub fn new(alloc: Global) -> Planner
+        ensures { (patterns_of result.table ≡ []) × (result.jobs.items ≡ []) }
+    {
+        Planner {
+            table: CronTable::new(alloc),
+            jobs: Vec::new(alloc),
+        }
+    }
+
+    /// The plan of all jobs that were read. The only error is `OutOfMemory`.
+    pub fn plan<'t>(&self, terms: &Terms<'_, 't>) -> Result<Plan<'t>, CronError>
+        ensures planned { IfOk result (IsPlanned (patterns_of self.now.table) (start_of terms.now.settings.now) (window_end terms.now.settings.now)
+            terms.now.settings.now.listing) }
+        ensures err { IfErr result (λ e. e ≡ CronError.OutOfMemory) }
+    {
+        plan_of(
+            terms.alloc,
+            &self.table,
+            terms.settings.changes.start,
+            terms.settings.last(),
+            terms.settings.listing,
+        )
+    }
+
+    // Takes the job of the line that was read last.
+    fn add(
+        &mut self,
+        alloc: Global,
+        progress: &mut Progress,
+        job: Cron,
+        entry: &Entry<'_>,
+    ) -> io::Result<()>
+        ensures { (written : Written) → OnOk result (Adds (meaning_of_job job) (seen self.old.table self.old.jobs (stand_of progress.old) written)
+            (seen self.new.table self.new.jobs (stand_of progress.new) written)) }
+    {
+        let label = label_of(alloc, progress.place(), entry)?;
+        self.jobs.reserve(1)?;
+        if self.table.push(job).is_err() {
+            return Err(io::Error::from(ErrorKind::OutOfMemory));
+        }
+        self.jobs.push_reserved(Planned {
+            file: progress.files,
+            line: progress.lines,
+            label,
+        });
+        progress.tally = with_job(progress.tally);
+        Ok(())
+    }
+
+    // Tells the line that was read last, which has no place in the plan.
+    fn pass<W: Write>(
+        &self,
+        terms: &Terms<'_, '_>,
+        progress: &mut Progress,
+        line: &[u8],
+        entry: Entry<'_>,
+        output: &mut Output<W>,
+    ) -> io::Result<()>
+        ensures { OnOk result (Passes terms.now.settings.now line.now entry.entry
+            (seen self.now.table self.now.jobs (stand_of progress.old) (written_of W.contents output.old))
+            (seen self.now.table self.now.jobs (stand_of progress.new) (written_of W.contents output.new))) }
+    {
+        let Ok(report) = report_of(terms.alloc, terms.settings, line, entry) else {
+            return Err(io::Error::from(ErrorKind::OutOfMemory));
+        };
+        progress.tally.count(&report);
+        progress.file.add_report(&report);
+        write_report(terms, progress.place(), line, &report, output)
+    }
+}
+
+impl Form for Planner {
+    ghost use Rattle.croncheck_command.specs.Planner.{Plans, seen, labels, WritesPlan};
+    ghost use Rattle.croncheck_command.specs.Reported.{WritesSome};
+    ghost use Rattle.croner.specs.crontable.Tables.{patterns_of};
+
+    ghost takes = { λ terms old y new. Plans terms.settings.now (seen old.form.table old.form.jobs old.stand old.written) y
+        (seen new.form.table new.form.jobs new.stand new.written) };
+
+    ghost ends_file = { λ terms planner old new. WritesSome old new };
+
+    ghost ends = { λ terms planner old new. WritesPlan terms.settings.now (patterns_of planner.table) (labels planner.jobs.items) old new };
+
+    fn take<W: Write>(
+        &mut self,
+        terms: &Terms<'_, '_>,
+        progress: &mut Progress,
+        line: Line<'_>,
+        output: &mut Output<W>,
+    ) -> io::Result<()> {
+        let Line {
+            text,
+            entry,
+            is_fed,
+        } = line;
+        progress.next_line(&entry, is_fed);
+        match job_of_entry(terms.alloc, terms.settings, &entry)? {
+            Some(job) => self.add(terms.alloc, progress, job, &entry),
+            None => self.pass(terms, progress, text, entry, output),
+        }
+    }
+
+    fn end_file<W: Write>(
+        &self,
+        terms: &Terms<'_, '_>,
+        progress: &Progress,
+        output: &mut Output<W>,
+    ) -> io::Result<()> {
+        write_ending(terms, progress, output)
+    }
+
+    fn end<W: Write>(&self, terms: &Terms<'_, '_>, output: &mut Output<W>) -> io::Result<()> {
+        let Ok(plan) = self.plan(terms) else {
+            return Err(io::Error::from(ErrorKind::OutOfMemory));
+        };
+        write_moments(terms, self.jobs.as_slice(), plan.items.as_slice(), output)?;
+        let text = end_text(terms.alloc, terms.shared, &plan)?;
+        output.write_apart(text.as_str())
+    }
+}
+
+// With one more line, which has a job.
+fn with_job(tally: Tally) -> Tally
+    ensures { result ≡ with_job tally }
+{
+    Tally {
+        lines: one_more(tally.lines),
+        jobs: one_more(tally.jobs),
+        refused: tally.refused,
+        warned: tally.warned,
+        file_lines: tally.file_lines,
+    }
+}
+
+// Its place, and its command or pattern, as they are shown.
+fn label_of(alloc: Global, place: Place<'_>, entry: &Entry<'_>) -> Result<String, AllocError> {
+    let (file, line) = (place.file, place.line);
+    let mut label = format!(in alloc; "  {file}:{line}  ")?;
+    match entry {
+        Entry::Job(job) => push_front(&mut label, job.command, COMMAND_BYTES)?,
+        Entry::Pattern(text) => push_front(&mut label, text, COMMAND_BYTES)?,
+        Entry::Blank | Entry::Comment | Entry::Setting { .. } | Entry::Refused { .. } => {}
+    }
+    label.push('\n')?;
+    Ok(label)
+}
+
+// Writes moments and the jobs that run then, in order.
+fn write_moments<W: Write>(
+    terms: &Terms<'_, '_>,
+    jobs: &[Planned],
+    moments: &[(TableTime<'_>, Vec<usize>)],
+    output: &mut Output<W>,
+) -> io::Result<()>
+    ensures { OnOk result (TakesInTurn (WritesMoment (labels jobs.now)) (written_of W.contents output.old) moments.now (written_of W.contents output.new)) }
+{
+    for k in 0..moments.len() {
+        write_moment(terms, jobs, &moments[k], output)?;
+    }
+    Ok(())
+}
+
+// Writes a moment and the jobs that run then.
+fn write_moment<W: Write>(
+    terms: &Terms<'_, '_>,
+    jobs: &[Planned],
+    moment: &(TableTime<'_>, Vec<usize>),
+    output: &mut Output<W>,
+) -> io::Result<()>
+    ensures { OnOk result (WritesMoment (labels jobs.now) (written_of W.contents output.old) moment.now (written_of W.contents output.new)) }
+{
+    let mut text = String::new(terms.alloc);
+    push_clock(&mut text, terms.shared, &moment.0)?;
+    text.push('\n')?;
+    push_labels(&mut text, jobs, moment.1.as_slice())?;
+    output.write_apart(text.as_str())
+}
+
+// Puts what is shown of the jobs at some places behind a text, in this order.
+fn push_labels(text: &mut String, jobs: &[Planned], places: &[usize]) -> Result<(), AllocError>
+    ensures { OnOk result (string_bytes text.new ≡ string_bytes text.old ++ labels_at (labels jobs.now) places.now) }
+{
+    let mut rest = places;
+    while !rest.is_empty() {
+        rest = push_first(text, jobs, rest)?;
+    }
+    Ok(())
+}
+
+// Puts what is shown of the job at the first place behind a text. The places behind it are left.
+fn push_first<'p>(
+    text: &mut String,
+    jobs: &[Planned],
+    places: &'p [usize],
+) -> Result<&'p [usize], AllocError>
+    requires { 0 < length places.now }
+    ensures shown { IfOk result (λ rest. string_bytes text.new ++ labels_at (labels jobs.now) rest.now
+        ≡ string_bytes text.old ++ labels_at (labels jobs.now) places.now) }
+    ensures shorter { IfOk result (λ rest. length rest.now < length places.now) }
+{
+    let (first, rest) = places.split_at(1);
+    if let Some(job) = jobs.get(first[0]) {
+        text.push_str(job.label.as_str())?;
+    }
+    Ok(rest)
+}
+
+// What stands behind the moments of a plan.
+fn end_text(alloc: Global, shared: &Shared<'_>, plan: &Plan<'_>) -> Result<String, AllocError> {
+    let mut text = String::new(alloc);
+    let is_empty = plan.items.is_empty();
+    match &plan.end {
+        End::Over if is_empty => text.push_str("no job runs: no run is left before year 5000\n")?,
+        End::Over => text.push_str("no more: no run is left before year 5000\n")?,
+        End::Cut => write!(
+            &mut text,
+            "and more: a list ends after {MOST_RUNS} moments\n"
+        )?,
+        End::Window => {
+            push_window_end(&mut text, shared)?;
+            text.push('\n')?
+        }
+        End::Failed(refusal) => {
+            write!(&mut text, "and more, which were not found: {refusal}\n")?
+        }
+        End::More => match shared.listing {
+            Listing::Until(_) if is_empty => text.push_str("no run up to then\n")?,
+            _ => {}
+        },
+    }
+    Ok(text)
+}

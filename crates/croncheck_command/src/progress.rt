@@ -1,0 +1,142 @@
+//! How far the reading of files has come, and what is asked of each of their lines.
+ghost use Rattle.std.specs.Prelude.{◌≡◌, IfOk, string_bytes};
+ghost use Rattle.croncheck_command.specs.Tally.{one_more};
+ghost use Rattle.croncheck_command.specs.Reported.{Reports};
+ghost use Rattle.croncheck_command.specs.Sink.{StandsAtBegin};
+ghost use Rattle.croncheck_command.specs.Stand.{stand_of, begin_of_file, at_line, line_taken};
+
+use crate::file_seen::FileSeen;
+use crate::report::{Report, report_of_line};
+use crate::same::Seen;
+use crate::settings::Settings;
+use crate::shown::{Place, Shared};
+use crate::tally::Tally;
+use crontab::line::Entry;
+use std::alloc::Global;
+use std::io;
+use std::io::ErrorKind;
+
+/// What is asked of each line, and what all answers share.
+#[derive(Clone, Copy)]
+pub struct Terms<'s, 't> {
+    pub alloc: Global,
+    pub settings: &'s Settings<'t>,
+    pub shared: &'s Shared<'t>,
+}
+
+/// A line of a file.
+pub struct Line<'l> {
+    /// Its bytes, without its line feed.
+    pub text: &'l [u8],
+    pub entry: Entry<'l>,
+    /// It has a line feed.
+    pub is_fed: bool,
+}
+
+/// How far the reading of files has come.
+pub struct Progress {
+    pub tally: Tally,
+    pub seen: Seen,
+    pub file: FileSeen,
+    /// The number of the file that is read, from 1.
+    pub files: u64,
+    /// How many of its lines were read.
+    pub lines: u64,
+}
+
+// By hand, so that a function that lets one go calls this one: its proof doesn't go through the fields at each exit.
+impl Drop for Progress {
+    fn drop(self) {
+        let Progress {
+            tally: _,
+            seen: _,
+            file: _,
+            files: _,
+            lines: _,
+        } = self;
+    }
+}
+
+impl Progress {
+    /// No file was read yet.
+    pub fn new(alloc: Global) -> Progress
+        ensures { StandsAtBegin (stand_of result) }
+    {
+        Progress {
+            tally: Tally::new(),
+            seen: Seen::new(alloc),
+            file: FileSeen::new(String::new(alloc)),
+            files: 0,
+            lines: 0,
+        }
+    }
+
+    /// Begins the next file, by its name as it is shown.
+    pub fn begin(&mut self, name: String)
+        ensures { stand_of self.new ≡ begin_of_file (string_bytes name) (stand_of self.old) }
+    {
+        self.tally.begin();
+        self.file = FileSeen::new(name);
+        self.files = one_more(self.files);
+        self.lines = 0;
+    }
+
+    /// Comes to the next line of the file.
+    pub fn next_line(&mut self, entry: &Entry<'_>, is_fed: bool)
+        ensures { stand_of self.new ≡ at_line (stand_of self.old) }
+    {
+        self.file.add_line(entry, is_fed);
+        self.lines = one_more(self.lines);
+    }
+
+    /// The place of the line that was read last.
+    pub fn place(&self) -> Place<'_>
+        ensures file { result.file.now ≡ string_bytes self.now.file.name }
+        ensures line { result.line ≡ self.now.lines }
+    {
+        Place {
+            file: self.file.name(),
+            line: self.lines,
+        }
+    }
+
+    /// The report of the next line of the file, which is counted with its warnings. A job is told where the first one
+    /// stands that is the same, if the settings compare jobs.
+    ///
+    /// The error says that memory is lacking.
+    pub fn report<'l, 't>(
+        &mut self,
+        terms: &Terms<'_, 't>,
+        line: Line<'l>,
+    ) -> io::Result<Report<'l, 't>>
+        ensures { IfOk result (λ report. Reports terms.now.settings.now (stand_of self.old) (line_taken line.entry) report (stand_of self.new)) }
+    {
+        let Line {
+            text,
+            entry,
+            is_fed,
+        } = line;
+        self.next_line(&entry, is_fed);
+        let place = Place {
+            file: self.file.name(),
+            line: self.lines,
+        };
+        let same = self
+            .seen
+            .earlier(terms.alloc, terms.settings, &entry, place)?;
+        let Ok(report) = report_of_line(terms.alloc, terms.settings, text, entry, is_fed, same)
+        else {
+            return Err(io::Error::from(ErrorKind::OutOfMemory));
+        };
+        self.tally.add(terms.settings.dialect, &report);
+        self.file.add_report(&report);
+        Ok(report)
+    }
+}
+
+/// One more. No count passes 2^64 - 1.
+pub(crate) fn one_more(count: u64) -> u64
+    ensures { result ≡ one_more count }
+{
+    count.saturating_add(1)
+}

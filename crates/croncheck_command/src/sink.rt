@@ -1,0 +1,108 @@
+//! What takes the lines of files and tells of them in a form.
+ghost use Rattle.std.specs.Prelude.{◌≡◌, false, OnOk, IfSome};
+ghost use Rattle.croncheck_command.specs.Output.{IsFlushed};
+ghost use Rattle.croncheck_command.specs.Shown.{bytes_shown};
+ghost use Rattle.croncheck_command.specs.Sink.{State, StandsAtBegin, state_of, Ends, IsToldFile};
+ghost use Rattle.croncheck_command.specs.Stand.{stand_of};
+
+use crate::escaped::shown;
+use crate::form::Form;
+use crate::output::Output;
+use crate::progress::{Line, Progress, Terms};
+use crontab::check::{Entries, check};
+use crontab::line::Entry;
+use std::io;
+use std::io::{BufRead, Write};
+
+/// Takes the lines of files, one file behind the other, and tells of them in a form.
+pub struct Sink<'s, 't, F, W> {
+    pub(crate) terms: Terms<'s, 't>,
+    pub(crate) progress: Progress,
+    form: F,
+    output: Output<W>,
+}
+
+// By hand, so that a function that lets one go calls this one: its proof doesn't go through the fields at each exit.
+impl<F: Drop, W: Drop> Drop for Sink<'_, '_, F, W> {
+    fn drop(self) {
+        let Sink {
+            terms: _,
+            progress: _,
+            form: _,
+            output: _,
+        } = self;
+    }
+}
+
+impl<'s, 't, F: Form, W: Write> Sink<'s, 't, F, W> {
+    /// One that writes to `out`, and has taken no line yet.
+    pub fn new(terms: Terms<'s, 't>, form: F, out: W) -> Sink<'s, 't, F, W>
+        ensures terms { result.terms ≡ terms.entry }
+        ensures begin { StandsAtBegin (stand_of result.progress) }
+        ensures form { result.form ≡ form }
+        ensures out { result.output.out ≡ out }
+        ensures begun { result.output.is_begun ≡ false }
+        ensures refused { result.output.is_refused ≡ false }
+    {
+        Sink {
+            terms,
+            progress: Progress::new(terms.alloc),
+            form,
+            output: Output::new(out),
+        }
+    }
+
+    /// Whether a call of the writer gave an error: nothing more can be written then.
+    pub fn is_refused(&self) -> bool
+        ensures { result ≡ self.now.output.is_refused }
+    {
+        self.output.is_refused()
+    }
+
+    /// Takes the lines of a file behind those of the files before, and writes what stands at its end.
+    ///
+    /// The error is that of the reader or of the writer, or says that memory is lacking.
+    pub fn read<R: BufRead>(&mut self, name: &str, reader: &mut R) -> io::Result<()>
+        ensures { OnOk result (IfSome (R.remaining reader.old) (λ text.
+            IsToldFile (F.takes self.old.terms) (F.ends_file self.old.terms) self.old.terms.settings.now.dialect (bytes_shown name.now) text
+            (state_of W.contents self.old.form self.old.progress self.old.output) (state_of W.contents self.new.form self.new.progress self.new.output)
+            × (self.new.terms ≡ self.old.terms))) }
+    {
+        let terms = self.terms;
+        let name = shown(terms.alloc, name.as_bytes())?;
+        self.progress.begin(name);
+        check(terms.alloc, terms.settings.dialect, reader, self)?;
+        self.form.end_file(&terms, &self.progress, &mut self.output)
+    }
+
+    /// Writes what stands behind all files, and passes on what was written.
+    ///
+    /// The error is that of the writer, or says that memory is lacking.
+    pub fn end(&mut self) -> io::Result<()>
+        ensures { OnOk result ((ended : State F)
+            × Ends (F.ends self.old.terms) (state_of W.contents self.old.form self.old.progress self.old.output) ended
+            × Ends (λ form. IsFlushed) ended (state_of W.contents self.new.form self.new.progress self.new.output)
+            × (self.new.terms ≡ self.old.terms)) }
+    {
+        self.form.end(&self.terms, &mut self.output)?;
+        self.output.flush()
+    }
+}
+
+impl<'s, 't, F: Form, W: Write> Entries for Sink<'s, 't, F, W> {
+    ghost use Rattle.std.specs.Prelude.{◌≡◌};
+    ghost use Rattle.croncheck_command.specs.Sink.{state_of};
+
+    ghost takes = { λ old y new. F.takes old.terms (state_of W.contents old.form old.progress old.output) y
+        (state_of W.contents new.form new.progress new.output) × (new.terms ≡ old.terms) };
+
+    fn take(&mut self, line: &[u8], entry: Entry<'_>, is_fed: bool) -> io::Result<()> {
+        let line = Line {
+            text: line,
+            entry,
+            is_fed,
+        };
+        self.form
+            .take(&self.terms, &mut self.progress, line, &mut self.output)
+    }
+}
