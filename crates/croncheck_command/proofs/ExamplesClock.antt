@@ -1,12 +1,15 @@
 -- Worked rows of the clock's window and of its stop.
-use Rattle.std.proofs.Common.{◌≡◌, pos, true, false, refl, arith}
+use Rattle.std.proofs.Common.{◌≡◌, pos, true, false, [], ◌∷◌, refl, sym, inl, arith}
 use Rattle.std.proofs.lemmas.Int.{ints}
 use Rattle.std.specs.Prelude.{Some, None}
 use Rattle.croncheck_command.specs.declared.clock.stop.Reason.TheVariants as reasons
+use Rattle.croner_base.specs.TableZone.{clock}
+use Rattle.croner_base.specs.Zone.{at_instant}
 use Rattle.croncheck_command.specs.declared.runs.End.TheVariants as ends
+use Rattle.croncheck_command.specs.declared.runs.Listing.TheVariants as listings
 use Rattle.croncheck_command.specs.Clock.{first_of, two_days_before, IsReasonBy}
 use Rattle.croncheck_command.specs.Told.{is_over, is_at_end_of_window}
-use Rattle.croncheck_command.specs.Runs.{end_before, end_in_window, end_of_window, cut_end}
+use Rattle.croncheck_command.specs.Runs.{Rest, IsEnd}
 
 -- Antarctica/Casey in March 2010, from 39,600 to 28,800 seconds ahead of UTC: three hours back
 casey : IsReasonBy (pos 39_600) (pos 39_600) (pos 28_800) (reasons.Back (pos 10_800))
@@ -27,24 +30,23 @@ no_earlier_than_the_window = refl
 a_window_from_before_the_change : first_of (pos 1_267_891_200) ≡ pos 1_267_632_000
 a_window_from_before_the_change = refl
 
--- none of the runs behind the last second is listed, and a listing that was over isn't in such a window
-runs_left_out : end_of_window (cut_end true ends.More) ≡ ends.Window
-runs_left_out = refl
+-- what is left is second 5 alone, behind second 0 of UTC
+five : Rest
+five = record { start = at_instant (clock (pos 0) []) (pos 0); left = λ i. i ≡ pos 5 }
 
-over_by_the_table : end_of_window (cut_end false ends.Over) ≡ ends.Window
-over_by_the_table = refl
+-- of none asked one is left in a window up to it, and none in one that ends before it
+none_asked_and_one_left : IsEnd five (Some (pos 5)) (listings.Count 0) [] ends.More
+none_asked_and_one_left = (refl, λ zero. (pos 5, refl, omega (arith, ints)))
 
-as_many_as_asked : end_of_window (cut_end false ends.More) ≡ ends.More
-as_many_as_asked = refl
+none_asked_and_none_left : IsEnd five (Some (pos 4)) (listings.Count 0) [] ends.Window
+none_asked_and_none_left = inl (λ i is le. absurd (omega (arith, ints, is, le)))
 
-none_asked_and_one_left : end_before (pos 5) (Some (pos 5)) ≡ ends.More
-none_asked_and_one_left = refl
+-- up to second 4 none is left out, and one is left behind it; up to second 5 that one is listed
+up_to_the_second_before : IsEnd five None (listings.Until (pos 4)) [] ends.More
+up_to_the_second_before = (λ i is le. absurd (omega (arith, ints, is, le)), (pos 5, refl, tt, omega (arith, ints)))
 
-none_asked_and_none_left : end_before (pos 6) (Some (pos 5)) ≡ ends.Window
-none_asked_and_none_left = refl
-
-no_window_end : end_in_window None ends.Over ≡ ends.Over
-no_window_end = refl
+up_to_the_second : IsEnd five None (listings.Until (pos 5)) (pos 5 ∷ []) ends.Over
+up_to_the_second = λ i is inside. (0, omega arith, sym is)
 
 -- it is no listing that is over
 not_over : is_over ends.Window ≡ false

@@ -1,4 +1,5 @@
--- Changes of a clock and a job's seconds at one of them, and remarks with their sentences. Private contracts alone cite these definitions.
+-- The ends of listings, changes of a clock and a job's seconds at one of them, and remarks with their sentences. Private contracts alone cite these definitions.
+pub mod Ends
 pub mod Level
 pub mod Met
 pub mod Remarks

@@ -1,9 +1,7 @@
 //! The runs of a job from a start.
-ghost use Rattle.std.specs.Prelude.{◌≡◌, ◌≤◌, ◌<◌, ◌↔◌, ◌&&◌, ℕ, ℤ, pos, neg_ℤ, List, [], None, Some, IsTrue, IfOk, IfErr, ◌≤ℤ◌, int_le, nat_lt, length, take, option_map};
-ghost use Rattle.std.specs.List.{All, Contains, prefix_len};
+ghost use Rattle.std.specs.Prelude.{◌≡◌, ℤ, List, Option, IfOk, IfErr, ◌≤ℤ◌, option_map};
+ghost use Rattle.std.specs.List.{All, Contains};
 ghost use Rattle.jiff_tz.specs.declared.timezone.TimeZone.{TimeZone};
-ghost use Rattle.croner_base.specs.Calm.{IsStart};
-ghost use Rattle.croner_base.specs.Zone.{reading};
 ghost use Rattle.croner_base.specs.TableZone.{table_zone, table_moment};
 ghost use Rattle.croner_base.specs.ZonedZone.{zoned_zone};
 ghost use Rattle.croner_pattern.specs.Meaning.{Meaning};
@@ -12,27 +10,19 @@ ghost use Rattle.croner.specs.iterator.Listing.{IsLeft, BeginsRest, GaveAll};
 ghost use Rattle.croner.specs.laws.Zones.{IsOnClockOf, in_zone};
 ghost use Rattle.croner.specs.search.Limit.{InSpan};
 ghost use Rattle.croner.specs.Views.{job_of};
-ghost use Rattle.croncheck_command.specs.Runs.{starts, most_runs, end_of_refusal, end_before, end_in_window, over_in_window, end_of_window, cut_end, EndsBy, IsEnd, IsListed, GaveUntil};
+ghost use Rattle.croncheck_command.specs.Private.Ends.{earlier, bound, limit, full_end, end_before, end_of_years, EndsBy, IsFailedBy};
+ghost use Rattle.croncheck_command.specs.Runs.{starts, IsListed, GaveUntil};
 
 use crate::clock::Clock;
 use croner::Cron;
 use croner::errors::CronError;
-use croner::laws::listing::next_runs;
+use croner::laws::listing::{ListingEnd, next_runs_until};
 use croner::laws::zones::listing_of_a_window;
 use croner::time::table::TableTime;
-use croner::time::{CivilDateTime, CronDateTime};
 use std::alloc::Global;
 
 /// The most runs that are listed up to a second.
 pub const MOST_RUNS: u32 = 100_000;
-
-/// How many are searched first, and then, to come to a second.
-const FEW_RUNS: u32 = 64;
-
-const MANY_RUNS: u32 = 2_048;
-
-/// The last year of a start from which no search fails, and less one that of the first.
-const LAST_START_YEAR: i32 = 9_997;
 
 /// Which runs are listed.
 #[derive(Clone, Copy, Drop)]
@@ -82,7 +72,8 @@ pub struct Runs<'t> {
 /// The runs of a job after a start, which doesn't count itself: so many, or all up to a second. Where the window of the start's clock ends
 /// with a second, none behind that is listed.
 ///
-/// The only error is `OutOfMemory`. A search that is refused is the end of the listing.
+/// It takes the room of as many runs as are asked, or of `MOST_RUNS` where all up to a second are. The only error is `OutOfMemory`. A search
+/// that is refused is the end of the listing.
 pub fn runs_of<'t>(
     alloc: Global,
     job: &Cron,
@@ -93,34 +84,75 @@ pub fn runs_of<'t>(
     ensures listed { IfOk result (IsListed (job_of job.now) start.entry last listing) }
     ensures err { IfErr result (λ e. e ≡ CronError.OutOfMemory) }
 {
+    let mut iterator = job.iter_after(start)?;
+    let until = bound_of(start.second(), last, listing);
+    let most = limit_of(listing);
+    let (items, ending) = next_runs_until(alloc, &mut iterator, until, most)?;
+    let end = end_of(listing, last, ending, iterator.fault())?;
+    Ok(Runs { items, end })
+}
+
+// The last second up to which is searched, where there is one. Of none asked it is the start: the next run ends the search, and is left.
+pub(crate) fn bound_of(start: i64, last: Option<i64>, listing: Listing) -> Option<i64>
+    ensures { result ≡ bound start last listing }
+{
     match listing {
-        Listing::Count(0) => Ok(no_runs(alloc, job, start, last)),
-        Listing::Count(count) => some_runs_in_window(alloc, job, start, last, count),
-        Listing::Until(until) => runs_until(alloc, job, start, last, until),
+        Listing::Count(0) => Some(start),
+        Listing::Count(_) => last,
+        Listing::Until(until) => Some(earlier(until, last)),
     }
 }
 
-// No run, and whether none is left.
-fn no_runs<'t>(alloc: Global, job: &Cron, start: TableTime<'t>, last: Option<i64>) -> Runs<'t>
-    ensures { IsListed (job_of job.now) start.entry last (Listing.Count 0) result }
+// The earlier of two seconds, of which the second one may be none.
+fn earlier(until: i64, last: Option<i64>) -> i64
+    ensures { result ≡ earlier until last }
 {
-    Runs {
-        items: Vec::new(alloc),
-        end: end_of_none(job, start, last),
+    match last {
+        Some(last) if last < until => last,
+        _ => until,
     }
 }
 
-// Whether no run is left.
-fn end_of_none(job: &Cron, start: TableTime<'_>, last: Option<i64>) -> End
-    ensures { IsEnd (starts (job_of job.now) start.entry) last (Listing.Count 0) [] result }
+// The most runs that are searched.
+pub(crate) fn limit_of(listing: Listing) -> u32
+    ensures { result ≡ limit listing }
 {
-    match job.find_next_occurrence(&start, false) {
-        Ok(found) => end_before(found.second(), last),
-        Err(refusal) => end_in_window(last, end_of_refusal(refusal)),
+    match listing {
+        Listing::Count(0) => 1,
+        Listing::Count(count) => count,
+        Listing::Until(_) => MOST_RUNS,
     }
 }
 
-// How a listing of none ends where this is the next run.
+// How a listing ends by how its search did, which left this fault. The only error is that memory was lacking there.
+pub(crate) fn end_of(
+    listing: Listing,
+    last: Option<i64>,
+    ending: ListingEnd,
+    fault: Option<&CronError>,
+) -> Result<End, CronError>
+    ensures ends { IfOk result (EndsBy listing last ending (option_map (λ e. e.now) fault.entry)) }
+    ensures err { IfErr result (λ e. e ≡ CronError.OutOfMemory) }
+{
+    match ending {
+        ListingEnd::Full => Ok(full_end(listing)),
+        ListingEnd::Past(run) => Ok(end_before(run, last)),
+        ListingEnd::Over => Ok(end_of_years(last)),
+        ListingEnd::Refused => failed_end(fault),
+    }
+}
+
+// How a listing ends that has as many runs as are searched at most.
+fn full_end(listing: Listing) -> End
+    ensures { result ≡ full_end listing }
+{
+    match listing {
+        Listing::Count(_) => End::More,
+        Listing::Until(_) => End::Cut,
+    }
+}
+
+// How a listing ends whose next run is this one.
 fn end_before(run: i64, last: Option<i64>) -> End
     ensures { result ≡ end_before run last }
 {
@@ -130,250 +162,27 @@ fn end_before(run: i64, last: Option<i64>) -> End
     }
 }
 
-// What the end of a search says where a window ends, or none does: more may come behind it.
-fn end_in_window(last: Option<i64>, end: End) -> End
-    ensures { result ≡ end_in_window last end }
+// How a listing ends with the years that are searched: more may come behind the end of a window.
+fn end_of_years(last: Option<i64>) -> End
+    ensures { result ≡ end_of_years last }
 {
     match last {
-        Some(_) => over_in_window(end),
-        None => end,
+        Some(_) => End::Window,
+        None => End::Over,
     }
 }
 
-fn over_in_window(end: End) -> End
-    ensures { result ≡ over_in_window end }
-{
-    match &end {
-        End::Over => End::Window,
-        End::More | End::Cut | End::Window | End::Failed(_) => end,
-    }
-}
-
-// What the refusal of a search says.
-fn end_of_refusal(refusal: CronError) -> End
-    ensures { result ≡ end_of_refusal refusal }
-{
-    match refusal {
-        CronError::TimeSearchLimitExceeded => End::Over,
-        other => End::Failed(other),
-    }
-}
-
-// So many runs, one at least, none behind the last second.
-fn some_runs_in_window<'t>(
-    alloc: Global,
-    job: &Cron,
-    start: TableTime<'t>,
-    last: Option<i64>,
-    count: u32,
-) -> Result<Runs<'t>, CronError>
-    requires { 0 < count }
-    ensures listed { IfOk result (IsListed (job_of job.now) start.entry last (Listing.Count count)) }
+// How a listing ends with a search that was refused, and left this fault.
+fn failed_end(fault: Option<&CronError>) -> Result<End, CronError>
+    ensures ends { IfOk result (IsFailedBy (option_map (λ e. e.now) fault.entry)) }
     ensures err { IfErr result (λ e. e ≡ CronError.OutOfMemory) }
 {
-    let runs = some_runs(alloc, job, start, count)?;
-    match last {
-        Some(last) => Ok(up_to_last(runs, last)),
-        None => Ok(runs),
-    }
-}
-
-// What comes of so many runs no later than the last second.
-fn up_to_last<'t>(runs: Runs<'t>, last: i64) -> Runs<'t>
-    ensures { (m : Meaning) (start : TableTime) (count : ℕ) → 0 < count → IsListed m start None (Listing.Count count) runs.entry
-        → IsListed m start (Some last) (Listing.Count count) result }
-{
-    let Runs { items, end } = cut_off(runs, last);
-    Runs {
-        items,
-        end: end_of_window(end),
-    }
-}
-
-// How a listing of so many ends in a window, by how one of as many up to the window's last second does.
-pub(crate) fn end_of_window(end: End) -> End
-    ensures { result ≡ end_of_window end }
-{
-    match &end {
-        End::More | End::Over => End::Window,
-        End::Cut => End::More,
-        End::Window | End::Failed(_) => end,
-    }
-}
-
-// So many runs, one at least.
-fn some_runs<'t>(
-    alloc: Global,
-    job: &Cron,
-    start: TableTime<'t>,
-    count: u32,
-) -> Result<Runs<'t>, CronError>
-    requires { 0 < count }
-    ensures listed { IfOk result (IsListed (job_of job.now) start.entry None (Listing.Count count)) }
-    ensures err { IfErr result (λ e. e ≡ CronError.OutOfMemory) }
-{
-    let mut iterator = job.iter_after(start)?;
-    let (items, is_over) = next_runs(alloc, &mut iterator, count)?;
-    let is_full = are_so_many(items.as_slice(), count);
-    let is_well = starts_well(start);
-    let end = end_of(is_full, iterator.fault(), is_over, is_well)?;
-    Ok(Runs { items, end })
-}
-
-fn are_so_many(items: &[TableTime<'_>], count: u32) -> bool
-    ensures { IsTrue result ↔ (length items.now ≡ count) }
-{
-    items.len() == count as usize
-}
-
-// Whether no search from a start fails.
-fn starts_well(start: TableTime<'_>) -> bool
-    ensures { IsTrue result ↔ IsStart (reading (table_moment start.entry)) }
-{
-    is_in_years(start.to_civil())
-}
-
-// Whether a date is of the years from which no search fails.
-fn is_in_years(shown: CivilDateTime) -> bool
-    ensures { result ≡ (int_le (neg_ℤ (pos 9_997)) shown.date.year && int_le shown.date.year (pos 9_997)) }
-{
-    let year = shown.year();
-    -LAST_START_YEAR <= year && year <= LAST_START_YEAR
-}
-
-// How a listing of so many runs ends, by whether it has as many, the fault and the mark of its last call, and whether no search fails
-// from its start.
-fn end_of(
-    is_full: bool,
-    fault: Option<&CronError>,
-    is_over: bool,
-    is_well: bool,
-) -> Result<End, CronError>
-    ensures ends { IfOk result (EndsBy is_full (option_map (λ e. e.now) fault.entry) is_over is_well) }
-    ensures err { IfErr result (λ e. e ≡ CronError.OutOfMemory) }
-{
-    if is_full {
-        return Ok(End::More);
-    }
     match fault {
+        None | Some(CronError::OutOfMemory) => Err(CronError::OutOfMemory),
         Some(fault) => {
             let fault = fault.clone()?;
             Ok(End::Failed(fault))
         }
-        None if is_over || is_well => Ok(End::Over),
-        None => Ok(End::Failed(CronError::InvalidTime)),
-    }
-}
-
-// All runs up to a second, or the most. Few are searched first.
-fn runs_until<'t>(
-    alloc: Global,
-    job: &Cron,
-    start: TableTime<'t>,
-    last: Option<i64>,
-    until: i64,
-) -> Result<Runs<'t>, CronError>
-    ensures listed { IfOk result (IsListed (job_of job.now) start.entry last (Listing.Until until)) }
-    ensures err { IfErr result (λ e. e ≡ CronError.OutOfMemory) }
-{
-    let runs = some_runs_until(alloc, job, start, last, FEW_RUNS, until)?;
-    if is_cut(&runs) {
-        return many_runs_until(alloc, job, start, last, until);
-    }
-    Ok(runs)
-}
-
-// The same where they are not few.
-fn many_runs_until<'t>(
-    alloc: Global,
-    job: &Cron,
-    start: TableTime<'t>,
-    last: Option<i64>,
-    until: i64,
-) -> Result<Runs<'t>, CronError>
-    ensures listed { IfOk result (IsListed (job_of job.now) start.entry last (Listing.Until until)) }
-    ensures err { IfErr result (λ e. e ≡ CronError.OutOfMemory) }
-{
-    let runs = some_runs_until(alloc, job, start, last, MANY_RUNS, until)?;
-    if is_cut(&runs) {
-        return all_runs_until(alloc, job, start, last, until);
-    }
-    Ok(runs)
-}
-
-// The same of as many as are listed at all.
-fn all_runs_until<'t>(
-    alloc: Global,
-    job: &Cron,
-    start: TableTime<'t>,
-    last: Option<i64>,
-    until: i64,
-) -> Result<Runs<'t>, CronError>
-    ensures listed { IfOk result (IsListed (job_of job.now) start.entry last (Listing.Until until)) }
-    ensures err { IfErr result (λ e. e ≡ CronError.OutOfMemory) }
-{
-    some_runs_until(alloc, job, start, last, MOST_RUNS, until)
-}
-
-// Those of so many runs, one at least, that come no later than a second.
-fn some_runs_until<'t>(
-    alloc: Global,
-    job: &Cron,
-    start: TableTime<'t>,
-    last: Option<i64>,
-    count: u32,
-    until: i64,
-) -> Result<Runs<'t>, CronError>
-    requires { 0 < count }
-    ensures listed { IfOk result (λ r. (r.end ≡ End.Cut → count ≡ most_runs) → IsListed (job_of job.now) start.entry last (Listing.Until until) r) }
-    ensures err { IfErr result (λ e. e ≡ CronError.OutOfMemory) }
-{
-    let runs = some_runs_in_window(alloc, job, start, last, count)?;
-    Ok(cut_off(runs, until))
-}
-
-fn is_cut(runs: &Runs<'_>) -> bool
-    ensures { IsTrue result ↔ (runs.now.end ≡ End.Cut) }
-{
-    match runs.end {
-        End::Cut => true,
-        End::More | End::Over | End::Window | End::Failed(_) => false,
-    }
-}
-
-// How many runs come no later than a second, of runs in order.
-fn count_until(items: &[TableTime<'_>], until: i64) -> usize
-    ensures count { result ≡ prefix_len (λ t. int_le t.second until) items.now }
-    ensures within { result ≤ length items.now }
-{
-    items.iter().take_while(|run| run.second() <= until).count()
-}
-
-// A listing without the runs behind a second.
-fn cut_off<'t>(runs: Runs<'t>, until: i64) -> Runs<'t>
-    ensures items { result.items.items ≡ take (prefix_len (λ t. int_le t.second until) runs.entry.items.items) runs.entry.items.items }
-    ensures end { result.end ≡ cut_end (nat_lt (prefix_len (λ t. int_le t.second until) runs.entry.items.items) (length runs.entry.items.items)) runs.entry.end }
-{
-    let Runs { mut items, end } = runs;
-    let count = count_until(items.as_slice(), until);
-    let is_less = count < items.len();
-    items.truncate(count);
-    Runs {
-        items,
-        end: cut_end(is_less, end),
-    }
-}
-
-// How a listing ends of which runs were left out, or none.
-pub(crate) fn cut_end(is_less: bool, end: End) -> End
-    ensures { result ≡ cut_end is_less end }
-{
-    if is_less {
-        return End::More;
-    }
-    match &end {
-        End::More => End::Cut,
-        End::Over | End::Cut | End::Window | End::Failed(_) => end,
     }
 }
 
@@ -391,7 +200,7 @@ pub fn runs_are_the_zones(clock: &Clock)
         All (λ i. i ≤ℤ last) items → BeginsRest (in_zone (zoned_zone zone) (starts m start)) items }
     ensures until { (zone : TimeZone) (first last : ℤ) (m : Meaning) (start : TableTime) →
         IsOnClockOf zone first last (table_zone clock.now.table) (table_moment start) → (items : List ℤ) (until : ℤ) → until ≤ℤ last →
-        GaveUntil (starts m start) until items → GaveUntil (in_zone (zoned_zone zone) (starts m start)) until items }
+        GaveUntil (IsLeft (starts m start)) until items → GaveUntil (IsLeft (in_zone (zoned_zone zone) (starts m start))) until items }
     ensures all { (zone : TimeZone) (first last : ℤ) (m : Meaning) (start : TableTime) →
         IsOnClockOf zone first last (table_zone clock.now.table) (table_moment start) → (items : List ℤ) (i : ℤ) → i ≤ℤ last →
         GaveAll (starts m start) items → IsLeft (in_zone (zoned_zone zone) (starts m start)) i →
