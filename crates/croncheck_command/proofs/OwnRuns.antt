@@ -1,5 +1,5 @@
 -- Listings on the clock of a zone's window, and in the zone.
-use Rattle.std.proofs.Common.{ℤ, ◌<ℤ◌, ◌≤ℤ◌, false, List, [], ◌++◌, get_or, inl, inr, sym, subst, arith}
+use Rattle.std.proofs.Common.{◌≡◌, ℤ, pos, ◌+ℤ◌, refl, ◌<ℤ◌, ◌≤ℤ◌, false, List, [], ◌++◌, get_or, inl, inr, sym, subst, arith}
 use Rattle.std.proofs.lemmas.Bool.{false≢true}
 use Rattle.std.proofs.lemmas.Int.{ints}
 use Rattle.std.proofs.lemmas.List.{append-nil}
@@ -7,10 +7,17 @@ use Rattle.std.specs.List.{All}
 use Rattle.jiff_tz.specs.declared.timezone.TimeZone.{TimeZone}
 use Rattle.croner_base.specs.declared.time.Direction.TheVariants.{Forward}
 use Rattle.croner_base.specs.declared.time.table.TableTime.{TableTime}
+use Rattle.croner_base.specs.Limits.{last_searched}
+use Rattle.croner_base.specs.Table.{offset_at}
+use Rattle.croner_base.specs.TableZone.{table_zone, clock}
+use Rattle.croner_base.proofs.tables.TableOffsets.{calm_offset}
 use Rattle.croner_pattern.specs.Meaning.{Meaning}
-use Rattle.croner.specs.iterator.Listing.{BeginsRest, job_at}
+use Rattle.croner.specs.iterator.Listing.{BeginsRest, IsLeft, job_at}
 use Rattle.croner.specs.laws.Zones.{IsWellIn}
 use Rattle.croner.specs.search.Runs.{Job, Counts}
+use Rattle.croner.proofs.iterator.ThereAndBack.{searched_run}
+use Rattle.croner.proofs.zone.Walks.{is_run}
+use Rattle.croncheck_command.specs.Clock.{last_second}
 use Rattle.croncheck_command.specs.Runs.{starts}
 
 -- a second behind one well in a window is well in it too, up to its last
@@ -33,3 +40,15 @@ items_well tz first last m start items well begins within =
 
 pub with_none : (m : Meaning) (start : TableTime) (items : List ℤ) → BeginsRest (starts m start) items → BeginsRest (starts m start) (items ++ [])
 with_none m start items begins = subst (λ (ys : List ℤ). BeginsRest (starts m start) ys) (sym (append-nil items)) begins
+
+-- each run on a clock shows a second of year 5000 at the latest, and the clock is a day behind UTC at most
+pub no_later : (m : Meaning) (start : TableTime) (i : ℤ) → IsLeft (starts m start) i → i ≤ℤ last_second
+unfolding clock
+no_later m start i left =
+    let table = start.table.now in
+    let ahead = offset_at table.first_offset table.changes.items i in
+    let searched = (searched_run m (table_zone table) i (is_run Forward false (job_at (starts m start)) start.second i left)).1 in
+    let by : (i +ℤ ahead) ≤ℤ last_searched = searched in
+    let limit : last_searched ≡ pos 95_649_119_999 = refl in
+    let behind = (calm_offset table.first_offset table.changes.items i table.calm).0 in
+    omega (arith, ints, by, limit, behind)

@@ -18,9 +18,9 @@ seconds_before = 259_200
 abbrev pub first_of : ℤ → ℤ
 first_of start = start -ℤ pos seconds_before
 
--- it ends at 5000-12-31T23:59:59 UTC
+-- it ends at 5001-01-01T23:59:59 UTC: a clock that is a day behind UTC at most shows no second of year 5000 behind it
 abbrev pub last_second : ℤ
-last_second = pos 95_649_119_999
+last_second = pos 95_649_206_399
 
 -- of a window from a first second to a last one that isn't calm: it is calm up to the second before this one, and not up to this one
 pub record IsStop (tz : TimeZone) (first last at : ℤ) : Type 0 where

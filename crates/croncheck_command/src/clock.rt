@@ -25,8 +25,8 @@ pub(crate) const SECONDS_BEFORE: i64 = 259_200;
 /// The first start whose window `jiff` holds.
 const FIRST_START: i64 = -377_704_764_001;
 
-/// The last second of the window: 5000-12-31T23:59:59 UTC.
-const LAST_SECOND: i64 = 95_649_119_999;
+/// The last second of the window: 5001-01-01T23:59:59 UTC. A clock that is a day behind UTC at most shows none of year 5000 behind it.
+const LAST_SECOND: i64 = 95_649_206_399;
 
 const NANOS_PER_SECOND: i128 = 1_000_000_000;
 
@@ -42,7 +42,8 @@ const SECONDS_BACK: i64 = 7_200;
 /// Two changes have to lie more than so many seconds apart.
 const SECONDS_APART: i64 = 172_800;
 
-/// The clock of a zone from three days before a start to the end of year 5000, in UTC; or to the second before its stop.
+/// The clock of a zone from three days before a start to the end of 5001-01-01 in UTC, behind which it has no run; or to the second before
+/// its stop.
 ///
 /// In this window it shows what the zone shows. The start lies well in it, so that a listing from there on is the zone's own.
 pub struct Clock {
@@ -62,7 +63,7 @@ impl Drop for Clock {
 pub enum NoClock {
     /// The window of the start ends before it, or at it.
     Change(Stop),
-    /// The start lies outside -377,704,764,001 to 95,649,119,999.
+    /// The start lies outside -377,704,764,001 to 95,649,206,399.
     Outside,
     /// Memory was asked for and not found.
     OutOfMemory,

@@ -11,6 +11,7 @@ ghost use Rattle.croner.specs.laws.Zones.{IsOnClockOf, in_zone};
 ghost use Rattle.croner.specs.search.Limit.{InSpan};
 ghost use Rattle.croner.specs.Views.{job_of};
 ghost use Rattle.croncheck_command.specs.Private.Ends.{earlier, bound, limit, full_end, end_before, end_of_years, EndsBy, IsFailedBy};
+ghost use Rattle.croncheck_command.specs.Clock.{last_second};
 ghost use Rattle.croncheck_command.specs.Runs.{starts, IsListed, GaveUntil};
 
 use crate::clock::Clock;
@@ -193,7 +194,8 @@ fn failed_end(fault: Option<&CronError>) -> Result<End, CronError>
 /// - items that begin the listing on the clock, none behind the window's last second, begin that of the zone;
 /// - where none is left out on the clock up to a second of the window, none of the zone's runs is;
 /// - where the items are all that is left on the clock in the years that are searched, each run of the zone is among them that
-///   lies in the window and in these years.
+///   lies in the window and in these years;
+/// - no run on a clock lies behind the last second of a window that has no stop.
 pub fn runs_are_the_zones(clock: &Clock)
     ensures begins { (zone : TimeZone) (first last : ℤ) (m : Meaning) (start : TableTime) →
         IsOnClockOf zone first last (table_zone clock.now.table) (table_moment start) → (items : List ℤ) → BeginsRest (starts m start) items →
@@ -205,6 +207,7 @@ pub fn runs_are_the_zones(clock: &Clock)
         IsOnClockOf zone first last (table_zone clock.now.table) (table_moment start) → (items : List ℤ) (i : ℤ) → i ≤ℤ last →
         GaveAll (starts m start) items → IsLeft (in_zone (zoned_zone zone) (starts m start)) i →
         InSpan Direction.Forward (zoned_zone zone).reads i → Contains items i }
+    ensures within { (m : Meaning) (start : TableTime) (i : ℤ) → IsLeft (starts m start) i → i ≤ℤ last_second }
 {
     listing_of_a_window(clock.table());
 }

@@ -5,7 +5,7 @@ use Rattle.croner_base.specs.ZonedZone.{zoned_zone}
 use Rattle.croner.specs.iterator.Listing.{job_at}
 use Rattle.croner.specs.laws.Zones.{IsOnClockOf, in_zone}
 use Rattle.croncheck_command.specs.Runs.{starts}
-use Rattle.croncheck_command.proofs.OwnRuns.{well_after, well_after_le, counts_after, items_well, with_none}
+use Rattle.croncheck_command.proofs.OwnRuns.{well_after, well_after_le, counts_after, items_well, with_none, no_later}
 use Rattle.croncheck_command.proofs.runs.runs_are_the_zones.Goals as goal
 
 pub returns-clause-begins : goal.returns-clause-begins
@@ -25,3 +25,6 @@ returns-clause-all c = λ zone first last m start on items i within gave left in
     let on' = subst (λ (t : ClockTable). IsOnClockOf zone first last (table_zone t) (table_moment start)) (sym c.table.ensures) on in
     let well = well_after zone first last start.second i on.well_in (counts_after (job_at (in_zone (zoned_zone zone) (starts m start))) start.second i left) within in
     c.listing_of_a_window.ensures.all zone first last (starts m start) on' items i gave well left inside
+
+pub returns-clause-within : goal.returns-clause-within
+returns-clause-within c = λ m start i left. no_later m start i left
