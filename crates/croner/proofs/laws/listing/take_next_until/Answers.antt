@@ -10,20 +10,28 @@ returns-then-not-comes_by-clause-takes c =
     let run = c.in-Some.run' in
     let fits : FitsSigned w64 c.second-second.result = search rules in
     let at : run.second ≡ to_z w64 (of_z w64 c.second-second.result) = sym (to_z-of_z w64 c.second-second.result fits ∙ c.second-second.ensures.value) in
-    let isnt : c.comes_by.result ≡ false = search rules in
-    (run, c.in-Some.ensures.steps, at, λ by. false≢true (sym isnt ∙ c.comes_by.ensures.1
-    (subst (λ (d : Direction). ComesBy d c.args.until (to_z w64 (of_z w64 c.second-second.result))) (sym c.direction-direction.ensures)
-    (subst (λ (i : ℤ). ComesBy c.args.iterator.now.direction c.args.until i) at by))), refl)
+    let isnt : c.comes_by.result ≡ false = search rules in (
+      run,
+      c.in-Some.ensures.steps,
+      at,
+      λ by. false≢true (sym isnt ∙ c.comes_by.ensures.1
+          (subst (λ (d : Direction). ComesBy d c.args.until (to_z w64 (of_z w64 c.second-second.result))) (sym c.direction-direction.ensures)
+          (subst (λ (i : ℤ). ComesBy c.args.iterator.now.direction c.args.until i) at by))),
+      refl,
+    )
 
 pub returns-else-not-comes_by-clause-takes : goal.returns-else-not-comes_by-clause-takes
 returns-else-not-comes_by-clause-takes c =
     let run = c.in-Some.run' in
     let fits : FitsSigned w64 c.second-second.result = search rules in
     let at : run.second ≡ to_z w64 (of_z w64 c.second-second.result) = sym (to_z-of_z w64 c.second-second.result fits ∙ c.second-second.ensures.value) in
-    let is : c.comes_by.result ≡ true = search rules in
-    (run, c.in-Some.ensures.steps, subst (λ (i : ℤ). ComesBy c.args.iterator.now.direction c.args.until i) (sym at)
-    (subst (λ (d : Direction). ComesBy d c.args.until (to_z w64 (of_z w64 c.second-second.result))) c.direction-direction.ensures (c.comes_by.ensures.0 is)),
-    c.push_reserved.ensures.items)
+    let is : c.comes_by.result ≡ true = search rules in (
+      run,
+      c.in-Some.ensures.steps,
+      subst (λ (i : ℤ). ComesBy c.args.iterator.now.direction c.args.until i) (sym at)
+          (subst (λ (d : Direction). ComesBy d c.args.until (to_z w64 (of_z w64 c.second-second.result))) c.direction-direction.ensures (c.comes_by.ensures.0 is)),
+      c.push_reserved.ensures.items,
+    )
 
 pub returns-in-None-clause-takes : goal.returns-in-None-clause-takes
 returns-in-None-clause-takes c = (c.in-None.ensures.steps, search rules, refl)
