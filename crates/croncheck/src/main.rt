@@ -58,7 +58,7 @@ fn stopped(rt: &HostRuntime, problem: &Problem) -> u8 {
 
 fn status(rt: &HostRuntime, words: &[String]) -> u8 {
     match read_call(rt.alloc(), words) {
-        Ok(call) => match check(rt, &call) {
+        Ok(call) => match in_zone(rt, &call) {
             Ok(status) => status,
             Err(problem) => stopped(rt, &problem),
         },
@@ -71,48 +71,34 @@ fn status(rt: &HostRuntime, words: &[String]) -> u8 {
     }
 }
 
-// The zones among which a call's word names one.
-#[derive(Drop)]
-enum Zones {
-    // The word is a rule.
-    Rule(TimeZone<'static>),
-    Named(TimeZoneDatabase),
-    // With the machine's own.
-    System(TimeZoneDatabase, SystemTimeZone),
+// Checks in the zone that the words name.
+fn in_zone(rt: &HostRuntime, call: &Call<'_>) -> Result<u8, Problem> {
+    if let Ok(zone) = TimeZone::posix(call.zone) {
+        return in_ruled_zone(rt, call, zone);
+    }
+    let zones = TimeZoneDatabase::from_env(rt).map_err(Problem::Zone)?;
+    if call.zone == "local" {
+        let system = SystemTimeZone::read(rt).map_err(Problem::Zone)?;
+        let zone = system.time_zone(&zones).map_err(Problem::Zone)?;
+        return check(rt, call, zone);
+    }
+    match zones.get(call.zone) {
+        Ok(zone) => check(rt, call, zone),
+        Err(jiff::Error::TimeZoneNotFound) => Err(no_zone(rt, call.zone)),
+        Err(error) => Err(Problem::Zone(error)),
+    }
 }
 
-impl Zones {
-    fn of(rt: &HostRuntime, word: &str) -> Result<Zones, Problem> {
-        if let Ok(zone) = TimeZone::posix(word) {
-            return Ok(Zones::Rule(zone));
+// Checks in the zone of a rule, and says before which way it is off UTC, where that is easily taken for the other.
+fn in_ruled_zone(rt: &HostRuntime, call: &Call<'_>, zone: TimeZone<'_>) -> Result<u8, Problem> {
+    match note_of(rt.alloc(), call.zone, &zone) {
+        Ok(Some(note)) => {
+            let _ = eprintln!(rt; "croncheck: {note}");
         }
-        let named = TimeZoneDatabase::from_env(rt).map_err(Problem::Zone)?;
-        if word != "local" {
-            return Ok(Zones::Named(named));
-        }
-        let system = SystemTimeZone::read(rt).map_err(Problem::Zone)?;
-        Ok(Zones::System(named, system))
+        Ok(None) => {}
+        Err(_) => return Err(Problem::OutOfMemory),
     }
-
-    // The zone that the word names. Of a rule it says which way it is off UTC, where that is easily taken for the other.
-    fn zone(&self, rt: &HostRuntime, word: &str) -> Result<TimeZone<'_>, Problem> {
-        match self {
-            Zones::Rule(zone) => match note_of(rt.alloc(), word, zone) {
-                Ok(Some(note)) => {
-                    let _ = eprintln!(rt; "croncheck: {note}");
-                    Ok(*zone)
-                }
-                Ok(None) => Ok(*zone),
-                Err(_) => Err(Problem::OutOfMemory),
-            },
-            Zones::Named(named) => match named.get(word) {
-                Ok(zone) => Ok(zone),
-                Err(jiff::Error::TimeZoneNotFound) => Err(no_zone(rt, word)),
-                Err(error) => Err(Problem::Zone(error)),
-            },
-            Zones::System(named, system) => system.time_zone(named).map_err(Problem::Zone),
-        }
-    }
+    check(rt, call, zone)
 }
 
 // What is wrong with the word of a zone that is none.
@@ -123,25 +109,18 @@ fn no_zone(rt: &HostRuntime, word: &str) -> Problem {
     }
 }
 
-// The second that runs are listed from, and which are.
-fn span_of(call: &Call<'_>, zone: &TimeZone<'_>, now: i64) -> Result<(i64, Listing), Problem> {
-    let Some(start) = second_of(call.from, zone, now) else {
+fn check(rt: &HostRuntime, call: &Call<'_>, zone: TimeZone<'_>) -> Result<u8, Problem> {
+    let now = Timestamp::now(rt).map_err(Problem::Now)?.as_second();
+    let Some(start) = second_of(call.from, &zone, now) else {
         return Err(Problem::SkippedFrom);
     };
-    match call.span {
-        Span::Count(count) => Ok((start, Listing::Count(count))),
-        Span::Until(moment) => match second_of(moment, zone, now) {
-            Some(second) => Ok((start, Listing::Until(second))),
-            None => Err(Problem::SkippedUntil),
+    let listing = match call.span {
+        Span::Count(count) => Listing::Count(count),
+        Span::Until(moment) => match second_of(moment, &zone, now) {
+            Some(second) => Listing::Until(second),
+            None => return Err(Problem::SkippedUntil),
         },
-    }
-}
-
-fn check(rt: &HostRuntime, call: &Call<'_>) -> Result<u8, Problem> {
-    let zones = Zones::of(rt, call.zone)?;
-    let zone = zones.zone(rt, call.zone)?;
-    let now = Timestamp::now(rt).map_err(Problem::Now)?.as_second();
-    let (start, listing) = span_of(call, &zone, now)?;
+    };
     let clock = Clock::of(rt.alloc(), &zone, start).map_err(Problem::Clock)?;
     let Ok(changes) = Changes::of(rt.alloc(), &clock, start) else {
         return Err(Problem::OutOfMemory);
@@ -156,11 +135,7 @@ fn check(rt: &HostRuntime, call: &Call<'_>) -> Result<u8, Problem> {
         compares_jobs: call.compares_jobs,
     };
     let shared = Shared::of(zone, &settings);
-    let terms = Terms {
-        alloc: rt.alloc(),
-        settings: &settings,
-        shared: &shared,
-    };
+    let terms = Terms::new(rt.alloc(), &settings, &shared);
     tell(rt, call, terms).map_err(Problem::Unwritten)
 }
 

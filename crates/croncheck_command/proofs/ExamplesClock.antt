@@ -31,7 +31,7 @@ a_window_from_before_the_change : first_of (pos 1_267_891_200) ≡ pos 1_267_632
 a_window_from_before_the_change = refl
 
 -- what is left is second 5 alone, behind second 0 of UTC
-five : Rest
+abbrev five : Rest
 five = record { start = at_instant (clock (pos 0) []) (pos 0); left = λ i. i ≡ pos 5 }
 
 -- of none asked one is left in a window up to it, and none in one that ends before it
@@ -39,11 +39,11 @@ none_asked_and_one_left : IsEnd five (Some (pos 5)) (listings.Count 0) [] ends.M
 none_asked_and_one_left = (refl, λ zero. (pos 5, refl, omega (arith, ints)))
 
 none_asked_and_none_left : IsEnd five (Some (pos 4)) (listings.Count 0) [] ends.Window
-none_asked_and_none_left = inl (λ i is le. absurd (omega (arith, ints, is, le)))
+none_asked_and_none_left = inl (λ i is le. let at : i ≡ pos 5 = is in absurd (omega (arith, ints, at, le)))
 
 -- up to second 4 none is left out, and one is left behind it; up to second 5 that one is listed
 up_to_the_second_before : IsEnd five None (listings.Until (pos 4)) [] ends.More
-up_to_the_second_before = (λ i is le. absurd (omega (arith, ints, is, le)), (pos 5, refl, tt, omega (arith, ints)))
+up_to_the_second_before = (λ i is le. let at : i ≡ pos 5 = is in absurd (omega (arith, ints, at, le)), (pos 5, refl, tt, omega (arith, ints)))
 
 up_to_the_second : IsEnd five None (listings.Until (pos 5)) (pos 5 ∷ []) ends.Over
 up_to_the_second = λ i is inside. (0, omega arith, sym is)

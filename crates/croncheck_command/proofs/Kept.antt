@@ -1,5 +1,5 @@
 -- The places that are kept of jobs.
-use Rattle.std.proofs.Common.{◌≡◌, ◌∙◌, ℕ, List, [], ◌∷◌, Bool, true, false, Option, Some, None, cond, true≢false, ap, sym, refl, subst}
+use Rattle.std.proofs.Common.{◌≡◌, ◌∙◌, ℕ, List, [], ◌∷◌, Bool, true, false, Option, Some, None, cond, true≢false, ap, sym, refl}
 use Rattle.std.specs.Prelude.{option_map, is_some, if◌then◌else◌, Result, Ok, Err, IfOk}
 use Rattle.std.proofs.lemmas.Cmp.{alike_right, nat_list_cmp_total, on_total, then_total}
 use Rattle.std.specs.BTreeMap.{get}

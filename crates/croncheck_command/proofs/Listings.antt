@@ -1,5 +1,5 @@
 -- Listings up to a bound on the clock of a table, and what their ends say, whatever is listed.
-use Rattle.std.proofs.Common.{◌≡◌, ◌<◌, ◌≤◌, ◌==◌, ◌∙◌, ◌∷◌, ◌++◌, [], ℕ, ℤ, Bool, true, false, List, Option, Some, None, length, refl, sym, ap, subst, inl, inr, if◌then◌else◌, arith}
+use Rattle.std.proofs.Common.{◌≡◌, ◌≤◌, ◌==◌, ◌∙◌, ◌∷◌, ◌++◌, [], ℕ, ℤ, Bool, true, false, List, Option, Some, None, length, refl, sym, ap, subst, inl, inr, if◌then◌else◌, arith}
 use Rattle.std.proofs.lemmas.Bool.{false≢true}
 use Rattle.std.proofs.lemmas.Bool.Decides.{nat_tests}
 use Rattle.std.proofs.lemmas.Int.{ints}
@@ -14,12 +14,12 @@ use Rattle.croner_base.specs.declared.time.table.TableTime.{TableTime}
 use Rattle.croner_base.specs.Calm.{IsStart}
 use Rattle.croner_base.specs.TableZone.{table_moment}
 use Rattle.croner_base.specs.Zone.{reading}
-use Rattle.croner_base.proofs.tables.TableCalm.{table_holds}
+use Rattle.croner_base.proofs.tables.TableCalm.{clock_calm, table_holds}
 use Rattle.croner_base.proofs.tables.TableTests.{le_of}
 use Rattle.croner_pattern.specs.Meaning.{Meaning}
 use Rattle.croner.specs.iterator.Listing.{Standing, IsLeft, job_at}
 use Rattle.croner.specs.laws.Until.{ComesBy, ListsUntil}
-use Rattle.croner.specs.search.Premises.{IsSearchable}
+use Rattle.croner.specs.search.Premises.{StartsCalm, IsSearchable}
 use Rattle.croner.specs.search.Runs.{Precedes}
 use Rattle.croner.specs.declared.laws.listing.ListingEnd.{ListingEnd}
 use Rattle.croner.specs.declared.laws.listing.ListingEnd.TheVariants as endings
@@ -31,9 +31,12 @@ use Rattle.croncheck_command.specs.declared.runs.Runs.{Runs}
 use Rattle.croncheck_command.specs.Private.Ends.{bound, limit, earlier, full_end, end_before, end_of_years, EndsBy}
 use Rattle.croncheck_command.specs.Runs.{starts, seconds_of, Rest, runs_behind, GaveUntil, GaveYears, IsInWindow, LeavesOne, StartsWell, IsMore, IsEnd, IsAsked, IsListed}
 use Rattle.croncheck_command.proofs.OwnRuns.{counts_after}
-pub use Rattle.croner.proofs.iterator.Until.{starts_calm}
 
--- the clock of a table holds what a search needs
+-- the clock of a table is calm
+pub starts_calm : (t : TableTime) → StartsCalm (table_moment t)
+starts_calm t = record { calm = clock_calm t.table.now.first_offset t.table.now.changes.items t.table.now.calm; whole = refl }
+
+-- and holds what a search needs
 pub searchable : (t : TableTime) → IsStart (reading (table_moment t)) → IsSearchable (table_moment t)
 searchable t h = record { starts = starts_calm t; held = table_holds t h.0 h.1 }
 
@@ -189,7 +192,7 @@ module _ (rest : Rest) (start : ℤ) (behind : (i : ℤ) → rest.left i → sta
   end_is last listing items fault endings.Full end s is =
       subst (λ (e : End). IsEnd rest last listing items e) (sym is) (full_is last listing items s.counts s.by s.stops)
   end_is last listing items fault (endings.Past i) end s is =
-      subst (λ (e : End). IsEnd rest last listing items e) (sym is) (past_is items s.counts i s.stops.0 s.stops.1.1 last listing s.by s.stops.1.0)
+      subst (λ (e : End). IsEnd rest last listing items e) (sym is) (past_is items s.counts i s.stops.0 s.stops.2 last listing s.by s.stops.1)
   end_is last listing items fault endings.Over end s is =
       subst (λ (e : End). IsEnd rest last listing items e) (sym is) (years_are last listing items s.stops)
   end_is last listing items None endings.Refused end s is = absurd is

@@ -10,12 +10,15 @@ use Rattle.croner_base.specs.declared.time.table.TableTime.{TableTime}
 use Rattle.croner_base.specs.Limits.{last_searched}
 use Rattle.croner_base.specs.Table.{offset_at}
 use Rattle.croner_base.specs.TableZone.{table_zone, clock}
+use Rattle.croner_base.specs.Calm.{IsSearched}
+use Rattle.croner_base.specs.Zone.{Zone}
 use Rattle.croner_base.proofs.tables.TableOffsets.{calm_offset}
 use Rattle.croner_pattern.specs.Meaning.{Meaning}
+use Rattle.croner_pattern.specs.SearchedYears.{matched_searched, scheduled_searched}
 use Rattle.croner.specs.iterator.Listing.{BeginsRest, IsLeft, job_at}
 use Rattle.croner.specs.laws.Zones.{IsWellIn}
-use Rattle.croner.specs.search.Runs.{Job, Counts}
-use Rattle.croner.proofs.iterator.ThereAndBack.{searched_run}
+use Rattle.croner.specs.search.PatternJob.{pattern_job}
+use Rattle.croner.specs.search.Runs.{Job, Counts, Run}
 use Rattle.croner.proofs.zone.Walks.{is_run}
 use Rattle.croncheck_command.specs.Clock.{last_second}
 use Rattle.croncheck_command.specs.Runs.{starts}
@@ -40,6 +43,10 @@ items_well tz first last m start items well begins within =
 
 pub with_none : (m : Meaning) (start : TableTime) (items : List ℤ) → BeginsRest (starts m start) items → BeginsRest (starts m start) (items ++ [])
 with_none m start items begins = subst (λ (ys : List ℤ). BeginsRest (starts m start) ys) (sym (append-nil items)) begins
+
+-- each run shows a second of the years that are searched
+searched_run : (m : Meaning) (z : Zone) (i : ℤ) → Run (pattern_job m z) i → IsSearched (z.reads i)
+searched_run m z i run = elim run [ inl own ↦ scheduled_searched m (z.reads i) own.0 | inr carried ↦ matched_searched m (z.reads i) carried.2 ]
 
 -- each run on a clock shows a second of year 5000 at the latest, and the clock is a day behind UTC at most
 pub no_later : (m : Meaning) (start : TableTime) (i : ℤ) → IsLeft (starts m start) i → i ≤ℤ last_second

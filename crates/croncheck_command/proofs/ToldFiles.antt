@@ -7,7 +7,6 @@ use Rattle.crontab.specs.declared.line.Dialect.{Dialect}
 use Rattle.croncheck_command.specs.declared.settings.Settings.{Settings}
 use Rattle.crontab.specs.Checked.{LineRead, entry_of_line, TakesInTurn, TakesAll}
 use Rattle.croncheck_command.specs.Files.{HaveTexts}
-use Rattle.crontab.specs.Lines.{AreLines}
 use Rattle.croncheck_command.specs.Output.{Written, IsFlushed}
 use Rattle.croncheck_command.specs.Tally.{status_of}
 use Rattle.croncheck_command.specs.Shown.{bytes_shown}

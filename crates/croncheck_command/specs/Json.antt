@@ -1,6 +1,6 @@
 -- Reports as JSON: one object a line of input. The members of an object stand in the order of their names. Source: this crate's documentation
 -- ("JSON").
-use Rattle.std.specs.Prelude.{◌≡◌, ℕ, ℤ, Bool, true, false, not, List, [], ◌∷◌, ◌++◌, map, codes, Option, Some, None, option_map, is_some, string_bytes, if◌then◌else◌}
+use Rattle.std.specs.Prelude.{ℕ, ℤ, Bool, true, false, not, List, [], ◌∷◌, ◌++◌, map, codes, Option, Some, None, option_map, is_some, string_bytes, if◌then◌else◌}
 use Rattle.std.specs.Io.KnownBytes.{Appends}
 use Rattle.serde_json.specs.Data.{Data, null, number, unsigned, string, array, object, member, no_members}
 use Rattle.serde_json.specs.Find.{of_integer}
@@ -8,13 +8,11 @@ use Rattle.serde_json.specs.View.{items_of}
 use Rattle.serde_json.specs.Written.{compact_text}
 use Rattle.jiff_tz.specs.declared.timezone.TimeZone.{TimeZone}
 use Rattle.croner_base.specs.declared.time.table.TableTime.{TableTime}
-use Rattle.crontab.specs.declared.line.Entry.{Entry}
 use Rattle.crontab.specs.declared.line.Fault.{Fault}
 use Rattle.crontab.specs.declared.line.Fault.TheVariants as faults
 use Rattle.crontab.specs.declared.notes.Note.{Note}
-use Rattle.crontab.specs.Checked.{LineRead, IsEntryOf, entry_of_line, TakesInTurn}
+use Rattle.crontab.specs.Checked.{LineRead}
 use Rattle.crontab.specs.Line.{Line, blank, comment, setting, job, pattern, refused}
-use Rattle.crontab.specs.Lines.{AreLines}
 use Rattle.crontab.specs.Notes.{note_name, notes_of}
 use Rattle.croncheck_command.specs.declared.changes.meetings.Compared.{Compared}
 use Rattle.croncheck_command.specs.declared.changes.meetings.Meetings.{Meetings}

@@ -1,5 +1,5 @@
 -- Plans: one list of the runs of all jobs of all files, in order of time. Source: this crate's documentation of `Plan`.
-use Rattle.std.specs.Prelude.{◌≡◌, ℕ, ℤ, false, List, map, Option, Some, None, Result, Ok, Err, IsUtf8}
+use Rattle.std.specs.Prelude.{◌≡◌, ℕ, ℤ, false, List, Option, Some, None, Result, Ok, Err, IsUtf8}
 use Rattle.std.specs.List.{All}
 use Rattle.std.specs.declared.alloc.Global.{Global}
 use Rattle.std.specs.declared.vec.Vec.{Vec}

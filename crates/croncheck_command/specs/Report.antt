@@ -13,13 +13,10 @@ use Rattle.croner.specs.parser.Faults.{IsFault}
 use Rattle.croner.specs.parser.Gives.{Fails}
 use Rattle.croner.specs.parser.Grammar.{Refusal, outcome, Texts}
 use Rattle.crontab.specs.declared.bytes.Kind.TheVariants as kinds
-use Rattle.crontab.specs.declared.line.Dialect.{Dialect}
-use Rattle.crontab.specs.declared.line.Dialect.TheVariants as dialects
 use Rattle.crontab.specs.declared.line.Entry.{Entry}
 use Rattle.crontab.specs.declared.line.Entry.TheVariants as entries
 use Rattle.crontab.specs.Bytes.{front}
 use Rattle.crontab.specs.Entries.{job_seen}
-use Rattle.crontab.specs.Field.{smaller}
 use Rattle.crontab.specs.Line.{Timing, reboot, never, named, Task}
 use Rattle.crontab.specs.Parsed.{crontab_settings}
 use Rattle.croncheck_command.specs.declared.changes.meetings.Meetings.{Meetings}

@@ -24,8 +24,8 @@ use croner::parser::PatternField;
 use croner::time::table::TableTime;
 use crontab::check::{Entries, check};
 use crontab::line::{Entry, Fault};
-use crontab::notes::Note;
 use crontab::notes;
+use crontab::notes::Note;
 use serde_json::{Value, json};
 use std::alloc::{AllocError, Global};
 

@@ -10,8 +10,6 @@ ghost use Rattle.croncheck_command.specs.Plan.{IsPlanned, accepted, HasTiming, H
 
 use crate::runs::{End, Listing, MOST_RUNS, bound_of, end_of, limit_of};
 use crate::settings::Settings;
-use crontab::line::{Entry, Times};
-use crontab::parsed::job_of;
 use croner::Cron;
 use croner::crontable::CronTable;
 use croner::errors::CronError;
@@ -19,6 +17,8 @@ use croner::laws::crontable::next_table_runs_until;
 use croner::parser::CronParser;
 use croner::time::table::TableTime;
 use crontab::check::{Entries, check};
+use crontab::line::{Entry, Times};
+use crontab::parsed::job_of;
 use std::alloc::{AllocError, Global};
 
 /// The moments at which jobs run, the nearest first, each with the places in their table of all jobs that run then, ascending.

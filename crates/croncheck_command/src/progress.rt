@@ -24,6 +24,20 @@ pub struct Terms<'s, 't> {
     pub shared: &'s Shared<'t>,
 }
 
+impl<'s, 't> Terms<'s, 't> {
+    /// What is asked by these settings, and what all answers share.
+    pub fn new(alloc: Global, settings: &'s Settings<'t>, shared: &'s Shared<'t>) -> Terms<'s, 't>
+        ensures settings { result.settings.now ≡ settings.now }
+        ensures shared { result.shared.now ≡ shared.now }
+    {
+        Terms {
+            alloc,
+            settings,
+            shared,
+        }
+    }
+}
+
 /// A line of a file.
 pub struct Line<'l> {
     /// Its bytes, without its line feed.
