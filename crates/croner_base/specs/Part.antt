@@ -97,17 +97,27 @@ step_bounds f left =
 abbrev pub is_starred : Shape → List ℕ → Bool
 is_starred f left = bytes_eq left (codes "*") || (f.sloppy && length left == 0)
 
+-- the marks from the left of a `/` on
+abbrev pub stepped_from : Shape → List ℕ → ℕ → ℕ → Reading
+stepped_from f left step tag =
+    with (step_bounds f left) (λ range.
+    wants ((nat_le f.min range.0 && nat_le range.1 f.max) && nat_le range.0 range.1)
+    (stepped_marks f tag range.0 range.1 step))
+
+-- what is done by what stands on the left of a `/` and the number on its right
+abbrev pub stepped_by : Shape → List ℕ → ℕ → ℕ → Reading
+stepped_by f left step tag =
+    did (steps step)
+    then wants (not (step == 0)) nothing
+    then (if is_starred f left then did stars else nothing)
+    then stepped_from f left step tag
+
 abbrev pub stepping : Shape → List ℕ → Reading
 stepping f part =
     with (tag_of part) (λ tag.
     with (two_of (pieces_at slash (head_of part))) (λ sides.
     with (number_of sides.1) (λ step.
-    did (steps step)
-    then wants (not (step == 0)) nothing
-    then (if is_starred f sides.0 then did stars else nothing)
-    then with (step_bounds f sides.0) (λ range.
-    wants ((nat_le f.min range.0 && nat_le range.1 f.max) && nat_le range.0 range.1)
-    (stepped_marks f tag range.0 range.1 step)))))
+    stepped_by f sides.0 step tag)))
 
 abbrev pub ranged : Shape → List ℕ → Reading
 ranged f part =

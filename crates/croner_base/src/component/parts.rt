@@ -3,7 +3,7 @@
 ghost use Rattle.std.specs.Prelude.{◌≡◌, ◌≤◌, ◌<◌, ◌+◌, ◌&&◌, ◌==◌, nat_le, length, if◌then◌else◌};
 ghost use Rattle.croner_base.specs.Answers.{Finds};
 ghost use Rattle.croner_base.specs.Field.{values_between};
-ghost use Rattle.croner_base.specs.Part.{all_marked, field_of, parts_of, part_of, parts_read, refused_part, star_read, nearest_weekday, single, one_number, tag_of, two_of, pieces_at, number_of, ranged, stepping, step_bounds, stepped_marks, is_starred};
+ghost use Rattle.croner_base.specs.Part.{all_marked, field_of, parts_of, part_of, parts_read, refused_part, star_read, nearest_weekday, single, one_number, tag_of, two_of, pieces_at, number_of, ranged, stepped_by, stepped_from, stepping, step_bounds, stepped_marks, is_starred};
 ghost use Rattle.croner_base.specs.Private.Signs.{byte_of};
 ghost use Rattle.croner_base.specs.Reading.{Reads, ReadsParts, nothing};
 
@@ -146,18 +146,46 @@ impl CronComponent {
         let bit = self.tag(part)?;
         let (left, right) = self.sides(&part.before(Sign::Hash), Sign::Slash, text)?;
         let step = self.number_in(right, text)?;
+        self.handle_sides(&left, step, bit, text)
+    }
+
+    // What a part does whose `/` has this on its left, and this number on its right.
+    #[tactic(auto, using(crate::proofs::fields::SteppedParts::marks_behind_step))]
+    fn handle_sides(
+        &mut self,
+        left: &Part<'_>,
+        step: u16,
+        bit: u8,
+        part: &str,
+    ) -> Result<(), CronError>
+        ensures { Reads (stepped_by self.old.shape left.now step bit) self.old self.new result }
+    {
         self.step = step;
         if step == 0 {
-            return Err(self.step_of_zero(text));
+            return Err(self.step_of_zero(part));
         }
         if self.is_starred(left.text()) {
             self.from_wildcard = true;
         }
-        let (start, end) = self.step_bounds(&left, text)?;
+        self.mark_from(left, step, bit, part)
+    }
+
+    // The marks of a step whose `/` has this on its left.
+    fn mark_from(
+        &mut self,
+        left: &Part<'_>,
+        step: u16,
+        bit: u8,
+        part: &str,
+    ) -> Result<(), CronError>
+        requires { 0 < step }
+        ensures { Reads (stepped_from self.old.shape left.now step bit) self.old self.new result }
+    {
+        let (start, end) = self.step_bounds(left, part)?;
         if !self.has_range(start, end) {
-            return Err(self.range_out_of_bounds(start, end, text));
+            return Err(self.range_out_of_bounds(start, end, part));
         }
-        self.mark_stepped(start, end, step, bit, text)
+        self.mark_stepped(start, end, step, bit, part)
     }
 
     fn handle_range(&mut self, part: &Part<'_>) -> Result<(), CronError>
