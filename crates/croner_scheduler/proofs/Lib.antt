@@ -1,0 +1,4 @@
+pub mod TurnOrder
+pub mod NextRuns
+pub mod Nearest
+pub mod Changes
