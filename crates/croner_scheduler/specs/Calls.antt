@@ -1,5 +1,5 @@
 -- What each call of a scheduler answers, and what it holds after it. Source: this crate's documentation.
-use Rattle.std.specs.Prelude.{◌≡◌, ◌+◌, ◌-◌, ◌^◌, ◌≤◌, ⊤, false, ℕ, ℤ, ◌<ℤ◌, ◌≤ℤ◌, Option, None, Some, IfSome, IsSome}
+use Rattle.std.specs.Prelude.{◌≡◌, Bool, true, ◌+◌, ◌-◌, ◌^◌, ◌≤◌, ⊤, false, ℕ, ℤ, ◌<ℤ◌, ◌≤ℤ◌, Option, None, Some, IfSome, IsSome}
 use Rattle.std.specs.Option.{IsSomeAnd}
 use Rattle.croner_base.specs.Calm.{IsCalm}
 use Rattle.croner_base.specs.Zone.{Zone, Moment}
@@ -73,6 +73,11 @@ SkipsTo k now h h' NoJob = (h.jobs k ≡ None) × IsSame h h'
 SkipsTo k now h h' NotHeld =
     IsSomeAnd (h.jobs k) (λ s. (s.position.instant <ℤ now) × (s.position.zone.holds now ≡ false)) × IsSame h h'
 
+-- the job k was stopped, and was searched again from where it stands; or there is no such job, or it isn't stopped
+abbrev pub AsksAgain : {J : Type 0} → ℕ → Held J → Held J → Bool → Type 0
+AsksAgain k h h' true = IsSomeAnd (h.jobs k) (λ s. IsSome s.stop × IsMoved h k s.position.instant h')
+AsksAgain k h h' false = IfSome (h.jobs k) (λ s. s.stop ≡ None) × IsSame h h'
+
 -- the nearest run no later than now is given, and its job stands there from then on; or nothing is due
 abbrev pub TakesDue : {J : Type 0} → (J → Zone → ℤ → Type 0) → ℤ → Held J → Held J → Option Due → Type 0
 TakesDue runs now h h' (Some due) = IsFirst runs h due.id due.second × (due.second ≤ℤ now) × IsMoved h due.id due.second h'
@@ -98,6 +103,24 @@ abbrev pub IsGivenBack : {J T : Type 0} → (T → Moment) → Option (Standing 
 IsGivenBack moment (Some s) (Some given) = (given.0 ≡ s.job) × (moment given.1 ≡ s.position)
 IsGivenBack moment None None = ⊤
 IsGivenBack moment standing given = ⊥
+
+-- the job stands under the id k at the whole second of the position, and nothing else has changed
+pub record IsPut {J : Type 0} (job : J) (position : Moment) (h : Held J) (k : ℕ) (h' : Held J) : Type 0 where
+  pub put : IsSomeAnd (h'.jobs k) (StandsAt job position.zone position.instant)
+  pub others : (id : ℕ) → ¬ (id ≡ k) → h'.jobs id ≡ h.jobs id
+  pub count : h'.count ≡ h.count
+  pub next_id : h'.next_id ≡ h.next_id
+
+-- the job of the id is given back, and the other one is in its place; or there is none
+abbrev pub Replaces : {J T : Type 0} → (T → Moment) → ℕ → J → Moment → Held J → Held J → Option (J × T) → Type 0
+Replaces moment k job position h h' (Some given) = IsGivenBack moment (h.jobs k) (Some given) × IsPut job position h k h'
+Replaces moment k job position h h' None = (h.jobs k ≡ None) × IsSame h h'
+
+-- why no job is put in another's place: for want of memory, or since the whole second of the position isn't held
+abbrev pub IsPutRefused : Moment → AddError → Type 0
+IsPutRefused position OutOfMemory = ⊤
+IsPutRefused position NoIdLeft = ⊥
+IsPutRefused position PositionNotHeld = position.zone.holds position.instant ≡ false
 
 -- the job of the id is gone, if there was one, and the others stay
 pub record IsRemoved {J : Type 0} (id : ℕ) (h h' : Held J) : Type 0 where

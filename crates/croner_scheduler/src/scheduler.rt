@@ -6,7 +6,7 @@ ghost use Rattle.croner_scheduler.specs.Private.Turns.{has_turn};
 ghost use Rattle.croner_scheduler.specs.Kept.{Fits};
 ghost use Rattle.croner_scheduler.specs.Private.Steps.{is_awaited_at};
 
-use crate::jobs::{next_behind, settle, step};
+use crate::jobs::{exchange, next_behind, renew, settle, step};
 use crate::turns::{Due, await_next, change_turn, first_turn, leave_next, leave_turn};
 use crate::waiting::{Waiting, next_of};
 use crate::{AddError, Skip};
@@ -42,7 +42,7 @@ impl<J: Recurring, T: Clocked> Scheduler<J, T> {
     ghost use Rattle.std.specs.Map.{lookup, keys_of};
     ghost use Rattle.croner_scheduler.specs.Views.{held_of};
     ghost use Rattle.croner_scheduler.specs.Kept.{standing_of};
-    ghost use Rattle.croner_scheduler.specs.Calls.{IsSame, IsNearest, IsWakeUp, IsMoved, TakesDue, SkipsTo, IsAdded, IsAddRefused, IsGivenBack, IsRemoved};
+    ghost use Rattle.croner_scheduler.specs.Calls.{IsSame, IsNearest, IsWakeUp, IsMoved, TakesDue, SkipsTo, AsksAgain, IsAdded, IsAddRefused, IsGivenBack, IsPutRefused, Replaces, IsRemoved};
 
     /// No job yet. The first id is 0.
     pub fn new(alloc: Global) -> Scheduler<J, T>
@@ -143,6 +143,27 @@ impl<J: Recurring, T: Clocked> Scheduler<J, T> {
         }
     }
 
+    /// Puts another job in the place of one, under its id and with a position of its own, and gives that one with its position; `None` where
+    /// no job has the id. The runs after the position are left, and none up to it. An error changes nothing; `NoIdLeft` doesn't come.
+    pub fn replace(&mut self, id: u64, job: J, position: T) -> Result<Option<(J, T)>, AddError>
+    where
+        J: Drop,
+        ensures replaced { IfOk result (Replaces T.moment id job (T.moment position) (held_of T.moment self.old) (held_of T.moment self.new)) }
+        ensures refused { IfErr result (IsPutRefused (T.moment position)) }
+        ensures same { OnErr result (IsSame (held_of T.moment self.old) (held_of T.moment self.new)) }
+    {
+        if self.get(id).is_none() {
+            return Ok(None);
+        }
+        match position.at_second(position.second()) {
+            Some(whole) => {
+                let waiting = Waiting::new(job, whole)?;
+                Ok(self.put(id, waiting)?)
+            }
+            None => Err(AddError::PositionNotHeld),
+        }
+    }
+
     /// Moves the position of a job on to `now`: its runs up to then are done with, and none of them is given. A position is never moved
     /// back. Want of memory changes nothing.
     pub fn skip_to(&mut self, id: u64, now: i64) -> Result<Skip, AllocError>
@@ -162,6 +183,22 @@ impl<J: Recurring, T: Clocked> Scheduler<J, T> {
             }
             None => Ok(Skip::NotHeld),
         }
+    }
+
+    /// Searches again after the position of a job that is stopped; whether there is such a job. It may be stopped again
+    /// ([`Waiting::stop`]). Want of memory changes nothing.
+    pub fn ask_again(&mut self, id: u64) -> Result<bool, AllocError>
+        ensures asked { IfOk result (AsksAgain id (held_of T.moment self.old) (held_of T.moment self.new)) }
+        ensures same { OnErr result (IsSame (held_of T.moment self.old) (held_of T.moment self.new)) }
+    {
+        let Some(waiting) = self.jobs.get(&id) else {
+            return Ok(false);
+        };
+        if !waiting.is_stopped() {
+            return Ok(false);
+        }
+        self.search_again(id)?;
+        Ok(true)
     }
 
     /// The jobs with their ids, in the order of the ids. Takes no memory; the iterator borrows the scheduler.
@@ -224,6 +261,21 @@ impl<J: Recurring, T: Clocked> Scheduler<J, T> {
         Ok(())
     }
 
+    // Puts another job in the place of one.
+    fn put(&mut self, id: u64, other: Waiting<J, T>) -> Result<Option<(J, T)>, AllocError>
+    where
+        J: Drop,
+        requires { Fits J.runs T.moment other }
+        ensures replaced { IfOk result (Replaces T.moment id other.job (T.moment other.position) (held_of T.moment self.old) (held_of T.moment self.new)) }
+        ensures same { OnErr result (IsSame (held_of T.moment self.old) (held_of T.moment self.new)) }
+    {
+        let Some(waiting) = self.jobs.get(&id) else {
+            return Ok(None);
+        };
+        change_turn(&mut self.turns, &waiting.next, &other.next, id)?;
+        Ok(exchange(&mut self.jobs, id, other))
+    }
+
     // Puts a job at another position.
     fn stand_at(&mut self, id: u64, position: T) -> Result<(), AllocError>
         requires { (T.moment position).fraction ≡ 0 }
@@ -237,6 +289,21 @@ impl<J: Recurring, T: Clocked> Scheduler<J, T> {
         let next = next_of(&waiting.job, &position)?;
         change_turn(&mut self.turns, &waiting.next, &next, id)?;
         settle(&mut self.jobs, id, position, next);
+        Ok(())
+    }
+
+    // Searches a job again from where it stands.
+    fn search_again(&mut self, id: u64) -> Result<(), AllocError>
+        ensures moved { OnOk result (IfSome ((held_of T.moment self.old).jobs id) (λ s.
+            IsMoved (held_of T.moment self.old) id s.position.instant (held_of T.moment self.new))) }
+        ensures same { OnErr result (IsSame (held_of T.moment self.old) (held_of T.moment self.new)) }
+    {
+        let Some(waiting) = self.jobs.get(&id) else {
+            return Ok(());
+        };
+        let next = next_of(&waiting.job, &waiting.position)?;
+        change_turn(&mut self.turns, &waiting.next, &next, id)?;
+        renew(&mut self.jobs, id, next);
         Ok(())
     }
 

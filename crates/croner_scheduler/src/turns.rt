@@ -62,7 +62,7 @@ pub(crate) fn leave_next<T: Clocked>(turns: &mut BTreeSet<(i64, u64)>, next: &Ne
 }
 
 // Puts the turn of what comes next of a job in the place of that of what came next before.
-#[tactic(auto, using(crate::proofs::Skips::taken_behind, crate::proofs::Skips::kept_turn))]
+#[tactic(auto, using(crate::proofs::Puts::taken_behind, crate::proofs::Puts::kept_turn))]
 pub(crate) fn change_turn<T: Clocked>(
     turns: &mut BTreeSet<(i64, u64)>,
     old: &Next<T>,

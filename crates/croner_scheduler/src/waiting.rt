@@ -1,7 +1,7 @@
 //! A job with its position, and what comes next of it.
-ghost use Rattle.std.specs.Prelude.{◌≡◌, option_map, IfOk};
+ghost use Rattle.std.specs.Prelude.{◌≡◌, is_some, option_map, IfOk};
 ghost use Rattle.croner_scheduler.specs.Kept.{standing_of, stop_of, run_of, FitsNext, Fits};
-ghost use Rattle.croner_scheduler.specs.Private.Steps.{next_of_run, next_of_refusal, FitsAfter, advanced, settled};
+ghost use Rattle.croner_scheduler.specs.Private.Steps.{next_of_run, next_of_refusal, FitsAfter, advanced, settled, renewed};
 
 use croner::errors::CronError;
 use croner::{Clocked, Recurring};
@@ -91,6 +91,22 @@ impl<J, T> Waiting<J, T> {
     {
         self.position = position;
         self.next = next;
+    }
+
+    // Has another run next.
+    pub(crate) fn renew(&mut self, next: Next<T>)
+    where
+        T: Drop,
+        ensures { self.new ≡ renewed next self.old }
+    {
+        self.next = next;
+    }
+
+    // Whether it is stopped.
+    pub(crate) fn is_stopped(&self) -> bool
+        ensures { result ≡ is_some (stop_of self.now.next) }
+    {
+        self.stop().is_some()
     }
 
     // The job and its position.

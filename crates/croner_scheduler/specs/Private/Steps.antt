@@ -1,5 +1,5 @@
 -- How what is kept of a job comes of its search, and changes when its next run is given. Private contracts alone cite these definitions.
-use Rattle.std.specs.Prelude.{ℕ, ℤ, int_lt, Bool, false, cond, if◌then◌else◌, Option, None, Some, option_map, Result, Ok, Err, alloc_error, ⊤}
+use Rattle.std.specs.Prelude.{◌≡◌, ℕ, ℤ, int_lt, Bool, false, cond, if◌then◌else◌, Option, None, Some, option_map, Result, Ok, Err, alloc_error, ⊤}
 use Rattle.std.specs.BTreeMap.{is_at}
 use Rattle.std.specs.Ordering.{nat_cmp, int_eq}
 use Rattle.std.specs.declared.alloc.AllocError.{AllocError}
@@ -55,3 +55,20 @@ settled position next w = record { job = w.job; position = position; next = next
 -- the job of one id is, and the others stay
 abbrev pub settled_at : {J T : Type 0} → ℕ → T → Next T → ℕ → Option (Waiting J T) → Option (Waiting J T)
 settled_at id position next other o = cond (is_at (nat_cmp id) other) (option_map (settled position next) o) o
+
+-- the job of one id that was searched again, with what comes next of it
+abbrev pub renewed : {J T : Type 0} → Next T → Waiting J T → Waiting J T
+renewed next w = record { job = w.job; position = w.position; next = next }
+
+abbrev pub renewed_at : {J T : Type 0} → ℕ → Next T → ℕ → Option (Waiting J T) → Option (Waiting J T)
+renewed_at id next other o = cond (is_at (nat_cmp id) other) (option_map (renewed next) o) o
+
+-- the job of one id has another in its place, and the others stay
+abbrev pub put_at : {J T : Type 0} → ℕ → Waiting J T → ℕ → Option (Waiting J T) → Option (Waiting J T)
+put_at id w other o = cond (is_at (nat_cmp id) other) (option_map (λ _. w) o) o
+
+-- the job and the position are those of what stood there, if something did
+abbrev pub ArePartsOf : {J T : Type 0} → Option (Waiting J T) → Option (J × T) → Type 0
+ArePartsOf (Some w) (Some parts) = (parts.0 ≡ w.job) × (parts.1 ≡ w.position)
+ArePartsOf None None = ⊤
+ArePartsOf stood parts = ⊥
