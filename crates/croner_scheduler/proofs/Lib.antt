@@ -1,0 +1,5 @@
+pub mod TurnOrder
+pub mod NextRuns
+pub mod Nearest
+pub mod Changes
+pub mod Puts

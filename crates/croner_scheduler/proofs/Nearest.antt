@@ -1,0 +1,135 @@
+-- The first turn is the nearest run that is left.
+use Rattle.std.proofs.Common.{◌≡◌, refl, sym, ◌∙◌, subst, arith, ℕ, ◌≤◌, ℤ, ◌<ℤ◌, ◌≤ℤ◌, Bool, true, false, Option, Some, None, IfSome, option_map}
+use Rattle.std.proofs.Math.Logic.{∥∥₁_elim, ∥∥₁_map}
+use Rattle.std.proofs.Props.{props}
+use Rattle.std.proofs.lemmas.Bool.{false≢true}
+use Rattle.std.proofs.lemmas.Cmp.{int_ranked}
+use Rattle.std.proofs.lemmas.Int.{ints}
+use Rattle.std.specs.Option.{IsSomeAnd}
+use Rattle.std.specs.Ordering.{MatchOrdering, int_cmp, int_eq, is_eq}
+use Rattle.std.specs.declared.cmp.Ordering.{Ordering}
+use Rattle.std.specs.declared.cmp.Ordering.TheVariants.{Less, Equal, Greater}
+use Rattle.croner_base.specs.Calm.{IsCalm}
+use Rattle.croner_base.specs.Zone.{Zone, Moment}
+use Rattle.croner_base.specs.declared.time.Direction.TheVariants.{Forward}
+use Rattle.croner.specs.search.Limit.{InSpan}
+use Rattle.croner_scheduler.specs.declared.turns.Due.{Due}
+use Rattle.croner_scheduler.specs.declared.waiting.Next.{Next}
+use Rattle.croner_scheduler.specs.declared.waiting.Next.TheVariants.{Run, Over, Stopped}
+use Rattle.croner_scheduler.specs.declared.waiting.Waiting.{Waiting}
+use Rattle.croner_scheduler.specs.Standing.{Standing, Held, Seen}
+use Rattle.croner_scheduler.specs.Calls.{IsGivable, ComesBehind, IsFirst, IsNotDue, HasNoneLeft, IsNearest}
+use Rattle.croner_scheduler.specs.Private.Turns.{IsFirstTurn}
+use Rattle.croner_scheduler.specs.Kept.{standing_of, stop_of, FitsNext, Fits}
+use Rattle.croner_scheduler.specs.Private.Steps.{is_next_at, is_awaited_at}
+
+pub same_second : (a b : ℤ) → int_eq a b ≡ true → a ≡ b
+same_second a b e = by (int_cmp a b) (int_ranked a b _ refl) e
+  where
+    by : (r : Ordering) → MatchOrdering r (a <ℤ b) (a ≡ b) (b <ℤ a) → is_eq r ≡ true → a ≡ b
+    by Less lt e = absurd (false≢true e)
+    by Equal same e = same
+    by Greater lt e = absurd (false≢true e)
+
+pub is_itself : (a : ℤ) → int_eq a a ≡ true
+is_itself a = by (int_cmp a a) (int_ranked a a _ refl)
+  where
+    by : (r : Ordering) → MatchOrdering r (a <ℤ a) (a ≡ a) (a <ℤ a) → is_eq r ≡ true
+    by Less lt = absurd (omega (arith, ints, lt))
+    by Equal same = refl
+    by Greater lt = absurd (omega (arith, ints, lt))
+
+-- ---- one job, by what comes next of it
+
+module _ {T : Type 0} (runs : Zone → ℤ → Type 0) (moment : T → Moment) (m : Moment) (whole : m.fraction ≡ 0) (calm : IsCalm m.zone) where
+  -- a run that is left comes no earlier than the next one
+  next_before : (n : Next T) → FitsNext runs moment m n → stop_of n ≡ None → (j : ℤ) → m.instant <ℤ j → runs m.zone j → InSpan Forward m.zone.reads j
+      → (i : ℤ) × (is_next_at moment i n ≡ true) × (i ≤ℤ j)
+  next_before (Run t) fits goes j after run span =
+      ((moment t).instant, is_itself (moment t).instant, omega (arith, ints, (fits.0.nearest (record { calm = calm; whole = whole })).nearest j (after, run)))
+  next_before Over fits goes j after run span = absurd (fits (record { calm = calm; whole = whole }) j span (after, run))
+  next_before (Stopped stop) fits goes j after run span = absurd (cc)
+
+module _ {J T : Type 0} (runs : J → Zone → ℤ → Type 0) (moment : T → Moment) where
+  seen_before : (w : Waiting J T) → Fits runs moment w → stop_of w.next ≡ None → IsCalm (moment w.position).zone
+      → (j : ℤ) → Seen runs (standing_of moment w) j → (i : ℤ) × (is_next_at moment i w.next ≡ true) × (i ≤ℤ j)
+  seen_before w fits goes calm j seen =
+      next_before (runs w.job) moment (moment w.position) fits.whole calm w.next fits.next goes j seen.0.0 seen.0.1 seen.1
+
+  module _ (o : Option (Waiting J T)) (fits : ∥ IfSome o (Fits runs moment) ∥₁) where
+    -- behind the first turn
+    pub behind : (k l : ℕ) (i : ℤ) → ((s : ℤ) → is_awaited_at moment s o ≡ true → (i ≤ℤ s) × (s ≡ i → k ≤ l))
+        → IfSome (option_map (standing_of moment) o) (ComesBehind runs k i l)
+    behind k l i first = behind_by o fits first
+      where
+        behind_by : (o : Option (Waiting J T)) → ∥ IfSome o (Fits runs moment) ∥₁
+            → ((s : ℤ) → is_awaited_at moment s o ≡ true → (i ≤ℤ s) × (s ≡ i → k ≤ l))
+            → IfSome (option_map (standing_of moment) o) (ComesBehind runs k i l)
+        behind_by None fits first = tt
+        behind_by (Some w) fits first = λ goes calm j seen. ∥∥₁_elim fits (hlevel props) (λ f.
+            let h = seen_before w f goes calm j seen in
+            let g = first h.0 h.1 in
+            (omega (arith, ints, g.0, h.2), λ same. g.1 (omega (arith, ints, g.0, h.2, same))))
+
+    -- where none is awaited
+    pub none_left : ((s : ℤ) → is_awaited_at moment s o ≡ false) → IfSome (option_map (standing_of moment) o) (HasNoneLeft runs)
+    none_left none = none_left_by o fits none
+      where
+        none_left_by : (o : Option (Waiting J T)) → ∥ IfSome o (Fits runs moment) ∥₁ → ((s : ℤ) → is_awaited_at moment s o ≡ false)
+            → IfSome (option_map (standing_of moment) o) (HasNoneLeft runs)
+        none_left_by None fits none = tt
+        none_left_by (Some w) fits none = λ goes calm j seen. ∥∥₁_elim fits (hlevel props) (λ f.
+            let h = seen_before w f goes calm j seen in false≢true (sym (none h.0) ∙ h.1))
+
+    -- a run that is awaited can be given
+    pub givable : (i : ℤ) → is_awaited_at moment i o ≡ true → IsSomeAnd (option_map (standing_of moment) o) (IsGivable runs i)
+    givable i at = givable_by o fits at
+      where
+        givable_next : (rs : Zone → ℤ → Type 0) (m : Moment) (n : Next T) → is_next_at moment i n ≡ true → FitsNext rs moment m n → m.fraction ≡ 0
+            → (m.instant <ℤ i) × (IsCalm m.zone → rs m.zone i)
+        givable_next rs m (Run t) at fits whole =
+            let same = same_second (moment t).instant i at in (
+              subst (λ z. m.instant <ℤ z) same fits.1,
+              λ calm. subst (λ z. rs m.zone z) same (fits.0.nearest (record { calm = calm; whole = whole })).counts.1,
+            )
+        givable_next rs m Over at fits whole = absurd (false≢true at)
+        givable_next rs m (Stopped stop) at fits whole = absurd (false≢true at)
+
+        goes_next : (n : Next T) → is_next_at moment i n ≡ true → stop_of n ≡ None
+        goes_next (Run t) at = refl
+        goes_next Over at = refl
+        goes_next (Stopped stop) at = absurd (false≢true at)
+
+        givable_by : (o : Option (Waiting J T)) → ∥ IfSome o (Fits runs moment) ∥₁ → is_awaited_at moment i o ≡ true
+            → IsSomeAnd (option_map (standing_of moment) o) (IsGivable runs i)
+        givable_by None fits at = absurd (false≢true at)
+        givable_by (Some w) fits at = record {
+          goes = goes_next w.next at;
+          after = ∥∥₁_elim fits (hlevel props) (λ f. (givable_next (runs w.job) (moment w.position) w.next at f.next f.whole).0);
+          run = λ calm. ∥∥₁_map fits (λ f. (givable_next (runs w.job) (moment w.position) w.next at f.next f.whole).1 calm);
+        }
+
+-- ---- all jobs
+
+module _ {J T : Type 0} (runs : J → Zone → ℤ → Type 0) (moment : T → Moment) (h : Held J) (jobs : ℕ → Option (Waiting J T)) (has : ℤ → ℕ → Bool)
+    (is : (id : ℕ) → h.jobs id ≡ option_map (standing_of moment) (jobs id))
+    (listed : (second : ℤ) (id : ℕ) → has second id ≡ is_awaited_at moment second (jobs id))
+    (fits : (id : ℕ) → ∥ IfSome (jobs id) (Fits runs moment) ∥₁) where
+  pub nearest : (first : Option Due) → IsFirstTurn has first → IsNearest runs h first
+  nearest (Some due) first = record {
+    givable = subst (λ o. IsSomeAnd o (IsGivable runs due.second)) (sym (is due.id))
+        (givable runs moment (jobs due.id) (fits due.id) due.second (sym (listed due.second due.id) ∙ first.0));
+    first = λ l. subst (λ o. IfSome o (ComesBehind runs due.id due.second l)) (sym (is l))
+        (behind runs moment (jobs l) (fits l) due.id l due.second (λ s at. first.1 s l (listed s l ∙ at)));
+  }
+  nearest None first = λ l. subst (λ o. IfSome o (HasNoneLeft runs)) (sym (is l))
+      (none_left runs moment (jobs l) (fits l) (λ s. sym (listed s l) ∙ first s l))
+
+-- where the nearest run comes later than now, none is due
+module _ {J : Type 0} (runs : J → Zone → ℤ → Type 0) (h : Held J) (now : ℤ) where
+  pub none_due : (due : Due) → IsFirst runs h due.id due.second → now <ℤ due.second → (l : ℕ) → IfSome (h.jobs l) (IsNotDue runs now)
+  none_due due is later l = later_than (h.jobs l) (is.first l)
+    where
+      later_than : (o : Option (Standing J)) → IfSome o (ComesBehind runs due.id due.second l) → IfSome o (IsNotDue runs now)
+      later_than None behind = tt
+      later_than (Some s) behind = λ goes calm j seen. omega (arith, ints, later, (behind goes calm j seen).0)

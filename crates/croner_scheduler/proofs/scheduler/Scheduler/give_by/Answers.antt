@@ -1,0 +1,12 @@
+use Rattle.std.proofs.Common.{refl, arith, ◌<ℤ◌}
+use Rattle.std.proofs.lemmas.Int.{ints}
+use Rattle.croner_scheduler.specs.Views.{held_of}
+use Rattle.croner_scheduler.proofs.Nearest.{none_due}
+use Rattle.croner_scheduler.proofs.scheduler.Scheduler.give_by.Goals as goal
+
+pub returns-then-due-now-clause-taken : goal.returns-then-due-now-clause-taken
+returns-then-due-now-clause-taken g c =
+    let later : c.args.now <ℤ c.args.due.second = omega (arith, ints, c.if-due-now.true) in (
+      none_due g.J.Recurring.runs (held_of g.T.CronDateTime.moment c.args.self.now) c.args.now c.args.due c.requires.nearest later,
+      record { jobs = λ id. refl; count = refl; next_id = refl },
+    )

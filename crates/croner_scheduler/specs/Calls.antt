@@ -1,0 +1,129 @@
+-- What each call of a scheduler answers, and what it holds after it. Source: this crate's documentation.
+use Rattle.std.specs.Prelude.{◌≡◌, Bool, true, ◌+◌, ◌-◌, ◌^◌, ◌≤◌, ⊤, false, ℕ, ℤ, ◌<ℤ◌, ◌≤ℤ◌, Option, None, Some, IfSome, IsSome}
+use Rattle.std.specs.Option.{IsSomeAnd}
+use Rattle.croner_base.specs.Calm.{IsCalm}
+use Rattle.croner_base.specs.Zone.{Zone, Moment}
+use Rattle.croner.specs.search.Premises.{IsSearchable}
+use Rattle.croner_scheduler.specs.declared.add.AddError.{AddError}
+use Rattle.croner_scheduler.specs.declared.add.AddError.TheVariants.{OutOfMemory, NoIdLeft, PositionNotHeld}
+use Rattle.croner_scheduler.specs.declared.skip.Skip.{Skip}
+use Rattle.croner_scheduler.specs.declared.skip.Skip.TheVariants.{Moved, Behind, NoJob, NotHeld}
+use Rattle.croner_scheduler.specs.declared.turns.Due.{Due}
+use Rattle.croner_scheduler.specs.Standing.{Standing, Held, Seen}
+
+-- both hold the same
+pub record IsSame {J : Type 0} (h h' : Held J) : Type 0 where
+  pub jobs : (id : ℕ) → h'.jobs id ≡ h.jobs id
+  pub count : h'.count ≡ h.count
+  pub next_id : h'.next_id ≡ h.next_id
+
+-- i can be given of the job: it isn't stopped, i lies after its position, and in a calm zone it is a run of it
+pub record IsGivable {J : Type 0} (runs : J → Zone → ℤ → Type 0) (i : ℤ) (s : Standing J) : Type 0 where
+  pub goes : s.stop ≡ None
+  pub after : s.position.instant <ℤ i
+  pub run : IsCalm s.position.zone → ∥ runs s.job s.position.zone i ∥₁
+
+-- a run of the job of the id l comes before i of k: earlier, or at the same instant with a lower id
+abbrev pub ComesBehind : {J : Type 0} → (J → Zone → ℤ → Type 0) → ℕ → ℤ → ℕ → Standing J → Type 0
+ComesBehind runs k i l s = s.stop ≡ None → IsCalm s.position.zone → (j : ℤ) → Seen runs s j → (i ≤ℤ j) × (j ≡ i → k ≤ l)
+
+-- i of the job k is the nearest run that is left, in calm zones, of the jobs that aren't stopped; of several at one instant that of the
+-- lowest id
+pub record IsFirst {J : Type 0} (runs : J → Zone → ℤ → Type 0) (h : Held J) (k : ℕ) (i : ℤ) : Type 0 where
+  pub givable : IsSomeAnd (h.jobs k) (IsGivable runs i)
+  pub first : (l : ℕ) → IfSome (h.jobs l) (ComesBehind runs k i l)
+
+-- no run of the job is left up to now
+abbrev pub IsNotDue : {J : Type 0} → (J → Zone → ℤ → Type 0) → ℤ → Standing J → Type 0
+IsNotDue runs now s = s.stop ≡ None → IsCalm s.position.zone → (j : ℤ) → Seen runs s j → now <ℤ j
+
+-- no run of the job is left
+abbrev pub HasNoneLeft : {J : Type 0} → (J → Zone → ℤ → Type 0) → Standing J → Type 0
+HasNoneLeft runs s = s.stop ≡ None → IsCalm s.position.zone → (j : ℤ) → ¬ (Seen runs s j)
+
+-- the moment of the nearest run that is left; none where no job has one
+abbrev pub IsNearest : {J : Type 0} → (J → Zone → ℤ → Type 0) → Held J → Option Due → Type 0
+IsNearest runs h (Some due) = IsFirst runs h due.id due.second
+IsNearest runs h None = (l : ℕ) → IfSome (h.jobs l) (HasNoneLeft runs)
+
+abbrev pub IsWakeUp : {J : Type 0} → (J → Zone → ℤ → Type 0) → Held J → Option ℤ → Type 0
+IsWakeUp runs h (Some i) = (k : ℕ) × IsFirst runs h k i
+IsWakeUp runs h None = (l : ℕ) → IfSome (h.jobs l) (HasNoneLeft runs)
+
+-- a job that stands at that second of its zone, whole; and it is stopped only where no search is promised from there
+pub record StandsAt {J : Type 0} (job : J) (zone : Zone) (i : ℤ) (s : Standing J) : Type 0 where
+  pub job_is : s.job ≡ job
+  pub zone_is : s.position.zone ≡ zone
+  pub instant : s.position.instant ≡ i
+  pub whole : s.position.fraction ≡ 0
+  pub stop : IsSome s.stop → ¬ (IsSearchable s.position)
+
+-- the position of the job k has moved to i, and nothing else has changed
+pub record IsMoved {J : Type 0} (h : Held J) (k : ℕ) (i : ℤ) (h' : Held J) : Type 0 where
+  pub moved : IfSome (h.jobs k) (λ s. IsSomeAnd (h'.jobs k) (StandsAt s.job s.position.zone i))
+  pub others : (id : ℕ) → ¬ (id ≡ k) → h'.jobs id ≡ h.jobs id
+  pub count : h'.count ≡ h.count
+  pub next_id : h'.next_id ≡ h.next_id
+
+-- the position of the job k moves on to now; or it stands there already, there is no such job, or its zone doesn't hold that second
+abbrev pub SkipsTo : {J : Type 0} → ℕ → ℤ → Held J → Held J → Skip → Type 0
+SkipsTo k now h h' Moved = IsSomeAnd (h.jobs k) (λ s. s.position.instant <ℤ now) × IsMoved h k now h'
+SkipsTo k now h h' Behind = IsSomeAnd (h.jobs k) (λ s. now ≤ℤ s.position.instant) × IsSame h h'
+SkipsTo k now h h' NoJob = (h.jobs k ≡ None) × IsSame h h'
+SkipsTo k now h h' NotHeld =
+    IsSomeAnd (h.jobs k) (λ s. (s.position.instant <ℤ now) × (s.position.zone.holds now ≡ false)) × IsSame h h'
+
+-- the job k was stopped, and was searched again from where it stands; or there is no such job, or it isn't stopped
+abbrev pub AsksAgain : {J : Type 0} → ℕ → Held J → Held J → Bool → Type 0
+AsksAgain k h h' true = IsSomeAnd (h.jobs k) (λ s. IsSome s.stop × IsMoved h k s.position.instant h')
+AsksAgain k h h' false = IfSome (h.jobs k) (λ s. s.stop ≡ None) × IsSame h h'
+
+-- the nearest run no later than now is given, and its job stands there from then on; or nothing is due
+abbrev pub TakesDue : {J : Type 0} → (J → Zone → ℤ → Type 0) → ℤ → Held J → Held J → Option Due → Type 0
+TakesDue runs now h h' (Some due) = IsFirst runs h due.id due.second × (due.second ≤ℤ now) × IsMoved h due.id due.second h'
+TakesDue runs now h h' None = ((l : ℕ) → IfSome (h.jobs l) (IsNotDue runs now)) × IsSame h h'
+
+-- the job is new under the next id, and stands at the whole second of the position
+pub record IsAdded {J : Type 0} (job : J) (position : Moment) (h h' : Held J) (id : ℕ) : Type 0 where
+  pub id_is : id ≡ h.next_id
+  pub unused : h.jobs id ≡ None
+  pub added : IsSomeAnd (h'.jobs id) (StandsAt job position.zone position.instant)
+  pub others : (other : ℕ) → ¬ (other ≡ id) → h'.jobs other ≡ h.jobs other
+  pub count : h'.count ≡ h.count + 1
+  pub next_id : h'.next_id ≡ h.next_id + 1
+
+-- why a job isn't added: for want of memory; since the last id was given away; or since the whole second of the position isn't held
+abbrev pub IsAddRefused : {J : Type 0} → Moment → Held J → AddError → Type 0
+IsAddRefused position h OutOfMemory = ⊤
+IsAddRefused position h NoIdLeft = h.next_id ≡ 2 ^ 64 - 1
+IsAddRefused position h PositionNotHeld = position.zone.holds position.instant ≡ false
+
+-- the job of a standing and its position are given back, if there was one
+abbrev pub IsGivenBack : {J T : Type 0} → (T → Moment) → Option (Standing J) → Option (J × T) → Type 0
+IsGivenBack moment (Some s) (Some given) = (given.0 ≡ s.job) × (moment given.1 ≡ s.position)
+IsGivenBack moment None None = ⊤
+IsGivenBack moment standing given = ⊥
+
+-- the job stands under the id k at the whole second of the position, and nothing else has changed
+pub record IsPut {J : Type 0} (job : J) (position : Moment) (h : Held J) (k : ℕ) (h' : Held J) : Type 0 where
+  pub put : IsSomeAnd (h'.jobs k) (StandsAt job position.zone position.instant)
+  pub others : (id : ℕ) → ¬ (id ≡ k) → h'.jobs id ≡ h.jobs id
+  pub count : h'.count ≡ h.count
+  pub next_id : h'.next_id ≡ h.next_id
+
+-- the job of the id is given back, and the other one is in its place; or there is none
+abbrev pub Replaces : {J T : Type 0} → (T → Moment) → ℕ → J → Moment → Held J → Held J → Option (J × T) → Type 0
+Replaces moment k job position h h' (Some given) = IsGivenBack moment (h.jobs k) (Some given) × IsPut job position h k h'
+Replaces moment k job position h h' None = (h.jobs k ≡ None) × IsSame h h'
+
+-- why no job is put in another's place: for want of memory, or since the whole second of the position isn't held
+abbrev pub IsPutRefused : Moment → AddError → Type 0
+IsPutRefused position OutOfMemory = ⊤
+IsPutRefused position NoIdLeft = ⊥
+IsPutRefused position PositionNotHeld = position.zone.holds position.instant ≡ false
+
+-- the job of the id is gone, if there was one, and the others stay
+pub record IsRemoved {J : Type 0} (id : ℕ) (h h' : Held J) : Type 0 where
+  pub gone : h'.jobs id ≡ None
+  pub others : (other : ℕ) → ¬ (other ≡ id) → h'.jobs other ≡ h.jobs other
+  pub next_id : h'.next_id ≡ h.next_id

@@ -1,0 +1,5 @@
+pub mod Standing
+pub mod Kept
+pub mod Views
+pub mod Calls
+pub mod Private

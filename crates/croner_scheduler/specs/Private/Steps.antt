@@ -1,0 +1,74 @@
+-- How what is kept of a job comes of its search, and changes when its next run is given. Private contracts alone cite these definitions.
+use Rattle.std.specs.Prelude.{◌≡◌, ℕ, ℤ, int_lt, Bool, false, cond, if◌then◌else◌, Option, None, Some, option_map, Result, Ok, Err, alloc_error, ⊤}
+use Rattle.std.specs.BTreeMap.{is_at}
+use Rattle.std.specs.Ordering.{nat_cmp, int_eq}
+use Rattle.std.specs.declared.alloc.AllocError.{AllocError}
+use Rattle.croner_base.specs.declared.errors.CronError.{CronError}
+use Rattle.croner_base.specs.declared.errors.CronError.TheVariants.{TimeSearchLimitExceeded, OutOfMemory}
+use Rattle.croner_base.specs.Zone.{Zone, Moment}
+use Rattle.croner_scheduler.specs.declared.waiting.Next.{Next}
+use Rattle.croner_scheduler.specs.declared.waiting.Next.TheVariants.{Run, Over, Stopped}
+use Rattle.croner_scheduler.specs.declared.waiting.Stop.TheVariants.{Refused, NotLater}
+use Rattle.croner_scheduler.specs.declared.waiting.Waiting.{Waiting}
+use Rattle.croner_scheduler.specs.Kept.{FitsNext}
+
+-- what a run that was found is to the job: its next one, if it lies after the position
+abbrev pub next_of_run : {T : Type 0} → (T → Moment) → T → T → Next T
+next_of_run moment position found = if int_lt (moment position).instant (moment found).instant then Run found else Stopped NotLater
+
+-- what a refusal is: the limit says that the job is over, any other but want of memory stops it
+abbrev pub next_of_refusal : {T : Type 0} → CronError → Result (Next T) AllocError
+next_of_refusal TimeSearchLimitExceeded = Ok Over
+next_of_refusal OutOfMemory = Err alloc_error
+next_of_refusal other = Ok (Stopped (Refused other))
+
+-- what comes next behind the next run
+abbrev pub FitsAfter : {T : Type 0} → (Zone → ℤ → Type 0) → (T → Moment) → Next T → Next T → Type 0
+FitsAfter runs moment (Run t) next = FitsNext runs moment (moment t) next
+FitsAfter runs moment other next = ⊤
+
+-- a job that has stepped to its next run
+abbrev pub position_after : {T : Type 0} → T → Next T → T
+position_after position (Run t) = t
+position_after position other = position
+
+abbrev pub advanced : {J T : Type 0} → Next T → Waiting J T → Waiting J T
+advanced next w = record { job = w.job; position = position_after w.position w.next; next = next }
+
+-- the job of one id steps, and the others stay
+abbrev pub advanced_at : {J T : Type 0} → ℕ → Next T → ℕ → Option (Waiting J T) → Option (Waiting J T)
+advanced_at id next other o = cond (is_at (nat_cmp id) other) (option_map (advanced next) o) o
+
+-- the next run is at that second
+abbrev pub is_next_at : {T : Type 0} → (T → Moment) → ℤ → Next T → Bool
+is_next_at moment second (Run t) = int_eq (moment t).instant second
+is_next_at moment second other = false
+
+abbrev pub is_awaited_at : {J T : Type 0} → (T → Moment) → ℤ → Option (Waiting J T) → Bool
+is_awaited_at moment second (Some w) = is_next_at moment second w.next
+is_awaited_at moment second None = false
+
+-- a job that was put at another position, with what comes next from there
+abbrev pub settled : {J T : Type 0} → T → Next T → Waiting J T → Waiting J T
+settled position next w = record { job = w.job; position = position; next = next }
+
+-- the job of one id is, and the others stay
+abbrev pub settled_at : {J T : Type 0} → ℕ → T → Next T → ℕ → Option (Waiting J T) → Option (Waiting J T)
+settled_at id position next other o = cond (is_at (nat_cmp id) other) (option_map (settled position next) o) o
+
+-- the job of one id that was searched again, with what comes next of it
+abbrev pub renewed : {J T : Type 0} → Next T → Waiting J T → Waiting J T
+renewed next w = record { job = w.job; position = w.position; next = next }
+
+abbrev pub renewed_at : {J T : Type 0} → ℕ → Next T → ℕ → Option (Waiting J T) → Option (Waiting J T)
+renewed_at id next other o = cond (is_at (nat_cmp id) other) (option_map (renewed next) o) o
+
+-- the job of one id has another in its place, and the others stay
+abbrev pub put_at : {J T : Type 0} → ℕ → Waiting J T → ℕ → Option (Waiting J T) → Option (Waiting J T)
+put_at id w other o = cond (is_at (nat_cmp id) other) (option_map (λ _. w) o) o
+
+-- the job and the position are those of what stood there, if something did
+abbrev pub ArePartsOf : {J T : Type 0} → Option (Waiting J T) → Option (J × T) → Type 0
+ArePartsOf (Some w) (Some parts) = (parts.0 ≡ w.job) × (parts.1 ≡ w.position)
+ArePartsOf None None = ⊤
+ArePartsOf stood parts = ⊥

@@ -1,0 +1,15 @@
+//! Jobs that recur, under ids, and which of their runs is the next to be given: a scheduler without a clock of its own.
+#![tactic(auto)]
+
+mod add;
+mod jobs;
+mod scheduler;
+mod skip;
+mod turns;
+mod waiting;
+
+pub use add::AddError;
+pub use scheduler::Scheduler;
+pub use skip::Skip;
+pub use turns::Due;
+pub use waiting::{Stop, Waiting};

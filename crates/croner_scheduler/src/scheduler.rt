@@ -1,0 +1,333 @@
+//! The scheduler.
+ghost use Rattle.std.specs.Prelude.{◌≡◌, ◌≤◌, ℕ, ℤ, false, is_some, IfSome};
+ghost use Rattle.std.specs.BTreeMap.{get};
+ghost use Rattle.std.specs.Ordering.{nat_cmp};
+ghost use Rattle.croner_scheduler.specs.Private.Turns.{has_turn};
+ghost use Rattle.croner_scheduler.specs.Kept.{Fits};
+ghost use Rattle.croner_scheduler.specs.Private.Steps.{is_awaited_at};
+
+use crate::jobs::{exchange, next_behind, renew, settle, step};
+use crate::turns::{Due, await_next, change_turn, first_turn, leave_next, leave_turn};
+use crate::waiting::{Waiting, next_of};
+use crate::{AddError, Skip};
+use croner::{Clocked, Recurring};
+use std::alloc::{AllocError, Global};
+use std::collections::{BTreeMap, BTreeSet, btree_map};
+
+/// Jobs under ids, each with the moment up to which its runs were given.
+pub struct Scheduler<J: Recurring, T: Clocked> {
+    jobs: BTreeMap<u64, Waiting<J, T>>,
+    turns: BTreeSet<(i64, u64)>,
+    next_id: u64,
+    ghost listed: { (second : ℤ) (id : ℕ) → has_turn turns second id ≡ is_awaited_at T.moment second (get nat_cmp jobs id) },
+    ghost unused: { (id : ℕ) → next_id ≤ id → is_some (get nat_cmp jobs id) ≡ false },
+    ghost fits: { (id : ℕ) → ∥ IfSome (get nat_cmp jobs id) (Fits J.runs T.moment) ∥₁ },
+}
+
+// By hand, so that a function that lets one go calls this one: its proof doesn't go through the fields at each exit.
+impl<J: Recurring + Drop, T: Clocked> Drop for Scheduler<J, T> {
+    fn drop(self) {
+        let Scheduler {
+            jobs: _,
+            turns: _,
+            next_id: _,
+        } = self;
+    }
+}
+
+impl<J: Recurring, T: Clocked> Scheduler<J, T> {
+    ghost use Rattle.std.specs.Prelude.{length, ◌<◌, ◌+◌, ◌-◌, ◌^◌, ◌↔◌, IsTrue, IfOk, IfErr, OnOk, OnErr, true, option_map, if◌then◌else◌};
+    ghost use Rattle.std.specs.BTreeMap.{is_at};
+    ghost use Rattle.std.specs.List.Sorted.{IsStrictlySortedBy};
+    ghost use Rattle.std.specs.Map.{lookup, keys_of};
+    ghost use Rattle.croner_scheduler.specs.Views.{held_of};
+    ghost use Rattle.croner_scheduler.specs.Kept.{standing_of};
+    ghost use Rattle.croner_scheduler.specs.Calls.{IsSame, IsNearest, IsWakeUp, IsMoved, TakesDue, SkipsTo, AsksAgain, IsAdded, IsAddRefused, IsGivenBack, IsPutRefused, Replaces, IsRemoved};
+
+    /// No job yet. The first id is 0.
+    pub fn new(alloc: Global) -> Scheduler<J, T>
+        ensures jobs { (id : ℕ) → (held_of T.moment result).jobs id ≡ None }
+        ensures count { (held_of T.moment result).count ≡ 0 }
+        ensures next_id { (held_of T.moment result).next_id ≡ 0 }
+    {
+        Scheduler::with_first_id(alloc, 0)
+    }
+
+    /// No job yet, with the first id: where ids that were given away before a restart are not to be used again.
+    pub fn with_first_id(alloc: Global, first_id: u64) -> Scheduler<J, T>
+        ensures jobs { (id : ℕ) → (held_of T.moment result).jobs id ≡ None }
+        ensures count { (held_of T.moment result).count ≡ 0 }
+        ensures next_id { (held_of T.moment result).next_id ≡ first_id }
+    {
+        Scheduler {
+            jobs: BTreeMap::new(alloc),
+            turns: BTreeSet::new(alloc),
+            next_id: first_id,
+        }
+    }
+
+    /// How many jobs there are.
+    pub fn len(&self) -> usize
+        ensures { result ≡ (held_of T.moment self.now).count }
+    {
+        self.jobs.len()
+    }
+
+    /// Whether there is no job.
+    pub fn is_empty(&self) -> bool
+        ensures { IsTrue result ↔ ((held_of T.moment self.now).count ≡ 0) }
+    {
+        self.jobs.is_empty()
+    }
+
+    /// The id of the job that is added next.
+    pub fn next_id(&self) -> u64
+        ensures { result ≡ (held_of T.moment self.now).next_id }
+    {
+        self.next_id
+    }
+
+    /// The job of an id, and where it stands.
+    pub fn get(&self, id: u64) -> Option<&Waiting<J, T>>
+        ensures standing { option_map (λ w. standing_of T.moment w.now) result ≡ (held_of T.moment self.now).jobs id }
+        ensures fits { IfSome result (λ w. ∥ Fits J.runs T.moment w.now ∥₁) }
+    {
+        self.jobs.get(&id)
+    }
+
+    /// The moment of the nearest run that is left: when to call [`take_due`](Scheduler::take_due) next. `None` where no job has a run left.
+    /// It makes no search.
+    pub fn next_wake_up(&self) -> Option<i64>
+        ensures { IsWakeUp J.runs (held_of T.moment self.now) result }
+    {
+        match self.nearest() {
+            Some(due) => Some(due.second),
+            None => None,
+        }
+    }
+
+    /// The nearest run no later than `now`, and its job stands there from then on; `None` where nothing is due. Of several at one instant
+    /// that of the lowest id comes first.
+    ///
+    /// The run behind it is searched first. Where that search, or the place of what it finds, lacks memory, the call is refused and
+    /// nothing has changed: the run is still due. Where the search is refused otherwise, the run is given and its job is stopped.
+    pub fn take_due(&mut self, now: i64) -> Result<Option<Due>, AllocError>
+        ensures taken { IfOk result (TakesDue J.runs now (held_of T.moment self.old) (held_of T.moment self.new)) }
+        ensures refused { OnErr result (IsSame (held_of T.moment self.old) (held_of T.moment self.new)) }
+    {
+        match self.nearest() {
+            Some(due) => self.give_by(due, now),
+            None => Ok(None),
+        }
+    }
+
+    /// Adds a job under the next id. The runs after its position are left, and none up to it. A fraction of a second is dropped.
+    ///
+    /// A job whose search is refused by its backend is added, and stopped ([`Waiting::stop`]). An error changes nothing.
+    pub fn add(&mut self, job: J, position: T) -> Result<u64, AddError>
+    where
+        J: Drop,
+        ensures added { IfOk result (IsAdded job (T.moment position) (held_of T.moment self.old) (held_of T.moment self.new)) }
+        ensures refused { IfErr result (IsAddRefused (T.moment position) (held_of T.moment self.old)) }
+        ensures same { OnErr result (IsSame (held_of T.moment self.old) (held_of T.moment self.new)) }
+    {
+        if self.next_id == u64::MAX {
+            return Err(AddError::NoIdLeft);
+        }
+        match position.at_second(position.second()) {
+            Some(whole) => {
+                let waiting = Waiting::new(job, whole)?;
+                Ok(self.keep(waiting)?)
+            }
+            None => Err(AddError::PositionNotHeld),
+        }
+    }
+
+    /// Puts another job in the place of one, under its id and with a position of its own, and gives that one with its position; `None` where
+    /// no job has the id. The runs after the position are left, and none up to it. An error changes nothing; `NoIdLeft` doesn't come.
+    pub fn replace(&mut self, id: u64, job: J, position: T) -> Result<Option<(J, T)>, AddError>
+    where
+        J: Drop,
+        ensures replaced { IfOk result (Replaces T.moment id job (T.moment position) (held_of T.moment self.old) (held_of T.moment self.new)) }
+        ensures refused { IfErr result (IsPutRefused (T.moment position)) }
+        ensures same { OnErr result (IsSame (held_of T.moment self.old) (held_of T.moment self.new)) }
+    {
+        if self.get(id).is_none() {
+            return Ok(None);
+        }
+        match position.at_second(position.second()) {
+            Some(whole) => {
+                let waiting = Waiting::new(job, whole)?;
+                Ok(self.put(id, waiting)?)
+            }
+            None => Err(AddError::PositionNotHeld),
+        }
+    }
+
+    /// Moves the position of a job on to `now`: its runs up to then are done with, and none of them is given. A position is never moved
+    /// back. Want of memory changes nothing.
+    pub fn skip_to(&mut self, id: u64, now: i64) -> Result<Skip, AllocError>
+        ensures skipped { IfOk result (SkipsTo id now (held_of T.moment self.old) (held_of T.moment self.new)) }
+        ensures same { OnErr result (IsSame (held_of T.moment self.old) (held_of T.moment self.new)) }
+    {
+        let Some(waiting) = self.jobs.get(&id) else {
+            return Ok(Skip::NoJob);
+        };
+        if now <= waiting.position.second() {
+            return Ok(Skip::Behind);
+        }
+        match waiting.position.at_second(now) {
+            Some(position) => {
+                self.stand_at(id, position)?;
+                Ok(Skip::Moved)
+            }
+            None => Ok(Skip::NotHeld),
+        }
+    }
+
+    /// Searches again after the position of a job that is stopped; whether there is such a job. It may be stopped again
+    /// ([`Waiting::stop`]). Want of memory changes nothing.
+    pub fn ask_again(&mut self, id: u64) -> Result<bool, AllocError>
+        ensures asked { IfOk result (AsksAgain id (held_of T.moment self.old) (held_of T.moment self.new)) }
+        ensures same { OnErr result (IsSame (held_of T.moment self.old) (held_of T.moment self.new)) }
+    {
+        let Some(waiting) = self.jobs.get(&id) else {
+            return Ok(false);
+        };
+        if !waiting.is_stopped() {
+            return Ok(false);
+        }
+        self.search_again(id)?;
+        Ok(true)
+    }
+
+    /// The jobs with their ids, in the order of the ids. Takes no memory; the iterator borrows the scheduler.
+    pub fn iter(&self) -> btree_map::Iter<'_, u64, Waiting<J, T>>
+        ensures jobs { (id : ℕ) → option_map (standing_of T.moment) (lookup (is_at (nat_cmp id)) result) ≡ (held_of T.moment self.now).jobs id }
+        ensures count { length result ≡ (held_of T.moment self.now).count }
+        ensures ordered { IsStrictlySortedBy nat_cmp (keys_of result) }
+    {
+        self.jobs.iter()
+    }
+
+    /// Takes out a job, and gives it with its position, so that it can be added again; `None` where no job has the id. It asks for no
+    /// memory, and the id isn't used again.
+    pub fn remove(&mut self, id: u64) -> Option<(J, T)>
+        ensures given { IsGivenBack T.moment ((held_of T.moment self.old).jobs id) result }
+        ensures removed { IsRemoved id (held_of T.moment self.old) (held_of T.moment self.new) }
+        ensures count { (held_of T.moment self.new).count + (if is_some result then 1 else 0) ≡ (held_of T.moment self.old).count }
+    {
+        match self.jobs.remove(&id) {
+            Some(waiting) => {
+                leave_next(&mut self.turns, &waiting.next, id);
+                Some(waiting.into_parts())
+            }
+            None => None,
+        }
+    }
+
+    // The nearest run that is left.
+    fn nearest(&self) -> Option<Due>
+        ensures nearest { IsNearest J.runs (held_of T.moment self.now) result }
+        ensures turn { IfSome result (λ due. has_turn self.now.turns due.second due.id ≡ true) }
+    {
+        first_turn(&self.turns)
+    }
+
+    // Gives the nearest run, if it is no later than now.
+    fn give_by(&mut self, due: Due, now: i64) -> Result<Option<Due>, AllocError>
+        requires nearest { IsNearest J.runs (held_of T.moment self.old) (Some due) }
+        requires turn { has_turn self.old.turns due.second due.id ≡ true }
+        ensures taken { IfOk result (TakesDue J.runs now (held_of T.moment self.old) (held_of T.moment self.new)) }
+        ensures refused { OnErr result (IsSame (held_of T.moment self.old) (held_of T.moment self.new)) }
+    {
+        if due.second > now {
+            return Ok(None);
+        }
+        self.give(due)?;
+        Ok(Some(due))
+    }
+
+    // Gives the run of a turn: its job stands there from then on.
+    fn give(&mut self, due: Due) -> Result<(), AllocError>
+        requires { has_turn self.old.turns due.second due.id ≡ true }
+        ensures given { OnOk result (IsMoved (held_of T.moment self.old) due.id due.second (held_of T.moment self.new)) }
+        ensures refused { OnErr result (IsSame (held_of T.moment self.old) (held_of T.moment self.new)) }
+    {
+        let next = next_behind(&self.jobs, due.id)?;
+        await_next(&mut self.turns, &next, due.id)?;
+        leave_turn(&mut self.turns, due.second, due.id);
+        step(&mut self.jobs, due.id, next);
+        Ok(())
+    }
+
+    // Puts another job in the place of one.
+    fn put(&mut self, id: u64, other: Waiting<J, T>) -> Result<Option<(J, T)>, AllocError>
+    where
+        J: Drop,
+        requires { Fits J.runs T.moment other }
+        ensures replaced { IfOk result (Replaces T.moment id other.job (T.moment other.position) (held_of T.moment self.old) (held_of T.moment self.new)) }
+        ensures same { OnErr result (IsSame (held_of T.moment self.old) (held_of T.moment self.new)) }
+    {
+        let Some(waiting) = self.jobs.get(&id) else {
+            return Ok(None);
+        };
+        change_turn(&mut self.turns, &waiting.next, &other.next, id)?;
+        Ok(exchange(&mut self.jobs, id, other))
+    }
+
+    // Puts a job at another position.
+    fn stand_at(&mut self, id: u64, position: T) -> Result<(), AllocError>
+        requires { (T.moment position).fraction ≡ 0 }
+        ensures moved { OnOk result (IfSome ((held_of T.moment self.old).jobs id) (λ s. (T.moment position).zone ≡ s.position.zone
+            → IsMoved (held_of T.moment self.old) id (T.moment position).instant (held_of T.moment self.new))) }
+        ensures same { OnErr result (IsSame (held_of T.moment self.old) (held_of T.moment self.new)) }
+    {
+        let Some(waiting) = self.jobs.get(&id) else {
+            return Ok(());
+        };
+        let next = next_of(&waiting.job, &position)?;
+        change_turn(&mut self.turns, &waiting.next, &next, id)?;
+        settle(&mut self.jobs, id, position, next);
+        Ok(())
+    }
+
+    // Searches a job again from where it stands.
+    fn search_again(&mut self, id: u64) -> Result<(), AllocError>
+        ensures moved { OnOk result (IfSome ((held_of T.moment self.old).jobs id) (λ s.
+            IsMoved (held_of T.moment self.old) id s.position.instant (held_of T.moment self.new))) }
+        ensures same { OnErr result (IsSame (held_of T.moment self.old) (held_of T.moment self.new)) }
+    {
+        let Some(waiting) = self.jobs.get(&id) else {
+            return Ok(());
+        };
+        let next = next_of(&waiting.job, &waiting.position)?;
+        change_turn(&mut self.turns, &waiting.next, &next, id)?;
+        renew(&mut self.jobs, id, next);
+        Ok(())
+    }
+
+    // Keeps a job under the next id.
+    fn keep(&mut self, waiting: Waiting<J, T>) -> Result<u64, AllocError>
+    where
+        J: Drop,
+        requires fits { Fits J.runs T.moment waiting }
+        requires room { self.old.next_id < 2 ^ 64 - 1 }
+        ensures added { IfOk result (IsAdded waiting.job (T.moment waiting.position) (held_of T.moment self.old) (held_of T.moment self.new)) }
+        ensures same { OnErr result (IsSame (held_of T.moment self.old) (held_of T.moment self.new)) }
+    {
+        let id = self.next_id;
+        await_next(&mut self.turns, &waiting.next, id)?;
+        match self.jobs.insert(id, waiting) {
+            Ok(_) => {
+                self.next_id = id + 1;
+                Ok(id)
+            }
+            Err(refused) => {
+                let (_, returned) = refused.value;
+                leave_next(&mut self.turns, &returned.next, id);
+                Err(AllocError)
+            }
+        }
+    }
+}

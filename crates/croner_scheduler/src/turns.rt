@@ -1,0 +1,110 @@
+//! The turns of the next runs: by their seconds, and at one second by the ids of their jobs.
+ghost use Rattle.std.specs.Prelude.{◌≡◌, ℕ, ℤ, true, false, cond, OnOk, OnErr};
+ghost use Rattle.croner_scheduler.specs.Private.Turns.{has_turn, is_turn, is_next_turn, IsFirstTurn, is_same_turn};
+
+use crate::waiting::Next;
+use croner::Clocked;
+use std::alloc::AllocError;
+use std::collections::BTreeSet;
+
+/// A run that is due: whose it is, and when.
+#[derive(Debug, Clone, Copy, PartialEq, Eq)]
+pub struct Due {
+    /// The id of its job.
+    pub id: u64,
+    /// Its whole second, in seconds since 1970-01-01T00:00:00 UTC; in civil time, since that date and time.
+    pub second: i64,
+}
+
+// The first turn.
+pub(crate) fn first_turn(turns: &BTreeSet<(i64, u64)>) -> Option<Due>
+    ensures { IsFirstTurn (has_turn turns.now) result }
+{
+    match turns.first() {
+        Some(turn) => Some(due_of(turn)),
+        None => None,
+    }
+}
+
+fn due_of(turn: &(i64, u64)) -> Due
+    ensures second { result.second ≡ turn.now.0 }
+    ensures id { result.id ≡ turn.now.1 }
+{
+    let (second, id) = *turn;
+    Due { id, second }
+}
+
+// Puts in the turn of what comes next of a job.
+pub(crate) fn await_next<T: Clocked>(
+    turns: &mut BTreeSet<(i64, u64)>,
+    next: &Next<T>,
+    id: u64,
+) -> Result<(), AllocError>
+    ensures added { OnOk result ((second : ℤ) (other : ℕ) → has_turn turns.new second other
+        ≡ cond (is_next_turn T.moment next.now id second other) true (has_turn turns.old second other)) }
+    ensures kept { OnErr result ((second : ℤ) (other : ℕ) → has_turn turns.new second other ≡ has_turn turns.old second other) }
+{
+    match next {
+        Next::Run(run) => add_turn(turns, run.second(), id),
+        Next::Over | Next::Stopped(_) => Ok(()),
+    }
+}
+
+// Takes out the turn of what comes next of a job.
+pub(crate) fn leave_next<T: Clocked>(turns: &mut BTreeSet<(i64, u64)>, next: &Next<T>, id: u64)
+    ensures { (second : ℤ) (other : ℕ) → has_turn turns.new second other
+        ≡ cond (is_next_turn T.moment next.now id second other) false (has_turn turns.old second other) }
+{
+    match next {
+        Next::Run(run) => leave_turn(turns, run.second(), id),
+        Next::Over | Next::Stopped(_) => {}
+    }
+}
+
+// Puts the turn of what comes next of a job in the place of that of what came next before.
+#[tactic(auto, using(crate::proofs::Puts::taken_behind, crate::proofs::Puts::kept_turn))]
+pub(crate) fn change_turn<T: Clocked>(
+    turns: &mut BTreeSet<(i64, u64)>,
+    old: &Next<T>,
+    next: &Next<T>,
+    id: u64,
+) -> Result<(), AllocError>
+    ensures changed { OnOk result ((second : ℤ) (other : ℕ) → has_turn turns.new second other
+        ≡ cond (is_next_turn T.moment next.now id second other) true
+        (cond (is_next_turn T.moment old.now id second other) false (has_turn turns.old second other))) }
+    ensures kept { OnErr result ((second : ℤ) (other : ℕ) → has_turn turns.new second other ≡ has_turn turns.old second other) }
+{
+    await_next(turns, next, id)?;
+    if is_same_turn(old, next) {
+        return Ok(());
+    }
+    leave_next(turns, old, id);
+    Ok(())
+}
+
+// Whether two next runs are at one second.
+fn is_same_turn<T: Clocked>(old: &Next<T>, next: &Next<T>) -> bool
+    ensures { result ≡ is_same_turn T.moment old.now next.now }
+{
+    match (old, next) {
+        (Next::Run(a), Next::Run(b)) => a.second() == b.second(),
+        _ => false,
+    }
+}
+
+fn add_turn(turns: &mut BTreeSet<(i64, u64)>, second: i64, id: u64) -> Result<(), AllocError>
+    ensures added { OnOk result ((at : ℤ) (other : ℕ) → has_turn turns.new at other
+        ≡ cond (is_turn second id at other) true (has_turn turns.old at other)) }
+    ensures kept { OnErr result ((at : ℤ) (other : ℕ) → has_turn turns.new at other ≡ has_turn turns.old at other) }
+{
+    turns.insert((second, id))?;
+    Ok(())
+}
+
+// Takes out a turn.
+pub(crate) fn leave_turn(turns: &mut BTreeSet<(i64, u64)>, second: i64, id: u64)
+    ensures { (at : ℤ) (other : ℕ) → has_turn turns.new at other
+        ≡ cond (is_turn second id at other) false (has_turn turns.old at other) }
+{
+    turns.remove(&(second, id));
+}

@@ -1,0 +1,191 @@
+//! A job with its position, and what comes next of it.
+ghost use Rattle.std.specs.Prelude.{◌≡◌, is_some, option_map, IfOk};
+ghost use Rattle.croner_scheduler.specs.Kept.{standing_of, stop_of, run_of, FitsNext, Fits};
+ghost use Rattle.croner_scheduler.specs.Private.Steps.{next_of_run, next_of_refusal, FitsAfter, advanced, settled, renewed};
+
+use croner::errors::CronError;
+use croner::{Clocked, Recurring};
+use std::alloc::AllocError;
+use std::mem;
+
+/// Why a job is stopped. It can be only where its position isn't a whole second in a calm zone around which the backend holds what
+/// a search needs.
+#[derive(Debug, Drop)]
+pub enum Stop {
+    /// The search after its position was refused by its backend.
+    Refused(CronError),
+    /// The run that the search found isn't later than the position.
+    NotLater,
+}
+
+/// What comes next of a job.
+#[derive(Debug, Drop)]
+pub(crate) enum Next<T> {
+    // A run.
+    Run(T),
+    // No run in the searched years.
+    Over,
+    // Nothing, since no run could be found.
+    Stopped(Stop),
+}
+
+/// A job in a scheduler, and where it stands.
+#[derive(Drop)]
+pub struct Waiting<J, T> {
+    pub(crate) job: J,
+    pub(crate) position: T,
+    pub(crate) next: Next<T>,
+}
+
+impl<J, T> Waiting<J, T> {
+    /// The job.
+    pub fn job(&self) -> &J
+        ensures { result.now ≡ self.now.job }
+    {
+        &self.job
+    }
+
+    /// The moment up to which its runs are done with, a whole second of its zone: where it was added, or the last run that was given.
+    pub fn position(&self) -> &T
+        ensures { result.now ≡ self.now.position }
+    {
+        &self.position
+    }
+
+    /// The run that is given next; none where no run is left in the searched years, and where the job is stopped.
+    pub fn next_run(&self) -> Option<&T>
+        ensures { option_map (λ t. t.now) result ≡ run_of self.now.next }
+    {
+        match &self.next {
+            Next::Run(run) => Some(run),
+            Next::Over | Next::Stopped(_) => None,
+        }
+    }
+
+    /// Why it is stopped; none where it isn't. A job that is stopped gives no run.
+    pub fn stop(&self) -> Option<&Stop>
+        ensures { option_map (λ stop. stop.now) result ≡ stop_of self.now.next }
+    {
+        match &self.next {
+            Next::Stopped(stop) => Some(stop),
+            Next::Run(_) | Next::Over => None,
+        }
+    }
+
+    // Steps to its next run.
+    pub(crate) fn advance(&mut self, next: Next<T>)
+    where
+        T: Drop,
+        ensures { self.new ≡ advanced next self.old }
+    {
+        if let Next::Run(run) = mem::replace(&mut self.next, next) {
+            self.position = run;
+        }
+    }
+
+    // Stands at another position.
+    pub(crate) fn settle(&mut self, position: T, next: Next<T>)
+    where
+        T: Drop,
+        ensures { self.new ≡ settled position next self.old }
+    {
+        self.position = position;
+        self.next = next;
+    }
+
+    // Has another run next.
+    pub(crate) fn renew(&mut self, next: Next<T>)
+    where
+        T: Drop,
+        ensures { self.new ≡ renewed next self.old }
+    {
+        self.next = next;
+    }
+
+    // Whether it is stopped.
+    pub(crate) fn is_stopped(&self) -> bool
+        ensures { result ≡ is_some (stop_of self.now.next) }
+    {
+        self.stop().is_some()
+    }
+
+    // The job and its position.
+    pub(crate) fn into_parts(self) -> (J, T)
+    where
+        T: Drop,
+        ensures job { result.0 ≡ self.job }
+        ensures position { result.1 ≡ self.position }
+    {
+        let Waiting {
+            job,
+            position,
+            next: _,
+        } = self;
+        (job, position)
+    }
+}
+
+impl<J: Recurring, T: Clocked> Waiting<J, T> {
+    // A job that stands at a whole second.
+    pub(crate) fn new(job: J, position: T) -> Result<Waiting<J, T>, AllocError>
+    where
+        J: Drop,
+        requires { (T.moment position).fraction ≡ 0 }
+        ensures job { IfOk result (λ w. w.job ≡ job) }
+        ensures position { IfOk result (λ w. w.position ≡ position) }
+        ensures fits { IfOk result (Fits J.runs T.moment) }
+    {
+        let next = next_of(&job, &position)?;
+        Ok(Waiting {
+            job,
+            position,
+            next,
+        })
+    }
+
+    // What comes next behind its next run.
+    pub(crate) fn next_behind(&self) -> Result<Next<T>, AllocError>
+        ensures { IfOk result (FitsAfter (J.runs self.now.job) T.moment self.now.next) }
+    {
+        match &self.next {
+            Next::Run(run) => next_of(&self.job, run),
+            Next::Over | Next::Stopped(_) => Ok(Next::Over),
+        }
+    }
+}
+
+// What comes next of a job from a position.
+#[tactic(auto, using(crate::proofs::NextRuns::fits_found, crate::proofs::NextRuns::fits_refused))]
+pub(crate) fn next_of<J: Recurring, T: Clocked>(
+    job: &J,
+    position: &T,
+) -> Result<Next<T>, AllocError>
+    ensures { IfOk result (FitsNext (J.runs job.now) T.moment (T.moment position.now)) }
+{
+    match job.next_after(position) {
+        Ok(found) => Ok(next_of_run(position, found)),
+        Err(refusal) => next_of_refusal(refusal),
+    }
+}
+
+// What a run that was found is.
+fn next_of_run<T: Clocked>(position: &T, found: T) -> Next<T>
+    ensures { result ≡ next_of_run T.moment position.now found }
+{
+    if position.second() < found.second() {
+        Next::Run(found)
+    } else {
+        Next::Stopped(Stop::NotLater)
+    }
+}
+
+// What a refusal is.
+fn next_of_refusal<T>(refusal: CronError) -> Result<Next<T>, AllocError>
+    ensures { result ≡ next_of_refusal refusal }
+{
+    match refusal {
+        CronError::TimeSearchLimitExceeded => Ok(Next::Over),
+        CronError::OutOfMemory => Err(AllocError),
+        refused => Ok(Next::Stopped(Stop::Refused(refused))),
+    }
+}
