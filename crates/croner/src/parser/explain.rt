@@ -5,12 +5,14 @@ ghost use Rattle.croner_pattern.specs.Meaning.{Meaning};
 ghost use Rattle.croner.specs.parser.Gives.{Fails};
 ghost use Rattle.croner.specs.Private.parser.Steps.{refusal_of};
 
+use super::CronParser;
+use super::counts::most_fields;
 use super::escapes::found_at;
 use super::fault::{Expected, Hint, PatternFault};
+use super::pieces::words_of;
 use super::place::fault_at;
-use super::second_reading::{accepted_counts, find_fault};
+use super::second_reading::find_fault;
 use super::stop::{Cause, Stop};
-use super::{CronParser, Seconds, Year};
 use croner_base::errors::CronError;
 use std::alloc::{AllocError, Global};
 
@@ -51,8 +53,10 @@ impl CronParser {
     ) -> Result<Option<PatternFault>, AllocError>
         ensures { IfOk result (λ o. IfSome o (λ f. IsFault self.now text.now (refusal_of cause) f)) }
     {
-        let found = find_fault(alloc, self, text, cause)?;
-        fault_at(alloc, self, text, cause, found)
+        let words = words_of(alloc, text)?;
+        let words = words.as_slice();
+        let found = find_fault(alloc, self, text, words, cause)?;
+        fault_at(alloc, self, text, words, cause, found)
     }
 
     /// The error of a text that is refused for this cause, with its message.
@@ -96,14 +100,7 @@ fn repeated(text: &str, fault: &PatternFault) -> (usize, usize) {
             seconds,
             year,
             ..
-        } if !is_too_many(found, seconds, year) => (0, text.len()),
+        } if found <= most_fields(seconds, year) => (0, text.len()),
         _ => (fault.start, fault.end),
-    }
-}
-
-fn is_too_many(found: usize, seconds: Seconds, year: Year) -> bool {
-    match accepted_counts(seconds, year) {
-        Some((_, most)) => found > most,
-        None => false,
     }
 }
