@@ -1,6 +1,6 @@
 //! Why a text is refused: the fault as data, and the message that is made of it.
 
-ghost use Rattle.std.specs.Prelude.{Err};
+ghost use Rattle.std.specs.Prelude.{◌≡◌, Err, Ok};
 ghost use Rattle.croner_pattern.specs.Meaning.{Meaning};
 ghost use Rattle.croner.specs.parser.Gives.{Fails};
 ghost use Rattle.croner.specs.Private.parser.Steps.{refusal_of};
@@ -13,12 +13,15 @@ use super::pieces::words_of;
 use super::place::fault_at;
 use super::second_reading::find_fault;
 use super::stop::{Cause, Stop};
+use crate::job::Cron;
 use croner_base::errors::CronError;
 use std::alloc::{AllocError, Global};
 
 impl CronParser {
-    ghost use Rattle.std.specs.Prelude.{IfOk, IfSome};
+    ghost use Rattle.std.specs.Prelude.{IfErr, IfOk, IfSome};
     ghost use Rattle.croner.specs.parser.Faults.{Explains, IsFault};
+    ghost use Rattle.croner.specs.parser.Grammar.{Refusal, outcome};
+    ghost use Rattle.croner.specs.Views.{job_of};
 
     /// Why a text is refused; nothing where [`CronParser::parse`] accepts it.
     ///
@@ -34,13 +37,40 @@ impl CronParser {
     pub fn explain(&self, alloc: Global, text: &str) -> Result<Option<PatternFault>, CronError>
         ensures { Explains self.now text.now result }
     {
+        match self.parse_or_explain(alloc, text) {
+            Ok(Ok(_job)) => Ok(None),
+            Ok(Err(fault)) => Ok(Some(fault)),
+            Err(AllocError) => Err(CronError::OutOfMemory),
+        }
+    }
+
+    /// Reads a pattern, or says why it is refused: the job that [`CronParser::parse`] gives of a text that it accepts, and else the
+    /// fault that [`CronParser::explain`] gives.
+    ///
+    /// A text is read once, where the two calls would read it twice. The only error is want of memory.
+    ///
+    /// ```
+    /// let parser = CronParser::new();
+    /// match parser.parse_or_explain(alloc, "0 9 * * MONDAY")? {
+    ///     Ok(job) => schedule(job)?,
+    ///     Err(fault) => mark(fault.start, fault.end)?, // the letter at byte 11
+    /// }
+    /// ```
+    pub fn parse_or_explain(
+        &self,
+        alloc: Global,
+        text: &str,
+    ) -> Result<Result<Cron, PatternFault>, AllocError>
+        ensures job { IfOk result (λ r. IfOk r (λ job. outcome self.now text.now ≡ Ok (job_of job))) }
+        ensures fault { IfOk result (λ r. IfErr r (λ f. (refusal : Refusal) × (outcome self.now text.now ≡ Err refusal) × IsFault self.now text.now refusal f)) }
+    {
         match self.parse_text(alloc, text) {
-            Ok(_pattern) => Ok(None),
+            Ok(pattern) => Ok(Ok(Cron { pattern })),
             Err(Stop::Refused(cause)) => match self.fault_of(alloc, text, cause)? {
-                Some(fault) => Ok(Some(fault)),
-                None => Err(CronError::OutOfMemory),
+                Some(fault) => Ok(Err(fault)),
+                None => Err(AllocError),
             },
-            Err(Stop::OutOfMemory) => Err(CronError::OutOfMemory),
+            Err(Stop::OutOfMemory) => Err(AllocError),
         }
     }
 
