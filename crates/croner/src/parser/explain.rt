@@ -28,7 +28,8 @@ impl CronParser {
     /// The fault has the kind of `parse`'s refusal and a place in the text as it is handed in, in bytes from 0 on bounds of
     /// characters: the first illegal character of a field, a piece of the first part of a field's list that can't be read, or
     /// the whole word at which a count is wrong. It names the field, but for a wrong count and a text with `@`; the place in such
-    /// a text has an `@`. The only error is `OutOfMemory`.
+    /// a text has an `@`. The only error is `OutOfMemory`, where memory runs out. It would come too if the place that was found
+    /// failed its test, and no text is known for which it does.
     ///
     /// ```
     /// let parser = CronParser::new();
@@ -47,7 +48,7 @@ impl CronParser {
     /// Reads a pattern, or says why it is refused: the job that [`CronParser::parse`] gives of a text that it accepts, and else the
     /// fault that [`CronParser::explain`] gives.
     ///
-    /// A text is read once, where the two calls would read it twice. The only error is want of memory.
+    /// A text is read once, where the two calls would read it twice. The only error is want of memory, as `explain` has it.
     ///
     /// ```
     /// let parser = CronParser::new();
