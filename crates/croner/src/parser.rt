@@ -10,6 +10,7 @@ mod fault;
 mod fields;
 mod messages;
 mod part;
+mod pieces;
 mod place;
 mod prepare;
 mod read;

@@ -165,20 +165,9 @@ fn outcome_of_pattern(
 fn outcome_of_utf8(alloc: Global, parser: CronParser, text: &str) -> Result<Outcome, AllocError>
     ensures { IsUtf8 text.now → IfOk result (IsOutcomeOfPattern parser text.now) }
 {
-    match parser.parse(alloc, text) {
+    match parser.parse_or_explain(alloc, text)? {
         Ok(job) => Ok(Outcome::Job(job)),
-        Err(CronError::OutOfMemory) => Err(AllocError),
-        Err(_) => pattern_refused(alloc, parser, text),
-    }
-}
-
-// The fault of a pattern that the parser refuses. It has one, unless memory lacks.
-fn pattern_refused(alloc: Global, parser: CronParser, text: &str) -> Result<Outcome, AllocError>
-    ensures { IsUtf8 text.now → IfOk result (IsOutcomeOfPattern parser text.now) }
-{
-    match parser.explain(alloc, text) {
-        Ok(Some(fault)) => Ok(Outcome::PatternRefused(fault)),
-        Ok(None) | Err(_) => Err(AllocError),
+        Err(fault) => Ok(Outcome::PatternRefused(fault)),
     }
 }
 

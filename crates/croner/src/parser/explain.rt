@@ -1,29 +1,35 @@
 //! Why a text is refused: the fault as data, and the message that is made of it.
 
-ghost use Rattle.std.specs.Prelude.{Err};
+ghost use Rattle.std.specs.Prelude.{◌≡◌, Err, Ok};
 ghost use Rattle.croner_pattern.specs.Meaning.{Meaning};
 ghost use Rattle.croner.specs.parser.Gives.{Fails};
 ghost use Rattle.croner.specs.Private.parser.Steps.{refusal_of};
 
+use super::CronParser;
+use super::counts::most_fields;
 use super::escapes::found_at;
 use super::fault::{Expected, Hint, PatternFault};
+use super::pieces::words_of;
 use super::place::fault_at;
-use super::second_reading::{accepted_counts, find_fault};
+use super::second_reading::find_fault;
 use super::stop::{Cause, Stop};
-use super::{CronParser, Seconds, Year};
+use crate::job::Cron;
 use croner_base::errors::CronError;
 use std::alloc::{AllocError, Global};
 
 impl CronParser {
-    ghost use Rattle.std.specs.Prelude.{IfOk, IfSome};
+    ghost use Rattle.std.specs.Prelude.{IfErr, IfOk, IfSome};
     ghost use Rattle.croner.specs.parser.Faults.{Explains, IsFault};
+    ghost use Rattle.croner.specs.parser.Grammar.{Refusal, outcome};
+    ghost use Rattle.croner.specs.Views.{job_of};
 
     /// Why a text is refused; nothing where [`CronParser::parse`] accepts it.
     ///
     /// The fault has the kind of `parse`'s refusal and a place in the text as it is handed in, in bytes from 0 on bounds of
     /// characters: the first illegal character of a field, a piece of the first part of a field's list that can't be read, or
     /// the whole word at which a count is wrong. It names the field, but for a wrong count and a text with `@`; the place in such
-    /// a text has an `@`. The only error is `OutOfMemory`.
+    /// a text has an `@`. The only error is `OutOfMemory`, where memory runs out. It would come too if the place that was found
+    /// failed its test, and no text is known for which it does.
     ///
     /// ```
     /// let parser = CronParser::new();
@@ -32,13 +38,40 @@ impl CronParser {
     pub fn explain(&self, alloc: Global, text: &str) -> Result<Option<PatternFault>, CronError>
         ensures { Explains self.now text.now result }
     {
+        match self.parse_or_explain(alloc, text) {
+            Ok(Ok(_job)) => Ok(None),
+            Ok(Err(fault)) => Ok(Some(fault)),
+            Err(AllocError) => Err(CronError::OutOfMemory),
+        }
+    }
+
+    /// Reads a pattern, or says why it is refused: the job that [`CronParser::parse`] gives of a text that it accepts, and else the
+    /// fault that [`CronParser::explain`] gives.
+    ///
+    /// A text is read once, where the two calls would read it twice. The only error is want of memory, as `explain` has it.
+    ///
+    /// ```
+    /// let parser = CronParser::new();
+    /// match parser.parse_or_explain(alloc, "0 9 * * MONDAY")? {
+    ///     Ok(job) => schedule(job)?,
+    ///     Err(fault) => mark(fault.start, fault.end)?, // the letter at byte 11
+    /// }
+    /// ```
+    pub fn parse_or_explain(
+        &self,
+        alloc: Global,
+        text: &str,
+    ) -> Result<Result<Cron, PatternFault>, AllocError>
+        ensures job { IfOk result (λ r. IfOk r (λ job. outcome self.now text.now ≡ Ok (job_of job))) }
+        ensures fault { IfOk result (λ r. IfErr r (λ f. (refusal : Refusal) × (outcome self.now text.now ≡ Err refusal) × IsFault self.now text.now refusal f)) }
+    {
         match self.parse_text(alloc, text) {
-            Ok(_pattern) => Ok(None),
+            Ok(pattern) => Ok(Ok(Cron { pattern })),
             Err(Stop::Refused(cause)) => match self.fault_of(alloc, text, cause)? {
-                Some(fault) => Ok(Some(fault)),
-                None => Err(CronError::OutOfMemory),
+                Some(fault) => Ok(Err(fault)),
+                None => Err(AllocError),
             },
-            Err(Stop::OutOfMemory) => Err(CronError::OutOfMemory),
+            Err(Stop::OutOfMemory) => Err(AllocError),
         }
     }
 
@@ -51,8 +84,10 @@ impl CronParser {
     ) -> Result<Option<PatternFault>, AllocError>
         ensures { IfOk result (λ o. IfSome o (λ f. IsFault self.now text.now (refusal_of cause) f)) }
     {
-        let found = find_fault(alloc, self, text, cause)?;
-        fault_at(alloc, self, text, cause, found)
+        let words = words_of(alloc, text)?;
+        let words = words.as_slice();
+        let found = find_fault(alloc, self, text, words, cause)?;
+        fault_at(alloc, self, text, words, cause, found)
     }
 
     /// The error of a text that is refused for this cause, with its message.
@@ -96,14 +131,7 @@ fn repeated(text: &str, fault: &PatternFault) -> (usize, usize) {
             seconds,
             year,
             ..
-        } if !is_too_many(found, seconds, year) => (0, text.len()),
+        } if found <= most_fields(seconds, year) => (0, text.len()),
         _ => (fault.start, fault.end),
-    }
-}
-
-fn is_too_many(found: usize, seconds: Seconds, year: Year) -> bool {
-    match accepted_counts(seconds, year) {
-        Some((_, most)) => found > most,
-        None => false,
     }
 }

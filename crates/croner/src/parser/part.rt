@@ -1,7 +1,7 @@
 //! What is wrong in a refused part of a list, and where.
 
 use super::fault::{Expected, Hint, PatternField, Suggestion, ValueNames};
-use super::second_reading::Piece;
+use super::pieces::Piece;
 use croner_base::time::{YEAR_LOWER_LIMIT, YEAR_UPPER_LIMIT};
 
 const FIRST_YEAR: u16 = YEAR_LOWER_LIMIT as u16;

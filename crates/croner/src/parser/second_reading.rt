@@ -4,7 +4,8 @@
 use super::characters::is_legal_in;
 use super::fault::{Expected, Hint, PatternField};
 use super::part::{Part, Rules, fault_of_part};
-use super::place::Finding;
+use super::pieces::{Finding, Piece};
+use super::place::place_of_word;
 use super::prepare::{name_at, replaced};
 use super::settle::starred;
 use super::stop::{Cause, Stop};
@@ -17,29 +18,6 @@ const WORDS_WITH_SECONDS: usize = 6;
 /// How many fields every pattern has.
 const LEAST_FIELDS: usize = 5;
 
-/// A piece of a text, and the byte at which it begins there.
-#[derive(Clone, Copy)]
-pub struct Piece<'t> {
-    pub text: &'t str,
-    pub start: usize,
-}
-
-impl<'t> Piece<'t> {
-    /// The byte behind its last one.
-    pub fn end(self) -> usize {
-        self.start.saturating_add(self.text.len())
-    }
-
-    /// This place, for a fault.
-    pub fn found(self, expected: Expected) -> Finding {
-        Finding {
-            start: self.start,
-            end: self.end(),
-            expected,
-        }
-    }
-}
-
 /// The whole text, for a fault.
 fn whole(text: &str, expected: Expected) -> Finding {
     let piece = Piece { text, start: 0 };
@@ -51,10 +29,9 @@ pub fn find_fault(
     alloc: Global,
     parser: &CronParser,
     text: &str,
+    words: &[Piece<'_>],
     cause: Cause,
 ) -> Result<Finding, AllocError> {
-    let words = words_of(alloc, text)?;
-    let words = words.as_slice();
     let found = match cause {
         Cause::Empty => None,
         Cause::Invalid => Some(wrong_count(alloc, parser, text, words)?),
@@ -67,33 +44,7 @@ pub fn find_fault(
     }
 }
 
-/// The words of a text in their places.
-fn words_of<'t>(alloc: Global, text: &'t str) -> Result<Vec<Piece<'t>>, AllocError> {
-    let mut words = Vec::with_capacity(alloc, 7)?;
-    let mut from = 0;
-    for word in text.split_whitespace() {
-        let here = text.get(from..).unwrap_or("").trim_start();
-        let start = text.len().saturating_sub(here.len());
-        words.push(Piece { text: word, start })?;
-        from = start.saturating_add(word.len());
-    }
-    Ok(words)
-}
-
 // ---- counts
-
-/// The fewest and the most fields that settings accept; nothing where they accept no text.
-pub fn accepted_counts(seconds: Seconds, year: Year) -> Option<(usize, usize)> {
-    match (seconds, year) {
-        (Seconds::Optional, Year::Optional) => Some((5, 7)),
-        (Seconds::Optional, Year::Disallowed) => Some((5, 6)),
-        (Seconds::Required, Year::Optional) => Some((6, 7)),
-        (Seconds::Required, Year::Disallowed) => Some((6, 6)),
-        (Seconds::Optional | Seconds::Required, Year::Required) => Some((7, 7)),
-        (Seconds::Disallowed, Year::Required) => None,
-        (Seconds::Disallowed, Year::Optional | Year::Disallowed) => Some((5, 5)),
-    }
-}
 
 /// The first field too many, or the last word of a text of too few; the whole of a nickname.
 fn wrong_count(
@@ -102,19 +53,18 @@ fn wrong_count(
     text: &str,
     words: &[Piece<'_>],
 ) -> Result<Finding, AllocError> {
-    let (seconds, year) = (parser.seconds, parser.year);
-    let Some((_, most)) = accepted_counts(seconds, year) else {
+    let most = parser.most_fields();
+    if most == 0 {
         return Ok(whole(text, Expected::Settings));
-    };
-    let found = words.len();
+    }
     let (word, hint) = match words.get(most) {
         Some(word) => (Some(word), hint_of_many(alloc, parser, text, words, most)?),
         None => (words.last(), hint_of_few(alloc, parser, text, words)?),
     };
     let expected = Expected::Count {
-        found,
-        seconds,
-        year,
+        found: words.len(),
+        seconds: parser.seconds,
+        year: parser.year,
         hint,
     };
     match word {
@@ -359,10 +309,9 @@ fn nickname_in_fields(word: &str) -> Option<&'static str> {
 
 // ---- characters
 
-/// The word of a field, and its place among the words; nothing where the field is not written.
+/// The word of a field, and its place among the words; nothing where there is none.
 fn word_of<'t>(words: &[Piece<'t>], field: PatternField) -> Option<(usize, Piece<'t>)> {
-    let unwritten = if words.len() == LEAST_FIELDS { 1 } else { 0 };
-    let place = field.place().checked_sub(unwritten)?;
+    let place = place_of_word(field, words.len());
     let word = words.get(place)?;
     Some((place, *word))
 }
