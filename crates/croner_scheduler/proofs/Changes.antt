@@ -59,12 +59,12 @@ each id P here apart k = by (is_at (nat_cmp id) k) refl
     by false e = apart k e
 
 module _ {T : Type 0} (moment : T → Moment) where
-  turn_here : (n : Next T) (id : ℕ) (s : ℤ) → is_next_turn moment n id s id ≡ is_next_at moment s n
+  pub turn_here : (n : Next T) (id : ℕ) (s : ℤ) → is_next_turn moment n id s id ≡ is_next_at moment s n
   turn_here (Run t) id s = is_turn_here (moment t).instant s id id (own_id id)
   turn_here Over id s = refl
   turn_here (Stopped stop) id s = refl
 
-  turn_apart : (n : Next T) (id : ℕ) (s : ℤ) (k : ℕ) → is_at (nat_cmp id) k ≡ false → is_next_turn moment n id s k ≡ false
+  pub turn_apart : (n : Next T) (id : ℕ) (s : ℤ) (k : ℕ) → is_at (nat_cmp id) k ≡ false → is_next_turn moment n id s k ≡ false
   turn_apart (Run t) id s k e = is_turn_apart (moment t).instant s id k e
   turn_apart Over id s k e = refl
   turn_apart (Stopped stop) id s k e = refl
@@ -92,7 +92,7 @@ module _ {T : Type 0} (moment : T → Moment) where
   stepped_here rs second (Stopped stop) next at fits s = absurd (false≢true at)
 
 -- a job stops only where no search is promised
-stops_where : {T : Type 0} (rs : Zone → ℤ → Type 0) (moment : T → Moment) (m : Moment) (n : Next T) → FitsNext rs moment m n → IsSome (stop_of n) → ¬ (IsSearchable m)
+pub stops_where : {T : Type 0} (rs : Zone → ℤ → Type 0) (moment : T → Moment) (m : Moment) (n : Next T) → FitsNext rs moment m n → IsSome (stop_of n) → ¬ (IsSearchable m)
 stops_where rs moment m (Run t) fits stops = absurd (false≢true stops)
 stops_where rs moment m Over fits stops = absurd (false≢true stops)
 stops_where rs moment m (Stopped stop) fits stops = fits

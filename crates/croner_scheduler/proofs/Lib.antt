@@ -2,3 +2,4 @@ pub mod TurnOrder
 pub mod NextRuns
 pub mod Nearest
 pub mod Changes
+pub mod Skips

@@ -6,6 +6,8 @@ use Rattle.croner_base.specs.Zone.{Zone, Moment}
 use Rattle.croner.specs.search.Premises.{IsSearchable}
 use Rattle.croner_scheduler.specs.declared.add.AddError.{AddError}
 use Rattle.croner_scheduler.specs.declared.add.AddError.TheVariants.{OutOfMemory, NoIdLeft, PositionNotHeld}
+use Rattle.croner_scheduler.specs.declared.skip.Skip.{Skip}
+use Rattle.croner_scheduler.specs.declared.skip.Skip.TheVariants.{Moved, Behind, NoJob, NotHeld}
 use Rattle.croner_scheduler.specs.declared.turns.Due.{Due}
 use Rattle.croner_scheduler.specs.Standing.{Standing, Held, Seen}
 
@@ -62,6 +64,14 @@ pub record IsMoved {J : Type 0} (h : Held J) (k : ℕ) (i : ℤ) (h' : Held J) :
   pub others : (id : ℕ) → ¬ (id ≡ k) → h'.jobs id ≡ h.jobs id
   pub count : h'.count ≡ h.count
   pub next_id : h'.next_id ≡ h.next_id
+
+-- the position of the job k moves on to now; or it stands there already, there is no such job, or its zone doesn't hold that second
+abbrev pub SkipsTo : {J : Type 0} → ℕ → ℤ → Held J → Held J → Skip → Type 0
+SkipsTo k now h h' Moved = IsSomeAnd (h.jobs k) (λ s. s.position.instant <ℤ now) × IsMoved h k now h'
+SkipsTo k now h h' Behind = IsSomeAnd (h.jobs k) (λ s. now ≤ℤ s.position.instant) × IsSame h h'
+SkipsTo k now h h' NoJob = (h.jobs k ≡ None) × IsSame h h'
+SkipsTo k now h h' NotHeld =
+    IsSomeAnd (h.jobs k) (λ s. (s.position.instant <ℤ now) × (s.position.zone.holds now ≡ false)) × IsSame h h'
 
 -- the nearest run no later than now is given, and its job stands there from then on; or nothing is due
 abbrev pub TakesDue : {J : Type 0} → (J → Zone → ℤ → Type 0) → ℤ → Held J → Held J → Option Due → Type 0

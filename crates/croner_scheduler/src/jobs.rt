@@ -2,7 +2,7 @@
 ghost use Rattle.std.specs.Prelude.{◌≡◌, ℕ, IfOk, IfSome};
 ghost use Rattle.std.specs.BTreeMap.{get, btree_map_len};
 ghost use Rattle.std.specs.Ordering.{nat_cmp};
-ghost use Rattle.croner_scheduler.specs.Private.Steps.{FitsAfter, advanced_at};
+ghost use Rattle.croner_scheduler.specs.Private.Steps.{FitsAfter, advanced_at, settled_at};
 
 use crate::waiting::{Next, Waiting};
 use croner::{Clocked, Recurring};
@@ -29,5 +29,20 @@ pub(crate) fn step<J, T: Drop>(jobs: &mut BTreeMap<u64, Waiting<J, T>>, id: u64,
 {
     if let Some(waiting) = jobs.get_mut(&id) {
         waiting.advance(next);
+    }
+}
+
+// One job is put at another position.
+pub(crate) fn settle<J, T: Drop>(
+    jobs: &mut BTreeMap<u64, Waiting<J, T>>,
+    id: u64,
+    position: T,
+    next: Next<T>,
+)
+    ensures jobs { (other : ℕ) → get nat_cmp jobs.new other ≡ settled_at id position next other (get nat_cmp jobs.old other) }
+    ensures count { btree_map_len jobs.new ≡ btree_map_len jobs.old }
+{
+    if let Some(waiting) = jobs.get_mut(&id) {
+        waiting.settle(position, next);
     }
 }

@@ -4,10 +4,12 @@
 mod add;
 mod jobs;
 mod scheduler;
+mod skip;
 mod turns;
 mod waiting;
 
 pub use add::AddError;
 pub use scheduler::Scheduler;
+pub use skip::Skip;
 pub use turns::Due;
 pub use waiting::{Stop, Waiting};

@@ -6,13 +6,13 @@ ghost use Rattle.croner_scheduler.specs.Private.Turns.{has_turn};
 ghost use Rattle.croner_scheduler.specs.Kept.{Fits};
 ghost use Rattle.croner_scheduler.specs.Private.Steps.{is_awaited_at};
 
-use crate::AddError;
-use crate::jobs::{next_behind, step};
-use crate::turns::{Due, await_next, first_turn, leave_next, leave_turn};
-use crate::waiting::{Next, Waiting};
+use crate::jobs::{next_behind, settle, step};
+use crate::turns::{Due, await_next, change_turn, first_turn, leave_next, leave_turn};
+use crate::waiting::{Waiting, next_of};
+use crate::{AddError, Skip};
 use croner::{Clocked, Recurring};
 use std::alloc::{AllocError, Global};
-use std::collections::{BTreeMap, BTreeSet};
+use std::collections::{BTreeMap, BTreeSet, btree_map};
 
 /// Jobs under ids, each with the moment up to which its runs were given.
 pub struct Scheduler<J: Recurring, T: Clocked> {
@@ -36,11 +36,13 @@ impl<J: Recurring + Drop, T: Clocked> Drop for Scheduler<J, T> {
 }
 
 impl<J: Recurring, T: Clocked> Scheduler<J, T> {
-    ghost use Rattle.std.specs.Prelude.{◌<◌, ◌+◌, ◌-◌, ◌^◌, ◌↔◌, IsTrue, IfOk, IfErr, OnOk, OnErr, true, option_map, if◌then◌else◌};
-    ghost use Rattle.croner_scheduler.specs.Standing.{Held};
+    ghost use Rattle.std.specs.Prelude.{length, ◌<◌, ◌+◌, ◌-◌, ◌^◌, ◌↔◌, IsTrue, IfOk, IfErr, OnOk, OnErr, true, option_map, if◌then◌else◌};
+    ghost use Rattle.std.specs.BTreeMap.{is_at};
+    ghost use Rattle.std.specs.List.Sorted.{IsStrictlySortedBy};
+    ghost use Rattle.std.specs.Map.{lookup, keys_of};
     ghost use Rattle.croner_scheduler.specs.Views.{held_of};
     ghost use Rattle.croner_scheduler.specs.Kept.{standing_of};
-    ghost use Rattle.croner_scheduler.specs.Calls.{IsSame, IsNearest, IsWakeUp, IsMoved, TakesDue, IsAdded, IsAddRefused, IsGivenBack, IsRemoved};
+    ghost use Rattle.croner_scheduler.specs.Calls.{IsSame, IsNearest, IsWakeUp, IsMoved, TakesDue, SkipsTo, IsAdded, IsAddRefused, IsGivenBack, IsRemoved};
 
     /// No job yet. The first id is 0.
     pub fn new(alloc: Global) -> Scheduler<J, T>
@@ -141,6 +143,36 @@ impl<J: Recurring, T: Clocked> Scheduler<J, T> {
         }
     }
 
+    /// Moves the position of a job on to `now`: its runs up to then are done with, and none of them is given. A position is never moved
+    /// back. Want of memory changes nothing.
+    pub fn skip_to(&mut self, id: u64, now: i64) -> Result<Skip, AllocError>
+        ensures skipped { IfOk result (SkipsTo id now (held_of T.moment self.old) (held_of T.moment self.new)) }
+        ensures same { OnErr result (IsSame (held_of T.moment self.old) (held_of T.moment self.new)) }
+    {
+        let Some(waiting) = self.jobs.get(&id) else {
+            return Ok(Skip::NoJob);
+        };
+        if now <= waiting.position.second() {
+            return Ok(Skip::Behind);
+        }
+        match waiting.position.at_second(now) {
+            Some(position) => {
+                self.stand_at(id, position)?;
+                Ok(Skip::Moved)
+            }
+            None => Ok(Skip::NotHeld),
+        }
+    }
+
+    /// The jobs with their ids, in the order of the ids. Takes no memory; the iterator borrows the scheduler.
+    pub fn iter(&self) -> btree_map::Iter<'_, u64, Waiting<J, T>>
+        ensures jobs { (id : ℕ) → option_map (standing_of T.moment) (lookup (is_at (nat_cmp id)) result) ≡ (held_of T.moment self.now).jobs id }
+        ensures count { length result ≡ (held_of T.moment self.now).count }
+        ensures ordered { IsStrictlySortedBy nat_cmp (keys_of result) }
+    {
+        self.jobs.iter()
+    }
+
     /// Takes out a job, and gives it with its position, so that it can be added again; `None` where no job has the id. It asks for no
     /// memory, and the id isn't used again.
     pub fn remove(&mut self, id: u64) -> Option<(J, T)>
@@ -192,6 +224,22 @@ impl<J: Recurring, T: Clocked> Scheduler<J, T> {
         Ok(())
     }
 
+    // Puts a job at another position.
+    fn stand_at(&mut self, id: u64, position: T) -> Result<(), AllocError>
+        requires { (T.moment position).fraction ≡ 0 }
+        ensures moved { OnOk result (IfSome ((held_of T.moment self.old).jobs id) (λ s. (T.moment position).zone ≡ s.position.zone
+            → IsMoved (held_of T.moment self.old) id (T.moment position).instant (held_of T.moment self.new))) }
+        ensures same { OnErr result (IsSame (held_of T.moment self.old) (held_of T.moment self.new)) }
+    {
+        let Some(waiting) = self.jobs.get(&id) else {
+            return Ok(());
+        };
+        let next = next_of(&waiting.job, &position)?;
+        change_turn(&mut self.turns, &waiting.next, &next, id)?;
+        settle(&mut self.jobs, id, position, next);
+        Ok(())
+    }
+
     // Keeps a job under the next id.
     fn keep(&mut self, waiting: Waiting<J, T>) -> Result<u64, AllocError>
     where
@@ -209,8 +257,8 @@ impl<J: Recurring, T: Clocked> Scheduler<J, T> {
                 Ok(id)
             }
             Err(refused) => {
-                let (_, waiting) = refused.value;
-                leave_next(&mut self.turns, &waiting.next, id);
+                let (_, returned) = refused.value;
+                leave_next(&mut self.turns, &returned.next, id);
                 Err(AllocError)
             }
         }

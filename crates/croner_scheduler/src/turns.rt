@@ -1,6 +1,6 @@
 //! The turns of the next runs: by their seconds, and at one second by the ids of their jobs.
 ghost use Rattle.std.specs.Prelude.{◌≡◌, ℕ, ℤ, true, false, cond, OnOk, OnErr};
-ghost use Rattle.croner_scheduler.specs.Private.Turns.{has_turn, is_turn, is_next_turn, IsFirstTurn};
+ghost use Rattle.croner_scheduler.specs.Private.Turns.{has_turn, is_turn, is_next_turn, IsFirstTurn, is_same_turn};
 
 use crate::waiting::Next;
 use croner::Clocked;
@@ -58,6 +58,37 @@ pub(crate) fn leave_next<T: Clocked>(turns: &mut BTreeSet<(i64, u64)>, next: &Ne
     match next {
         Next::Run(run) => leave_turn(turns, run.second(), id),
         Next::Over | Next::Stopped(_) => {}
+    }
+}
+
+// Puts the turn of what comes next of a job in the place of that of what came next before.
+#[tactic(auto, using(crate::proofs::Skips::taken_behind, crate::proofs::Skips::kept_turn))]
+pub(crate) fn change_turn<T: Clocked>(
+    turns: &mut BTreeSet<(i64, u64)>,
+    old: &Next<T>,
+    next: &Next<T>,
+    id: u64,
+) -> Result<(), AllocError>
+    ensures changed { OnOk result ((second : ℤ) (other : ℕ) → has_turn turns.new second other
+        ≡ cond (is_next_turn T.moment next.now id second other) true
+        (cond (is_next_turn T.moment old.now id second other) false (has_turn turns.old second other))) }
+    ensures kept { OnErr result ((second : ℤ) (other : ℕ) → has_turn turns.new second other ≡ has_turn turns.old second other) }
+{
+    await_next(turns, next, id)?;
+    if is_same_turn(old, next) {
+        return Ok(());
+    }
+    leave_next(turns, old, id);
+    Ok(())
+}
+
+// Whether two next runs are at one second.
+fn is_same_turn<T: Clocked>(old: &Next<T>, next: &Next<T>) -> bool
+    ensures { result ≡ is_same_turn T.moment old.now next.now }
+{
+    match (old, next) {
+        (Next::Run(a), Next::Run(b)) => a.second() == b.second(),
+        _ => false,
     }
 }
 

@@ -1,7 +1,7 @@
 //! A job with its position, and what comes next of it.
 ghost use Rattle.std.specs.Prelude.{◌≡◌, option_map, IfOk};
 ghost use Rattle.croner_scheduler.specs.Kept.{standing_of, stop_of, run_of, FitsNext, Fits};
-ghost use Rattle.croner_scheduler.specs.Private.Steps.{next_of_run, next_of_refusal, FitsAfter, advanced};
+ghost use Rattle.croner_scheduler.specs.Private.Steps.{next_of_run, next_of_refusal, FitsAfter, advanced, settled};
 
 use croner::errors::CronError;
 use croner::{Clocked, Recurring};
@@ -32,8 +32,8 @@ pub(crate) enum Next<T> {
 /// A job in a scheduler, and where it stands.
 #[derive(Drop)]
 pub struct Waiting<J, T> {
-    job: J,
-    position: T,
+    pub(crate) job: J,
+    pub(crate) position: T,
     pub(crate) next: Next<T>,
 }
 
@@ -83,6 +83,16 @@ impl<J, T> Waiting<J, T> {
         }
     }
 
+    // Stands at another position.
+    pub(crate) fn settle(&mut self, position: T, next: Next<T>)
+    where
+        T: Drop,
+        ensures { self.new ≡ settled position next self.old }
+    {
+        self.position = position;
+        self.next = next;
+    }
+
     // The job and its position.
     pub(crate) fn into_parts(self) -> (J, T)
     where
@@ -130,7 +140,10 @@ impl<J: Recurring, T: Clocked> Waiting<J, T> {
 
 // What comes next of a job from a position.
 #[tactic(auto, using(crate::proofs::NextRuns::fits_found, crate::proofs::NextRuns::fits_refused))]
-fn next_of<J: Recurring, T: Clocked>(job: &J, position: &T) -> Result<Next<T>, AllocError>
+pub(crate) fn next_of<J: Recurring, T: Clocked>(
+    job: &J,
+    position: &T,
+) -> Result<Next<T>, AllocError>
     ensures { IfOk result (FitsNext (J.runs job.now) T.moment (T.moment position.now)) }
 {
     match job.next_after(position) {

@@ -47,3 +47,11 @@ is_next_at moment second other = false
 abbrev pub is_awaited_at : {J T : Type 0} → (T → Moment) → ℤ → Option (Waiting J T) → Bool
 is_awaited_at moment second (Some w) = is_next_at moment second w.next
 is_awaited_at moment second None = false
+
+-- a job that was put at another position, with what comes next from there
+abbrev pub settled : {J T : Type 0} → T → Next T → Waiting J T → Waiting J T
+settled position next w = record { job = w.job; position = position; next = next }
+
+-- the job of one id is, and the others stay
+abbrev pub settled_at : {J T : Type 0} → ℕ → T → Next T → ℕ → Option (Waiting J T) → Option (Waiting J T)
+settled_at id position next other o = cond (is_at (nat_cmp id) other) (option_map (settled position next) o) o

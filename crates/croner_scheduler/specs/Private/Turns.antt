@@ -3,7 +3,7 @@
 use Rattle.std.specs.Prelude.{◌≡◌, ◌≤◌, ℕ, ℤ, ◌≤ℤ◌, Bool, true, false, Option, None, Some}
 use Rattle.std.specs.BTreeMap.{is_at}
 use Rattle.std.specs.BTreeSet.{BTreeSet, contains}
-use Rattle.std.specs.Ordering.{nat_cmp, int_cmp, ordering_then}
+use Rattle.std.specs.Ordering.{nat_cmp, int_cmp, int_eq, ordering_then}
 use Rattle.std.specs.declared.cmp.Ordering.{Ordering}
 use Rattle.croner_base.specs.Zone.{Moment}
 use Rattle.croner_scheduler.specs.declared.turns.Due.{Due}
@@ -32,3 +32,8 @@ abbrev pub IsFirstTurn : (ℤ → ℕ → Bool) → Option Due → Type 0
 IsFirstTurn has (Some due) = (has due.second due.id ≡ true)
     × ((second : ℤ) (id : ℕ) → has second id ≡ true → (due.second ≤ℤ second) × (second ≡ due.second → due.id ≤ id))
 IsFirstTurn has None = (second : ℤ) (id : ℕ) → has second id ≡ false
+
+-- the next runs of two positions of one job are at one second
+abbrev pub is_same_turn : {T : Type 0} → (T → Moment) → Next T → Next T → Bool
+is_same_turn moment (Run a) (Run b) = int_eq (moment a).instant (moment b).instant
+is_same_turn moment old next = false

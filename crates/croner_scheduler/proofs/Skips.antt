@@ -1,0 +1,108 @@
+-- What a scheduler holds stays in order when a job is put at another position.
+use Rattle.std.proofs.Common.{◌≡◌, refl, sym, ap, ◌∙◌, subst, ℕ, ◌≤◌, ℤ, ◌<ℤ◌, Bool, true, false, cond, Option, Some, IfSome, is_some, option_map}
+use Rattle.std.proofs.lemmas.Bool.{false≢true}
+use Rattle.std.proofs.lemmas.Cmp.{int_ranked}
+use Rattle.std.proofs.lemmas.Grind.{merely}
+use Rattle.std.specs.BTreeMap.{is_at}
+use Rattle.std.specs.Ordering.{MatchOrdering, nat_cmp, int_cmp, int_eq, is_eq, ordering_then}
+use Rattle.std.specs.declared.cmp.Ordering.{Ordering}
+use Rattle.std.specs.declared.cmp.Ordering.TheVariants.{Less, Equal, Greater}
+use Rattle.croner_base.specs.Zone.{Zone, Moment}
+use Rattle.croner_scheduler.proofs.Changes.{each, own_id, turn_here, turn_apart}
+use Rattle.croner_scheduler.proofs.Nearest.{same_second, is_itself}
+use Rattle.croner_scheduler.specs.declared.waiting.Next.{Next}
+use Rattle.croner_scheduler.specs.declared.waiting.Next.TheVariants.{Run, Over, Stopped}
+use Rattle.croner_scheduler.specs.declared.waiting.Waiting.{Waiting}
+use Rattle.croner_scheduler.specs.Kept.{FitsNext, Fits}
+use Rattle.croner_scheduler.specs.Private.Steps.{settled, settled_at, is_next_at, is_awaited_at}
+use Rattle.croner_scheduler.specs.Private.Turns.{is_turn, is_next_turn, is_same_turn}
+
+turn_second : (a : ℤ) (x : ℕ) (b : ℤ) (y : ℕ) → is_turn a x b y ≡ true → a ≡ b
+turn_second a x b y e = by (int_cmp a b) (nat_cmp x y) (int_ranked a b _ refl) e
+  where
+    by : (r s : Ordering) → MatchOrdering r (a <ℤ b) (a ≡ b) (b <ℤ a) → is_eq (ordering_then r s) ≡ true → a ≡ b
+    by Less s lt e = absurd (false≢true e)
+    by Equal s same e = same
+    by Greater s lt e = absurd (false≢true e)
+
+module _ {T : Type 0} (moment : T → Moment) (id : ℕ) (s : ℤ) (k : ℕ) where
+  next_second : (a b : T) → is_next_turn moment (Run a) id s k ≡ true → is_next_turn moment (Run b) id s k ≡ true → is_same_turn moment (Run a) (Run b) ≡ true
+  next_second a b e f =
+      let x = turn_second (moment a).instant id s k e in
+      let y = turn_second (moment b).instant id s k f in
+      subst (λ z. int_eq (moment a).instant z ≡ true) (x ∙ sym y) (is_itself (moment a).instant)
+
+  apart_by : (n m : Next T) → is_same_turn moment n m ≡ false → is_next_turn moment n id s k ≡ true → is_next_turn moment m id s k ≡ true → ⊥
+  apart_by (Run a) (Run b) apart e f = false≢true (sym apart ∙ next_second a b e f)
+  apart_by (Run a) Over apart e f = false≢true f
+  apart_by (Run a) (Stopped stop) apart e f = false≢true f
+  apart_by Over m apart e f = false≢true e
+  apart_by (Stopped stop) m apart e f = false≢true e
+
+  -- the turn of the one is taken out behind that of the other, where the two differ
+  pub taken_behind : (n m : Next T) (has : Bool) → is_same_turn moment n m ≡ false
+      → cond (is_next_turn moment n id s k) false (cond (is_next_turn moment m id s k) true has)
+      ≡ cond (is_next_turn moment m id s k) true (cond (is_next_turn moment n id s k) false has)
+  taken_behind n m has apart = by (is_next_turn moment n id s k) (is_next_turn moment m id s k) (λ e f. apart_by n m apart e f)
+    where
+      by : (b d : Bool) → (b ≡ true → d ≡ true → ⊥) → cond b false (cond d true has) ≡ cond d true (cond b false has)
+      by true true never = absurd (never refl refl)
+      by true false never = refl
+      by false true never = refl
+      by false false never = refl
+
+  -- and stays where the two are one
+  pub kept_turn : (n m : Next T) (has : Bool) → is_same_turn moment n m ≡ true
+      → cond (is_next_turn moment m id s k) true has ≡ cond (is_next_turn moment m id s k) true (cond (is_next_turn moment n id s k) false has)
+  kept_turn (Run a) (Run b) has same =
+      let e : is_next_turn moment (Run a) id s k ≡ is_next_turn moment (Run b) id s k =
+      ap (λ z. is_turn z id s k) (same_second (moment a).instant (moment b).instant same) in
+      by (is_next_turn moment (Run a) id s k) (is_next_turn moment (Run b) id s k) e
+    where
+      by : (b d : Bool) → b ≡ d → cond d true has ≡ cond d true (cond b false has)
+      by true true e = refl
+      by false false e = refl
+      by true false e = absurd (false≢true (sym e))
+      by false true e = absurd (false≢true e)
+  kept_turn (Run a) Over has same = absurd (false≢true same)
+  kept_turn (Run a) (Stopped stop) has same = absurd (false≢true same)
+  kept_turn Over m has same = absurd (false≢true same)
+  kept_turn (Stopped stop) m has same = absurd (false≢true same)
+
+module _ {J T : Type 0} (runs : J → Zone → ℤ → Type 0) (moment : T → Moment) (id : ℕ) (jobs jobs' : ℕ → Option (Waiting J T)) (has : ℤ → ℕ → Bool)
+    (listed : (second : ℤ) (k : ℕ) → has second k ≡ is_awaited_at moment second (jobs k))
+    (fits : (k : ℕ) → ∥ IfSome (jobs k) (Fits runs moment) ∥₁)
+    (w : Waiting J T) (there : jobs id ≡ Some w) (position : T) (whole : (moment position).fraction ≡ 0)
+    (next : Next T) (fit : FitsNext (runs w.job) moment (moment position) next)
+    (settles : (k : ℕ) → jobs' k ≡ settled_at id position next k (jobs k)) where
+  settled_apart : (k : ℕ) → is_at (nat_cmp id) k ≡ false → jobs' k ≡ jobs k
+  settled_apart k e = settles k ∙ ap (λ b. cond b (option_map (settled position next) (jobs k)) (jobs k)) e
+
+  settled_own : jobs' id ≡ Some (settled position next w)
+  settled_own = settles id ∙ ap (λ b. cond b (option_map (settled position next) (jobs id)) (jobs id)) (own_id id) ∙ ap (option_map (settled position next)) there
+
+  pub settled_listed : (has1 : ℤ → ℕ → Bool)
+      → ((s : ℤ) (k : ℕ) → has1 s k ≡ cond (is_next_turn moment next id s k) true (cond (is_next_turn moment w.next id s k) false (has s k)))
+      → (s : ℤ) (k : ℕ) → has1 s k ≡ is_awaited_at moment s (jobs' k)
+  settled_listed has1 changed s = each id (λ k. has1 s k ≡ is_awaited_at moment s (jobs' k))
+      (changed s id ∙ ap (λ b. cond b true (cond (is_next_turn moment w.next id s id) false (has s id))) (turn_here moment next id s)
+      ∙ ap (cond (is_next_at moment s next) true) (ap (λ b. cond b false (has s id)) (turn_here moment w.next id s)
+      ∙ ap (cond (is_next_at moment s w.next) false) (listed s id ∙ ap (is_awaited_at moment s) there))
+      ∙ own (is_next_at moment s next) (is_next_at moment s w.next) ∙ sym (ap (is_awaited_at moment s) settled_own))
+      (λ k e. changed s k ∙ ap (λ b. cond b true (cond (is_next_turn moment w.next id s k) false (has s k))) (turn_apart moment next id s k e)
+      ∙ ap (λ b. cond b false (has s k)) (turn_apart moment w.next id s k e) ∙ listed s k ∙ sym (ap (is_awaited_at moment s) (settled_apart k e)))
+    where
+      own : (b d : Bool) → cond b true (cond d false d) ≡ b
+      own true d = refl
+      own false true = refl
+      own false false = refl
+
+  pub settled_unused : (next_id : ℕ) → ((k : ℕ) → next_id ≤ k → is_some (jobs k) ≡ false) → (k : ℕ) → next_id ≤ k → is_some (jobs' k) ≡ false
+  settled_unused next_id unused = each id (λ k. next_id ≤ k → is_some (jobs' k) ≡ false)
+      (λ le. absurd (false≢true (sym (unused id le) ∙ ap is_some there)))
+      (λ k e le. ap is_some (settled_apart k e) ∙ unused k le)
+
+  pub settled_fits : (k : ℕ) → ∥ IfSome (jobs' k) (Fits runs moment) ∥₁
+  settled_fits = each id (λ k. ∥ IfSome (jobs' k) (Fits runs moment) ∥₁)
+      (subst (λ o. ∥ IfSome o (Fits runs moment) ∥₁) (sym settled_own) (merely (record { whole = whole; next = fit })))
+      (λ k e. subst (λ o. ∥ IfSome o (Fits runs moment) ∥₁) (sym (settled_apart k e)) (fits k))
