@@ -2,22 +2,23 @@
 #![tactic(auto)]
 
 mod guide;
-mod many_jobs;
 mod named_job;
 mod next_run;
 mod own_pattern;
 mod own_time;
+mod scheduler;
 mod wake_ups;
 mod zones;
 
 use croner::time::table::{ClockTable, TableTime};
 use croner::{Cron, CronDateTime, CronPattern};
-use jiff::Timestamp;
+use croner_scheduler::Scheduler;
 use jiff::civil::DateTime;
-use jiff::tz::TimeZoneDatabase;
-use many_jobs::{Change, Scheduler};
+use jiff::tz::{TimeZone, TimeZoneDatabase};
+use jiff::{Timestamp, Zoned};
 use named_job::Job;
 use own_time::OfficeTime;
+use scheduler::{Task, start_due};
 
 // The next run of a job in a named zone, and the runs of a day on which that clock goes back from 3 to 2.
 fn show_in_paris(rt: &HostRuntime) -> anyhow::Result<()> {
@@ -77,37 +78,52 @@ fn show_own_time(rt: &HostRuntime) -> anyhow::Result<()> {
     Ok(())
 }
 
-// A change of a scheduler by which a job comes.
-fn added(rt: &HostRuntime, name: &str, pattern: &str) -> anyhow::Result<Change> {
+// Adds a job, whose runs after a position are started.
+fn add<'z>(
+    rt: &HostRuntime,
+    scheduler: &mut Scheduler<Task, Zoned<'z>>,
+    name: &str,
+    pattern: &str,
+    position: Zoned<'z>,
+) -> anyhow::Result<u64> {
     let cron = Cron::from_str(rt.alloc(), pattern)?;
     let name = String::from_str(rt.alloc(), name)?;
-    Ok(Change::Add { name, cron })
+    Ok(scheduler.add(Task { name, cron }, position)?)
 }
 
-// A scheduler whose jobs come and go.
-fn show_many(rt: &HostRuntime) -> anyhow::Result<()> {
-    let saturday = DateTime::new(2024, 6, 29, 12, 0, 0, 0)?;
-    let mut changes = Vec::new(rt.alloc());
-    changes.push((saturday, added(rt, "backup", "0 0 * * *")?))?;
-    changes.push((saturday, added(rt, "report", "0 0 * * MON")?))?;
-    let monday = DateTime::new(2024, 7, 1, 12, 0, 0, 0)?;
-    changes.push((monday, Change::Remove { place: 0 }))?;
-    changes.push((
-        DateTime::new(2024, 7, 10, 12, 0, 0, 0)?,
-        added(rt, "rent", "0 9 1 * *")?,
-    ))?;
-    Scheduler::new(rt.alloc(), saturday).run(rt, changes)
-}
-
-// A job that comes at 23:00 runs at 13:00 from the next day on.
-fn show_late_job(rt: &HostRuntime) -> anyhow::Result<()> {
-    let noon = DateTime::new(2024, 6, 29, 12, 0, 0, 0)?;
-    let mut scheduler = Scheduler::new(rt.alloc(), noon);
-    scheduler.change(noon, added(rt, "new year", "0 0 1 1 *")?)?;
-    let late = DateTime::new(2024, 6, 29, 23, 0, 0, 0)?;
-    scheduler.run_until(rt, &late)?;
-    scheduler.change(late, added(rt, "lunch", "0 13 * * *")?)?;
-    scheduler.run_until(rt, &DateTime::new(2024, 6, 30, 13, 0, 0, 0)?)
+// Jobs of two zones, which come and go.
+fn show_scheduler(rt: &HostRuntime) -> anyhow::Result<()> {
+    let zones = TimeZoneDatabase::from_dir(rt, "zones")?;
+    let saturday = Timestamp::new(1_719_655_200, 0)?; // 2024-06-29T12:00:00 in Paris
+    let monday = Timestamp::new(1_719_828_000, 0)?; // two days later
+    let paris = zones.get("Europe/Paris")?;
+    let mut scheduler = Scheduler::new(rt.alloc());
+    let backup = add(
+        rt,
+        &mut scheduler,
+        "backup",
+        "0 0 * * *",
+        saturday.to_zoned(paris.clone()?),
+    )?;
+    add(
+        rt,
+        &mut scheduler,
+        "report",
+        "0 9 * * MON",
+        saturday.to_zoned(TimeZone::UTC),
+    )?;
+    start_due(rt, &mut scheduler, monday.as_second())?;
+    scheduler.remove(backup);
+    add(
+        rt,
+        &mut scheduler,
+        "lunch",
+        "0 13 * * *",
+        monday.to_zoned(paris),
+    )?;
+    let next = start_due(rt, &mut scheduler, monday.as_second() + 3_600)?;
+    println!(rt; "next: {next:?}")?; // next: Some(1719918000): 13:00 of the day behind
+    Ok(())
 }
 
 // The snippets of the guide.
@@ -128,8 +144,7 @@ fn main(rt: HostRuntime) -> anyhow::Result<()> {
     show_changed(&rt, &now)?;
     show_own(&rt)?;
     show_own_time(&rt)?;
-    show_many(&rt)?;
-    show_late_job(&rt)?;
+    show_scheduler(&rt)?;
     show_guide(&rt)?;
     wake_ups::main(rt)
 }

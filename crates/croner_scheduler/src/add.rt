@@ -1,6 +1,8 @@
 //! Why a job isn't added.
 
 use std::alloc::AllocError;
+use std::error::Error;
+use std::fmt;
 
 /// Why a job isn't added.
 #[derive(Debug, Drop)]
@@ -12,6 +14,22 @@ pub enum AddError {
     /// The whole second of the position isn't held.
     PositionNotHeld,
 }
+
+/// A sentence for a person.
+impl fmt::Display for AddError {
+    fn fmt<W: fmt::Write>(&self, f: &mut fmt::Formatter<W>) -> fmt::Result {
+        match self {
+            AddError::OutOfMemory => write!(f, "Out of memory."),
+            AddError::NoIdLeft => write!(f, "The last id has been given away."),
+            AddError::PositionNotHeld => write!(
+                f,
+                "The time library doesn't hold the whole second of the position: give a later one."
+            ),
+        }
+    }
+}
+
+impl Error for AddError {}
 
 /// Want of memory.
 impl From<AllocError> for AddError {
