@@ -92,38 +92,30 @@ fn add<'z>(
 }
 
 // Jobs of two zones, which come and go.
-fn show_scheduler(rt: &HostRuntime) -> anyhow::Result<()> {
-    let zones = TimeZoneDatabase::from_dir(rt, "zones")?;
+fn start_jobs<'z>(
+    rt: &HostRuntime,
+    zones: &'z TimeZoneDatabase,
+    scheduler: &mut Scheduler<Task, Zoned<'z>>,
+) -> anyhow::Result<()> {
     let saturday = Timestamp::new(1_719_655_200, 0)?; // 2024-06-29T12:00:00 in Paris
     let monday = Timestamp::new(1_719_828_000, 0)?; // two days later
-    let paris = zones.get("Europe/Paris")?;
-    let mut scheduler = Scheduler::new(rt.alloc());
-    let backup = add(
-        rt,
-        &mut scheduler,
-        "backup",
-        "0 0 * * *",
-        saturday.to_zoned(paris.clone()?),
-    )?;
-    add(
-        rt,
-        &mut scheduler,
-        "report",
-        "0 9 * * MON",
-        saturday.to_zoned(TimeZone::UTC),
-    )?;
-    start_due(rt, &mut scheduler, monday.as_second())?;
+    let noon = saturday.to_zoned(zones.get("Europe/Paris")?);
+    let backup = add(rt, scheduler, "backup", "0 0 * * *", noon)?;
+    let noon = saturday.to_zoned(TimeZone::UTC);
+    add(rt, scheduler, "report", "0 9 * * MON", noon)?;
+    start_due(rt, scheduler, monday.as_second())?;
     scheduler.remove(backup);
-    add(
-        rt,
-        &mut scheduler,
-        "lunch",
-        "0 13 * * *",
-        monday.to_zoned(paris),
-    )?;
-    let next = start_due(rt, &mut scheduler, monday.as_second() + 3_600)?;
+    let noon = monday.to_zoned(zones.get("Europe/Paris")?);
+    add(rt, scheduler, "lunch", "0 13 * * *", noon)?;
+    let next = start_due(rt, scheduler, monday.as_second() + 3_600)?;
     println!(rt; "next: {next:?}")?; // next: Some(1719918000): 13:00 of the day behind
     Ok(())
+}
+
+fn show_scheduler(rt: &HostRuntime) -> anyhow::Result<()> {
+    let zones = TimeZoneDatabase::from_dir(rt, "zones")?;
+    let mut scheduler = Scheduler::new(rt.alloc());
+    start_jobs(rt, &zones, &mut scheduler)
 }
 
 // The snippets of the guide.
