@@ -1,6 +1,8 @@
 //! Why a job isn't added.
 
 use std::alloc::AllocError;
+use std::error::Error;
+use std::fmt;
 
 /// Why a job isn't added.
 #[derive(Debug, Drop)]
@@ -12,6 +14,24 @@ pub enum AddError {
     /// The whole second of the position isn't held.
     PositionNotHeld,
 }
+
+/// A sentence for a person.
+impl fmt::Display for AddError {
+    ghost use Rattle.std.specs.Prelude.{Some};
+    ghost use Rattle.croner_scheduler.specs.Messages.{text_of};
+
+    ghost output = { λ e. Some (text_of e) };
+
+    fn fmt<W: fmt::Write>(&self, f: &mut fmt::Formatter<W>) -> fmt::Result {
+        match self {
+            AddError::OutOfMemory => write!(f, "Out of memory."),
+            AddError::NoIdLeft => write!(f, "No id is left for another job."),
+            AddError::PositionNotHeld => write!(f, "The second of the position isn't held."),
+        }
+    }
+}
+
+impl Error for AddError {}
 
 /// Want of memory.
 impl From<AllocError> for AddError {
