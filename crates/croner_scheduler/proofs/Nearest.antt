@@ -18,9 +18,10 @@ use Rattle.croner_scheduler.specs.declared.waiting.Next.{Next}
 use Rattle.croner_scheduler.specs.declared.waiting.Next.TheVariants.{Run, Over, Stopped}
 use Rattle.croner_scheduler.specs.declared.waiting.Waiting.{Waiting}
 use Rattle.croner_scheduler.specs.Standing.{Standing, Held, Seen}
+use Rattle.croner_scheduler.specs.Awaited.{AwaitsFirst, TakesAwaited}
 use Rattle.croner_scheduler.specs.Calls.{IsGivable, ComesBehind, IsFirst, IsNotDue, HasNoneLeft, IsNearest}
 use Rattle.croner_scheduler.specs.Private.Turns.{IsFirstTurn}
-use Rattle.croner_scheduler.specs.Kept.{standing_of, stop_of, FitsNext, Fits}
+use Rattle.croner_scheduler.specs.Kept.{standing_of, stop_of, FitsNext, Fits, run_of}
 use Rattle.croner_scheduler.specs.Private.Steps.{is_next_at, is_awaited_at}
 
 pub same_second : (a b : ℤ) → int_eq a b ≡ true → a ≡ b
@@ -133,3 +134,62 @@ module _ {J : Type 0} (runs : J → Zone → ℤ → Type 0) (h : Held J) (now :
       later_than : (o : Option (Standing J)) → IfSome o (ComesBehind runs due.id due.second l) → IfSome o (IsNotDue runs now)
       later_than None behind = tt
       later_than (Some s) behind = λ goes calm j seen. omega (arith, ints, later, (behind goes calm j seen).0)
+
+-- ---- what is awaited, in every zone
+
+module _ {J T : Type 0} (moment : T → Moment) (jobs : ℕ → Option (Waiting J T)) where
+  pub awaits_first : (has : ℤ → ℕ → Bool) → ((second : ℤ) (id : ℕ) → has second id ≡ is_awaited_at moment second (jobs id))
+      → (first : Option Due) → IsFirstTurn has first → AwaitsFirst moment jobs first
+  awaits_first has listed (Some due) first =
+      (own (jobs due.id) (sym (listed due.second due.id) ∙ first.0), λ l. behind_all l (jobs l) (λ s at. first.1 s l (listed s l ∙ at)))
+    where
+      own_next : (n : Next T) → is_next_at moment due.second n ≡ true → IsSomeAnd (run_of n) (λ t. (moment t).instant ≡ due.second)
+      own_next (Run t) at = same_second (moment t).instant due.second at
+      own_next Over at = absurd (false≢true at)
+      own_next (Stopped stop) at = absurd (false≢true at)
+
+      own : (o : Option (Waiting J T)) → is_awaited_at moment due.second o ≡ true → IsSomeAnd o (λ w. IsSomeAnd (run_of w.next) (λ t. (moment t).instant ≡ due.second))
+      own None at = absurd (false≢true at)
+      own (Some w) at = own_next w.next at
+
+      behind_next : (l : ℕ) (n : Next T) → ((s : ℤ) → is_next_at moment s n ≡ true → (due.second ≤ℤ s) × (s ≡ due.second → due.id ≤ l))
+          → IfSome (run_of n) (λ t. (due.second ≤ℤ (moment t).instant) × ((moment t).instant ≡ due.second → due.id ≤ l))
+      behind_next l (Run t) first = first (moment t).instant (is_itself (moment t).instant)
+      behind_next l Over first = tt
+      behind_next l (Stopped stop) first = tt
+
+      behind_all : (l : ℕ) (o : Option (Waiting J T)) → ((s : ℤ) → is_awaited_at moment s o ≡ true → (due.second ≤ℤ s) × (s ≡ due.second → due.id ≤ l))
+          → IfSome o (λ w. IfSome (run_of w.next) (λ t. (due.second ≤ℤ (moment t).instant) × ((moment t).instant ≡ due.second → due.id ≤ l)))
+      behind_all l None first = tt
+      behind_all l (Some w) first = behind_next l w.next first
+  awaits_first has listed None none = λ l. none_in (jobs l) (λ s. sym (listed s l) ∙ none s l)
+    where
+      none_next : (n : Next T) → ((s : ℤ) → is_next_at moment s n ≡ false) → run_of n ≡ None
+      none_next (Run t) none = absurd (false≢true (sym (none (moment t).instant) ∙ is_itself (moment t).instant))
+      none_next Over none = refl
+      none_next (Stopped stop) none = refl
+
+      none_in : (o : Option (Waiting J T)) → ((s : ℤ) → is_awaited_at moment s o ≡ false) → IfSome o (λ w. run_of w.next ≡ None)
+      none_in None none = tt
+      none_in (Some w) none = none_next w.next none
+
+  -- where the first comes later than now, or there is none, each comes later
+  module _ (now : ℤ) where
+    pub awaits_later : (due : Due) → AwaitsFirst moment jobs (Some due) → now <ℤ due.second → TakesAwaited moment jobs now None
+    awaits_later due first later l = by (jobs l) (first.1 l)
+      where
+        by_run : (o : Option T) → IfSome o (λ t. (due.second ≤ℤ (moment t).instant) × ((moment t).instant ≡ due.second → due.id ≤ l)) → IfSome o (λ t. now <ℤ (moment t).instant)
+        by_run None h = tt
+        by_run (Some t) h = omega (arith, ints, later, h.0)
+
+        by : (o : Option (Waiting J T)) → IfSome o (λ w. IfSome (run_of w.next) (λ t. (due.second ≤ℤ (moment t).instant) × ((moment t).instant ≡ due.second → due.id ≤ l)))
+            → IfSome o (λ w. IfSome (run_of w.next) (λ t. now <ℤ (moment t).instant))
+        by None h = tt
+        by (Some w) h = by_run (run_of w.next) h
+
+    pub awaits_none : AwaitsFirst moment jobs None → TakesAwaited moment jobs now None
+    awaits_none none l = by (jobs l) (none l)
+      where
+        by : (o : Option (Waiting J T)) → IfSome o (λ w. run_of w.next ≡ None) → IfSome o (λ w. IfSome (run_of w.next) (λ t. now <ℤ (moment t).instant))
+        by None h = tt
+        by (Some w) h = subst (λ o. IfSome o (λ t. now <ℤ (moment t).instant)) (sym h) tt

@@ -14,7 +14,28 @@ use croner::{Clocked, Recurring};
 use std::alloc::{AllocError, Global};
 use std::collections::{BTreeMap, BTreeSet, btree_map};
 
-/// Jobs under ids, each with the moment up to which its runs were given.
+/// Jobs under ids, each with a position: the moment up to which its runs are done with.
+///
+/// It has no clock of its own, starts nothing and waits for nothing. A program asks [`next_wake_up`](Scheduler::next_wake_up) when to
+/// wake up, and then takes what is due, run by run, until nothing is. Each run that is taken moves its job's position to it, so this ends.
+/// What a clock, a crash or a restart does is up to the program: it tells the time, and may keep the positions
+/// ([`iter`](Scheduler::iter)) to add its jobs again where they stood.
+///
+/// In a calm zone ([`CronDateTime`](croner::CronDateTime) says when a zone is calm) the runs of a job are given in order, each once and
+/// none left out between, up to the end of the years that are searched. In another zone a run is given that its search found, later
+/// than the position. One job in such a zone takes nothing from the others. A job of which no run can be found is *stopped*
+/// ([`Waiting::stop`]), and one that has no run left stays and is silent.
+///
+/// Seconds are those of [`Clocked::second`]: since 1970-01-01T00:00:00 UTC, and in civil time since that date and time.
+///
+/// ```
+/// let mut scheduler = Scheduler::new(alloc);
+/// let start = DateTime::new(2024, 7, 1, 9, 0, 0, 0)?;
+/// let id = scheduler.add(Cron::from_str(alloc, "30 9 * * *")?, start)?; // 0
+/// let wake_up = scheduler.next_wake_up(); // Some(1719826200): 09:30
+/// let due = scheduler.take_due(1_719_826_200)?; // Some: the job 0, at that second
+/// let none = scheduler.take_due(1_719_826_200)?; // None
+/// ```
 pub struct Scheduler<J: Recurring, T: Clocked> {
     jobs: BTreeMap<u64, Waiting<J, T>>,
     turns: BTreeSet<(i64, u64)>,
@@ -40,7 +61,8 @@ impl<J: Recurring, T: Clocked> Scheduler<J, T> {
     ghost use Rattle.std.specs.BTreeMap.{is_at};
     ghost use Rattle.std.specs.List.Sorted.{IsStrictlySortedBy};
     ghost use Rattle.std.specs.Map.{lookup, keys_of};
-    ghost use Rattle.croner_scheduler.specs.Views.{held_of};
+    ghost use Rattle.croner_scheduler.specs.Views.{held_of, waiting_in};
+    ghost use Rattle.croner_scheduler.specs.Awaited.{AwaitsFirst, TakesAwaited, WakesFirst};
     ghost use Rattle.croner_scheduler.specs.Kept.{standing_of};
     ghost use Rattle.croner_scheduler.specs.Calls.{IsSame, IsNearest, IsWakeUp, IsMoved, TakesDue, SkipsTo, AsksAgain, IsAdded, IsAddRefused, IsGivenBack, IsPutRefused, Replaces, IsRemoved};
 
@@ -66,7 +88,7 @@ impl<J: Recurring, T: Clocked> Scheduler<J, T> {
         }
     }
 
-    /// How many jobs there are.
+    /// How many jobs there are, also those that are stopped or have no run left.
     pub fn len(&self) -> usize
         ensures { result ≡ (held_of T.moment self.now).count }
     {
@@ -95,10 +117,11 @@ impl<J: Recurring, T: Clocked> Scheduler<J, T> {
         self.jobs.get(&id)
     }
 
-    /// The moment of the nearest run that is left: when to call [`take_due`](Scheduler::take_due) next. `None` where no job has a run left.
-    /// It makes no search.
+    /// The moment of the nearest run that is left: when to call [`take_due`](Scheduler::take_due) next. `None` where no job has a run left
+    /// in the searched years, or all of these are stopped. It makes no search.
     pub fn next_wake_up(&self) -> Option<i64>
-        ensures { IsWakeUp J.runs (held_of T.moment self.now) result }
+        ensures wake_up { IsWakeUp J.runs (held_of T.moment self.now) result }
+        ensures awaited { WakesFirst T.moment (waiting_in self.now) result }
     {
         match self.nearest() {
             Some(due) => Some(due.second),
@@ -113,6 +136,7 @@ impl<J: Recurring, T: Clocked> Scheduler<J, T> {
     /// nothing has changed: the run is still due. Where the search is refused otherwise, the run is given and its job is stopped.
     pub fn take_due(&mut self, now: i64) -> Result<Option<Due>, AllocError>
         ensures taken { IfOk result (TakesDue J.runs now (held_of T.moment self.old) (held_of T.moment self.new)) }
+        ensures awaited { IfOk result (TakesAwaited T.moment (waiting_in self.old) now) }
         ensures refused { OnErr result (IsSame (held_of T.moment self.old) (held_of T.moment self.new)) }
     {
         match self.nearest() {
@@ -121,7 +145,7 @@ impl<J: Recurring, T: Clocked> Scheduler<J, T> {
         }
     }
 
-    /// Adds a job under the next id. The runs after its position are left, and none up to it. A fraction of a second is dropped.
+    /// Adds a job under the next id, which is given and isn't used again. The runs after its position are left, and none up to it. A fraction of a second is dropped.
     ///
     /// A job whose search is refused by its backend is added, and stopped ([`Waiting::stop`]). An error changes nothing.
     pub fn add(&mut self, job: J, position: T) -> Result<u64, AddError>
@@ -164,8 +188,8 @@ impl<J: Recurring, T: Clocked> Scheduler<J, T> {
         }
     }
 
-    /// Moves the position of a job on to `now`: its runs up to then are done with, and none of them is given. A position is never moved
-    /// back. Want of memory changes nothing.
+    /// Moves the position of a job on to `now`: its runs up to then are done with, and none of them is given, as after a time for which
+    /// the program didn't run. A position is never moved back. Want of memory changes nothing.
     pub fn skip_to(&mut self, id: u64, now: i64) -> Result<Skip, AllocError>
         ensures skipped { IfOk result (SkipsTo id now (held_of T.moment self.old) (held_of T.moment self.new)) }
         ensures same { OnErr result (IsSame (held_of T.moment self.old) (held_of T.moment self.new)) }
@@ -230,6 +254,7 @@ impl<J: Recurring, T: Clocked> Scheduler<J, T> {
     fn nearest(&self) -> Option<Due>
         ensures nearest { IsNearest J.runs (held_of T.moment self.now) result }
         ensures turn { IfSome result (λ due. has_turn self.now.turns due.second due.id ≡ true) }
+        ensures awaited { AwaitsFirst T.moment (waiting_in self.now) result }
     {
         first_turn(&self.turns)
     }
@@ -238,7 +263,9 @@ impl<J: Recurring, T: Clocked> Scheduler<J, T> {
     fn give_by(&mut self, due: Due, now: i64) -> Result<Option<Due>, AllocError>
         requires nearest { IsNearest J.runs (held_of T.moment self.old) (Some due) }
         requires turn { has_turn self.old.turns due.second due.id ≡ true }
+        requires awaited { AwaitsFirst T.moment (waiting_in self.old) (Some due) }
         ensures taken { IfOk result (TakesDue J.runs now (held_of T.moment self.old) (held_of T.moment self.new)) }
+        ensures awaited { IfOk result (TakesAwaited T.moment (waiting_in self.old) now) }
         ensures refused { OnErr result (IsSame (held_of T.moment self.old) (held_of T.moment self.new)) }
     {
         if due.second > now {

@@ -1,7 +1,7 @@
 use Rattle.std.proofs.Common.{refl, arith, ◌<ℤ◌}
 use Rattle.std.proofs.lemmas.Int.{ints}
-use Rattle.croner_scheduler.specs.Views.{held_of}
-use Rattle.croner_scheduler.proofs.Nearest.{none_due}
+use Rattle.croner_scheduler.specs.Views.{held_of, waiting_in}
+use Rattle.croner_scheduler.proofs.Nearest.{none_due, awaits_later}
 use Rattle.croner_scheduler.proofs.scheduler.Scheduler.give_by.Goals as goal
 
 pub returns-then-due-now-clause-taken : goal.returns-then-due-now-clause-taken
@@ -10,3 +10,8 @@ returns-then-due-now-clause-taken g c =
       none_due g.J.Recurring.runs (held_of g.T.CronDateTime.moment c.args.self.now) c.args.now c.args.due c.requires.nearest later,
       record { jobs = λ id. refl; count = refl; next_id = refl },
     )
+
+pub returns-then-due-now-clause-awaited : goal.returns-then-due-now-clause-awaited
+returns-then-due-now-clause-awaited g c =
+    let later : c.args.now <ℤ c.args.due.second = omega (arith, ints, c.if-due-now.true) in
+    awaits_later g.T.CronDateTime.moment (waiting_in c.args.self.now) c.args.now c.args.due c.requires.awaited later

@@ -1,0 +1,9 @@
+-- The texts of the errors.
+use Rattle.std.specs.Prelude.{ℕ, List, codes}
+use Rattle.croner_scheduler.specs.declared.add.AddError.{AddError}
+use Rattle.croner_scheduler.specs.declared.add.AddError.TheVariants.{OutOfMemory, NoIdLeft, PositionNotHeld}
+
+abbrev pub text_of : AddError → List ℕ
+text_of OutOfMemory = codes "Out of memory."
+text_of NoIdLeft = codes "No id is left for another job."
+text_of PositionNotHeld = codes "The second of the position isn't held."
