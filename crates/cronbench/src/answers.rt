@@ -7,7 +7,7 @@ const FACTOR: u64 = 1_000_003;
 ///
 /// Each answer is a number. The sum is 0 at first, and each answer in turn makes it `sum * 1000003 + answer`, modulo 2^64;
 /// a negative answer is added as its two's complement. So the sum depends on each answer and on their order.
-#[derive(Debug, Clone, Copy, Default, PartialEq, Eq)]
+#[derive(Clone, Copy, Default, PartialEq, Eq)]
 pub struct Answers {
     pub count: u32,
     pub sum: u64,

@@ -15,11 +15,24 @@ pub fn words(rt: &HostRuntime) -> io::Result<Vec<String>> {
     Ok(words)
 }
 
-/// How often each group is measured: the program's one word, a number above 0. None where the words are not of that form.
-pub fn rounds(words: &[String]) -> Option<u32> {
+/// What the words ask for.
+#[derive(Clone, Copy)]
+pub enum Asked {
+    /// That each group is measured so often.
+    Rounds(u32),
+    /// The answers of cases of calls that ask for memory.
+    Memory,
+}
+
+/// What the program's one word asks for: a number of rounds above 0, or `memory`. None where the words are not of that form.
+pub fn asked_by(words: &[String]) -> Option<Asked> {
     match words {
-        [] => Some(ROUNDS),
-        [rounds] => rounds.as_str().parse().ok().filter(|rounds| *rounds > 0),
+        [] => Some(Asked::Rounds(ROUNDS)),
+        [word] if word.as_str() == "memory" => Some(Asked::Memory),
+        [rounds] => {
+            let rounds = rounds.as_str().parse().ok().filter(|rounds| *rounds > 0)?;
+            Some(Asked::Rounds(rounds))
+        }
         _ => None,
     }
 }

@@ -147,7 +147,7 @@ impl Group {
             Group::NextZoned => next(jobs, times.zoned.as_slice()),
             Group::IterateCivil => iterate(jobs, times.civil.as_slice()),
             Group::IterateTable => iterate(jobs, times.table.as_slice()),
-            Group::LeapMonday => next(from_ref(&subjects.rare), times.civil.as_slice()),
+            Group::LeapMonday => next(from_ref(&subjects.single.rare), times.civil.as_slice()),
             Group::NoDate => limit(&never.no_date, &never.first),
             Group::NoDateInOddYears => limit(&never.no_date_in_odd_years, &never.first),
             Group::NoMinute => limit(&never.no_minute, &never.first),
@@ -166,13 +166,17 @@ impl Group {
         let starts = subjects.times.civil.as_slice();
         match self {
             Group::NextOfEach => many::next_each(subjects.jobs.as_slice(), starts),
-            Group::NextOfMany => many::next(&subjects.table, starts),
-            Group::IterateMany => many::iterate(&subjects.table, starts, ITEMS),
-            Group::IterateManyLater => many::iterate_later(&subjects.table, starts, watch),
-            Group::FirstOfMany => many::first(&subjects.table, starts),
-            Group::IterateDaily => many::iterate(&subjects.daily_table, starts, ITEMS),
-            Group::IterateDailyLong => many::iterate(&subjects.daily_table, starts, LONG_ITEMS),
-            Group::IterateMore => many::iterate(&subjects.larger_table, starts, ITEMS),
+            Group::NextOfMany => many::next(&subjects.tables.thousand, starts),
+            Group::IterateMany => many::iterate(&subjects.tables.thousand, starts, ITEMS),
+            Group::IterateManyLater => many::iterate_later(
+                &subjects.tables.thousand,
+                starts,
+                watch,
+            ),
+            Group::FirstOfMany => many::first(&subjects.tables.thousand, starts),
+            Group::IterateDaily => many::iterate(&subjects.tables.daily, starts, ITEMS),
+            Group::IterateDailyLong => many::iterate(&subjects.tables.daily, starts, LONG_ITEMS),
+            Group::IterateMore => many::iterate(&subjects.tables.larger, starts, ITEMS),
             _ => self.search_over_gap(subjects),
         }
     }
@@ -180,11 +184,11 @@ impl Group {
     // The searches from a second before a gap: those of every second where no other job is named, and over an hour where no
     // day is.
     fn search_over_gap(self, subjects: &Subjects<'_>) -> Result<Answers, CronError> {
-        let (each_second, times) = (from_ref(&subjects.each_second), &subjects.times);
+        let (each_second, times) = (from_ref(&subjects.single.each_second), &subjects.times);
         let before_an_hour = times.before_an_hour.as_slice();
         match self {
-            Group::HourlyOverAnHour => next(from_ref(&subjects.hourly), before_an_hour),
-            Group::OftenOverAnHour => next(from_ref(&subjects.often), before_an_hour),
+            Group::HourlyOverAnHour => next(from_ref(&subjects.single.hourly), before_an_hour),
+            Group::OftenOverAnHour => next(from_ref(&subjects.single.often), before_an_hour),
             Group::OverADay => next(each_second, times.before_a_day.as_slice()),
             _ => next(each_second, before_an_hour),
         }

@@ -3,6 +3,8 @@
 //! Its word is the number of rounds, one where there is none. Each group of calls is measured so often. Standard output
 //! has the answers' sum of each group, the same in every run; standard error has the nanoseconds of processor time of one
 //! call, in the fastest round.
+//!
+//! With the word `memory` each line of standard input is a case of calls that ask for memory, and is answered.
 #![tactic(auto)]
 
 mod answers;
@@ -11,6 +13,7 @@ mod group;
 mod hostile;
 mod many;
 mod measure;
+mod memory;
 mod paris;
 mod passes;
 mod starts;
@@ -18,8 +21,10 @@ mod subjects;
 mod watch;
 
 use croner_rows::{Result, status};
+use given::Asked;
 use group::GROUPS;
 use measure::{Measured, measure};
+use memory::answer_cases;
 use paris::Clocks;
 use std::io;
 use std::io::ErrorKind;
@@ -29,7 +34,7 @@ use subjects::Subjects;
 /// The status where the words are not of their form.
 const MISUSED: u8 = 2;
 
-const USAGE: &str = "usage: cronbench [ROUNDS] < PATTERNS";
+const USAGE: &str = "usage: cronbench [ROUNDS] < PATTERNS\n       cronbench memory < CASES";
 
 fn show(rt: &HostRuntime, group: &str, measured: Measured) -> io::Result<()> {
     let (count, sum) = (measured.answers.count, measured.answers.sum);
@@ -62,19 +67,22 @@ fn bench_on(rt: &HostRuntime, subjects: &Subjects<'_>, rounds: u32) -> Result<bo
     Ok(true)
 }
 
-// The rounds that the words ask for. None where they are not of their form.
-fn rounds(rt: &HostRuntime) -> io::Result<Option<u32>> {
+// What the words ask for. None where they are not of their form.
+fn read_words(rt: &HostRuntime) -> io::Result<Option<Asked>> {
     match given::words(rt) {
-        Ok(words) => Ok(given::rounds(words.as_slice())),
+        Ok(words) => Ok(given::asked_by(words.as_slice())),
         Err(error) if error.kind() == ErrorKind::InvalidData => Ok(None),
         Err(error) => Err(error),
     }
 }
 
 fn main(rt: HostRuntime) -> io::Result<ExitCode> {
-    let Some(rounds) = rounds(&rt)? else {
-        eprintln!(rt; "{USAGE}")?;
-        return Ok(ExitCode::from(MISUSED));
-    };
-    status(&rt, bench(&rt, rounds))
+    match read_words(&rt)? {
+        Some(Asked::Rounds(rounds)) => status(&rt, bench(&rt, rounds)),
+        Some(Asked::Memory) => status(&rt, answer_cases(&rt)),
+        None => {
+            eprintln!(rt; "{USAGE}")?;
+            Ok(ExitCode::from(MISUSED))
+        }
+    }
 }

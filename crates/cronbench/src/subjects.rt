@@ -49,20 +49,10 @@ pub struct Subjects<'t> {
     pub patterns: Vec<String>,
     /// A job for each pattern.
     pub jobs: Vec<Job>,
-    /// The table of a thousand patterns.
-    pub table: CronTable,
-    /// The table of a hundred thousand patterns.
-    pub larger_table: CronTable,
-    /// The table of which one job runs at a time.
-    pub daily_table: CronTable,
-    /// A job that runs in each second.
-    pub each_second: Job,
-    /// A job that runs at each hour.
-    pub hourly: Job,
-    /// A job that runs twelve times an hour.
-    pub often: Job,
-    /// A job that runs in few years.
-    pub rare: Job,
+    /// Tables of jobs.
+    pub tables: Tables,
+    /// Jobs that are searched by themselves.
+    pub single: Single,
     /// The jobs that never run.
     pub never: Never,
     /// The times that searches start from.
@@ -75,26 +65,16 @@ impl<'t> Subjects<'t> {
     /// Reads the patterns, and places the times on the clocks.
     pub fn new(alloc: Global, patterns: Vec<String>, clocks: &'t Clocks) -> Result<Subjects<'t>> {
         let jobs = jobs(alloc, patterns.as_slice())?;
-        let table = table_of(alloc, patterns.as_slice(), TIMES)?;
-        let larger_table = table_of(alloc, patterns.as_slice(), LARGER_TIMES)?;
-        let daily_table = daily_table(alloc)?;
-        let each_second = read(alloc, EACH_SECOND)?;
-        let hourly = read(alloc, HOURLY)?;
-        let often = read(alloc, OFTEN)?;
-        let rare = read(alloc, LEAP_MONDAY)?;
+        let tables = Tables::new(alloc, patterns.as_slice())?;
+        let single = Single::new(alloc)?;
         let never = Never::new(alloc)?;
         let hostile = Hostile::new(alloc)?;
         let times = Times::new(alloc, clocks)?;
         Ok(Subjects {
             patterns,
             jobs,
-            table,
-            larger_table,
-            daily_table,
-            each_second,
-            hourly,
-            often,
-            rare,
+            tables,
+            single,
             never,
             times,
             hostile,
@@ -102,8 +82,80 @@ impl<'t> Subjects<'t> {
     }
 }
 
+/// Tables of jobs.
+pub struct Tables {
+    /// A thousand patterns.
+    pub thousand: CronTable,
+    /// A hundred thousand patterns.
+    pub larger: CronTable,
+    /// Jobs of which one runs at a time.
+    pub daily: CronTable,
+}
+
+// By hand, as those below, so that a function that lets the value go calls this one: its proof doesn't go through the parts at each
+// exit.
+impl Drop for Tables {
+    fn drop(self) {
+        let Tables {
+            thousand: _,
+            larger: _,
+            daily: _,
+        } = self;
+    }
+}
+
+impl Tables {
+    fn new(alloc: Global, patterns: &[String]) -> Result<Tables> {
+        let thousand = table_of(alloc, patterns, TIMES)?;
+        let larger = table_of(alloc, patterns, LARGER_TIMES)?;
+        let daily = daily_table(alloc)?;
+        Ok(Tables {
+            thousand,
+            larger,
+            daily,
+        })
+    }
+}
+
+/// Jobs that are searched by themselves.
+pub struct Single {
+    /// It runs in each second.
+    pub each_second: Job,
+    /// It runs at each hour.
+    pub hourly: Job,
+    /// It runs twelve times an hour.
+    pub often: Job,
+    /// It runs in few years.
+    pub rare: Job,
+}
+
+impl Drop for Single {
+    fn drop(self) {
+        let Single {
+            each_second: _,
+            hourly: _,
+            often: _,
+            rare: _,
+        } = self;
+    }
+}
+
+impl Single {
+    fn new(alloc: Global) -> Result<Single> {
+        let each_second = read(alloc, EACH_SECOND)?;
+        let hourly = read(alloc, HOURLY)?;
+        let often = read(alloc, OFTEN)?;
+        let rare = read(alloc, LEAP_MONDAY)?;
+        Ok(Single {
+            each_second,
+            hourly,
+            often,
+            rare,
+        })
+    }
+}
+
 /// Three jobs that never run, and where their searches start.
-#[derive(Drop)]
 pub struct Never {
     /// Its date is in no year.
     pub no_date: Job,
@@ -113,6 +165,17 @@ pub struct Never {
     pub no_minute: Job,
     /// Where the searches start.
     pub first: DateTime,
+}
+
+impl Drop for Never {
+    fn drop(self) {
+        let Never {
+            no_date: _,
+            no_date_in_odd_years: _,
+            no_minute: _,
+            first: _,
+        } = self;
+    }
 }
 
 impl Never {
@@ -132,11 +195,20 @@ impl Never {
 }
 
 /// Texts of three lengths that no crontab has.
-#[derive(Drop)]
 pub struct Hostile {
     pub short: Vec<String>,
     pub middle: Vec<String>,
     pub long: Vec<String>,
+}
+
+impl Drop for Hostile {
+    fn drop(self) {
+        let Hostile {
+            short: _,
+            middle: _,
+            long: _,
+        } = self;
+    }
 }
 
 impl Hostile {

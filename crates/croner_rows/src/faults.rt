@@ -6,7 +6,7 @@ use std::alloc::{AllocError, AllocFailed};
 use std::{fmt, io};
 
 /// Why a question has no answer of its own.
-#[derive(Debug, Drop)]
+#[derive(Drop)]
 pub enum Fault {
     /// The library refuses the question, which is its answer.
     Refused(CronError),

@@ -18,7 +18,7 @@ pub trait Tool {
 }
 
 /// How many lines there were, how many of them differ or are malformed, and how many ask what is not known.
-#[derive(Debug, Clone, Copy, Default)]
+#[derive(Clone, Copy, Default)]
 pub struct Summary {
     pub lines: u64,
     pub differing: u64,

@@ -1,10 +1,10 @@
 //! Whose runs are asked for, those of a job or of a table of jobs: searches and iterators over them.
 
 use crate::{Caller, Fault, Job, Moment, Result, list, number_at, shown, text};
+use croner::CronIterator;
 use croner::crontable::{CronTable, CronTableIterator};
 use croner::errors::CronError;
 use croner::time::Direction;
-use croner::{Cron, CronIterator};
 use serde_json::Value;
 use std::alloc::Global;
 
@@ -215,13 +215,13 @@ impl Table {
     pub fn change(&mut self, caller: Caller<'_>, question: &Value) -> Result<Option<Job>> {
         let (change, place) = (text(question, "change")?, number_at(question, "place")?);
         let by = match question.get("by") {
-            Some(by) => Some(Job::read(caller.alloc, by)?.into_cron()),
+            Some(by) => Some(Job::read(caller.alloc, by)?),
             None => None,
         };
         caller.begin();
         let out = changed(&mut self.jobs, change, place, by);
         caller.end();
-        Ok(out?.map(Job::new))
+        out
     }
 }
 
@@ -229,11 +229,11 @@ fn changed(
     jobs: &mut CronTable,
     change: &str,
     place: usize,
-    by: Option<Cron>,
-) -> Result<Option<Cron>> {
+    by: Option<Job>,
+) -> Result<Option<Job>> {
     match (change, by) {
-        ("replace", Some(by)) => Ok(jobs.replace(place, by)),
-        ("remove", None) => Ok(jobs.remove(place)),
+        ("replace", Some(by)) => Ok(jobs.replace(place, by.into_cron()).map(Job::new)),
+        ("remove", None) => Ok(jobs.remove(place).map(Job::new)),
         ("clear", None) => {
             jobs.clear();
             Ok(None)

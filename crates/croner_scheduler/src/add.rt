@@ -17,16 +17,6 @@ pub enum AddError {
 
 /// A sentence for a person.
 impl fmt::Display for AddError {
-<<<<<<< HEAD
-    fn fmt<W: fmt::Write>(&self, f: &mut fmt::Formatter<W>) -> fmt::Result {
-        match self {
-            AddError::OutOfMemory => write!(f, "Out of memory."),
-            AddError::NoIdLeft => write!(f, "The last id has been given away."),
-            AddError::PositionNotHeld => write!(
-                f,
-                "The time library doesn't hold the whole second of the position: give a later one."
-            ),
-=======
     ghost use Rattle.std.specs.Prelude.{Some};
     ghost use Rattle.croner_scheduler.specs.Messages.{text_of};
 
@@ -37,7 +27,6 @@ impl fmt::Display for AddError {
             AddError::OutOfMemory => write!(f, "Out of memory."),
             AddError::NoIdLeft => write!(f, "No id is left for another job."),
             AddError::PositionNotHeld => write!(f, "The second of the position isn't held."),
->>>>>>> e2315daadb16de4fbc683406f2682a117a7fb929
         }
     }
 }
