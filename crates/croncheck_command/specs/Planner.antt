@@ -13,6 +13,7 @@ use Rattle.croncheck_command.specs.declared.report.Report.{Report}
 use Rattle.croncheck_command.specs.declared.settings.Settings.{Settings}
 use Rattle.croncheck_command.specs.declared.tally.Tally.{Tally}
 use Rattle.crontab.specs.Checked.{LineRead, IsEntryOf, TakesInTurn}
+use Rattle.croncheck_command.specs.FileSeen.{with_report}
 use Rattle.croncheck_command.specs.Output.{Written, WritesApart}
 use Rattle.croncheck_command.specs.Plan.{HasMeaning, IsPlanned}
 use Rattle.croncheck_command.specs.Report.{IsReport}
@@ -55,7 +56,7 @@ pub record Passes (s : Settings) (text : List ℕ) (entry : Entry) (old new : Se
   pub reported : IsReport s text entry report
   pub patterns : new.patterns ≡ old.patterns
   pub places : new.places ≡ old.places
-  pub stand : new.stand ≡ record old.stand { tally = counted old.stand.tally report }
+  pub stand : new.stand ≡ record old.stand { tally = counted old.stand.tally report; file = with_report report old.stand.file }
   pub written : WritesReport report old.written new.written
 
 -- what a line with that meaning leaves
@@ -65,7 +66,7 @@ PlansMeaning s y None old new = (entry : Entry) × IsEntryOf y entry × Passes s
 
 -- the job of a line that has one is added, with the place of the line
 abbrev pub Plans : Settings → Seen → LineRead → Seen → Type 0
-Plans s old y new = (found : Option Meaning) × HasMeaning s y.is found × PlansMeaning s y found (record old { stand = at_line old.stand }) new
+Plans s old y new = (found : Option Meaning) × HasMeaning s y.is found × PlansMeaning s y found (record old { stand = at_line y.is y.is_fed old.stand }) new
 
 -- ---- the text
 

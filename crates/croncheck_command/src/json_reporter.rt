@@ -24,7 +24,7 @@ impl Form for JsonReporter {
 
     ghost takes = { λ terms old y new. Writes terms.settings.now (plain_zone terms.shared.now.zone) old.stand old.written y new.stand new.written };
 
-    ghost ends_file = { λ terms reporter old new. new ≡ old };
+    ghost ends_file = { λ terms reporter stand old new. new ≡ old };
 
     ghost ends = { λ terms reporter old new. new ≡ old };
 

@@ -121,13 +121,13 @@ impl Planner {
 
 impl Form for Planner {
     ghost use Rattle.croncheck_command.specs.Planner.{Plans, seen, labels, WritesPlan};
-    ghost use Rattle.croncheck_command.specs.Reported.{WritesSome};
+    ghost use Rattle.croncheck_command.specs.Reported.{WritesEnding};
     ghost use Rattle.croner.specs.crontable.Tables.{patterns_of};
 
     ghost takes = { λ terms old y new. Plans terms.settings.now (seen old.form.table old.form.jobs old.stand old.written) y
         (seen new.form.table new.form.jobs new.stand new.written) };
 
-    ghost ends_file = { λ terms planner old new. WritesSome old new };
+    ghost ends_file = { λ terms planner stand old new. WritesEnding terms.settings.now stand old new };
 
     ghost ends = { λ terms planner old new. WritesPlan terms.settings.now (patterns_of planner.table) (labels planner.jobs.items) old new };
 

@@ -1,5 +1,6 @@
 //! How far the reading of files has come, and what is asked of each of their lines.
 ghost use Rattle.std.specs.Prelude.{◌≡◌, IfOk, string_bytes};
+ghost use Rattle.crontab.specs.Entries.{entry_seen};
 ghost use Rattle.croncheck_command.specs.Tally.{one_more};
 ghost use Rattle.croncheck_command.specs.Reported.{Reports};
 ghost use Rattle.croncheck_command.specs.Sink.{StandsAtBegin};
@@ -97,7 +98,7 @@ impl Progress {
 
     /// Comes to the next line of the file.
     pub fn next_line(&mut self, entry: &Entry<'_>, is_fed: bool)
-        ensures { stand_of self.new ≡ at_line (stand_of self.old) }
+        ensures { stand_of self.new ≡ at_line (entry_seen entry.now) is_fed (stand_of self.old) }
     {
         self.file.add_line(entry, is_fed);
         self.lines = one_more(self.lines);
