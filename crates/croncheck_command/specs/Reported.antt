@@ -44,10 +44,6 @@ pub record IsTextOf (report : Report) (text : List ℕ) : Type 0 where
 abbrev pub WritesReport : Report → Written → Written → Type 0
 WritesReport report old new = (text : List ℕ) × IsTextOf report text × WritesApart text old new
 
--- some text was written, set apart, or none
-abbrev pub WritesSome : Written → Written → Type 0
-WritesSome old new = (text : List ℕ) × WritesApart text old new
-
 -- what is said of the file as a whole was written, set apart
 abbrev pub WritesEnding : Settings → Stand → Written → Written → Type 0
 WritesEnding s stand old new = WritesApart (ending_of s.dialect stand.lines stand.file) old new
