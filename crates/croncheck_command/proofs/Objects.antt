@@ -134,7 +134,7 @@ pub line_written : (s : Settings) (zone : TimeZone) (old : Stand) (before : Writ
       text = y.bytes;
       file = new.file.name;
       line = new.lines;
-      is_too_many = is_too_many s.dialect old.tally.file_lines;
+      is_too_many = is_too_many s.dialect old.lines;
     } → WritesObject o report before.contents after.contents → Writes s zone old before y new after
 line_written s zone old before y new after report o told is written =
     let Wrote : List ℕ → ℕ → Type 0 = λ file line. WritesObject (record {
@@ -143,7 +143,7 @@ line_written s zone old before y new after report o told is written =
       text = y.bytes;
       file = file;
       line = line;
-      is_too_many = is_too_many s.dialect old.tally.file_lines;
+      is_too_many = is_too_many s.dialect old.lines;
     }) report before.contents after.contents in
     let wrote : Wrote new.file.name new.lines = subst (λ (x : Origin). WritesObject x report before.contents after.contents) is written in
     record {

@@ -278,7 +278,7 @@ next_origin s zone old y = record {
   text = y.bytes;
   file = old.file.name;
   line = one_more old.lines;
-  is_too_many = is_too_many s.dialect old.tally.file_lines;
+  is_too_many = is_too_many s.dialect old.lines;
 }
 
 -- what a line leaves: the object of its report was written

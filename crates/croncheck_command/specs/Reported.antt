@@ -28,7 +28,7 @@ pub record Reports (s : Settings) (old : Stand) (y : LineRead) (report : Report)
   pub reported : IsReportOfLine y.is_fed s y.bytes entry report
   pub sought : IsFound s y.is (old.file.name, one_more old.lines) old.seen new.seen found
   pub passed : earlier_of report ≡ place_for report (option_map file_and_line found)
-  pub tallied : new.tally ≡ added s.dialect old.tally report
+  pub tallied : new.tally ≡ added s.dialect old.lines old.tally report
   pub file : new.file ≡ with_report report (with_line y.is y.is_fed old.file)
   pub files : new.files ≡ old.files
   pub next : new.lines ≡ one_more old.lines

@@ -7,7 +7,7 @@ use Rattle.croncheck_command.specs.declared.same.Seen.{Seen}
 use Rattle.crontab.specs.Checked.{LineRead, line_seen}
 use Rattle.crontab.specs.Line.{Line as Meant}
 use Rattle.croncheck_command.specs.FileSeen.{File, file_seen, unread, with_line}
-use Rattle.croncheck_command.specs.Tally.{begun, one_more}
+use Rattle.croncheck_command.specs.Tally.{one_more}
 
 -- how far the reading has come: what was counted, the jobs that were seen, what was seen of the file, its number from 1, and how many of its
 -- lines were read
@@ -23,7 +23,7 @@ stand_of p = record { tally = p.tally; seen = p.seen; file = file_seen p.file; f
 
 -- at the begin of the next file, whose name is shown so
 abbrev pub begin_of_file : List ℕ → Stand → Stand
-begin_of_file name s = record s { tally = begun s.tally; file = unread name; files = one_more s.files; lines = 0 }
+begin_of_file name s = record s { file = unread name; files = one_more s.files; lines = 0 }
 
 -- at the next line, which is this and has its line feed or hasn't
 abbrev pub at_line : Meant → Bool → Stand → Stand

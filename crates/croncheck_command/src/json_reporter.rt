@@ -38,7 +38,7 @@ impl Form for JsonReporter {
     ) -> io::Result<()> {
         let text = line.text;
         let kind = kind_of_entry(&line.entry);
-        let is_too_many = is_too_many(terms.settings.dialect, progress.tally.file_lines);
+        let is_too_many = is_too_many(terms.settings.dialect, progress.lines);
         let report = progress.report(terms, line)?;
         write_object(
             terms,

@@ -13,12 +13,12 @@ ghost use Rattle.croncheck_command.specs.Stand.{stand_of};
 use crate::form::Form;
 use crate::output::Output;
 use crate::plan::{Plan, job_of_entry, plan_of};
-use crate::progress::{Line, Progress, Terms, one_more};
+use crate::progress::{Line, Progress, Terms};
 use crate::report::report_of;
 use crate::reporter::{write_ending, write_report};
 use crate::runs::{End, Listing, MOST_RUNS};
 use crate::shown::{COMMAND_BYTES, Place, Shared, push_clock, push_front, window_end};
-use crate::tally::Tally;
+use crate::tally::{Tally, one_more};
 use croner::Cron;
 use croner::crontable::CronTable;
 use croner::errors::CronError;
@@ -179,7 +179,6 @@ fn with_job(tally: Tally) -> Tally
         jobs: one_more(tally.jobs),
         refused: tally.refused,
         warned: tally.warned,
-        file_lines: tally.file_lines,
     }
 }
 
