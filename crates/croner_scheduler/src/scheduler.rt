@@ -112,6 +112,7 @@ impl<J: Recurring, T: Clocked> Scheduler<J, T> {
     /// The job of an id, and where it stands.
     pub fn get(&self, id: u64) -> Option<&Waiting<J, T>>
         ensures standing { option_map (λ w. standing_of T.moment w.now) result ≡ (held_of T.moment self.now).jobs id }
+        ensures waiting { option_map (λ w. w.now) result ≡ waiting_in self.now id }
         ensures fits { IfSome result (λ w. ∥ Fits J.runs T.moment w.now ∥₁) }
     {
         self.jobs.get(&id)
