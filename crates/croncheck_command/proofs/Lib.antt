@@ -1,3 +1,4 @@
+mod CalmFronts
 mod Comparisons
 mod Endings
 mod ExamplesChanges
@@ -19,6 +20,7 @@ mod Outputs
 mod OwnRuns
 mod Plans
 mod ShownBytes
+mod Skipped
 mod Stops
 mod ToldFiles
 mod ToldLines
