@@ -16,7 +16,7 @@ casey : IsReasonBy (pos 39_600) (pos 39_600) (pos 28_800) 7_200 (reasons.Back (p
 casey = (refl, omega (arith, ints))
 
 -- a rule that skips two hours each year, once it has done so 2,778 times: these are 20,001,600 seconds
-two_hours_forward : IsReasonBy (pos 0) (pos 0) (pos 7_200) (2_778 * 7_200) reasons.Skipped
+two_hours_forward : IsReasonBy (pos 0) (pos 0) (pos 7_200) 20_001_600 reasons.Skipped
 two_hours_forward = ((refl, omega (arith, ints), omega (arith, ints)), omega arith)
 
 -- as long as it has skipped no more than 20,000,000 seconds, there are too many changes

@@ -26,3 +26,4 @@ mod ToldFiles
 mod ToldLines
 mod WatchedYears
 mod Years
+mod ZoneWords
