@@ -8,19 +8,19 @@ use Rattle.croncheck_command.specs.declared.report.Report.{Report}
 use Rattle.croncheck_command.specs.declared.report.Report.TheVariants as reports
 use Rattle.croncheck_command.specs.declared.tally.Tally.{Tally}
 use Rattle.croncheck_command.specs.Files.{summary_of}
-use Rattle.croncheck_command.specs.Tally.{none_counted, counted, begun, added, status_of}
+use Rattle.croncheck_command.specs.Tally.{none_counted, counted, added, status_of}
 
--- a tally of this many refused lines, lines with a warning, and lines of the file
-abbrev tally : ℕ → ℕ → ℕ → Tally
-tally refused warned lines = record { lines = 20_000; jobs = 2; refused = refused; warned = warned; file_lines = lines }
+-- a tally of this many refused lines, and lines with a warning
+abbrev tally : ℕ → ℕ → Tally
+tally refused warned = record { lines = 20_000; jobs = 2; refused = refused; warned = warned }
 
--- how many lines have a warning with one more
+-- how many lines have a warning with the one behind so many of a file
 abbrev warned_with : Dialect → ℕ → Report → ℕ
-warned_with dialect lines report = (added dialect (tally 0 0 lines) report).warned
+warned_with dialect lines report = (added dialect lines (tally 0 0) report).warned
 
 -- ---- lines
 
-a_zone : added dialects.User none_counted (reports.Setting true true) ≡ record { lines = 1; jobs = 0; refused = 0; warned = 1; file_lines = 1 }
+a_zone : added dialects.User 0 none_counted (reports.Setting true true) ≡ record { lines = 1; jobs = 0; refused = 0; warned = 1 }
 a_zone = refl
 
 a_setting_without_its_line_feed : warned_with dialects.System 0 (reports.Setting false false) ≡ 1
@@ -50,35 +50,32 @@ line_10002 = refl
 line_10001_of_patterns : warned_with dialects.Patterns 10_000 reports.Silent ≡ 0
 line_10001_of_patterns = refl
 
-in_the_next_file : (added dialects.User (begun (tally 0 0 10_000)) reports.Silent).warned ≡ 0
-in_the_next_file = refl
-
-a_plan_counts_none : (counted (tally 0 0 0) (reports.Setting true false)).warned ≡ 0
+a_plan_counts_none : (counted (tally 0 0) (reports.Setting true false)).warned ≡ 0
 a_plan_counts_none = refl
 
 -- ---- the status
 
-clean : status_of true (tally 0 0 9) ≡ 0
+clean : status_of true (tally 0 0) ≡ 0
 clean = refl
 
-warned : status_of false (tally 0 3 9) ≡ 0
+warned : status_of false (tally 0 3) ≡ 0
 warned = refl
 
-strictly_warned : status_of true (tally 0 3 9) ≡ 1
+strictly_warned : status_of true (tally 0 3) ≡ 1
 strictly_warned = refl
 
-refused : status_of false (tally 1 0 9) ≡ 1
+refused : status_of false (tally 1 0) ≡ 1
 refused = refl
 
-strictly_refused : status_of true (tally 1 0 9) ≡ 1
+strictly_refused : status_of true (tally 1 0) ≡ 1
 strictly_refused = refl
 
 -- ---- the summary
 
-none_warned : summary_of (tally 0 0 9) ≡ codes "2 jobs, 0 refused\n"
+none_warned : summary_of (tally 0 0) ≡ codes "2 jobs, 0 refused\n"
 unfolding digits
 none_warned = refl
 
-some_warned : summary_of (tally 1 3 9) ≡ codes "2 jobs, 1 refused, 3 with warnings\n"
+some_warned : summary_of (tally 1 3) ≡ codes "2 jobs, 1 refused, 3 with warnings\n"
 unfolding digits
 some_warned = refl

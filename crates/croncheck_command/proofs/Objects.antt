@@ -26,6 +26,7 @@ use Rattle.croncheck_command.specs.Private.Remarks.{remarks_seen, texts_of, AreR
 use Rattle.croncheck_command.specs.Tally.{is_too_many}
 use Rattle.croncheck_command.specs.Reported.{Reports}
 use Rattle.croncheck_command.specs.Shown.{bytes_shown, offset_of}
+use Rattle.croncheck_command.specs.FileSeen.{File}
 use Rattle.croncheck_command.specs.Stand.{Stand}
 
 -- the objects of remarks are those of what is seen of them, with their sentences
@@ -131,9 +132,9 @@ pub line_written : (s : Settings) (zone : TimeZone) (old : Stand) (before : Writ
       zone = zone;
       kind = kind_of_line y.is;
       text = y.bytes;
-      file = new.file;
+      file = new.file.name;
       line = new.lines;
-      is_too_many = is_too_many s.dialect old.tally.file_lines;
+      is_too_many = is_too_many s.dialect old.lines;
     } → WritesObject o report before.contents after.contents → Writes s zone old before y new after
 line_written s zone old before y new after report o told is written =
     let Wrote : List ℕ → ℕ → Type 0 = λ file line. WritesObject (record {
@@ -142,13 +143,14 @@ line_written s zone old before y new after report o told is written =
       text = y.bytes;
       file = file;
       line = line;
-      is_too_many = is_too_many s.dialect old.tally.file_lines;
+      is_too_many = is_too_many s.dialect old.lines;
     }) report before.contents after.contents in
-    let wrote : Wrote new.file new.lines = subst (λ (x : Origin). WritesObject x report before.contents after.contents) is written in
+    let wrote : Wrote new.file.name new.lines = subst (λ (x : Origin). WritesObject x report before.contents after.contents) is written in
     record {
       report = report;
       reported = told;
-      written = subst (λ (line : ℕ). Wrote old.file line) told.next (subst (λ (file : List ℕ). Wrote file new.lines) told.file wrote);
+      written = subst (λ (line : ℕ). Wrote old.file.name line) told.next
+          (subst (λ (name : List ℕ). Wrote name new.lines) (ap (λ (f : File). f.name) told.file) wrote);
     }
 
 -- ---- what isn't written

@@ -10,7 +10,8 @@ use Rattle.croncheck_command.specs.Files.{HaveTexts}
 use Rattle.croncheck_command.specs.Output.{Written, IsFlushed}
 use Rattle.croncheck_command.specs.Tally.{status_of}
 use Rattle.croncheck_command.specs.Shown.{bytes_shown}
-use Rattle.croncheck_command.specs.Sink.{State, at_file, Ends, IsToldFile, AreToldFiles, IsToldStatus}
+use Rattle.croncheck_command.specs.Sink.{State, at_file, Ends, EndsFile, IsToldFile, AreToldFiles, IsToldStatus}
+use Rattle.croncheck_command.specs.Stand.{Stand}
 use Rattle.crontab.proofs.TakenLines.{in_turn_push}
 
 -- what follows at `Ok`
@@ -64,9 +65,9 @@ module _ {S T V Y : Type 0} (view : S → V) (terms_of : S → T) (Leaves : T �
 
 -- the lines of a file were taken, and its end was told
 pub file_told : {S T F : Type 0} (view : S → State F) (terms_of : S → T) (Leaves : T → State F → LineRead → State F → Type 0)
-    (ends : F → Written → Written → Type 0) (dialect : Dialect) (name : List ℕ) (remaining : Option (List ℕ)) (t : T) (before : State F) (old new : S)
+    (ends : F → Stand → Written → Written → Type 0) (dialect : Dialect) (name : List ℕ) (remaining : Option (List ℕ)) (t : T) (before : State F) (old new : S)
     (after : State F) → terms_of old ≡ t → view old ≡ at_file name before → TakesAll (Takes view terms_of Leaves) dialect remaining old new
-    → Ends ends (view new) after → IfSome remaining (λ text. IsToldFile (Leaves t) ends dialect name text before after × (terms_of new ≡ t))
+    → EndsFile ends (view new) after → IfSome remaining (λ text. IsToldFile (Leaves t) ends dialect name text before after × (terms_of new ≡ t))
 file_told view terms_of Leaves ends dialect name None t before old new after same begun taken ended = tt
 file_told {S} {T} {F} view terms_of Leaves ends dialect name (Some text) t before old new after same begun taken ended =
     let ys = map (entry_of_line dialect) taken.0 in
@@ -83,7 +84,7 @@ of_text (Err e) remaining text P is h = tt
 -- ---- files
 
 module _ {X F T : Type 0} (name_of : X → List ℕ) (holds : List ℕ → Option (List ℕ) → Type 0) (takes : T → State F → LineRead → State F → Type 0)
-    (ends_file : T → F → Written → Written → Type 0) (dialect_of : T → Dialect) where
+    (ends_file : T → F → Stand → Written → Written → Type 0) (dialect_of : T → Dialect) where
   -- the first files were told by terms that stay, unless one failed
   abbrev pub SoFar : List X → T → State F → T → State F → Bool → Type 0
   SoFar names t old t' new failed =

@@ -1,7 +1,5 @@
 -- What cron makes of a file as a whole. Source: docs/CRONTAB.md, of `no-newline`, `many-lines` and a refused line.
 use Rattle.std.specs.Prelude.{ℕ, Bool, true, false, not, ◌&&◌, ◌||◌, List, [], ◌++◌, codes, string_bytes, if◌then◌else◌}
-use Rattle.std.specs.declared.alloc.Global.{Global}
-use Rattle.std.specs.declared.string.String.{String}
 use Rattle.croncheck_command.specs.declared.file_seen.FileSeen.{FileSeen}
 use Rattle.crontab.specs.declared.line.Dialect.{Dialect}
 use Rattle.crontab.specs.declared.line.Dialect.TheVariants as dialects
@@ -25,17 +23,30 @@ is_refused (reports.Setting is_zone has_feed) = false
 is_refused (reports.Job j) = false
 is_refused (reports.Refused start end why) = true
 
--- a file of this name, as it is shown, of which no line was read
-abbrev pub unread : String Global → FileSeen
+-- ---- the file
+
+-- what contracts see of a file: its name as it is shown, that a line of it is refused, and that its last line has no line feed and counts
+pub record File : Type 0 where
+  pub name : List ℕ
+  pub has_refused : Bool
+  pub is_unfed : Bool
+
+abbrev pub file_seen : FileSeen → File
+file_seen f = record { name = string_bytes f.name; has_refused = f.has_refused; is_unfed = f.is_unfed }
+
+-- a file of this name, of which no line was read
+abbrev pub unread : List ℕ → File
 unread name = record { name = name; has_refused = false; is_unfed = false }
 
 -- with one more line, which has its line feed or hasn't
-abbrev pub with_line : Line → Bool → FileSeen → FileSeen
+abbrev pub with_line : Line → Bool → File → File
 with_line line is_fed f = record f { is_unfed = not is_fed && counts line }
 
 -- with the report of one more line
-abbrev pub with_report : Report → FileSeen → FileSeen
+abbrev pub with_report : Report → File → File
 with_report report f = record f { has_refused = is_refused report || f.has_refused }
+
+-- ---- its end
 
 -- a reason for which cron ignores the file of a name
 abbrev pub ignored : List ℕ → List ℕ → List ℕ
@@ -46,14 +57,14 @@ abbrev pub if_so : Bool → List ℕ → List ℕ
 if_so holds text = if holds then text else []
 
 -- the reasons for which cron ignores a crontab of so many lines
-abbrev pub reasons_of : ℕ → FileSeen → List ℕ
+abbrev pub reasons_of : ℕ → File → List ℕ
 reasons_of lines f =
-    (if_so f.has_refused (ignored (string_bytes f.name) (codes "a line is refused\n"))
-    ++ if_so f.is_unfed (ignored (string_bytes f.name) (codes "its last line has no line feed\n")))
-    ++ if_so (are_many_lines lines) (ignored (string_bytes f.name) (codes "it has more than 10000 lines\n"))
+    (if_so f.has_refused (ignored f.name (codes "a line is refused\n"))
+    ++ if_so f.is_unfed (ignored f.name (codes "its last line has no line feed\n")))
+    ++ if_so (are_many_lines lines) (ignored f.name (codes "it has more than 10000 lines\n"))
 
 -- what is said of a file of so many lines as a whole: nothing of one of patterns, which cron doesn't read
-abbrev pub ending_of : Dialect → ℕ → FileSeen → List ℕ
+abbrev pub ending_of : Dialect → ℕ → File → List ℕ
 ending_of dialects.User lines f = reasons_of lines f
 ending_of dialects.System lines f = reasons_of lines f
 ending_of dialects.Patterns lines f = []

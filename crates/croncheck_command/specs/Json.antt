@@ -276,9 +276,9 @@ next_origin s zone old y = record {
   zone = zone;
   kind = kind_of_line y.is;
   text = y.bytes;
-  file = old.file;
+  file = old.file.name;
   line = one_more old.lines;
-  is_too_many = is_too_many s.dialect old.tally.file_lines;
+  is_too_many = is_too_many s.dialect old.lines;
 }
 
 -- what a line leaves: the object of its report was written

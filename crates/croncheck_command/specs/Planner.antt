@@ -1,8 +1,10 @@
 -- What a planner takes of files, and what it writes. Source: this crate's documentation of `Planner`.
-use Rattle.std.specs.Prelude.{◌≡◌, ℕ, List, [], ◌∷◌, ◌++◌, map, slice_get, Option, Some, None, string_bytes}
+use Rattle.std.specs.Prelude.{◌≡◌, ◌==◌, ℕ, Bool, List, [], ◌∷◌, ◌++◌, codes, length, map, slice_get, Option, Some, None, string_bytes, if◌then◌else◌}
+use Rattle.std.specs.Fmt.{decimal}
 use Rattle.std.specs.declared.alloc.Global.{Global}
 use Rattle.std.specs.declared.vec.Vec.{Vec}
 use Rattle.croner_base.specs.declared.time.table.TableTime.{TableTime}
+use Rattle.croner_base.specs.Refusal.{text_of}
 use Rattle.croner_pattern.specs.Meaning.{Meaning}
 use Rattle.croner.specs.declared.crontable.CronTable.{CronTable}
 use Rattle.croner.specs.crontable.Tables.{patterns_of}
@@ -10,15 +12,23 @@ use Rattle.crontab.specs.declared.line.Entry.{Entry}
 use Rattle.croncheck_command.specs.declared.plan.Plan.{Plan}
 use Rattle.croncheck_command.specs.declared.planner.Planned.{Planned}
 use Rattle.croncheck_command.specs.declared.report.Report.{Report}
+use Rattle.croncheck_command.specs.declared.runs.End.{End}
+use Rattle.croncheck_command.specs.declared.runs.End.TheVariants as ends
+use Rattle.croncheck_command.specs.declared.runs.Listing.{Listing}
+use Rattle.croncheck_command.specs.declared.runs.Listing.TheVariants as listings
 use Rattle.croncheck_command.specs.declared.settings.Settings.{Settings}
+use Rattle.croncheck_command.specs.declared.shown.Shared.{Shared}
 use Rattle.croncheck_command.specs.declared.tally.Tally.{Tally}
 use Rattle.crontab.specs.Checked.{LineRead, IsEntryOf, TakesInTurn}
+use Rattle.croncheck_command.specs.FileSeen.{with_report}
 use Rattle.croncheck_command.specs.Output.{Written, WritesApart}
 use Rattle.croncheck_command.specs.Plan.{HasMeaning, IsPlanned}
 use Rattle.croncheck_command.specs.Report.{IsReport}
 use Rattle.croncheck_command.specs.Settings.{start_of, window_end}
 use Rattle.croncheck_command.specs.Tally.{counted, one_more}
-use Rattle.croncheck_command.specs.Reported.{WritesReport, WritesSome}
+use Rattle.croncheck_command.specs.Reported.{WritesReport}
+use Rattle.croncheck_command.specs.Runs.{most_runs}
+use Rattle.croncheck_command.specs.Shown.{IsWindowEnd}
 use Rattle.croncheck_command.specs.Stand.{Stand, at_line}
 
 -- ---- the jobs
@@ -55,7 +65,7 @@ pub record Passes (s : Settings) (text : List ℕ) (entry : Entry) (old new : Se
   pub reported : IsReport s text entry report
   pub patterns : new.patterns ≡ old.patterns
   pub places : new.places ≡ old.places
-  pub stand : new.stand ≡ record old.stand { tally = counted old.stand.tally report }
+  pub stand : new.stand ≡ record old.stand { tally = counted old.stand.tally report; file = with_report report old.stand.file }
   pub written : WritesReport report old.written new.written
 
 -- what a line with that meaning leaves
@@ -65,7 +75,7 @@ PlansMeaning s y None old new = (entry : Entry) × IsEntryOf y entry × Passes s
 
 -- the job of a line that has one is added, with the place of the line
 abbrev pub Plans : Settings → Seen → LineRead → Seen → Type 0
-Plans s old y new = (found : Option Meaning) × HasMeaning s y.is found × PlansMeaning s y found (record old { stand = at_line old.stand }) new
+Plans s old y new = (found : Option Meaning) × HasMeaning s y.is found × PlansMeaning s y found (record old { stand = at_line y.is y.is_fed old.stand }) new
 
 -- ---- the text
 
@@ -86,10 +96,30 @@ labels_at all (k ∷ ks) = label_at (slice_get all k) ++ labels_at all ks
 abbrev pub WritesMoment : List (List ℕ) → Written → TableTime × Vec ℕ Global → Written → Type 0
 WritesMoment all old item new = (clock : List ℕ) × WritesApart (clock ++ 10 ∷ labels_at all item.1.items) old new
 
+-- where no run is left; it may be that no job runs at all
+abbrev pub over_text : Bool → List ℕ
+over_text is_empty =
+    if is_empty then codes "no job runs: no run is left before year 5000\n" else codes "no more: no run is left before year 5000\n"
+
+-- where more may come: nothing, but of a list up to a second that has no run
+abbrev pub more_text : Listing → Bool → List ℕ
+more_text (listings.Count count) is_empty = []
+more_text (listings.Until until) is_empty = if is_empty then codes "no run up to then\n" else []
+
+-- what stands behind the moments of a plan, or behind none
+abbrev pub IsPlanEnd : Shared → Bool → End → List ℕ → Type 0
+IsPlanEnd shared is_empty ends.More text = text ≡ more_text shared.listing is_empty
+IsPlanEnd shared is_empty ends.Over text = text ≡ over_text is_empty
+IsPlanEnd shared is_empty ends.Cut text = text ≡ codes "and more: a list ends after " ++ (decimal most_runs ++ codes " moments\n")
+IsPlanEnd shared is_empty ends.Window text = (said : List ℕ) × IsWindowEnd shared.stop said × (text ≡ said ++ 10 ∷ [])
+IsPlanEnd shared is_empty (ends.Failed e) text = text ≡ codes "and more, which were not found: " ++ (text_of e ++ codes "\n")
+
 -- the plan of the jobs of these patterns was written, of which this is shown: each moment, in order, and what stands behind them
-pub record WritesPlan (s : Settings) (patterns : List Meaning) (all : List (List ℕ)) (old new : Written) : Type 0 where
+pub record WritesPlan (s : Settings) (shared : Shared) (patterns : List Meaning) (all : List (List ℕ)) (old new : Written) : Type 0 where
   pub plan : Plan
+  pub text : List ℕ
   pub between : Written
   pub planned : IsPlanned patterns (start_of s) (window_end s) s.listing plan
   pub moments : TakesInTurn (WritesMoment all) old plan.items.items between
-  pub end : WritesSome between new
+  pub end_is : IsPlanEnd shared (length plan.items.items == 0) plan.end text
+  pub end : WritesApart text between new

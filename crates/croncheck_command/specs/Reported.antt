@@ -7,6 +7,7 @@ use Rattle.croncheck_command.specs.declared.settings.Settings.{Settings}
 use Rattle.croncheck_command.specs.declared.same.Seen.{Seen}
 use Rattle.crontab.specs.Checked.{LineRead, IsEntryOf}
 use Rattle.crontab.specs.Line.{Line}
+use Rattle.croncheck_command.specs.FileSeen.{ending_of, with_line, with_report}
 use Rattle.croncheck_command.specs.Output.{Written, WritesApart}
 use Rattle.croncheck_command.specs.Report.{IsReportOfLine, earlier_of, file_and_line, place_for}
 use Rattle.croncheck_command.specs.Tally.{added, one_more}
@@ -25,10 +26,10 @@ pub record Reports (s : Settings) (old : Stand) (y : LineRead) (report : Report)
   pub found : Option Same
   pub seen : IsEntryOf y entry
   pub reported : IsReportOfLine y.is_fed s y.bytes entry report
-  pub sought : IsFound s y.is (old.file, one_more old.lines) old.seen new.seen found
+  pub sought : IsFound s y.is (old.file.name, one_more old.lines) old.seen new.seen found
   pub passed : earlier_of report ≡ place_for report (option_map file_and_line found)
-  pub tallied : new.tally ≡ added s.dialect old.tally report
-  pub file : new.file ≡ old.file
+  pub tallied : new.tally ≡ added s.dialect old.lines old.tally report
+  pub file : new.file ≡ with_report report (with_line y.is y.is_fed old.file)
   pub files : new.files ≡ old.files
   pub next : new.lines ≡ one_more old.lines
 
@@ -43,9 +44,9 @@ pub record IsTextOf (report : Report) (text : List ℕ) : Type 0 where
 abbrev pub WritesReport : Report → Written → Written → Type 0
 WritesReport report old new = (text : List ℕ) × IsTextOf report text × WritesApart text old new
 
--- some text was written, set apart, or none
-abbrev pub WritesSome : Written → Written → Type 0
-WritesSome old new = (text : List ℕ) × WritesApart text old new
+-- what is said of the file as a whole was written, set apart
+abbrev pub WritesEnding : Settings → Stand → Written → Written → Type 0
+WritesEnding s stand old new = WritesApart (ending_of s.dialect stand.lines stand.file) old new
 
 -- what a line leaves: the text of its report was written
 abbrev pub Tells : Settings → Stand → Written → LineRead → Stand → Written → Type 0

@@ -1,5 +1,5 @@
 -- Bytes of a file and offsets of a clock as they are shown.
-use Rattle.std.specs.Prelude.{◌≡◌, ℕ, zero, suc, ℤ, pos, Bool, true, false, not, ◌&&◌, ◌==◌, nat_le, List, [], ◌∷◌, ◌++◌, length, take, drop, Option, Some, None, if◌then◌else◌}
+use Rattle.std.specs.Prelude.{◌≡◌, ℕ, zero, suc, ℤ, pos, Bool, true, false, not, ◌&&◌, ◌==◌, nat_le, List, [], ◌∷◌, ◌++◌, length, take, drop, codes, Option, Some, None, if◌then◌else◌}
 use Rattle.std.specs.Str.{encode_utf8_all}
 use Rattle.bstr.specs.Escape.{escaped}
 use Rattle.bstr.specs.Utf8.{decoded}
@@ -7,6 +7,7 @@ use Rattle.jiff_tz.specs.declared.timezone.TimeZone.{TimeZone}
 use Rattle.croner_base.specs.Excerpt.{shown}
 use Rattle.croner_base.specs.ZoneTable.{ahead_at}
 use Rattle.croner_base.specs.ZonedZone.{is_timestamp_second}
+use Rattle.croncheck_command.specs.declared.clock.stop.Stop.{Stop}
 use Rattle.croncheck_command.specs.declared.report.Report.{Report}
 use Rattle.croncheck_command.specs.declared.report.Report.TheVariants as reports
 
@@ -57,3 +58,10 @@ is_told (reports.Refused start end why) = true
 -- the text is lines, one at least, the last of which has its line feed
 abbrev pub AreLines : List ℕ → Type 0
 AreLines text = (front : List ℕ) × (text ≡ front ++ 10 ∷ [])
+
+-- ---- the end of a window
+
+-- what is said of a listing that ends with the clock's window: of its stop, if it has one, in words that no definition says
+abbrev pub IsWindowEnd : Option Stop → List ℕ → Type 0
+IsWindowEnd None text = text ≡ codes "and maybe more: the zone's clock is not followed any further"
+IsWindowEnd (Some stop) text = (words : List ℕ) × (text ≡ codes "and maybe more: the zone's clock is not followed over " ++ words)

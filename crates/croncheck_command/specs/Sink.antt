@@ -36,30 +36,34 @@ at_file name s = record s { stand = begin_of_file name s.stand }
 abbrev pub Ends : {F : Type 0} → (F → Written → Written → Type 0) → State F → State F → Type 0
 Ends ends old new = (new.form ≡ old.form) × (new.stand ≡ old.stand) × ends old.form old.written new.written
 
+-- the same of the end of a file, which is told by how far the reading has come
+abbrev pub EndsFile : {F : Type 0} → (F → Stand → Written → Written → Type 0) → State F → State F → Type 0
+EndsFile ends old new = Ends (λ form. ends form old.stand) old new
+
 -- ---- files
 
 -- a file was told, whose name is shown so: each line of its text has exactly one entry, they were taken in order, and then its end was told
-abbrev pub IsToldFile : {F : Type 0} → (State F → LineRead → State F → Type 0) → (F → Written → Written → Type 0) → Dialect → List ℕ → List ℕ
+abbrev pub IsToldFile : {F : Type 0} → (State F → LineRead → State F → Type 0) → (F → Stand → Written → Written → Type 0) → Dialect → List ℕ → List ℕ
     → State F → State F → Type 0
 IsToldFile {F} takes ends dialect name text old new =
     (lines : List (List ℕ)) × (last : State F) × AreLines text lines
-    × TakesInTurn takes (at_file name old) (map (entry_of_line dialect) lines) last × Ends ends last new
+    × TakesInTurn takes (at_file name old) (map (entry_of_line dialect) lines) last × EndsFile ends last new
 
 -- the files of these names were told, one behind the other, each with its text
-abbrev pub AreToldFiles : {F : Type 0} → (State F → LineRead → State F → Type 0) → (F → Written → Written → Type 0) → Dialect → (List ℕ → List ℕ)
-    → List (List ℕ) → State F → State F → Type 0
+abbrev pub AreToldFiles : {F : Type 0} → (State F → LineRead → State F → Type 0) → (F → Stand → Written → Written → Type 0) → Dialect
+    → (List ℕ → List ℕ) → List (List ℕ) → State F → State F → Type 0
 AreToldFiles takes ends dialect text_of names old new =
     TakesInTurn (λ a name b. IsToldFile takes ends dialect (bytes_shown name) (text_of name) a b) old names new
 
 -- and behind all of them their end, which was passed on
-abbrev pub IsToldCall : {F : Type 0} → (State F → LineRead → State F → Type 0) → (F → Written → Written → Type 0) → (F → Written → Written → Type 0)
-    → Dialect → (List ℕ → List ℕ) → List (List ℕ) → State F → State F → Type 0
+abbrev pub IsToldCall : {F : Type 0} → (State F → LineRead → State F → Type 0) → (F → Stand → Written → Written → Type 0)
+    → (F → Written → Written → Type 0) → Dialect → (List ℕ → List ℕ) → List (List ℕ) → State F → State F → Type 0
 IsToldCall {F} takes ends_file ends dialect text_of names old new =
     (last : State F) × (ended : State F) × AreToldFiles takes ends_file dialect text_of names old last × Ends ends last ended
     × Ends (λ form. IsFlushed) ended new
 
 -- a file failed, or all were told: then the status is that of what was counted
-abbrev pub IsToldStatus : {F : Type 0} → (State F → LineRead → State F → Type 0) → (F → Written → Written → Type 0)
+abbrev pub IsToldStatus : {F : Type 0} → (State F → LineRead → State F → Type 0) → (F → Stand → Written → Written → Type 0)
     → (F → Written → Written → Type 0) → Settings → (List ℕ → List ℕ) → List (List ℕ) → State F → State F → ℕ → Type 0
 IsToldStatus takes ends_file ends s text_of names old new status =
     (status ≡ 3) ⊎ (IsToldCall takes ends_file ends s.dialect text_of names old new × (status ≡ status_of s.is_strict new.stand.tally))

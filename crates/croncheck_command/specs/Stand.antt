@@ -1,31 +1,33 @@
 -- How far the reading of files has come. Source: this crate's documentation of `Progress`.
-use Rattle.std.specs.Prelude.{ℕ, List, string_bytes}
+use Rattle.std.specs.Prelude.{ℕ, Bool, List}
 use Rattle.croncheck_command.specs.declared.progress.Line.{Line}
 use Rattle.croncheck_command.specs.declared.progress.Progress.{Progress}
 use Rattle.croncheck_command.specs.declared.tally.Tally.{Tally}
 use Rattle.croncheck_command.specs.declared.same.Seen.{Seen}
 use Rattle.crontab.specs.Checked.{LineRead, line_seen}
-use Rattle.croncheck_command.specs.Tally.{begun, one_more}
+use Rattle.crontab.specs.Line.{Line as Meant}
+use Rattle.croncheck_command.specs.FileSeen.{File, file_seen, unread, with_line}
+use Rattle.croncheck_command.specs.Tally.{one_more}
 
--- how far the reading has come: what was counted, the jobs that were seen, the name of the file as it is shown, its number from 1, and how many
--- of its lines were read
+-- how far the reading has come: what was counted, the jobs that were seen, what was seen of the file, its number from 1, and how many of its
+-- lines were read
 pub record Stand : Type 0 where
   pub tally : Tally
   pub seen : Seen
-  pub file : List ℕ
+  pub file : File
   pub files : ℕ
   pub lines : ℕ
 
 abbrev pub stand_of : Progress → Stand
-stand_of p = record { tally = p.tally; seen = p.seen; file = string_bytes p.file.name; files = p.files; lines = p.lines }
+stand_of p = record { tally = p.tally; seen = p.seen; file = file_seen p.file; files = p.files; lines = p.lines }
 
 -- at the begin of the next file, whose name is shown so
 abbrev pub begin_of_file : List ℕ → Stand → Stand
-begin_of_file name s = record s { tally = begun s.tally; file = name; files = one_more s.files; lines = 0 }
+begin_of_file name s = record s { file = unread name; files = one_more s.files; lines = 0 }
 
--- at the next line
-abbrev pub at_line : Stand → Stand
-at_line s = record s { lines = one_more s.lines }
+-- at the next line, which is this and has its line feed or hasn't
+abbrev pub at_line : Meant → Bool → Stand → Stand
+at_line line is_fed s = record s { file = with_line line is_fed s.file; lines = one_more s.lines }
 
 -- what is seen of a line
 abbrev pub line_taken : Line → LineRead

@@ -18,7 +18,7 @@ one_more n = min (n + 1) most_counted
 
 -- nothing is counted yet
 abbrev pub none_counted : Tally
-none_counted = record { lines = 0; jobs = 0; refused = 0; warned = 0; file_lines = 0 }
+none_counted = record { lines = 0; jobs = 0; refused = 0; warned = 0 }
 
 -- with one more line, of which no warning is counted
 abbrev pub counted : Tally → Report → Tally
@@ -26,10 +26,6 @@ counted t reports.Silent = record t { lines = one_more t.lines }
 counted t (reports.Setting is_zone has_feed) = record t { lines = one_more t.lines }
 counted t (reports.Job j) = record t { lines = one_more t.lines; jobs = one_more t.jobs }
 counted t (reports.Refused start end why) = record t { lines = one_more t.lines; refused = one_more t.refused }
-
--- where a file begins
-abbrev pub begun : Tally → Tally
-begun t = record t { file_lines = 0 }
 
 -- `many-lines`: the line behind so many of a crontab is the first that is too many
 abbrev pub is_too_many : Dialect → ℕ → Bool
@@ -45,12 +41,9 @@ is_line_warned dialect lines report = has_warnings report || is_too_many dialect
 abbrev pub one_more_if : Bool → ℕ → ℕ
 one_more_if counts n = if counts then one_more n else n
 
--- with one more line of the file and its warnings
-abbrev pub added : Dialect → Tally → Report → Tally
-added dialect t report = record (counted t report) {
-  warned = one_more_if (is_line_warned dialect t.file_lines report) t.warned;
-  file_lines = one_more t.file_lines;
-}
+-- with the line behind so many of a file and its warnings
+abbrev pub added : Dialect → ℕ → Tally → Report → Tally
+added dialect lines t report = record (counted t report) { warned = one_more_if (is_line_warned dialect lines report) t.warned }
 
 -- a line is refused, or one has a warning where the call is strict
 abbrev pub has_findings : Bool → Tally → Bool

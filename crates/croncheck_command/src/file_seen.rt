@@ -1,7 +1,7 @@
 //! What was seen of the file that is read, and what cron makes of it as a whole.
 ghost use Rattle.std.specs.Prelude.{◌≡◌, ◌++◌, IfOk, OnOk, string_bytes};
 ghost use Rattle.crontab.specs.Entries.{entry_seen};
-ghost use Rattle.croncheck_command.specs.FileSeen.{unread, with_line, with_report, counts, is_refused, if_so, ignored, reasons_of, ending_of};
+ghost use Rattle.croncheck_command.specs.FileSeen.{file_seen, unread, with_line, with_report, counts, is_refused, if_so, ignored, reasons_of, ending_of};
 
 use crate::report::Report;
 use crate::warnings::are_many_lines;
@@ -21,7 +21,7 @@ pub struct FileSeen {
 impl FileSeen {
     /// A file of which no line was read, by its name as it is shown.
     pub fn new(name: String) -> FileSeen
-        ensures { result ≡ unread name }
+        ensures { file_seen result ≡ unread (string_bytes name) }
     {
         FileSeen {
             name,
@@ -39,14 +39,14 @@ impl FileSeen {
 
     /// Takes up one more line, and whether a line feed ends it.
     pub fn add_line(&mut self, entry: &Entry<'_>, is_fed: bool)
-        ensures { self.new ≡ with_line (entry_seen entry.now) is_fed self.old }
+        ensures { file_seen self.new ≡ with_line (entry_seen entry.now) is_fed (file_seen self.old) }
     {
         self.is_unfed = !is_fed && counts(entry);
     }
 
     /// Takes up the report of a line.
     pub fn add_report(&mut self, report: &Report<'_, '_>)
-        ensures { self.new ≡ with_report report.now self.old }
+        ensures { file_seen self.new ≡ with_report report.now (file_seen self.old) }
     {
         if is_refused(report) {
             self.has_refused = true;
@@ -56,7 +56,7 @@ impl FileSeen {
     /// What cron makes of the file of so many lines as a whole: a line for each reason for which it ignores it. Nothing of
     /// a file of patterns, which cron doesn't read.
     pub fn ending(&self, alloc: Global, dialect: Dialect, lines: u64) -> Result<String, AllocError>
-        ensures { IfOk result (λ text. string_bytes text ≡ ending_of dialect lines self.now) }
+        ensures { IfOk result (λ text. string_bytes text ≡ ending_of dialect lines (file_seen self.now)) }
     {
         match dialect {
             Dialect::Patterns => Ok(String::new(alloc)),
@@ -66,7 +66,7 @@ impl FileSeen {
 
     // A line for each reason for which cron ignores a crontab of so many lines.
     fn reasons(&self, alloc: Global, lines: u64) -> Result<String, AllocError>
-        ensures { IfOk result (λ text. string_bytes text ≡ reasons_of lines self.now) }
+        ensures { IfOk result (λ text. string_bytes text ≡ reasons_of lines (file_seen self.now)) }
     {
         let name = self.name.as_str();
         let mut text = String::new(alloc);

@@ -12,13 +12,13 @@ pub trait Form {
     ghost use Rattle.crontab.specs.Checked.{LineRead};
     ghost use Rattle.croncheck_command.specs.Output.{Written, written_of};
     ghost use Rattle.croncheck_command.specs.Sink.{State, state_of};
-    ghost use Rattle.croncheck_command.specs.Stand.{line_taken};
+    ghost use Rattle.croncheck_command.specs.Stand.{Stand, stand_of, line_taken};
 
     /// What taking the next line of a file leaves.
     ghost takes: { Terms → State Self → LineRead → State Self → Type 0 };
 
     /// What is written at the end of a file.
-    ghost ends_file: { Terms → Self → Written → Written → Type 0 };
+    ghost ends_file: { Terms → Self → Stand → Written → Written → Type 0 };
 
     /// What is written behind all files.
     ghost ends: { Terms → Self → Written → Written → Type 0 };
@@ -43,7 +43,8 @@ pub trait Form {
         progress: &Progress,
         output: &mut Output<W>,
     ) -> io::Result<()>
-        ensures { OnOk result (ends_file terms.now self.now (written_of W.contents output.old) (written_of W.contents output.new)) };
+        ensures { OnOk result (ends_file terms.now self.now (stand_of progress.now) (written_of W.contents output.old)
+            (written_of W.contents output.new)) };
 
     /// Writes what stands behind all files. The error is as that of `take`.
     fn end<W: Write>(&self, terms: &Terms<'_, '_>, output: &mut Output<W>) -> io::Result<()>

@@ -24,7 +24,7 @@ impl Form for JsonReporter {
 
     ghost takes = { λ terms old y new. Writes terms.settings.now (plain_zone terms.shared.now.zone) old.stand old.written y new.stand new.written };
 
-    ghost ends_file = { λ terms reporter old new. new ≡ old };
+    ghost ends_file = { λ terms reporter stand old new. new ≡ old };
 
     ghost ends = { λ terms reporter old new. new ≡ old };
 
@@ -38,7 +38,7 @@ impl Form for JsonReporter {
     ) -> io::Result<()> {
         let text = line.text;
         let kind = kind_of_entry(&line.entry);
-        let is_too_many = is_too_many(terms.settings.dialect, progress.tally.file_lines);
+        let is_too_many = is_too_many(terms.settings.dialect, progress.lines);
         let report = progress.report(terms, line)?;
         write_object(
             terms,

@@ -1,23 +1,24 @@
 //! The form of a plan: the jobs of all files, and behind them one list of their runs.
-ghost use Rattle.std.specs.Prelude.{◌≡◌, ◌<◌, ◌++◌, [], IfOk, IfErr, OnOk, length, string_bytes};
+ghost use Rattle.std.specs.Prelude.{◌≡◌, ◌==◌, ◌<◌, ◌++◌, ◌∷◌, ℕ, List, [], IfOk, IfErr, OnOk, length, string_bytes};
 ghost use Rattle.croner.specs.crontable.Tables.{patterns_of};
 ghost use Rattle.croner.specs.Views.{job_of as meaning_of_job};
 ghost use Rattle.crontab.specs.Checked.{TakesInTurn};
 ghost use Rattle.croncheck_command.specs.Output.{Written, written_of};
 ghost use Rattle.croncheck_command.specs.Plan.{IsPlanned};
-ghost use Rattle.croncheck_command.specs.Planner.{seen, with_job, Adds, Passes, labels, labels_at, WritesMoment};
+ghost use Rattle.croncheck_command.specs.Planner.{seen, with_job, Adds, Passes, labels, labels_at, WritesMoment, over_text, more_text, IsPlanEnd};
 ghost use Rattle.croncheck_command.specs.Settings.{start_of, window_end};
+ghost use Rattle.croncheck_command.specs.Shown.{IsWindowEnd};
 ghost use Rattle.croncheck_command.specs.Stand.{stand_of};
 
 use crate::form::Form;
 use crate::output::Output;
 use crate::plan::{Plan, job_of_entry, plan_of};
-use crate::progress::{Line, Progress, Terms, one_more};
+use crate::progress::{Line, Progress, Terms};
 use crate::report::report_of;
 use crate::reporter::{write_ending, write_report};
 use crate::runs::{End, Listing, MOST_RUNS};
-use crate::shown::{COMMAND_BYTES, Place, Shared, push_clock, push_front, push_window_end};
-use crate::tally::Tally;
+use crate::shown::{COMMAND_BYTES, Place, Shared, push_clock, push_front, window_end};
+use crate::tally::{Tally, one_more};
 use croner::Cron;
 use croner::crontable::CronTable;
 use croner::errors::CronError;
@@ -121,15 +122,15 @@ impl Planner {
 
 impl Form for Planner {
     ghost use Rattle.croncheck_command.specs.Planner.{Plans, seen, labels, WritesPlan};
-    ghost use Rattle.croncheck_command.specs.Reported.{WritesSome};
+    ghost use Rattle.croncheck_command.specs.Reported.{WritesEnding};
     ghost use Rattle.croner.specs.crontable.Tables.{patterns_of};
 
     ghost takes = { λ terms old y new. Plans terms.settings.now (seen old.form.table old.form.jobs old.stand old.written) y
         (seen new.form.table new.form.jobs new.stand new.written) };
 
-    ghost ends_file = { λ terms planner old new. WritesSome old new };
+    ghost ends_file = { λ terms planner stand old new. WritesEnding terms.settings.now stand old new };
 
-    ghost ends = { λ terms planner old new. WritesPlan terms.settings.now (patterns_of planner.table) (labels planner.jobs.items) old new };
+    ghost ends = { λ terms planner old new. WritesPlan terms.settings.now terms.shared.now (patterns_of planner.table) (labels planner.jobs.items) old new };
 
     fn take<W: Write>(
         &mut self,
@@ -178,7 +179,6 @@ fn with_job(tally: Tally) -> Tally
         jobs: one_more(tally.jobs),
         refused: tally.refused,
         warned: tally.warned,
-        file_lines: tally.file_lines,
     }
 }
 
@@ -255,28 +255,46 @@ fn push_first<'p>(
     Ok(rest)
 }
 
-// What stands behind the moments of a plan.
-fn end_text(alloc: Global, shared: &Shared<'_>, plan: &Plan<'_>) -> Result<String, AllocError> {
-    let mut text = String::new(alloc);
+// What stands behind the moments of a plan, or behind none.
+fn end_text(alloc: Global, shared: &Shared<'_>, plan: &Plan<'_>) -> Result<String, AllocError>
+    ensures { IfOk result (λ text. IsPlanEnd shared.now (length plan.now.items.items == 0) plan.now.end (string_bytes text)) }
+{
     let is_empty = plan.items.is_empty();
     match &plan.end {
-        End::Over if is_empty => text.push_str("no job runs: no run is left before year 5000\n")?,
-        End::Over => text.push_str("no more: no run is left before year 5000\n")?,
-        End::Cut => write!(
-            &mut text,
-            "and more: a list ends after {MOST_RUNS} moments\n"
-        )?,
-        End::Window => {
-            push_window_end(&mut text, shared)?;
-            text.push('\n')?
-        }
-        End::Failed(refusal) => {
-            write!(&mut text, "and more, which were not found: {refusal}\n")?
-        }
-        End::More => match shared.listing {
-            Listing::Until(_) if is_empty => text.push_str("no run up to then\n")?,
-            _ => {}
-        },
+        End::More => String::from_str(alloc, more_text(shared.listing, is_empty)),
+        End::Over => String::from_str(alloc, over_text(is_empty)),
+        End::Cut => format!(in alloc; "and more: a list ends after {MOST_RUNS} moments\n"),
+        End::Window => window_end_line(alloc, shared),
+        End::Failed(refusal) => format!(in alloc; "and more, which were not found: {refusal}\n"),
     }
-    Ok(text)
+}
+
+// Where no run is left; it may be that no job runs at all.
+fn over_text(is_empty: bool) -> &'static str
+    ensures { result.now ≡ over_text is_empty }
+{
+    if is_empty {
+        "no job runs: no run is left before year 5000\n"
+    } else {
+        "no more: no run is left before year 5000\n"
+    }
+}
+
+// Where more may come: nothing, but of a list up to a second that has no run.
+fn more_text(listing: Listing, is_empty: bool) -> &'static str
+    ensures { result.now ≡ more_text listing is_empty }
+{
+    match listing {
+        Listing::Until(_) if is_empty => "no run up to then\n",
+        Listing::Until(_) | Listing::Count(_) => "",
+    }
+}
+
+// What is said where the clock's window ends, as a line.
+fn window_end_line(alloc: Global, shared: &Shared<'_>) -> Result<String, AllocError>
+    ensures { IfOk result (λ text. (said : List ℕ) × IsWindowEnd shared.now.stop said × (string_bytes text ≡ said ++ 10 ∷ [])) }
+{
+    let mut line = window_end(alloc, shared)?;
+    line.push('\n')?;
+    Ok(line)
 }

@@ -1,6 +1,6 @@
 //! How far the reading of files has come, and what is asked of each of their lines.
 ghost use Rattle.std.specs.Prelude.{◌≡◌, IfOk, string_bytes};
-ghost use Rattle.croncheck_command.specs.Tally.{one_more};
+ghost use Rattle.crontab.specs.Entries.{entry_seen};
 ghost use Rattle.croncheck_command.specs.Reported.{Reports};
 ghost use Rattle.croncheck_command.specs.Sink.{StandsAtBegin};
 ghost use Rattle.croncheck_command.specs.Stand.{stand_of, begin_of_file, at_line, line_taken};
@@ -10,7 +10,7 @@ use crate::report::{Report, report_of_line};
 use crate::same::Seen;
 use crate::settings::Settings;
 use crate::shown::{Place, Shared};
-use crate::tally::Tally;
+use crate::tally::{Tally, one_more};
 use crontab::line::Entry;
 use std::alloc::Global;
 use std::io;
@@ -89,7 +89,6 @@ impl Progress {
     pub fn begin(&mut self, name: String)
         ensures { stand_of self.new ≡ begin_of_file (string_bytes name) (stand_of self.old) }
     {
-        self.tally.begin();
         self.file = FileSeen::new(name);
         self.files = one_more(self.files);
         self.lines = 0;
@@ -97,7 +96,7 @@ impl Progress {
 
     /// Comes to the next line of the file.
     pub fn next_line(&mut self, entry: &Entry<'_>, is_fed: bool)
-        ensures { stand_of self.new ≡ at_line (stand_of self.old) }
+        ensures { stand_of self.new ≡ at_line (entry_seen entry.now) is_fed (stand_of self.old) }
     {
         self.file.add_line(entry, is_fed);
         self.lines = one_more(self.lines);
@@ -130,6 +129,7 @@ impl Progress {
             entry,
             is_fed,
         } = line;
+        let before = self.lines;
         self.next_line(&entry, is_fed);
         let place = Place {
             file: self.file.name(),
@@ -142,15 +142,8 @@ impl Progress {
         else {
             return Err(io::Error::from(ErrorKind::OutOfMemory));
         };
-        self.tally.add(terms.settings.dialect, &report);
+        self.tally.add(terms.settings.dialect, before, &report);
         self.file.add_report(&report);
         Ok(report)
     }
-}
-
-/// One more. No count passes 2^64 - 1.
-pub(crate) fn one_more(count: u64) -> u64
-    ensures { result ≡ one_more count }
-{
-    count.saturating_add(1)
 }

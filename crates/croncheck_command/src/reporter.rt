@@ -1,7 +1,8 @@
 //! The form of reports: a text for each line that there is something to tell of.
 ghost use Rattle.std.specs.Prelude.{OnOk};
 ghost use Rattle.croncheck_command.specs.Output.{written_of};
-ghost use Rattle.croncheck_command.specs.Reported.{WritesReport, WritesSome};
+ghost use Rattle.croncheck_command.specs.Reported.{WritesReport, WritesEnding};
+ghost use Rattle.croncheck_command.specs.Stand.{stand_of};
 
 use crate::form::Form;
 use crate::output::Output;
@@ -17,11 +18,11 @@ pub struct Reporter;
 
 impl Form for Reporter {
     ghost use Rattle.std.specs.Prelude.{◌≡◌};
-    ghost use Rattle.croncheck_command.specs.Reported.{Tells, WritesSome};
+    ghost use Rattle.croncheck_command.specs.Reported.{Tells, WritesEnding};
 
     ghost takes = { λ terms old y new. Tells terms.settings.now old.stand old.written y new.stand new.written };
 
-    ghost ends_file = { λ terms reporter old new. WritesSome old new };
+    ghost ends_file = { λ terms reporter stand old new. WritesEnding terms.settings.now stand old new };
 
     ghost ends = { λ terms reporter old new. new ≡ old };
 
@@ -71,7 +72,8 @@ pub(crate) fn write_ending<W: Write>(
     progress: &Progress,
     output: &mut Output<W>,
 ) -> io::Result<()>
-    ensures { OnOk result (WritesSome (written_of W.contents output.old) (written_of W.contents output.new)) }
+    ensures { OnOk result (WritesEnding terms.now.settings.now (stand_of progress.now) (written_of W.contents output.old)
+        (written_of W.contents output.new)) }
 {
     let text = progress
         .file

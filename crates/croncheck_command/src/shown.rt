@@ -1,8 +1,8 @@
 //! The text of a report.
-ghost use Rattle.std.specs.Prelude.{◌≡◌, ◌≤◌, [], length, true, false, IfOk, string_bytes};
+ghost use Rattle.std.specs.Prelude.{◌≡◌, ◌≤◌, ◌++◌, ℕ, List, [], length, true, false, codes, IfOk, string_bytes};
 ghost use Rattle.jiff.specs.ZoneView.{plain_zone};
 ghost use Rattle.croncheck_command.specs.Settings.{stop_of};
-ghost use Rattle.croncheck_command.specs.Shown.{is_told, AreLines, offset_of};
+ghost use Rattle.croncheck_command.specs.Shown.{is_told, AreLines, offset_of, IsWindowEnd};
 ghost use Rattle.croncheck_command.specs.Warnings.{field_name};
 
 use crate::changes::meetings::{Compared, Meetings};
@@ -471,7 +471,7 @@ fn push_job(
         push_command(text, command)?;
         push_notes(alloc, text, None, line)?;
     }
-    push_told(text, shared, &job.times)?;
+    push_told(alloc, text, shared, &job.times)?;
     push_warnings(text, job)?;
     push_meetings(text, &job.meetings)?;
     if job.same.is_some() {
@@ -571,7 +571,12 @@ fn push_command(text: &mut String, command: &[u8]) -> Result<(), AllocError> {
 }
 
 // What a job's times are told. That it never runs is said by its warning.
-fn push_told(text: &mut String, shared: &Shared<'_>, times: &Told<'_>) -> Result<(), AllocError> {
+fn push_told(
+    alloc: Global,
+    text: &mut String,
+    shared: &Shared<'_>,
+    times: &Told<'_>,
+) -> Result<(), AllocError> {
     match times {
         Told::Reboot => text.push_str("\n  Runs as the machine starts."),
         Told::Nothing => Ok(()),
@@ -588,7 +593,7 @@ fn push_told(text: &mut String, shared: &Shared<'_>, times: &Told<'_>) -> Result
             if times.is_never() {
                 return Ok(());
             }
-            push_end(text, shared, runs)
+            push_end(alloc, text, shared, runs)
         }
     }
 }
@@ -655,13 +660,18 @@ impl fmt::Display for Ahead {
 }
 
 // What stands behind the runs of a job that has some, or may have some.
-fn push_end(text: &mut String, shared: &Shared<'_>, runs: &Runs<'_>) -> Result<(), AllocError> {
+fn push_end(
+    alloc: Global,
+    text: &mut String,
+    shared: &Shared<'_>,
+    runs: &Runs<'_>,
+) -> Result<(), AllocError> {
     match &runs.end {
         End::Over => text.push_str("\n  no more: no run is left before year 5000"),
         End::Cut => write!(text, "\n  and more: a list ends after {MOST_RUNS} runs"),
         End::Window => {
-            text.push_str("\n  ")?;
-            push_window_end(text, shared)
+            let said = window_end(alloc, shared)?;
+            write!(text, "\n  {said}")
         }
         End::Failed(refusal) => write!(text, "\n  and more, which were not found: {refusal}"),
         End::More => match shared.listing {
@@ -671,11 +681,23 @@ fn push_end(text: &mut String, shared: &Shared<'_>, runs: &Runs<'_>) -> Result<(
     }
 }
 
-// What stands behind a listing that ends where the clock's window does.
-pub(crate) fn push_window_end(text: &mut String, shared: &Shared<'_>) -> Result<(), AllocError> {
-    text.push_str("and maybe more: the zone's clock is not followed ")?;
+// What is said of a listing that ends where the clock's window does.
+pub(crate) fn window_end(alloc: Global, shared: &Shared<'_>) -> Result<String, AllocError>
+    ensures { IfOk result (λ text. IsWindowEnd shared.now.stop (string_bytes text)) }
+{
     match shared.stop {
-        Some(stop) => write!(text, "over {stop}"),
-        None => text.push_str("any further"),
+        Some(stop) => window_end_at(alloc, stop),
+        None => String::from_str(
+            alloc,
+            "and maybe more: the zone's clock is not followed any further",
+        ),
     }
+}
+
+fn window_end_at(alloc: Global, stop: Stop) -> Result<String, AllocError>
+    ensures { IfOk result (λ text. (words : List ℕ)
+        × (string_bytes text ≡ codes "and maybe more: the zone's clock is not followed over " ++ words)) }
+{
+    let words = format!(in alloc; "{stop}")?;
+    format!(in alloc; "and maybe more: the zone's clock is not followed over {words}")
 }

@@ -1,6 +1,6 @@
 //! What was told of lines so far, and the status of a call.
 ghost use Rattle.std.specs.Prelude.{◌≡◌};
-ghost use Rattle.croncheck_command.specs.Tally.{one_more, none_counted, counted, begun, is_too_many, is_line_warned, one_more_if, added, status_of};
+ghost use Rattle.croncheck_command.specs.Tally.{one_more, none_counted, counted, is_too_many, is_line_warned, one_more_if, added, status_of};
 
 use crate::report::Report;
 use crate::warnings::is_first_too_many;
@@ -17,8 +17,6 @@ pub struct Tally {
     pub refused: u64,
     /// The lines that have a warning. A plan counts none.
     pub warned: u64,
-    /// The lines of the file that is read. A plan counts none.
-    pub file_lines: u64,
 }
 
 impl Tally {
@@ -31,26 +29,17 @@ impl Tally {
             jobs: 0,
             refused: 0,
             warned: 0,
-            file_lines: 0,
         }
     }
 
-    /// Begins a file.
-    pub fn begin(&mut self)
-        ensures { self.new ≡ begun self.old }
+    /// Counts the line behind so many of a file, and whether it has a warning, or is the first that a crontab has too many. No count
+    /// passes 2^64 - 1.
+    pub fn add(&mut self, dialect: Dialect, lines: u64, report: &Report<'_, '_>)
+        ensures { self.new ≡ added dialect lines self.old report.now }
     {
-        self.file_lines = 0;
-    }
-
-    /// Counts one more line of the file, and whether it has a warning, or is the first that a crontab has too many. No count passes
-    /// 2^64 - 1.
-    pub fn add(&mut self, dialect: Dialect, report: &Report<'_, '_>)
-        ensures { self.new ≡ added dialect self.old report.now }
-    {
-        let is_warned = is_line_warned(dialect, self.file_lines, report);
+        let is_warned = is_line_warned(dialect, lines, report);
         self.count(report);
         self.warned = one_more_if(is_warned, self.warned);
-        self.file_lines = one_more(self.file_lines);
     }
 
     /// Counts one more line, and no warning. No count passes 2^64 - 1.
@@ -102,7 +91,8 @@ fn one_more_if(counts: bool, count: u64) -> u64
     if counts { one_more(count) } else { count }
 }
 
-fn one_more(count: u64) -> u64
+// One more. No count passes 2^64 - 1.
+pub(crate) fn one_more(count: u64) -> u64
     ensures { result ≡ one_more count }
 {
     count.saturating_add(1)

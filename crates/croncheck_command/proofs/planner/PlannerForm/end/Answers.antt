@@ -1,8 +1,8 @@
-use Rattle.std.proofs.Common.{ℕ, List, Vec, Global, subst}
+use Rattle.std.proofs.Common.{ℕ, List, Vec, Global, string_bytes, subst}
 use Rattle.croner_base.specs.declared.time.table.TableTime.{TableTime}
 use Rattle.croncheck_command.specs.declared.planner.Planned.{Planned}
 use Rattle.crontab.specs.Checked.{TakesInTurn}
-use Rattle.croncheck_command.specs.Output.{written_of}
+use Rattle.croncheck_command.specs.Output.{written_of, WritesApart}
 use Rattle.croncheck_command.specs.Planner.{labels, WritesMoment}
 use Rattle.croncheck_command.proofs.ToldFiles.{if_ok}
 use Rattle.croncheck_command.proofs.planner.PlannerForm.end.Goals as goal
@@ -16,10 +16,12 @@ returns g c =
     if_ok c.write_apart.result
     (λ writes. record {
       plan = c.in-Ok.plan;
+      text = string_bytes c.in_ok-text.text;
       between = between;
       planned = c.in-Ok.ensures.planned;
       moments = subst (Wrote c.args.self.now.jobs.items) c.as_slice-2.ensures.value
           (subst (λ (jobs : List Planned). Wrote jobs c.as_slice-2.result.now) c.as_slice.ensures.value c.in_ok-write_moments.ensures);
-      end = (c.as_str.result.now, writes);
+      end_is = c.in_ok-text.ensures;
+      end = subst (λ (text : List ℕ). WritesApart text between (written_of g.W.Write.contents c.write_apart.new.self)) c.as_str.ensures.value writes;
     })
     c.write_apart.ensures.written
