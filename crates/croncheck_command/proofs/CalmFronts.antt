@@ -1,11 +1,11 @@
 -- What a calm window begins with is a calm window.
 use Rattle.std.proofs.Common.{◌≡◌, ℕ, zero, suc, ◌+◌, ◌≤◌, true, refl, sym, ap, ◌∙◌, subst, arith, ℤ, pos, ◌+ℤ◌, ◌-ℤ◌, ◌≤ℤ◌, List, [], ◌∷◌, ◌++◌, append_assoc, append-nil, nat_le, unsigned_abs}
-use Rattle.std.proofs.lemmas.Bool.{leb-true, le-leb}
+use Rattle.std.proofs.lemmas.Bool.{le-leb}
 use Rattle.std.proofs.lemmas.Int.{ints}
 use Rattle.jiff_tz.specs.declared.timezone.TimeZone.{TimeZone}
 use Rattle.croner_base.specs.Limits.{most_changes, most_gap_seconds}
 use Rattle.croner_base.specs.Table.{is_apart, are_changes, met_count, met_gaps, is_calm_table}
-use Rattle.croner_base.specs.ZoneTable.{IsWindow, IsCalmWindow, ahead_at, change_at, changes_after, window_changes}
+use Rattle.croner_base.specs.ZoneTable.{IsCalmWindow, ahead_at, change_at, changes_after, window_changes}
 use Rattle.croner_base.proofs.tables.TableCheck.{first_change, calm_parts}
 use Rattle.croner_base.proofs.zones.ZoneChanges.{changes_more}
 use Rattle.croner_base.proofs.zones.ZoneYears.{nonneg_abs}

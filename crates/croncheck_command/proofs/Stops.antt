@@ -1,5 +1,5 @@
 -- The second from which on a window is calm no more, and why.
-use Rattle.std.proofs.Common.{◌≡◌, ◌∙◌, ◌≤◌, ◌+◌, ℕ, zero, suc, ℤ, Bool, true, false, refl, pos, ◌+ℤ◌, ◌-ℤ◌, ◌≤ℤ◌, ◌<ℤ◌, sym, subst, arith}
+use Rattle.std.proofs.Common.{◌≡◌, ◌∙◌, ◌≤◌, ◌+◌, ℕ, zero, suc, ℤ, Bool, true, false, refl, pos, ◌+ℤ◌, ◌-ℤ◌, ◌≤ℤ◌, sym, subst, arith}
 use Rattle.std.proofs.lemmas.Int.{ints, by_lt_z}
 use Rattle.std.proofs.lemmas.Bool.{false≢true}
 use Rattle.std.specs.Prelude.{not}
@@ -13,7 +13,7 @@ use Rattle.croncheck_command.specs.declared.clock.NoClock.TheVariants as refusal
 use Rattle.croncheck_command.specs.declared.clock.stop.Stop.{Stop}
 use Rattle.croncheck_command.specs.declared.clock.stop.Reason.{Reason}
 use Rattle.croncheck_command.specs.declared.clock.stop.Reason.TheVariants as reasons
-use Rattle.croncheck_command.specs.Clock.{last_second, first_of, two_days_before, skipped_with, IsStop, IsStopOf, IsReasonBy, IsReasonAt, IsReason, IsHeldSecond, IsHeldStart, IsFollowed, IsRefusalBy, IsNoClock}
+use Rattle.croncheck_command.specs.Clock.{last_second, first_of, two_days_before, skipped_with, IsStop, IsStopOf, IsReasonBy, IsReasonAt, IsReason, IsFollowed, IsRefusalBy, IsNoClock}
 use Rattle.croncheck_command.proofs.CalmFronts.{calm_up_to}
 
 none_behind : (first : ℤ) → (first +ℤ pos 0) ≡ first

@@ -1,4 +1,4 @@
-use Rattle.std.proofs.Common.{◌∙◌, arith, pos, w32}
+use Rattle.std.proofs.Common.{arith, pos, w32}
 use Rattle.std.proofs.lemmas.Int.{ints, to_z-of_z}
 use Rattle.croncheck_command.proofs.ListedChanges.{table_fits}
 use Rattle.croncheck_command.proofs.Skipped.{added, room, all_added}
