@@ -12,12 +12,16 @@ use Rattle.croncheck_command.specs.Told.{is_over, is_at_end_of_window}
 use Rattle.croncheck_command.specs.Runs.{Rest, IsEnd}
 
 -- Antarctica/Casey in March 2010, from 39,600 to 28,800 seconds ahead of UTC: three hours back
-casey : IsReasonBy (pos 39_600) (pos 39_600) (pos 28_800) (reasons.Back (pos 10_800))
+casey : IsReasonBy (pos 39_600) (pos 39_600) (pos 28_800) 7_200 (reasons.Back (pos 10_800))
 casey = (refl, omega (arith, ints))
 
--- a rule that skips two hours, once it has skipped too many seconds in all
-two_hours_forward : IsReasonBy (pos 0) (pos 0) (pos 7_200) reasons.Many
-two_hours_forward = (refl, omega (arith, ints), omega (arith, ints))
+-- a rule that skips two hours each year, once it has done so 2,778 times: these are 20,001,600 seconds
+two_hours_forward : IsReasonBy (pos 0) (pos 0) (pos 7_200) 20_001_600 reasons.Skipped
+two_hours_forward = ((refl, omega (arith, ints), omega (arith, ints)), omega arith)
+
+-- as long as it has skipped no more than 20,000,000 seconds, there are too many changes
+changes_alone : IsReasonBy (pos 0) (pos 0) (pos 7_200) 20_000_000 reasons.Many
+changes_alone = ((refl, omega (arith, ints), omega (arith, ints)), omega arith)
 
 -- Casey's change at 2010-03-04T15:00:00Z: two days before it, and from a window on that begins a day before it
 two_days_before_casey : two_days_before (pos 1_266_321_600) (pos 1_267_714_800) ≡ pos 1_267_541_999

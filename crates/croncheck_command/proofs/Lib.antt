@@ -1,3 +1,4 @@
+mod CalmFronts
 mod Comparisons
 mod Endings
 mod ExamplesChanges
@@ -19,8 +20,10 @@ mod Outputs
 mod OwnRuns
 mod Plans
 mod ShownBytes
+mod Skipped
 mod Stops
 mod ToldFiles
 mod ToldLines
 mod WatchedYears
 mod Years
+mod ZoneWords

@@ -1,6 +1,6 @@
 -- The second from which on a window is calm no more, and why.
-use Rattle.std.proofs.Common.{◌≡◌, ◌∙◌, ◌≤◌, ◌+◌, ℕ, zero, suc, ℤ, Bool, true, false, refl, pos, ◌+ℤ◌, ◌-ℤ◌, sym, subst, arith}
-use Rattle.std.proofs.lemmas.Int.{ints}
+use Rattle.std.proofs.Common.{◌≡◌, ◌∙◌, ◌≤◌, ◌+◌, ℕ, zero, suc, ℤ, Bool, true, false, refl, pos, ◌+ℤ◌, ◌-ℤ◌, ◌≤ℤ◌, sym, subst, arith}
+use Rattle.std.proofs.lemmas.Int.{ints, by_lt_z}
 use Rattle.std.proofs.lemmas.Bool.{false≢true}
 use Rattle.std.specs.Prelude.{not}
 use Rattle.jiff_tz.specs.declared.timezone.TimeZone.{TimeZone}
@@ -8,9 +8,13 @@ use Rattle.croner_base.specs.Table.{is_offset}
 use Rattle.croner_base.specs.Zone.{Zone}
 use Rattle.croner_base.specs.ZoneTable.{IsWindow, IsCalmWindow, ahead_at, nearest_in}
 use Rattle.croner.specs.laws.Zones.{IsClockOf}
+use Rattle.croncheck_command.specs.declared.clock.NoClock.{NoClock}
+use Rattle.croncheck_command.specs.declared.clock.NoClock.TheVariants as refusals
+use Rattle.croncheck_command.specs.declared.clock.stop.Stop.{Stop}
 use Rattle.croncheck_command.specs.declared.clock.stop.Reason.{Reason}
 use Rattle.croncheck_command.specs.declared.clock.stop.Reason.TheVariants as reasons
-use Rattle.croncheck_command.specs.Clock.{last_second, two_days_before, IsStop, IsReasonBy, IsReason}
+use Rattle.croncheck_command.specs.Clock.{last_second, first_of, two_days_before, skipped_with, IsStop, IsStopOf, IsReasonBy, IsReasonAt, IsReason, IsFollowed, IsRefusalBy, IsNoClock}
+use Rattle.croncheck_command.proofs.CalmFronts.{calm_up_to}
 
 none_behind : (first : ℤ) → (first +ℤ pos 0) ≡ first
 none_behind first = omega (arith, ints)
@@ -57,27 +61,36 @@ stop_whole tz first behind n at last_is at_is stop =
 
 -- ---- why
 
--- a reason by three offsets is one by the offsets of a zone that are the same
-same_reason : (tz : TimeZone) (first at earlier before there : ℤ) (r : Reason) → there ≡ ahead_at tz at → before ≡ ahead_at tz (at -ℤ pos 1)
-    → earlier ≡ ahead_at tz (two_days_before first at) → IsReasonBy earlier before there r
-    → IsReasonBy (ahead_at tz (two_days_before first at)) (ahead_at tz (at -ℤ pos 1)) (ahead_at tz at) r
-same_reason tz first at earlier before there r there_is before_is earlier_is is =
-    subst (λ (e : ℤ). IsReasonBy e (ahead_at tz (at -ℤ pos 1)) (ahead_at tz at) r) earlier_is
-    (subst (λ (b : ℤ). IsReasonBy earlier b (ahead_at tz at) r) before_is
-    (subst (λ (t : ℤ). IsReasonBy earlier before t r) there_is is))
+-- a reason by three offsets, and by what is skipped, is one by those of a zone that are the same
+reason_there : (tz : TimeZone) (first at earlier before there : ℤ) (skipped : ℕ) (r : Reason) → there ≡ ahead_at tz at → before ≡ ahead_at tz (at -ℤ pos 1)
+    → earlier ≡ ahead_at tz (two_days_before first at) → skipped ≡ skipped_with tz first at → IsReasonBy earlier before there skipped r → IsReasonAt tz first at r
+reason_there tz first at earlier before there skipped r there_is before_is earlier_is skipped_is is =
+    subst (λ (n : ℕ). IsReasonBy (ahead_at tz (two_days_before first at)) (ahead_at tz (at -ℤ pos 1)) (ahead_at tz at) n r) skipped_is
+    (subst (λ (e : ℤ). IsReasonBy e (ahead_at tz (at -ℤ pos 1)) (ahead_at tz at) skipped r) earlier_is
+    (subst (λ (b : ℤ). IsReasonBy earlier b (ahead_at tz at) skipped r) before_is
+    (subst (λ (t : ℤ). IsReasonBy earlier before t skipped r) there_is is)))
 
 -- the reason of a change of a clock that is no more than a day off UTC
-pub reason_at : (tz : TimeZone) (first at earlier before there : ℤ) (r : Reason) → there ≡ ahead_at tz at → before ≡ ahead_at tz (at -ℤ pos 1)
-    → earlier ≡ ahead_at tz (two_days_before first at) → is_offset there ≡ true → IsReasonBy earlier before there r → IsReason tz first at r
-reason_at tz first at earlier before there (reasons.Far n) there_is before_is earlier_is near is = absurd is
-reason_at tz first at earlier before there (reasons.Forward n) there_is before_is earlier_is near is =
-    (subst (λ (t : ℤ). is_offset t ≡ true) there_is near, λ less. same_reason tz first at earlier before there (reasons.Forward n) there_is before_is earlier_is is)
-reason_at tz first at earlier before there (reasons.Back n) there_is before_is earlier_is near is =
-    (subst (λ (t : ℤ). is_offset t ≡ true) there_is near, λ less. same_reason tz first at earlier before there (reasons.Back n) there_is before_is earlier_is is)
-reason_at tz first at earlier before there reasons.Soon there_is before_is earlier_is near is =
-    (subst (λ (t : ℤ). is_offset t ≡ true) there_is near, λ less. same_reason tz first at earlier before there reasons.Soon there_is before_is earlier_is is)
-reason_at tz first at earlier before there reasons.Many there_is before_is earlier_is near is =
-    (subst (λ (t : ℤ). is_offset t ≡ true) there_is near, λ less. same_reason tz first at earlier before there reasons.Many there_is before_is earlier_is is)
+reason_at : (tz : TimeZone) (first at : ℤ) (r : Reason) → is_offset (ahead_at tz at) ≡ true → IsReasonAt tz first at r → IsReason tz first at r
+reason_at tz first at (reasons.Far n) near is = absurd is
+reason_at tz first at (reasons.Forward n) near is = (near, λ less. is)
+reason_at tz first at (reasons.Back n) near is = (near, λ less. is)
+reason_at tz first at reasons.Soon near is = (near, λ less. is)
+reason_at tz first at reasons.Skipped near is = (near, λ less. is)
+reason_at tz first at reasons.Many near is = (near, λ less. is)
+
+-- the same of the offsets and the seconds that were asked for
+pub reasons_at : (tz : TimeZone) (first at earlier before there : ℤ) (skipped : ℕ) (r : Reason) → there ≡ ahead_at tz at → before ≡ ahead_at tz (at -ℤ pos 1)
+    → earlier ≡ ahead_at tz (two_days_before first at) → skipped ≡ skipped_with tz first at → is_offset there ≡ true → IsReasonBy earlier before there skipped r
+    → IsReason tz first at r
+reasons_at tz first at earlier before there skipped r there_is before_is earlier_is skipped_is near by =
+    reason_at tz first at r (subst (λ (t : ℤ). is_offset t ≡ true) there_is near)
+    (reason_there tz first at earlier before there skipped r there_is before_is earlier_is skipped_is by)
+
+-- behind its first second a window is calm up to the second before its stop
+pub calm_until : (tz : TimeZone) (first at : ℤ) → IsStop tz first last_second at → ¬ (at ≡ first) → IsCalmWindow tz first (at -ℤ pos 1)
+calm_until tz first at stop other =
+    by_lt_z first at (λ less. stop.calm_before less) (λ ge. absurd (other (omega (arith, ints, ge, stop.window.order))))
 
 -- a test that is false says that what it denies holds
 pub not_far : (near far : Bool) → far ≡ not near → far ≡ false → near ≡ true
@@ -92,3 +105,24 @@ pub clock_of : (tz : TimeZone) (first last f l : ℤ) (z : Zone) → f ≡ first
 clock_of tz first last f l z first_is last_is calm shows =
     subst (λ (a : ℤ). IsClockOf tz a last z) first_is
     (subst (λ (b : ℤ). IsClockOf tz f b z) last_is (record { window = calm.window; shows = shows }))
+
+-- ---- a start that is followed
+
+-- it has no stop up to it
+pub followed_on : (tz : TimeZone) (start at : ℤ) → IsFollowed tz start → at ≤ℤ start → ¬ (IsStop tz (first_of start) last_second at)
+followed_on tz start at followed le stop = stop.not_calm (calm_up_to tz (first_of start) at start stop.window.order le followed.1)
+
+-- what is said of a start at a stop, or behind it
+pub refused_by : (tz : TimeZone) (start first : ℤ) (stop : Stop) (r : NoClock) → first ≡ first_of start → IsWindow first last_second → IsStopOf tz first stop
+    → stop.second ≤ℤ start → IsRefusalBy tz stop r → IsNoClock tz start r × (IsFollowed tz start → r ≡ refusals.OutOfMemory)
+refused_by tz start first stop (refusals.Change s next) first_is window is le by =
+    let here = subst (λ (f : ℤ). IsStopOf tz f stop) first_is is in (
+      (
+        subst (λ (x : Stop). IsStopOf tz (first_of start) x) (sym by.0) here,
+        subst (λ (x : Stop). x.second ≤ℤ start) (sym by.0) le,
+        by.1,
+      ),
+      λ followed. absurd (followed_on tz start stop.second followed le here.stops),
+    )
+refused_by tz start first stop refusals.Outside first_is window is le by = absurd by
+refused_by tz start first stop refusals.OutOfMemory first_is window is le by = (subst (λ (f : ℤ). IsWindow f last_second) first_is window, λ followed. refl)

@@ -1,9 +1,9 @@
 -- The window of a clock, and why a zone has none. Source: this crate's documentation of `Clock`.
-use Rattle.std.specs.Prelude.{◌≡◌, ℕ, true, false, if◌then◌else◌, int_lt, ℤ, pos, ◌-ℤ◌, ◌<ℤ◌, ◌≤ℤ◌, Option, Some, None}
+use Rattle.std.specs.Prelude.{◌≡◌, ℕ, ◌+◌, ◌<◌, ◌≤◌, true, false, if◌then◌else◌, int_lt, ℤ, pos, ◌-ℤ◌, ◌<ℤ◌, ◌≤ℤ◌, Option, Some, None, IfSome}
 use Rattle.jiff_tz.specs.declared.timezone.TimeZone.{TimeZone}
-use Rattle.croner_base.specs.Limits.{gap_limit, fold_limit, apart_limit}
-use Rattle.croner_base.specs.Table.{is_offset}
-use Rattle.croner_base.specs.ZoneTable.{IsWindow, IsCalmWindow, ahead_at}
+use Rattle.croner_base.specs.Limits.{gap_limit, fold_limit, apart_limit, most_gap_seconds}
+use Rattle.croner_base.specs.Table.{is_offset, met_gaps, gap_at}
+use Rattle.croner_base.specs.ZoneTable.{IsWindow, IsCalmWindow, ahead_at, window_changes}
 use Rattle.croner_base.specs.ZonedZone.{first_timestamp, last_timestamp}
 use Rattle.croncheck_command.specs.declared.clock.NoClock.{NoClock}
 use Rattle.croncheck_command.specs.declared.clock.NoClock.TheVariants as refusals
@@ -37,20 +37,34 @@ IsHeldSecond i = (first_timestamp ≤ℤ i) × (i ≤ℤ last_timestamp)
 abbrev pub two_days_before : ℤ → ℤ → ℤ
 two_days_before first at = if int_lt (at -ℤ pos 1 -ℤ pos apart_limit) first then first else at -ℤ pos 1 -ℤ pos apart_limit
 
--- why searches don't go over a change, by how far the clock is ahead of UTC there, in the second before, and two days before that
-abbrev pub IsReasonBy : ℤ → ℤ → ℤ → Reason → Type 0
-IsReasonBy earlier before there (reasons.Far ahead) = ⊥
-IsReasonBy earlier before there (reasons.Forward n) = (n ≡ there -ℤ before) × (pos gap_limit <ℤ n)
-IsReasonBy earlier before there (reasons.Back n) = (n ≡ before -ℤ there) × (pos fold_limit <ℤ n)
-IsReasonBy earlier before there reasons.Soon = ¬ (before ≡ earlier)
-IsReasonBy earlier before there reasons.Many =
-    (before ≡ earlier) × ((there -ℤ before) ≤ℤ pos gap_limit) × ((before -ℤ there) ≤ℤ pos fold_limit)
+-- how many seconds a zone's clock has skipped in a window, in the years that a pattern can name, with the change at a second behind it
+abbrev pub skipped_with : TimeZone → ℤ → ℤ → ℕ
+skipped_with tz first at =
+    met_gaps (ahead_at tz first) (window_changes tz first (at -ℤ pos 1)) + gap_at (ahead_at tz (at -ℤ pos 1)) (at, ahead_at tz at)
+
+-- a change comes two days or more behind the one before, and goes forward and back by no more than searches go over
+abbrev pub IsSmall : ℤ → ℤ → ℤ → Type 0
+IsSmall earlier before there = (before ≡ earlier) × ((there -ℤ before) ≤ℤ pos gap_limit) × ((before -ℤ there) ≤ℤ pos fold_limit)
+
+-- why searches don't go over a change, by how far the clock is ahead of UTC there, in the second before, and two days before that, and by how
+-- many seconds it has skipped with the change
+abbrev pub IsReasonBy : ℤ → ℤ → ℤ → ℕ → Reason → Type 0
+IsReasonBy earlier before there skipped (reasons.Far ahead) = ⊥
+IsReasonBy earlier before there skipped (reasons.Forward n) = (n ≡ there -ℤ before) × (pos gap_limit <ℤ n)
+IsReasonBy earlier before there skipped (reasons.Back n) = (n ≡ before -ℤ there) × (pos fold_limit <ℤ n)
+IsReasonBy earlier before there skipped reasons.Soon = ¬ (before ≡ earlier)
+IsReasonBy earlier before there skipped reasons.Skipped = IsSmall earlier before there × (most_gap_seconds < skipped)
+IsReasonBy earlier before there skipped reasons.Many = IsSmall earlier before there × (skipped ≤ most_gap_seconds)
+
+-- the same of the change at a second of a zone's clock
+abbrev pub IsReasonAt : TimeZone → ℤ → ℤ → Reason → Type 0
+IsReasonAt tz first at reason =
+    IsReasonBy (ahead_at tz (two_days_before first at)) (ahead_at tz (at -ℤ pos 1)) (ahead_at tz at) (skipped_with tz first at) reason
 
 -- why a window stops at a second
 abbrev pub IsReason : TimeZone → ℤ → ℤ → Reason → Type 0
 IsReason tz first at (reasons.Far ahead) = (ahead ≡ ahead_at tz at) × (is_offset ahead ≡ false)
-IsReason tz first at reason =
-    (is_offset (ahead_at tz at) ≡ true) × (first <ℤ at → IsReasonBy (ahead_at tz (two_days_before first at)) (ahead_at tz (at -ℤ pos 1)) (ahead_at tz at) reason)
+IsReason tz first at reason = (is_offset (ahead_at tz at) ≡ true) × (first <ℤ at → IsReasonAt tz first at reason)
 
 -- where a window up to the last second stops, and why
 pub record IsStopOf (tz : TimeZone) (first : ℤ) (s : Stop) : Type 0 where
@@ -76,8 +90,19 @@ last_before (Some s) = Some (s.second -ℤ pos 1)
 abbrev pub IsHeldStart : ℤ → Type 0
 IsHeldStart start = (first_timestamp ≤ℤ first_of start) × (start ≤ℤ last_second)
 
--- why there is no clock from a start on: its window stops at it or before it; it lies outside; or memory is wanting
+-- a start up to which its window is calm
+abbrev pub IsFollowed : TimeZone → ℤ → Type 0
+IsFollowed tz start = IsHeldStart start × IsCalmWindow tz (first_of start) start
+
+-- what is said where a window stops at its start or before it: where, and a start that has a clock, if one was found; or memory is wanting
+abbrev pub IsRefusalBy : TimeZone → Stop → NoClock → Type 0
+IsRefusalBy tz stop (refusals.Change s next) = (s ≡ stop) × IfSome next (IsFollowed tz)
+IsRefusalBy tz stop refusals.Outside = ⊥
+IsRefusalBy tz stop refusals.OutOfMemory = Unit {0}
+
+-- why there is no clock from a start on: its window stops at it or before it, and then a start that is named has one; it lies outside; or
+-- memory is wanting
 abbrev pub IsNoClock : TimeZone → ℤ → NoClock → Type 0
-IsNoClock tz start (refusals.Change s) = IsStopOf tz (first_of start) s × (s.second ≤ℤ start)
+IsNoClock tz start (refusals.Change s next) = IsStopOf tz (first_of start) s × (s.second ≤ℤ start) × IfSome next (IsFollowed tz)
 IsNoClock tz start refusals.Outside = ¬ (IsHeldStart start)
 IsNoClock tz start refusals.OutOfMemory = IsWindow (first_of start) last_second

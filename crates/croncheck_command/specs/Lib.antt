@@ -3,6 +3,7 @@ pub mod Clock
 pub mod FileSeen
 pub mod Files
 pub mod Json
+pub mod Length
 pub mod Moment
 pub mod Output
 pub mod Plan
@@ -21,3 +22,4 @@ pub mod Tally
 pub mod Told
 pub mod Warnings
 pub mod Words
+pub mod Zone

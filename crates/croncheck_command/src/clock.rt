@@ -1,17 +1,20 @@
 //! The clock that runs are listed on: a zone's, over the years that are checked.
-ghost use Rattle.std.specs.Prelude.{◌≡◌, not, IfOk, IfErr, pos, ◌+ℤ◌, ◌-ℤ◌, ◌<ℤ◌, ◌≤ℤ◌};
+ghost use Rattle.std.specs.Prelude.{◌≡◌, ◌≤◌, not, IfOk, IfErr, IfSome, pos, ◌+ℤ◌, ◌-ℤ◌, ◌<ℤ◌, ◌≤ℤ◌};
 ghost use Rattle.std.specs.Bool.{OnTrue, OnFalse};
 ghost use Rattle.jiff.specs.ZoneView.{plain_zone};
 ghost use Rattle.jiff_core.specs.Timestamp.{nanos_of_seconds};
-ghost use Rattle.croner_base.specs.Table.{is_offset};
+ghost use Rattle.croner_base.specs.Limits.{most_gap_seconds};
+ghost use Rattle.croner_base.specs.Table.{is_offset, met_gaps};
 ghost use Rattle.croner_base.specs.TableZone.{table_zone};
-ghost use Rattle.croner_base.specs.ZoneTable.{IsWindow, IsCalmWindow, ahead_at};
+ghost use Rattle.croner_base.specs.ZoneTable.{IsWindow, IsCalmWindow, ahead_at, window_changes};
 ghost use Rattle.croner_base.specs.ZonedZone.{first_timestamp};
 ghost use Rattle.croner.specs.laws.Zones.{IsClockOf, IsWellIn};
-ghost use Rattle.croncheck_command.specs.Clock.{last_second, first_of, last_of, last_before, two_days_before, IsHeldSecond, IsStop, HasStop, IsStopOf, IsReason, IsReasonBy, IsNoClock};
+ghost use Rattle.croncheck_command.specs.Clock.{last_second, first_of, last_of, last_before, two_days_before, IsHeldSecond, IsStop, HasStop, IsStopOf, IsReason, IsReasonBy, IsFollowed, IsRefusalBy, IsNoClock};
 
+mod skipped;
 pub mod stop;
 
+use crate::clock::skipped::{skipped_at, skipped_in};
 use crate::clock::stop::{Reason, Stop};
 use croner::errors::CronError;
 use croner::time::table::ClockTable;
@@ -42,6 +45,9 @@ const SECONDS_BACK: i64 = 7_200;
 /// Two changes have to lie more than so many seconds apart.
 const SECONDS_APART: i64 = 172_800;
 
+/// They go over so many skipped seconds in all, at most.
+const MOST_SKIPPED: u64 = 20_000_000;
+
 /// The clock of a zone from three days before a start to the end of 5001-01-01 in UTC, behind which it has no run; or to the second before
 /// its stop.
 ///
@@ -62,7 +68,11 @@ impl Drop for Clock {
 #[derive(Clone, Copy, Drop)]
 pub enum NoClock {
     /// The window of the start ends before it, or at it.
-    Change(Stop),
+    Change {
+        stop: Stop,
+        /// A start behind the stop that has a clock, where one was found.
+        next: Option<i64>,
+    },
     /// The start lies outside -377,704,764,001 to 95,649,206,399.
     Outside,
     /// Memory was asked for and not found.
@@ -76,6 +86,7 @@ impl Clock {
         ensures start { IfOk result (λ c. IsWellIn (plain_zone zone.now) (first_of start) (last_of c.stop) start) }
         ensures stop { IfOk result (λ c. HasStop (plain_zone zone.now) (first_of start) c.stop) }
         ensures err { IfErr result (IsNoClock (plain_zone zone.now) start) }
+        ensures followed { IsFollowed (plain_zone zone.now) start → IfErr result (λ e. e ≡ NoClock.OutOfMemory) }
     {
         if start < FIRST_START || LAST_SECOND < start {
             return Err(NoClock::Outside);
@@ -135,12 +146,13 @@ fn clock_up_to_stop(
     ensures start { IfOk result (λ c. IsWellIn (plain_zone zone.now) first (last_of c.stop) start) }
     ensures stop { IfOk result (λ c. HasStop (plain_zone zone.now) first c.stop) }
     ensures err { IfErr result (IsNoClock (plain_zone zone.now) start) }
+    ensures followed { IsFollowed (plain_zone zone.now) start → IfErr result (λ e. e ≡ NoClock.OutOfMemory) }
 {
     let Ok(stop) = stop_of(alloc, zone, first) else {
         return Err(NoClock::OutOfMemory);
     };
     if stop.second <= start {
-        return Err(NoClock::Change(stop));
+        return Err(refusal_by(alloc, zone, stop));
     }
     match ClockTable::of_zone(alloc, zone, first, stop.second - 1) {
         Ok(table) => Ok(Clock {
@@ -151,6 +163,61 @@ fn clock_up_to_stop(
     }
 }
 
+// Why there is no clock where its window stops here, at the start or before it.
+fn refusal_by(alloc: Global, zone: &TimeZone<'_>, stop: Stop) -> NoClock
+    ensures { IsRefusalBy (plain_zone zone.now) stop result }
+{
+    match start_behind(alloc, zone, stop.second) {
+        Ok(next) => NoClock::Change { stop, next },
+        Err(_) => NoClock::OutOfMemory,
+    }
+}
+
+// A start that has a clock: three days behind a second, or behind the next stop from there on.
+fn start_behind(alloc: Global, zone: &TimeZone<'_>, second: i64) -> Result<Option<i64>, AllocError>
+    requires { IsHeldSecond second }
+    ensures { IfOk result (λ found. IfSome found (IsFollowed (plain_zone zone.now))) }
+{
+    let start = start_from(alloc, zone, second)?;
+    if start.is_some() {
+        return Ok(start);
+    }
+    match stop_within(alloc, zone, second)? {
+        Some(stop) => start_from(alloc, zone, stop),
+        None => Ok(None),
+    }
+}
+
+// The start three days behind a second, if its window, which begins there, is calm up to it.
+fn start_from(alloc: Global, zone: &TimeZone<'_>, first: i64) -> Result<Option<i64>, AllocError>
+    requires { IsHeldSecond first }
+    ensures { IfOk result (λ found. IfSome found (IsFollowed (plain_zone zone.now))) }
+{
+    if LAST_SECOND - SECONDS_BEFORE < first {
+        return Ok(None);
+    }
+    if is_calm(alloc, zone, first, SECONDS_BEFORE as u64)? {
+        Ok(Some(first + SECONDS_BEFORE))
+    } else {
+        Ok(None)
+    }
+}
+
+// Where the three days behind a second stop to be calm, if they do so behind it.
+fn stop_within(alloc: Global, zone: &TimeZone<'_>, first: i64) -> Result<Option<i64>, AllocError>
+    requires { IsHeldSecond first }
+    ensures { IfOk result (λ found. IfSome found IsHeldSecond) }
+{
+    if LAST_SECOND - SECONDS_BEFORE < first || !is_calm(alloc, zone, first, 0)? {
+        return Ok(None);
+    }
+    if is_calm(alloc, zone, first, SECONDS_BEFORE as u64)? {
+        return Ok(None);
+    }
+    let seconds = first_stop(alloc, zone, first, SECONDS_BEFORE as u64)?;
+    Ok(Some(second_behind(first, seconds)))
+}
+
 // Where a window up to the last second stops, and why.
 fn stop_of(alloc: Global, zone: &TimeZone<'_>, first: i64) -> Result<Stop, AllocError>
     requires window { IsWindow first last_second }
@@ -158,10 +225,8 @@ fn stop_of(alloc: Global, zone: &TimeZone<'_>, first: i64) -> Result<Stop, Alloc
     ensures { IfOk result (IsStopOf (plain_zone zone.now) first) }
 {
     let second = stop_second_of(alloc, zone, first)?;
-    Ok(Stop {
-        second,
-        reason: reason_of(zone, first, second),
-    })
+    let reason = reason_of(alloc, zone, first, second)?;
+    Ok(Stop { second, reason })
 }
 
 // How many seconds a zone's clock is ahead of UTC at a second.
@@ -183,20 +248,44 @@ fn instant_of(second: i64) -> Timestamp
 }
 
 // Why a window stops at a second.
-fn reason_of(zone: &TimeZone<'_>, first: i64, second: i64) -> Reason
+fn reason_of(
+    alloc: Global,
+    zone: &TimeZone<'_>,
+    first: i64,
+    second: i64,
+) -> Result<Reason, AllocError>
     requires { IsStop (plain_zone zone.now) first last_second second }
-    ensures { IsReason (plain_zone zone.now) first second result }
+    ensures { IfOk result (IsReason (plain_zone zone.now) first second) }
 {
     let there = ahead_at(zone, second);
     if is_far(there) {
-        return Reason::Far(there);
+        return Ok(Reason::Far(there));
     }
     if second == first {
-        return Reason::Many;
+        return Ok(Reason::Many);
     }
     let before = ahead_at(zone, second - 1);
     let earlier = ahead_at(zone, two_days_before(first, second));
-    reason_by(earlier, before, there)
+    let skipped = skipped_up_to(alloc, zone, first, second - 1)?;
+    let skipped = skipped + skipped_at(before, (second, there));
+    Ok(reason_by(earlier, before, there, skipped))
+}
+
+// How many seconds a zone's clock skips in a calm window, in the years that a pattern can name.
+fn skipped_up_to(
+    alloc: Global,
+    zone: &TimeZone<'_>,
+    first: i64,
+    last: i64,
+) -> Result<u64, AllocError>
+    requires { IsCalmWindow (plain_zone zone.now) first last }
+    ensures value { IfOk result (λ n. n ≡ met_gaps (ahead_at (plain_zone zone.now) first) (window_changes (plain_zone zone.now) first last)) }
+    ensures bound { IfOk result (λ n. n ≤ most_gap_seconds) }
+{
+    match ClockTable::of_zone(alloc, zone, first, last) {
+        Ok(table) => Ok(skipped_in(&table)),
+        Err(_) => Err(AllocError),
+    }
 }
 
 // Whether a clock is more than a day ahead of UTC, or behind it.
@@ -217,9 +306,10 @@ fn two_days_before(first: i64, second: i64) -> i64
     if earlier < first { first } else { earlier }
 }
 
-// Why searches don't go over a change, by how far the clock is ahead of UTC there, in the second before, and two days before that.
-fn reason_by(earlier: i32, before: i32, there: i32) -> Reason
-    ensures { IsReasonBy earlier before there result }
+// Why searches don't go over a change, by how far the clock is ahead of UTC there, in the second before, and two days before that, and by
+// how many seconds it has skipped in all with the change.
+fn reason_by(earlier: i32, before: i32, there: i32, skipped: u64) -> Reason
+    ensures { IsReasonBy earlier before there skipped result }
 {
     let forward = there as i64 - before as i64;
     if forward > SECONDS_FORWARD {
@@ -228,6 +318,8 @@ fn reason_by(earlier: i32, before: i32, there: i32) -> Reason
         Reason::Back(-forward)
     } else if earlier != before {
         Reason::Soon
+    } else if skipped > MOST_SKIPPED {
+        Reason::Skipped
     } else {
         Reason::Many
     }

@@ -1,7 +1,7 @@
 //! Why a call can't be answered, or not whole.
 
-use crate::clock::stop::{Reason, Stop};
-use crate::clock::{NoClock, SECONDS_BEFORE};
+use crate::clock::NoClock;
+use crate::clock::stop::Stop;
 use std::{fmt, io};
 
 /// Why a call can't be answered.
@@ -74,7 +74,7 @@ impl fmt::Display for Problem {
 // Why a zone has no clock.
 fn write_reason<W: fmt::Write>(f: &mut fmt::Formatter<W>, reason: NoClock) -> fmt::Result {
     match reason {
-        NoClock::Change(stop) => write_stop(f, stop),
+        NoClock::Change { stop, next } => write_stop(f, stop, next),
         NoClock::Outside => f.write_str(
             "--from: this start has no clock: write one from @-377704764001, which is -9999-01-05T01:59:59Z, to @95649119999, which is 5000-12-31T23:59:59Z",
         ),
@@ -83,14 +83,14 @@ fn write_reason<W: fmt::Write>(f: &mut fmt::Formatter<W>, reason: NoClock) -> fm
 }
 
 // Where a zone's clock stops before runs can be listed, and from when on they can be.
-fn write_stop<W: fmt::Write>(f: &mut fmt::Formatter<W>, stop: Stop) -> fmt::Result {
+fn write_stop<W: fmt::Write>(
+    f: &mut fmt::Formatter<W>,
+    stop: Stop,
+    next: Option<i64>,
+) -> fmt::Result {
     write!(f, "the zone: its clock is not followed over {stop}")?;
-    match stop.reason {
-        Reason::Far(_) => Ok(()),
-        Reason::Forward(_) | Reason::Back(_) | Reason::Soon | Reason::Many => write!(
-            f,
-            "; runs are listed from three days behind that on, by --from @{}",
-            stop.second.saturating_add(SECONDS_BEFORE)
-        ),
+    match next {
+        Some(next) => write!(f, "; runs are listed from --from @{next} on"),
+        None => Ok(()),
     }
 }

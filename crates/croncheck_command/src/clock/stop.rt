@@ -27,7 +27,9 @@ pub enum Reason {
     Back(i64),
     /// It changes there, and has changed within the two days before.
     Soon,
-    /// None of these: with the change there it has skipped more than 20,000,000 seconds in all, or changed more than 20,000 times.
+    /// None of these: with the change there it has skipped more than 20,000,000 seconds in all.
+    Skipped,
+    /// None of these: with the change there it has changed more than 20,000 times.
     Many,
 }
 
@@ -50,9 +52,8 @@ impl fmt::Display for Reason {
             Reason::Forward(seconds) => write_move(f, "forward", seconds),
             Reason::Back(seconds) => write_move(f, "back", seconds),
             Reason::Soon => f.write_str("changes again within two days"),
-            Reason::Many => f.write_str(
-                "has skipped more than 20,000,000 seconds in all, or changed more than 20,000 times",
-            ),
+            Reason::Skipped => f.write_str("has skipped more than 20,000,000 seconds in all"),
+            Reason::Many => f.write_str("has changed more than 20,000 times"),
         }
     }
 }

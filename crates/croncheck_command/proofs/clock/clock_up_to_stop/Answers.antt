@@ -1,9 +1,17 @@
-use Rattle.std.proofs.Common.{◌≡◌, ◌∙◌, ℤ, pos, ◌-ℤ◌, w64, FitsSigned, to_z, of_z, ap, refl, rules}
+use Rattle.std.proofs.Common.{◌≡◌, ◌∙◌, ℤ, pos, ◌-ℤ◌, ◌≤ℤ◌, w64, FitsSigned, to_z, of_z, ap, refl, rules}
 use Rattle.std.proofs.lemmas.Int.{to_z-of_z}
 use Rattle.jiff.specs.ZoneView.{plain_zone}
 use Rattle.croner_base.specs.TableZone.{table_zone}
-use Rattle.croncheck_command.proofs.Stops.{clock_of}
+use Rattle.croncheck_command.specs.Clock.{IsStopOf}
+use Rattle.croncheck_command.proofs.Stops.{clock_of, refused_by}
 use Rattle.croncheck_command.proofs.clock.clock_up_to_stop.Goals as goal
+
+pub returns-then-stop-start-clause-followed : goal.returns-then-stop-start-clause-followed
+returns-then-stop-start-clause-followed c =
+    let tz = plain_zone c.args.zone.now in
+    let le : c.in-Ok.stop.second ≤ℤ c.args.start = search rules in
+    let stops : IsStopOf tz c.args.first c.in-Ok.stop = search rules in
+    (refused_by tz c.args.start c.args.first c.in-Ok.stop c.refusal_by.result c.requires.first_is c.requires.window stops le c.refusal_by.ensures).1
 
 pub returns-in-Ok-of_zone-clause-clock : goal.returns-in-Ok-of_zone-clause-clock
 returns-in-Ok-of_zone-clause-clock c =
