@@ -19,7 +19,7 @@ use Rattle.croner_scheduler.specs.declared.waiting.Next.TheVariants.{Run, Over, 
 use Rattle.croner_scheduler.specs.declared.waiting.Waiting.{Waiting}
 use Rattle.croner_scheduler.specs.Standing.{Standing, Held, Seen}
 use Rattle.croner_scheduler.specs.Awaited.{AwaitsFirst, TakesAwaited}
-use Rattle.croner_scheduler.specs.Calls.{IsGivable, ComesBehind, IsFirst, IsNotDue, HasNoneLeft, IsNearest}
+use Rattle.croner_scheduler.specs.Calls.{IsGivable, ComesAfter, IsFirst, IsNotDue, HasNoneSeen, IsNearest}
 use Rattle.croner_scheduler.specs.Private.Turns.{IsFirstTurn}
 use Rattle.croner_scheduler.specs.Kept.{standing_of, stop_of, FitsNext, Fits, run_of}
 use Rattle.croner_scheduler.specs.Private.Steps.{is_next_at, is_awaited_at}
@@ -60,12 +60,12 @@ module _ {J T : Type 0} (runs : J → Zone → ℤ → Type 0) (moment : T → M
   module _ (o : Option (Waiting J T)) (fits : ∥ IfSome o (Fits runs moment) ∥₁) where
     -- behind the first turn
     pub behind : (k l : ℕ) (i : ℤ) → ((s : ℤ) → is_awaited_at moment s o ≡ true → (i ≤ℤ s) × (s ≡ i → k ≤ l))
-        → IfSome (option_map (standing_of moment) o) (ComesBehind runs k i l)
+        → IfSome (option_map (standing_of moment) o) (ComesAfter runs k i l)
     behind k l i first = behind_by o fits first
       where
         behind_by : (o : Option (Waiting J T)) → ∥ IfSome o (Fits runs moment) ∥₁
             → ((s : ℤ) → is_awaited_at moment s o ≡ true → (i ≤ℤ s) × (s ≡ i → k ≤ l))
-            → IfSome (option_map (standing_of moment) o) (ComesBehind runs k i l)
+            → IfSome (option_map (standing_of moment) o) (ComesAfter runs k i l)
         behind_by None fits first = tt
         behind_by (Some w) fits first = λ goes calm j seen. ∥∥₁_elim fits (hlevel props) (λ f.
             let h = seen_before w f goes calm j seen in
@@ -73,11 +73,11 @@ module _ {J T : Type 0} (runs : J → Zone → ℤ → Type 0) (moment : T → M
             (omega (arith, ints, g.0, h.2), λ same. g.1 (omega (arith, ints, g.0, h.2, same))))
 
     -- where none is awaited
-    pub none_left : ((s : ℤ) → is_awaited_at moment s o ≡ false) → IfSome (option_map (standing_of moment) o) (HasNoneLeft runs)
-    none_left none = none_left_by o fits none
+    pub none_seen : ((s : ℤ) → is_awaited_at moment s o ≡ false) → IfSome (option_map (standing_of moment) o) (HasNoneSeen runs)
+    none_seen none = none_left_by o fits none
       where
         none_left_by : (o : Option (Waiting J T)) → ∥ IfSome o (Fits runs moment) ∥₁ → ((s : ℤ) → is_awaited_at moment s o ≡ false)
-            → IfSome (option_map (standing_of moment) o) (HasNoneLeft runs)
+            → IfSome (option_map (standing_of moment) o) (HasNoneSeen runs)
         none_left_by None fits none = tt
         none_left_by (Some w) fits none = λ goes calm j seen. ∥∥₁_elim fits (hlevel props) (λ f.
             let h = seen_before w f goes calm j seen in false≢true (sym (none h.0) ∙ h.1))
@@ -120,18 +120,18 @@ module _ {J T : Type 0} (runs : J → Zone → ℤ → Type 0) (moment : T → M
   nearest (Some due) first = record {
     givable = subst (λ o. IsSomeAnd o (IsGivable runs due.second)) (sym (is due.id))
         (givable runs moment (jobs due.id) (fits due.id) due.second (sym (listed due.second due.id) ∙ first.0));
-    first = λ l. subst (λ o. IfSome o (ComesBehind runs due.id due.second l)) (sym (is l))
+    first = λ l. subst (λ o. IfSome o (ComesAfter runs due.id due.second l)) (sym (is l))
         (behind runs moment (jobs l) (fits l) due.id l due.second (λ s at. first.1 s l (listed s l ∙ at)));
   }
-  nearest None first = λ l. subst (λ o. IfSome o (HasNoneLeft runs)) (sym (is l))
-      (none_left runs moment (jobs l) (fits l) (λ s. sym (listed s l) ∙ first s l))
+  nearest None first = λ l. subst (λ o. IfSome o (HasNoneSeen runs)) (sym (is l))
+      (none_seen runs moment (jobs l) (fits l) (λ s. sym (listed s l) ∙ first s l))
 
 -- where the nearest run comes later than now, none is due
 module _ {J : Type 0} (runs : J → Zone → ℤ → Type 0) (h : Held J) (now : ℤ) where
   pub none_due : (due : Due) → IsFirst runs h due.id due.second → now <ℤ due.second → (l : ℕ) → IfSome (h.jobs l) (IsNotDue runs now)
   none_due due is later l = later_than (h.jobs l) (is.first l)
     where
-      later_than : (o : Option (Standing J)) → IfSome o (ComesBehind runs due.id due.second l) → IfSome o (IsNotDue runs now)
+      later_than : (o : Option (Standing J)) → IfSome o (ComesAfter runs due.id due.second l) → IfSome o (IsNotDue runs now)
       later_than None behind = tt
       later_than (Some s) behind = λ goes calm j seen. omega (arith, ints, later, (behind goes calm j seen).0)
 
