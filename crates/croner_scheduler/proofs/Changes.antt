@@ -1,5 +1,5 @@
 -- What a scheduler holds stays in order when a job steps to its next run, is added and is removed.
-use Rattle.std.proofs.Common.{◌≡◌, refl, sym, ap, ◌∙◌, subst, arith, ℕ, ◌+◌, ◌<◌, ◌≤◌, ℤ, ◌<ℤ◌, Bool, true, false, cond, Option, Some, None, IsSome, IfSome, is_some, option_map}
+use Rattle.std.proofs.Common.{◌≡◌, refl, sym, ap, ◌∙◌, subst, arith, ℕ, ◌+◌, ◌<◌, ◌≤◌, ℤ, ◌<ℤ◌, Bool, true, false, cond, Option, Some, None, IfSome, is_some, option_map}
 use Rattle.std.proofs.Math.Logic.{∥∥₁_elim, ∥∥₁_map}
 use Rattle.std.proofs.Props.{props}
 use Rattle.std.proofs.lemmas.Bool.{false≢true}
@@ -13,7 +13,6 @@ use Rattle.std.specs.Ordering.{MatchOrdering, nat_cmp, int_eq, is_eq}
 use Rattle.std.specs.declared.cmp.Ordering.{Ordering}
 use Rattle.std.specs.declared.cmp.Ordering.TheVariants.{Less, Equal, Greater}
 use Rattle.croner_base.specs.Zone.{Zone, Moment}
-use Rattle.croner.specs.search.Premises.{IsSearchable}
 use Rattle.croner_scheduler.proofs.Nearest.{same_second}
 use Rattle.croner_scheduler.proofs.TurnOrder.{is_turn_here, is_turn_apart}
 use Rattle.croner_scheduler.specs.declared.waiting.Next.{Next}
@@ -22,7 +21,7 @@ use Rattle.croner_scheduler.specs.declared.waiting.Waiting.{Waiting}
 use Rattle.croner_scheduler.specs.Standing.{Held}
 use Rattle.croner_scheduler.specs.Calls.{StandsAt, IsMoved, IsAdded, IsRemoved}
 use Rattle.croner_scheduler.specs.Private.Turns.{is_turn, is_next_turn}
-use Rattle.croner_scheduler.specs.Kept.{standing_of, stop_of, FitsNext, Fits}
+use Rattle.croner_scheduler.specs.Kept.{standing_of, stop_of, StopsAt, FitsNext, Fits}
 use Rattle.croner_scheduler.specs.Private.Steps.{FitsAfter, job_after_run, jobs_after_run, position_after, is_next_at, is_awaited_at}
 
 -- ---- ids
@@ -91,11 +90,11 @@ module _ {T : Type 0} (moment : T → Moment) where
   stepped_here rs second Over next at fits s = absurd (false≢true at)
   stepped_here rs second (Stopped stop) next at fits s = absurd (false≢true at)
 
--- a job stops only where no search is promised
-pub stops_where : {T : Type 0} (rs : Zone → ℤ → Type 0) (moment : T → Moment) (m : Moment) (n : Next T) → FitsNext rs moment m n → IsSome (stop_of n) → ¬ (IsSearchable m)
-stops_where rs moment m (Run t) fits stops = absurd (false≢true stops)
-stops_where rs moment m Over fits stops = absurd (false≢true stops)
-stops_where rs moment m (Stopped stop) fits stops = fits
+-- where a job stops, the reason holds there
+pub stops_where : {T : Type 0} (rs : Zone → ℤ → Type 0) (moment : T → Moment) (m : Moment) (n : Next T) → FitsNext rs moment m n → IfSome (stop_of n) (StopsAt m)
+stops_where rs moment m (Run t) fits = tt
+stops_where rs moment m Over fits = tt
+stops_where rs moment m (Stopped stop) fits = fits
 
 no_turn : {J T : Type 0} (moment : T → Moment) (s : ℤ) (o : Option (Waiting J T)) → is_some o ≡ false → is_awaited_at moment s o ≡ false
 no_turn moment s None e = refl
@@ -208,7 +207,7 @@ module _ {J T : Type 0} (runs : J → Zone → ℤ → Type 0) (moment : T → M
         place rs m position (Stopped stop) at fits = absurd (false≢true at)
 
         after : (rs : Zone → ℤ → Type 0) (position : T) (n : Next T) → is_next_at moment second n ≡ true → FitsAfter rs moment n next
-            → IsSome (stop_of next) → ¬ (IsSearchable (moment (position_after position n)))
+            → IfSome (stop_of next) (StopsAt (moment (position_after position n)))
         after rs position (Run t) at behind = stops_where rs moment (moment t) next behind
         after rs position Over at behind = absurd (false≢true at)
         after rs position (Stopped stop) at behind = absurd (false≢true at)

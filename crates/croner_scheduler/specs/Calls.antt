@@ -3,13 +3,13 @@ use Rattle.std.specs.Prelude.{◌≡◌, Bool, true, ◌+◌, ◌-◌, ◌^◌, 
 use Rattle.std.specs.Option.{IsSomeAnd}
 use Rattle.croner_base.specs.Calm.{IsCalm}
 use Rattle.croner_base.specs.Zone.{Zone, Moment}
-use Rattle.croner.specs.search.Premises.{IsSearchable}
 use Rattle.croner_scheduler.specs.declared.add.AddError.{AddError}
 use Rattle.croner_scheduler.specs.declared.add.AddError.TheVariants.{OutOfMemory, NoIdLeft, PositionNotHeld}
 use Rattle.croner_scheduler.specs.declared.skip.Skip.{Skip}
 use Rattle.croner_scheduler.specs.declared.skip.Skip.TheVariants.{Moved, AlreadyThere, NoJob, NotHeld}
 use Rattle.croner_scheduler.specs.declared.turns.Due.{Due}
 use Rattle.croner_scheduler.specs.Standing.{Standing, Held, Seen}
+use Rattle.croner_scheduler.specs.Kept.{StopsAt}
 
 -- both hold the same
 pub record IsSame {J : Type 0} (h h' : Held J) : Type 0 where
@@ -52,13 +52,13 @@ abbrev pub IsWakeUp : {J : Type 0} → (J → Zone → ℤ → Type 0) → Held 
 IsWakeUp runs h (Some i) = (k : ℕ) × IsNearest runs h (Some (record { id = k; second = i }))
 IsWakeUp runs h None = IsNearest runs h None
 
--- a job that stands at that second of its zone, whole; and it is stopped only where no search is promised from there
+-- a job that stands at that second of its zone, whole; and where it is stopped, the reason holds there
 pub record StandsAt {J : Type 0} (job : J) (zone : Zone) (i : ℤ) (s : Standing J) : Type 0 where
   pub job_is : s.job ≡ job
   pub zone_is : s.position.zone ≡ zone
   pub instant : s.position.instant ≡ i
   pub whole : s.position.fraction ≡ 0
-  pub stop : IsSome s.stop → ¬ (IsSearchable s.position)
+  pub stop : IfSome s.stop (StopsAt s.position)
 
 -- the position of the job k has moved to i, and nothing else has changed
 pub record IsMoved {J : Type 0} (h : Held J) (k : ℕ) (i : ℤ) (h' : Held J) : Type 0 where

@@ -8,13 +8,12 @@ use croner::{Clocked, Recurring};
 use std::alloc::AllocError;
 use std::mem;
 
-/// Why a job is stopped. It can be only where its position isn't a whole second in a calm zone around which the backend holds what
-/// a search needs.
+/// Why a job is stopped. It can be only where its position doesn't lie in a calm zone around which the backend holds what a search needs.
 #[derive(Debug, Drop)]
 pub enum Stop {
-    /// The search after its position was refused by its backend.
+    /// The search after its position was refused by its backend, with `InvalidDate` or `InvalidTime`.
     Refused(CronError),
-    /// The run that the search found isn't later than the position.
+    /// The run that the search found isn't later than the position. That doesn't come in a calm zone.
     NotLater,
 }
 
