@@ -87,11 +87,12 @@ module _ {J T : Type 0} (runs : J → Zone → ℤ → Type 0) (moment : T → M
     givable i at = givable_by o fits at
       where
         givable_next : (rs : Zone → ℤ → Type 0) (m : Moment) (n : Next T) → is_next_at moment i n ≡ true → FitsNext rs moment m n → m.fraction ≡ 0
-            → (m.instant <ℤ i) × (IsCalm m.zone → rs m.zone i)
+            → (m.instant <ℤ i) × (IsCalm m.zone → rs m.zone i) × (IsCalm m.zone → (j : ℤ) → (m.instant <ℤ j) × rs m.zone j → i ≤ℤ j)
         givable_next rs m (Run t) at fits whole =
             let same = same_second (moment t).instant i at in (
               subst (λ z. m.instant <ℤ z) same fits.1,
               λ calm. subst (λ z. rs m.zone z) same (fits.0.nearest (record { calm = calm; whole = whole })).counts.1,
+              λ calm j left. subst (λ z. z ≤ℤ j) same ((fits.0.nearest (record { calm = calm; whole = whole })).nearest j left),
             )
         givable_next rs m Over at fits whole = absurd (false≢true at)
         givable_next rs m (Stopped stop) at fits whole = absurd (false≢true at)
@@ -108,6 +109,7 @@ module _ {J T : Type 0} (runs : J → Zone → ℤ → Type 0) (moment : T → M
           goes = goes_next w.next at;
           after = ∥∥₁_elim fits (hlevel props) (λ f. (givable_next (runs w.job) (moment w.position) w.next at f.next f.whole).0);
           run = λ calm. ∥∥₁_map fits (λ f. (givable_next (runs w.job) (moment w.position) w.next at f.next f.whole).1 calm);
+          nearest = λ calm j left. ∥∥₁_elim fits (hlevel props) (λ f. (givable_next (runs w.job) (moment w.position) w.next at f.next f.whole).2 calm j left);
         }
 
 -- ---- all jobs

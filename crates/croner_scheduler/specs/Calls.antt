@@ -8,7 +8,7 @@ use Rattle.croner_scheduler.specs.declared.add.AddError.TheVariants.{OutOfMemory
 use Rattle.croner_scheduler.specs.declared.skip.Skip.{Skip}
 use Rattle.croner_scheduler.specs.declared.skip.Skip.TheVariants.{Moved, AlreadyThere, NoJob, NotHeld}
 use Rattle.croner_scheduler.specs.declared.turns.Due.{Due}
-use Rattle.croner_scheduler.specs.Standing.{Standing, Held, Seen}
+use Rattle.croner_scheduler.specs.Standing.{Standing, Held, Left, Seen}
 use Rattle.croner_scheduler.specs.Kept.{StopsAt}
 
 -- both hold the same
@@ -17,11 +17,13 @@ pub record IsSame {J : Type 0} (h h' : Held J) : Type 0 where
   pub count : h'.count ≡ h.count
   pub next_id : h'.next_id ≡ h.next_id
 
--- i can be given of the job: it isn't stopped, i lies after its position, and in a calm zone it is a run of it
+-- i can be given of the job: it isn't stopped, i lies after its position, and in a calm zone it is a run of it, the nearest of all that are
+-- left of it
 pub record IsGivable {J : Type 0} (runs : J → Zone → ℤ → Type 0) (i : ℤ) (s : Standing J) : Type 0 where
   pub goes : s.stop ≡ None
   pub after : s.position.instant <ℤ i
   pub run : IsCalm s.position.zone → ∥ runs s.job s.position.zone i ∥₁
+  pub nearest : IsCalm s.position.zone → (j : ℤ) → Left runs s j → i ≤ℤ j
 
 -- no run that is seen of the job of the id l comes before i of k: none is earlier, and at the same instant l isn't lower. That is said of
 -- a job in a calm zone that isn't stopped
