@@ -18,7 +18,7 @@ use Rattle.croner_scheduler.specs.declared.waiting.Next.{Next}
 use Rattle.croner_scheduler.specs.declared.waiting.Next.TheVariants.{Run, Over, Stopped}
 use Rattle.croner_scheduler.specs.declared.waiting.Waiting.{Waiting}
 use Rattle.croner_scheduler.specs.Standing.{Standing, Held, Seen}
-use Rattle.croner_scheduler.specs.Awaited.{AwaitsFirst, TakesAwaited}
+use Rattle.croner_scheduler.specs.Awaited.{AwaitsFirst, TakesAwaited, IsSomeDue}
 use Rattle.croner_scheduler.specs.Calls.{IsGivable, ComesAfter, IsFirst, IsNotDue, HasNoneSeen, IsNearest}
 use Rattle.croner_scheduler.specs.Private.Turns.{IsFirstTurn}
 use Rattle.croner_scheduler.specs.Kept.{standing_of, stop_of, FitsNext, Fits, run_of}
@@ -187,6 +187,19 @@ module _ {J T : Type 0} (moment : T → Moment) (jobs : ℕ → Option (Waiting 
         by : (o : Option (Waiting J T)) → IfSome o (λ w. IfSome (run_of w.next) (λ t. (due.second ≤ℤ (moment t).instant) × ((moment t).instant ≡ due.second → due.id ≤ l)))
             → IfSome o (λ w. IfSome (run_of w.next) (λ t. now <ℤ (moment t).instant))
         by None h = tt
+        by (Some w) h = by_run (run_of w.next) h
+
+    -- where the first comes no later, one is due
+    pub awaits_due : (due : Due) → AwaitsFirst moment jobs (Some due) → due.second ≤ℤ now → IsSomeDue moment jobs now
+    awaits_due due first le = (due.id, by (jobs due.id) first.0)
+      where
+        by_run : (o : Option T) → IsSomeAnd o (λ t. (moment t).instant ≡ due.second) → IsSomeAnd o (λ t. (moment t).instant ≤ℤ now)
+        by_run None h = h
+        by_run (Some t) h = subst (λ z. z ≤ℤ now) (sym h) le
+
+        by : (o : Option (Waiting J T)) → IsSomeAnd o (λ w. IsSomeAnd (run_of w.next) (λ t. (moment t).instant ≡ due.second))
+            → IsSomeAnd o (λ w. IsSomeAnd (run_of w.next) (λ t. (moment t).instant ≤ℤ now))
+        by None h = h
         by (Some w) h = by_run (run_of w.next) h
 
     pub awaits_none : AwaitsFirst moment jobs None → TakesAwaited moment jobs now None

@@ -21,3 +21,7 @@ TakesAwaited moment jobs now None = (l : ℕ) → IfSome (jobs l) (λ w. IfSome 
 abbrev pub WakesFirst : {J T : Type 0} → (T → Moment) → (ℕ → Option (Waiting J T)) → Option ℤ → Type 0
 WakesFirst moment jobs (Some i) = (k : ℕ) × AwaitsFirst moment jobs (Some (record { id = k; second = i }))
 WakesFirst moment jobs None = AwaitsFirst moment jobs None
+
+-- a next run lies no later than now
+abbrev pub IsSomeDue : {J T : Type 0} → (T → Moment) → (ℕ → Option (Waiting J T)) → ℤ → Type 0
+IsSomeDue moment jobs now = (k : ℕ) × IsSomeAnd (jobs k) (λ w. IsSomeAnd (run_of w.next) (λ t. (moment t).instant ≤ℤ now))

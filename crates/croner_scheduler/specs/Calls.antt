@@ -77,6 +77,10 @@ SkipsTo k now h h' NoJob = (h.jobs k ≡ None) × IsSame h h'
 SkipsTo k now h h' NotHeld =
     IsSomeAnd (h.jobs k) (λ s. (s.position.instant <ℤ now) × (s.position.zone.holds now ≡ false)) × IsSame h h'
 
+-- a job that is to be moved on to now, in whose zone that second is held
+abbrev pub IsToMove : {J : Type 0} → ℤ → Standing J → Type 0
+IsToMove now s = (s.position.instant <ℤ now) × (s.position.zone.holds now ≡ true)
+
 -- the job k was stopped, and may from then on be stopped otherwise or go on, from where it stands; or there is no such job, or it isn't stopped
 abbrev pub AsksAgain : {J : Type 0} → ℕ → Held J → Held J → Bool → Type 0
 AsksAgain k h h' true = IsSomeAnd (h.jobs k) (λ s. IsSome s.stop × IsMoved h k s.position.instant h')
@@ -120,11 +124,12 @@ abbrev pub Replaces : {J T : Type 0} → (T → Moment) → ℕ → J → Moment
 Replaces moment k job position h h' (Some given) = IsGivenBack moment (h.jobs k) (Some given) × IsPut job position h k h'
 Replaces moment k job position h h' None = (h.jobs k ≡ None) × IsSame h h'
 
--- why no job is put in another's place: for want of memory, or since the whole second of the position isn't held
-abbrev pub IsPutRefused : Moment → AddError → Type 0
-IsPutRefused position OutOfMemory = ⊤
-IsPutRefused position NoIdLeft = ⊥
-IsPutRefused position PositionNotHeld = position.zone.holds position.instant ≡ false
+-- why no job is put in the place of the one of the id k, if there is one: for want of memory, or since the whole second of the position isn't
+-- held
+abbrev pub IsPutRefused : {J : Type 0} → ℕ → Moment → Held J → AddError → Type 0
+IsPutRefused k position h OutOfMemory = IsSome (h.jobs k)
+IsPutRefused k position h NoIdLeft = ⊥
+IsPutRefused k position h PositionNotHeld = IsSome (h.jobs k) × (position.zone.holds position.instant ≡ false)
 
 -- the job of the id is gone, if there was one, and the others stay
 pub record IsRemoved {J : Type 0} (id : ℕ) (h h' : Held J) : Type 0 where

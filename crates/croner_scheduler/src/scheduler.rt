@@ -59,14 +59,15 @@ impl<J: Recurring + Drop, T: Clocked> Drop for Scheduler<J, T> {
 }
 
 impl<J: Recurring, T: Clocked> Scheduler<J, T> {
-    ghost use Rattle.std.specs.Prelude.{length, ◌<◌, ◌+◌, ◌-◌, ◌^◌, ◌↔◌, IsTrue, IfOk, IfErr, OnOk, OnErr, true, option_map, if◌then◌else◌};
+    ghost use Rattle.std.specs.Prelude.{length, ◌<◌, ◌+◌, ◌-◌, ◌^◌, ◌↔◌, IsTrue, IsSome, IfOk, IfErr, OnOk, OnErr, true, option_map, if◌then◌else◌};
+    ghost use Rattle.std.specs.Option.{IsSomeAnd};
     ghost use Rattle.std.specs.BTreeMap.{is_at};
     ghost use Rattle.std.specs.List.Sorted.{IsStrictlySortedBy};
     ghost use Rattle.std.specs.Map.{lookup, keys_of};
     ghost use Rattle.croner_scheduler.specs.Views.{held_of, waiting_in};
-    ghost use Rattle.croner_scheduler.specs.Awaited.{AwaitsFirst, TakesAwaited, WakesFirst};
+    ghost use Rattle.croner_scheduler.specs.Awaited.{AwaitsFirst, TakesAwaited, WakesFirst, IsSomeDue};
     ghost use Rattle.croner_scheduler.specs.Kept.{standing_of};
-    ghost use Rattle.croner_scheduler.specs.Calls.{IsSame, IsNearest, IsWakeUp, IsMoved, TakesDue, SkipsTo, AsksAgain, IsAdded, IsAddRefused, IsGivenBack, IsPutRefused, Replaces, IsRemoved};
+    ghost use Rattle.croner_scheduler.specs.Calls.{IsSame, IsNearest, IsWakeUp, IsMoved, TakesDue, SkipsTo, IsToMove, AsksAgain, IsAdded, IsAddRefused, IsGivenBack, IsPutRefused, Replaces, IsRemoved};
 
     /// No job yet. The first id is 0.
     pub fn new(alloc: Global) -> Scheduler<J, T>
@@ -143,6 +144,7 @@ impl<J: Recurring, T: Clocked> Scheduler<J, T> {
         ensures taken { IfOk result (TakesDue J.runs now (held_of T.moment self.old) (held_of T.moment self.new)) }
         ensures awaited { IfOk result (TakesAwaited T.moment (waiting_in self.old) now) }
         ensures refused { OnErr result (IsSame (held_of T.moment self.old) (held_of T.moment self.new)) }
+        ensures due { OnErr result (IsSomeDue T.moment (waiting_in self.old) now) }
     {
         match self.nearest() {
             Some(due) => self.give_by(due, now),
@@ -179,7 +181,7 @@ impl<J: Recurring, T: Clocked> Scheduler<J, T> {
     where
         J: Drop,
         ensures replaced { IfOk result (Replaces T.moment id job (T.moment position) (held_of T.moment self.old) (held_of T.moment self.new)) }
-        ensures refused { IfErr result (IsPutRefused (T.moment position)) }
+        ensures refused { IfErr result (IsPutRefused id (T.moment position) (held_of T.moment self.old)) }
         ensures same { OnErr result (IsSame (held_of T.moment self.old) (held_of T.moment self.new)) }
     {
         if self.get(id).is_none() {
@@ -199,6 +201,7 @@ impl<J: Recurring, T: Clocked> Scheduler<J, T> {
     /// is stopped, also where its next run lay later. Want of memory changes nothing.
     pub fn skip_to(&mut self, id: u64, now: i64) -> Result<Skip, AllocError>
         ensures skipped { IfOk result (SkipsTo id now (held_of T.moment self.old) (held_of T.moment self.new)) }
+        ensures refused { OnErr result (IsSomeAnd ((held_of T.moment self.old).jobs id) (IsToMove now)) }
         ensures same { OnErr result (IsSame (held_of T.moment self.old) (held_of T.moment self.new)) }
     {
         let Some(waiting) = self.jobs.get(&id) else {
@@ -220,6 +223,7 @@ impl<J: Recurring, T: Clocked> Scheduler<J, T> {
     /// ([`Waiting::stop`]). Want of memory changes nothing.
     pub fn ask_again(&mut self, id: u64) -> Result<bool, AllocError>
         ensures asked { IfOk result (AsksAgain id (held_of T.moment self.old) (held_of T.moment self.new)) }
+        ensures refused { OnErr result (IsSomeAnd ((held_of T.moment self.old).jobs id) (λ s. IsSome s.stop)) }
         ensures same { OnErr result (IsSame (held_of T.moment self.old) (held_of T.moment self.new)) }
     {
         let Some(waiting) = self.jobs.get(&id) else {
@@ -274,6 +278,7 @@ impl<J: Recurring, T: Clocked> Scheduler<J, T> {
         ensures taken { IfOk result (TakesDue J.runs now (held_of T.moment self.old) (held_of T.moment self.new)) }
         ensures awaited { IfOk result (TakesAwaited T.moment (waiting_in self.old) now) }
         ensures refused { OnErr result (IsSame (held_of T.moment self.old) (held_of T.moment self.new)) }
+        ensures due { OnErr result (IsSomeDue T.moment (waiting_in self.old) now) }
     {
         if due.second > now {
             return Ok(None);
