@@ -1,6 +1,6 @@
 -- What is kept of a job: the run that comes next, that none comes in the searched years, or why it is stopped. Source: this crate's
 -- documentation.
-use Rattle.std.specs.Prelude.{◌≡◌, ◌⊎◌, ℤ, ◌<ℤ◌, Option, None, Some}
+use Rattle.std.specs.Prelude.{◌≡◌, ◌⊎◌, ℤ, ◌<ℤ◌, Option, None, Some, option_map}
 use Rattle.croner_base.specs.declared.errors.CronError.TheVariants.{InvalidDate, InvalidTime}
 use Rattle.croner_base.specs.declared.time.Direction.TheVariants.{Forward}
 use Rattle.croner_base.specs.Zone.{Zone, Moment}
@@ -26,7 +26,12 @@ run_of next = None
 
 -- what contracts see of a job
 abbrev pub standing_of : {J T : Type 0} → (T → Moment) → Waiting J T → Standing J
-standing_of moment w = record { job = w.job; position = moment w.position; stop = stop_of w.next }
+standing_of moment w = record {
+  job = w.job;
+  position = moment w.position;
+  stop = stop_of w.next;
+  next = option_map (λ t. (moment t).instant) (run_of w.next);
+}
 
 -- why a job is stopped at a moment: since the run that was found isn't later, which comes only where the moment isn't a whole second in a calm
 -- zone; or since the backend refused the search, which comes only where the moment isn't searchable
