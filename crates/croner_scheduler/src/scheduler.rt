@@ -126,7 +126,7 @@ impl<J: Recurring, T: Clocked> Scheduler<J, T> {
     /// where no job has a next run. It makes no search.
     pub fn next_wake_up(&self) -> Option<i64>
         ensures wake_up { IsWakeUp J.runs (held_of T.moment self.now) result }
-        ensures awaited { WakesFirst T.moment (waiting_in self.now) result }
+        ensures awaited { WakesFirst (held_of T.moment self.now) result }
     {
         match self.nearest() {
             Some(due) => Some(due.second),
@@ -142,9 +142,9 @@ impl<J: Recurring, T: Clocked> Scheduler<J, T> {
     /// its job is stopped.
     pub fn take_due(&mut self, now: i64) -> Result<Option<Due>, AllocError>
         ensures taken { IfOk result (TakesDue J.runs now (held_of T.moment self.old) (held_of T.moment self.new)) }
-        ensures awaited { IfOk result (TakesAwaited T.moment (waiting_in self.old) now) }
+        ensures awaited { IfOk result (TakesAwaited (held_of T.moment self.old) now) }
         ensures refused { OnErr result (IsSame (held_of T.moment self.old) (held_of T.moment self.new)) }
-        ensures due { OnErr result (IsSomeDue T.moment (waiting_in self.old) now) }
+        ensures due { OnErr result (IsSomeDue (held_of T.moment self.old) now) }
     {
         match self.nearest() {
             Some(due) => self.give_by(due, now),
@@ -265,7 +265,7 @@ impl<J: Recurring, T: Clocked> Scheduler<J, T> {
     fn nearest(&self) -> Option<Due>
         ensures nearest { IsNearest J.runs (held_of T.moment self.now) result }
         ensures turn { IfSome result (λ due. has_turn self.now.turns due.second due.id ≡ true) }
-        ensures awaited { AwaitsFirst T.moment (waiting_in self.now) result }
+        ensures awaited { AwaitsFirst (held_of T.moment self.now) result }
     {
         first_turn(&self.turns)
     }
@@ -274,11 +274,11 @@ impl<J: Recurring, T: Clocked> Scheduler<J, T> {
     fn give_by(&mut self, due: Due, now: i64) -> Result<Option<Due>, AllocError>
         requires nearest { IsNearest J.runs (held_of T.moment self.old) (Some due) }
         requires turn { has_turn self.old.turns due.second due.id ≡ true }
-        requires awaited { AwaitsFirst T.moment (waiting_in self.old) (Some due) }
+        requires awaited { AwaitsFirst (held_of T.moment self.old) (Some due) }
         ensures taken { IfOk result (TakesDue J.runs now (held_of T.moment self.old) (held_of T.moment self.new)) }
-        ensures awaited { IfOk result (TakesAwaited T.moment (waiting_in self.old) now) }
+        ensures awaited { IfOk result (TakesAwaited (held_of T.moment self.old) now) }
         ensures refused { OnErr result (IsSame (held_of T.moment self.old) (held_of T.moment self.new)) }
-        ensures due { OnErr result (IsSomeDue T.moment (waiting_in self.old) now) }
+        ensures due { OnErr result (IsSomeDue (held_of T.moment self.old) now) }
     {
         if due.second > now {
             return Ok(None);
