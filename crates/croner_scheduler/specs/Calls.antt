@@ -69,17 +69,21 @@ pub record IsMoved {J : Type 0} (h : Held J) (k : ℕ) (i : ℤ) (h' : Held J) :
   pub count : h'.count ≡ h.count
   pub next_id : h'.next_id ≡ h.next_id
 
+-- a next run that is later than now is kept
+abbrev pub KeepsLater : {J : Type 0} → ℕ → ℤ → Held J → Standing J → Type 0
+KeepsLater k now h' s = IfSome s.next (λ i. now <ℤ i → IsSomeAnd (h'.jobs k) (λ s'. s'.next ≡ Some i))
+
 -- the position of the job k moves on to now; or it stands there already or later, there is no such job, or its zone doesn't hold that second
 abbrev pub SkipsTo : {J : Type 0} → ℕ → ℤ → Held J → Held J → Skip → Type 0
-SkipsTo k now h h' Moved = IsSomeAnd (h.jobs k) (λ s. s.position.instant <ℤ now) × IsMoved h k now h'
+SkipsTo k now h h' Moved = IsSomeAnd (h.jobs k) (λ s. (s.position.instant <ℤ now) × KeepsLater k now h' s) × IsMoved h k now h'
 SkipsTo k now h h' AlreadyThere = IsSomeAnd (h.jobs k) (λ s. now ≤ℤ s.position.instant) × IsSame h h'
 SkipsTo k now h h' NoJob = (h.jobs k ≡ None) × IsSame h h'
 SkipsTo k now h h' NotHeld =
     IsSomeAnd (h.jobs k) (λ s. (s.position.instant <ℤ now) × (s.position.zone.holds now ≡ false)) × IsSame h h'
 
--- a job that is to be moved on to now, in whose zone that second is held
+-- a job that is to be moved on to now, in whose zone that second is held, without a next run that is later
 abbrev pub IsToMove : {J : Type 0} → ℤ → Standing J → Type 0
-IsToMove now s = (s.position.instant <ℤ now) × (s.position.zone.holds now ≡ true)
+IsToMove now s = (s.position.instant <ℤ now) × (s.position.zone.holds now ≡ true) × IfSome s.next (λ i. i ≤ℤ now)
 
 -- the job k was stopped, and may from then on be stopped otherwise or go on, from where it stands; or there is no such job, or it isn't stopped
 abbrev pub AsksAgain : {J : Type 0} → ℕ → Held J → Held J → Bool → Type 0

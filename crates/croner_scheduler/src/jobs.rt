@@ -2,7 +2,7 @@
 ghost use Rattle.std.specs.Prelude.{◌≡◌, ℕ, IfOk, IfSome};
 ghost use Rattle.std.specs.BTreeMap.{get, btree_map_len};
 ghost use Rattle.std.specs.Ordering.{nat_cmp};
-ghost use Rattle.croner_scheduler.specs.Private.Steps.{FitsAfter, jobs_after_run, jobs_at_position, jobs_with_next, put_at, ArePartsOf};
+ghost use Rattle.croner_scheduler.specs.Private.Steps.{FitsAfter, jobs_after_run, jobs_at_position, jobs_standing_at, jobs_with_next, put_at, ArePartsOf};
 
 use crate::waiting::{Next, Waiting};
 use croner::{Clocked, Recurring};
@@ -45,6 +45,16 @@ pub(crate) fn settle<J, T: Drop>(
 {
     if let Some(waiting) = jobs.get_mut(&id) {
         waiting.settle(position, next);
+    }
+}
+
+// One job is put at another position, with the same run next.
+pub(crate) fn stand<J, T: Drop>(jobs: &mut BTreeMap<u64, Waiting<J, T>>, id: u64, position: T)
+    ensures jobs { (other : ℕ) → get nat_cmp jobs.new other ≡ jobs_standing_at id position other (get nat_cmp jobs.old other) }
+    ensures count { btree_map_len jobs.new ≡ btree_map_len jobs.old }
+{
+    if let Some(waiting) = jobs.get_mut(&id) {
+        waiting.stand(position);
     }
 }
 

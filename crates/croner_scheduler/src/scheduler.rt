@@ -4,9 +4,9 @@ ghost use Rattle.std.specs.BTreeMap.{get};
 ghost use Rattle.std.specs.Ordering.{nat_cmp};
 ghost use Rattle.croner_scheduler.specs.Private.Turns.{has_turn};
 ghost use Rattle.croner_scheduler.specs.Kept.{Fits};
-ghost use Rattle.croner_scheduler.specs.Private.Steps.{is_awaited_at};
+ghost use Rattle.croner_scheduler.specs.Private.Steps.{is_awaited_at, CanStand};
 
-use crate::jobs::{exchange, next_but_one, renew, settle, step};
+use crate::jobs::{exchange, next_but_one, renew, settle, stand, step};
 use crate::turns::{Due, await_next, change_turn, first_turn, leave_next, leave_turn};
 use crate::waiting::{Waiting, next_of};
 use crate::{AddError, Skip};
@@ -197,8 +197,8 @@ impl<J: Recurring, T: Clocked> Scheduler<J, T> {
     }
 
     /// Moves the position of a job on to `now`: its runs up to then are done with, and none of them is given, as after a time for which
-    /// the program didn't run. A position is never moved back. The job is searched again from there, and where that search is refused it
-    /// is stopped, also where its next run lay later. Want of memory changes nothing.
+    /// the program didn't run. A position is never moved back. A next run that is later is kept; else the job is searched again from
+    /// there, and where that search is refused it is stopped. Want of memory changes nothing.
     pub fn skip_to(&mut self, id: u64, now: i64) -> Result<Skip, AllocError>
         ensures skipped { IfOk result (SkipsTo id now (held_of T.moment self.old) (held_of T.moment self.new)) }
         ensures refused { OnErr result (IsSomeAnd ((held_of T.moment self.old).jobs id) (IsToMove now)) }
@@ -212,7 +212,11 @@ impl<J: Recurring, T: Clocked> Scheduler<J, T> {
         }
         match waiting.position.at_second(now) {
             Some(position) => {
-                self.stand_at(id, position)?;
+                if waiting.runs_after(now) {
+                    self.pass_to(id, position);
+                } else {
+                    self.stand_at(id, position)?;
+                }
                 Ok(Skip::Moved)
             }
             None => Ok(Skip::NotHeld),
@@ -313,6 +317,17 @@ impl<J: Recurring, T: Clocked> Scheduler<J, T> {
         };
         change_turn(&mut self.turns, &waiting.next, &other.next, id)?;
         Ok(exchange(&mut self.jobs, id, other))
+    }
+
+    // Puts a job at another position before its next run.
+    fn pass_to(&mut self, id: u64, position: T)
+        requires whole { (T.moment position).fraction ≡ 0 }
+        requires can { IfSome (get nat_cmp self.old.jobs id) (CanStand T.moment position) }
+        ensures moved { IsMoved (held_of T.moment self.old) id (T.moment position).instant (held_of T.moment self.new) }
+        ensures kept { IfSome ((held_of T.moment self.old).jobs id) (λ s.
+            IsSomeAnd ((held_of T.moment self.new).jobs id) (λ s'. s'.next ≡ s.next)) }
+    {
+        stand(&mut self.jobs, id, position);
     }
 
     // Puts a job at another position.

@@ -1,7 +1,7 @@
 //! A job with its position, and what comes next of it.
 ghost use Rattle.std.specs.Prelude.{◌≡◌, is_some, option_map, IfOk};
 ghost use Rattle.croner_scheduler.specs.Kept.{standing_of, stop_of, run_of, FitsNext, Fits};
-ghost use Rattle.croner_scheduler.specs.Private.Steps.{next_of_run, next_of_refusal, FitsAfter, job_after_run, job_at_position, job_with_next};
+ghost use Rattle.croner_scheduler.specs.Private.Steps.{next_of_run, next_of_refusal, FitsAfter, job_after_run, job_at_position, job_standing_at, is_next_after, job_with_next};
 
 use croner::errors::CronError;
 use croner::{Clocked, Recurring};
@@ -93,6 +93,15 @@ impl<J, T> Waiting<J, T> {
         self.next = next;
     }
 
+    // Stands at another position, with the same run next.
+    pub(crate) fn stand(&mut self, position: T)
+    where
+        T: Drop,
+        ensures { self.new ≡ job_standing_at position self.old }
+    {
+        self.position = position;
+    }
+
     // Has another run next.
     pub(crate) fn renew(&mut self, next: Next<T>)
     where
@@ -141,6 +150,16 @@ impl<J: Recurring, T: Clocked> Waiting<J, T> {
             position,
             next,
         })
+    }
+
+    // Whether its next run is later than a second.
+    pub(crate) fn runs_after(&self, second: i64) -> bool
+        ensures { result ≡ is_next_after T.moment second self.now.next }
+    {
+        match &self.next {
+            Next::Run(run) => second < run.second(),
+            Next::Over | Next::Stopped(_) => false,
+        }
     }
 
     // What comes next after its next run.

@@ -1,5 +1,5 @@
 -- How what is kept of a job comes of its search, and changes when its next run is given. Private contracts alone cite these definitions.
-use Rattle.std.specs.Prelude.{◌≡◌, ℕ, ℤ, int_lt, Bool, false, cond, if◌then◌else◌, Option, None, Some, option_map, Result, Ok, Err, alloc_error, ⊤}
+use Rattle.std.specs.Prelude.{◌≡◌, ℕ, ℤ, ◌<ℤ◌, int_lt, Bool, true, false, cond, if◌then◌else◌, Option, None, Some, option_map, Result, Ok, Err, alloc_error, ⊤}
 use Rattle.std.specs.BTreeMap.{is_at}
 use Rattle.std.specs.Ordering.{nat_cmp, int_eq}
 use Rattle.std.specs.declared.alloc.AllocError.{AllocError}
@@ -55,6 +55,25 @@ job_at_position position next w = record { job = w.job; position = position; nex
 -- of the jobs, where the one of an id stands at another position and the others stay
 abbrev pub jobs_at_position : {J T : Type 0} → ℕ → T → Next T → ℕ → Option (Waiting J T) → Option (Waiting J T)
 jobs_at_position id position next other o = cond (is_at (nat_cmp id) other) (option_map (job_at_position position next) o) o
+
+-- a job at another position, with the same next
+abbrev pub job_standing_at : {J T : Type 0} → T → Waiting J T → Waiting J T
+job_standing_at position w = record { job = w.job; position = position; next = w.next }
+
+-- of the jobs, where the one of an id does and the others stay
+abbrev pub jobs_standing_at : {J T : Type 0} → ℕ → T → ℕ → Option (Waiting J T) → Option (Waiting J T)
+jobs_standing_at id position other o = cond (is_at (nat_cmp id) other) (option_map (job_standing_at position) o) o
+
+-- the next run is later than that second
+abbrev pub is_next_after : {T : Type 0} → (T → Moment) → ℤ → Next T → Bool
+is_next_after moment second (Run t) = int_lt second (moment t).instant
+is_next_after moment second other = false
+
+-- the job can stand at that position with its next run: it is later, and the position lies in the zone of the job, no earlier than it stood
+pub record CanStand {J T : Type 0} (moment : T → Moment) (position : T) (w : Waiting J T) : Type 0 where
+  pub zone : (moment position).zone ≡ (moment w.position).zone
+  pub on : (moment w.position).instant <ℤ (moment position).instant
+  pub later : is_next_after moment (moment position).instant w.next ≡ true
 
 -- a job with something else next, where it stands
 abbrev pub job_with_next : {J T : Type 0} → Next T → Waiting J T → Waiting J T
