@@ -1,5 +1,5 @@
 -- What a scheduler holds stays in order when a job steps to its next run, is added and is removed.
-use Rattle.std.proofs.Common.{◌≡◌, refl, sym, ap, ◌∙◌, subst, arith, ℕ, ◌+◌, ◌<◌, ◌≤◌, ℤ, ◌<ℤ◌, Bool, true, false, cond, Option, Some, None, IsSome, IfSome, is_some, option_map}
+use Rattle.std.proofs.Common.{◌≡◌, refl, sym, ap, ◌∙◌, subst, arith, ℕ, ◌+◌, ◌<◌, ◌≤◌, ℤ, ◌<ℤ◌, Bool, true, false, cond, Option, Some, None, IfSome, is_some, option_map}
 use Rattle.std.proofs.Math.Logic.{∥∥₁_elim, ∥∥₁_map}
 use Rattle.std.proofs.Props.{props}
 use Rattle.std.proofs.lemmas.Bool.{false≢true}
@@ -13,7 +13,6 @@ use Rattle.std.specs.Ordering.{MatchOrdering, nat_cmp, int_eq, is_eq}
 use Rattle.std.specs.declared.cmp.Ordering.{Ordering}
 use Rattle.std.specs.declared.cmp.Ordering.TheVariants.{Less, Equal, Greater}
 use Rattle.croner_base.specs.Zone.{Zone, Moment}
-use Rattle.croner.specs.search.Premises.{IsSearchable}
 use Rattle.croner_scheduler.proofs.Nearest.{same_second}
 use Rattle.croner_scheduler.proofs.TurnOrder.{is_turn_here, is_turn_apart}
 use Rattle.croner_scheduler.specs.declared.waiting.Next.{Next}
@@ -22,8 +21,8 @@ use Rattle.croner_scheduler.specs.declared.waiting.Waiting.{Waiting}
 use Rattle.croner_scheduler.specs.Standing.{Held}
 use Rattle.croner_scheduler.specs.Calls.{StandsAt, IsMoved, IsAdded, IsRemoved}
 use Rattle.croner_scheduler.specs.Private.Turns.{is_turn, is_next_turn}
-use Rattle.croner_scheduler.specs.Kept.{standing_of, stop_of, FitsNext, Fits}
-use Rattle.croner_scheduler.specs.Private.Steps.{FitsAfter, advanced, advanced_at, position_after, is_next_at, is_awaited_at}
+use Rattle.croner_scheduler.specs.Kept.{standing_of, stop_of, StopsAt, FitsNext, Fits}
+use Rattle.croner_scheduler.specs.Private.Steps.{FitsAfter, job_after_run, jobs_after_run, position_after, is_next_at, is_awaited_at}
 
 -- ---- ids
 
@@ -91,11 +90,11 @@ module _ {T : Type 0} (moment : T → Moment) where
   stepped_here rs second Over next at fits s = absurd (false≢true at)
   stepped_here rs second (Stopped stop) next at fits s = absurd (false≢true at)
 
--- a job stops only where no search is promised
-pub stops_where : {T : Type 0} (rs : Zone → ℤ → Type 0) (moment : T → Moment) (m : Moment) (n : Next T) → FitsNext rs moment m n → IsSome (stop_of n) → ¬ (IsSearchable m)
-stops_where rs moment m (Run t) fits stops = absurd (false≢true stops)
-stops_where rs moment m Over fits stops = absurd (false≢true stops)
-stops_where rs moment m (Stopped stop) fits stops = fits
+-- where a job stops, the reason holds there
+pub stops_where : {T : Type 0} (rs : Zone → ℤ → Type 0) (moment : T → Moment) (m : Moment) (n : Next T) → FitsNext rs moment m n → IfSome (stop_of n) (StopsAt m)
+stops_where rs moment m (Run t) fits = tt
+stops_where rs moment m Over fits = tt
+stops_where rs moment m (Stopped stop) fits = fits
 
 no_turn : {J T : Type 0} (moment : T → Moment) (s : ℤ) (o : Option (Waiting J T)) → is_some o ≡ false → is_awaited_at moment s o ≡ false
 no_turn moment s None e = refl
@@ -120,12 +119,12 @@ module _ {J T : Type 0} (runs : J → Zone → ℤ → Type 0) (moment : T → M
   -- a job steps
   module _ (next : Next T) (second : ℤ) (at : has second id ≡ true)
       (behind : IfSome (jobs id) (λ w. FitsAfter (runs w.job) moment w.next next))
-      (stepped : (k : ℕ) → jobs' k ≡ advanced_at id next k (jobs k)) where
+      (stepped : (k : ℕ) → jobs' k ≡ jobs_after_run id next k (jobs k)) where
     stepped_apart : (k : ℕ) → is_at (nat_cmp id) k ≡ false → jobs' k ≡ jobs k
-    stepped_apart k e = stepped k ∙ ap (λ b. cond b (option_map (advanced next) (jobs k)) (jobs k)) e
+    stepped_apart k e = stepped k ∙ ap (λ b. cond b (option_map (job_after_run next) (jobs k)) (jobs k)) e
 
-    stepped_own : jobs' id ≡ option_map (advanced next) (jobs id)
-    stepped_own = stepped id ∙ ap (λ b. cond b (option_map (advanced next) (jobs id)) (jobs id)) (own_id id)
+    stepped_own : jobs' id ≡ option_map (job_after_run next) (jobs id)
+    stepped_own = stepped id ∙ ap (λ b. cond b (option_map (job_after_run next) (jobs id)) (jobs id)) (own_id id)
 
     pub stepped_listed : (has1 has2 : ℤ → ℕ → Bool)
         → ((s : ℤ) (k : ℕ) → has1 s k ≡ cond (is_next_turn moment next id s k) true (has s k))
@@ -134,7 +133,7 @@ module _ {J T : Type 0} (runs : J → Zone → ℤ → Type 0) (moment : T → M
     stepped_listed has1 has2 added left s = each id (λ k. has2 s k ≡ is_awaited_at moment s (jobs' k)) here apart
       where
         own : (o : Option (Waiting J T)) → is_awaited_at moment second o ≡ true → IfSome o (λ w. FitsAfter (runs w.job) moment w.next next)
-            → cond (int_eq second s) false (cond (is_next_at moment s next) true (is_awaited_at moment s o)) ≡ is_awaited_at moment s (option_map (advanced next) o)
+            → cond (int_eq second s) false (cond (is_next_at moment s next) true (is_awaited_at moment s o)) ≡ is_awaited_at moment s (option_map (job_after_run next) o)
         own None at behind = absurd (false≢true at)
         own (Some w) at behind = stepped_here moment (runs w.job) second w.next next at behind s
 
@@ -154,7 +153,7 @@ module _ {J T : Type 0} (runs : J → Zone → ℤ → Type 0) (moment : T → M
     stepped_unused next_id unused = each id (λ k. next_id ≤ k → is_some (jobs' k) ≡ false)
         (λ le. ap is_some stepped_own ∙ still (jobs id) ∙ unused id le) (λ k e le. ap is_some (stepped_apart k e) ∙ unused k le)
       where
-        still : (o : Option (Waiting J T)) → is_some (option_map (advanced next) o) ≡ is_some o
+        still : (o : Option (Waiting J T)) → is_some (option_map (job_after_run next) o) ≡ is_some o
         still None = refl
         still (Some w) = refl
 
@@ -176,7 +175,7 @@ module _ {J T : Type 0} (runs : J → Zone → ℤ → Type 0) (moment : T → M
         after rs position (Stopped stop) at behind = absurd (false≢true at)
 
         own : (o : Option (Waiting J T)) → is_awaited_at moment second o ≡ true → IfSome o (λ w. FitsAfter (runs w.job) moment w.next next)
-            → IfSome o (Fits runs moment) → IfSome (option_map (advanced next) o) (Fits runs moment)
+            → IfSome o (Fits runs moment) → IfSome (option_map (job_after_run next) o) (Fits runs moment)
         own None at behind fits = tt
         own (Some w) at behind fits = record {
           whole = whole (runs w.job) (moment w.position) w.position w.next at fits.next;
@@ -208,7 +207,7 @@ module _ {J T : Type 0} (runs : J → Zone → ℤ → Type 0) (moment : T → M
         place rs m position (Stopped stop) at fits = absurd (false≢true at)
 
         after : (rs : Zone → ℤ → Type 0) (position : T) (n : Next T) → is_next_at moment second n ≡ true → FitsAfter rs moment n next
-            → IsSome (stop_of next) → ¬ (IsSearchable (moment (position_after position n)))
+            → IfSome (stop_of next) (StopsAt (moment (position_after position n)))
         after rs position (Run t) at behind = stops_where rs moment (moment t) next behind
         after rs position Over at behind = absurd (false≢true at)
         after rs position (Stopped stop) at behind = absurd (false≢true at)
@@ -216,7 +215,7 @@ module _ {J T : Type 0} (runs : J → Zone → ℤ → Type 0) (moment : T → M
         own : (o : Option (Waiting J T)) → is_awaited_at moment second o ≡ true → IfSome o (λ w. FitsAfter (runs w.job) moment w.next next)
             → ∥ IfSome o (Fits runs moment) ∥₁
             → IfSome (option_map (standing_of moment) o)
-            (λ s. IsSomeAnd (option_map (standing_of moment) (option_map (advanced next) o)) (StandsAt s.job s.position.zone second))
+            (λ s. IsSomeAnd (option_map (standing_of moment) (option_map (job_after_run next) o)) (StandsAt s.job s.position.zone second))
         own None at behind fits = tt
         own (Some w) at behind fits = record {
           job_is = refl;

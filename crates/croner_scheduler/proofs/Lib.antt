@@ -3,3 +3,4 @@ pub mod NextRuns
 pub mod Nearest
 pub mod Changes
 pub mod Puts
+pub mod Passed

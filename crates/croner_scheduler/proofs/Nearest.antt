@@ -1,5 +1,5 @@
 -- The first turn is the nearest run that is left.
-use Rattle.std.proofs.Common.{◌≡◌, refl, sym, ◌∙◌, subst, arith, ℕ, ◌≤◌, ℤ, ◌<ℤ◌, ◌≤ℤ◌, Bool, true, false, Option, Some, None, IfSome, option_map}
+use Rattle.std.proofs.Common.{◌≡◌, refl, sym, ap, ◌∙◌, subst, arith, ℕ, ◌≤◌, ℤ, ◌<ℤ◌, ◌≤ℤ◌, Bool, true, false, Option, Some, None, IfSome, option_map}
 use Rattle.std.proofs.Math.Logic.{∥∥₁_elim, ∥∥₁_map}
 use Rattle.std.proofs.Props.{props}
 use Rattle.std.proofs.lemmas.Bool.{false≢true}
@@ -18,8 +18,8 @@ use Rattle.croner_scheduler.specs.declared.waiting.Next.{Next}
 use Rattle.croner_scheduler.specs.declared.waiting.Next.TheVariants.{Run, Over, Stopped}
 use Rattle.croner_scheduler.specs.declared.waiting.Waiting.{Waiting}
 use Rattle.croner_scheduler.specs.Standing.{Standing, Held, Seen}
-use Rattle.croner_scheduler.specs.Awaited.{AwaitsFirst, TakesAwaited}
-use Rattle.croner_scheduler.specs.Calls.{IsGivable, ComesBehind, IsFirst, IsNotDue, HasNoneLeft, IsNearest}
+use Rattle.croner_scheduler.specs.Awaited.{WaitsAfter, AwaitsFirst, TakesAwaited, IsSomeDue}
+use Rattle.croner_scheduler.specs.Calls.{IsGivable, ComesAfter, IsFirst, IsNotDue, HasNoneSeen, IsNearest}
 use Rattle.croner_scheduler.specs.Private.Turns.{IsFirstTurn}
 use Rattle.croner_scheduler.specs.Kept.{standing_of, stop_of, FitsNext, Fits, run_of}
 use Rattle.croner_scheduler.specs.Private.Steps.{is_next_at, is_awaited_at}
@@ -60,12 +60,12 @@ module _ {J T : Type 0} (runs : J → Zone → ℤ → Type 0) (moment : T → M
   module _ (o : Option (Waiting J T)) (fits : ∥ IfSome o (Fits runs moment) ∥₁) where
     -- behind the first turn
     pub behind : (k l : ℕ) (i : ℤ) → ((s : ℤ) → is_awaited_at moment s o ≡ true → (i ≤ℤ s) × (s ≡ i → k ≤ l))
-        → IfSome (option_map (standing_of moment) o) (ComesBehind runs k i l)
+        → IfSome (option_map (standing_of moment) o) (ComesAfter runs k i l)
     behind k l i first = behind_by o fits first
       where
         behind_by : (o : Option (Waiting J T)) → ∥ IfSome o (Fits runs moment) ∥₁
             → ((s : ℤ) → is_awaited_at moment s o ≡ true → (i ≤ℤ s) × (s ≡ i → k ≤ l))
-            → IfSome (option_map (standing_of moment) o) (ComesBehind runs k i l)
+            → IfSome (option_map (standing_of moment) o) (ComesAfter runs k i l)
         behind_by None fits first = tt
         behind_by (Some w) fits first = λ goes calm j seen. ∥∥₁_elim fits (hlevel props) (λ f.
             let h = seen_before w f goes calm j seen in
@@ -73,11 +73,11 @@ module _ {J T : Type 0} (runs : J → Zone → ℤ → Type 0) (moment : T → M
             (omega (arith, ints, g.0, h.2), λ same. g.1 (omega (arith, ints, g.0, h.2, same))))
 
     -- where none is awaited
-    pub none_left : ((s : ℤ) → is_awaited_at moment s o ≡ false) → IfSome (option_map (standing_of moment) o) (HasNoneLeft runs)
-    none_left none = none_left_by o fits none
+    pub none_seen : ((s : ℤ) → is_awaited_at moment s o ≡ false) → IfSome (option_map (standing_of moment) o) (HasNoneSeen runs)
+    none_seen none = none_left_by o fits none
       where
         none_left_by : (o : Option (Waiting J T)) → ∥ IfSome o (Fits runs moment) ∥₁ → ((s : ℤ) → is_awaited_at moment s o ≡ false)
-            → IfSome (option_map (standing_of moment) o) (HasNoneLeft runs)
+            → IfSome (option_map (standing_of moment) o) (HasNoneSeen runs)
         none_left_by None fits none = tt
         none_left_by (Some w) fits none = λ goes calm j seen. ∥∥₁_elim fits (hlevel props) (λ f.
             let h = seen_before w f goes calm j seen in false≢true (sym (none h.0) ∙ h.1))
@@ -87,11 +87,12 @@ module _ {J T : Type 0} (runs : J → Zone → ℤ → Type 0) (moment : T → M
     givable i at = givable_by o fits at
       where
         givable_next : (rs : Zone → ℤ → Type 0) (m : Moment) (n : Next T) → is_next_at moment i n ≡ true → FitsNext rs moment m n → m.fraction ≡ 0
-            → (m.instant <ℤ i) × (IsCalm m.zone → rs m.zone i)
+            → (m.instant <ℤ i) × (IsCalm m.zone → rs m.zone i) × (IsCalm m.zone → (j : ℤ) → (m.instant <ℤ j) × rs m.zone j → i ≤ℤ j)
         givable_next rs m (Run t) at fits whole =
             let same = same_second (moment t).instant i at in (
               subst (λ z. m.instant <ℤ z) same fits.1,
               λ calm. subst (λ z. rs m.zone z) same (fits.0.nearest (record { calm = calm; whole = whole })).counts.1,
+              λ calm j left. subst (λ z. z ≤ℤ j) same ((fits.0.nearest (record { calm = calm; whole = whole })).nearest j left),
             )
         givable_next rs m Over at fits whole = absurd (false≢true at)
         givable_next rs m (Stopped stop) at fits whole = absurd (false≢true at)
@@ -108,6 +109,7 @@ module _ {J T : Type 0} (runs : J → Zone → ℤ → Type 0) (moment : T → M
           goes = goes_next w.next at;
           after = ∥∥₁_elim fits (hlevel props) (λ f. (givable_next (runs w.job) (moment w.position) w.next at f.next f.whole).0);
           run = λ calm. ∥∥₁_map fits (λ f. (givable_next (runs w.job) (moment w.position) w.next at f.next f.whole).1 calm);
+          nearest = λ calm j left. ∥∥₁_elim fits (hlevel props) (λ f. (givable_next (runs w.job) (moment w.position) w.next at f.next f.whole).2 calm j left);
         }
 
 -- ---- all jobs
@@ -120,76 +122,86 @@ module _ {J T : Type 0} (runs : J → Zone → ℤ → Type 0) (moment : T → M
   nearest (Some due) first = record {
     givable = subst (λ o. IsSomeAnd o (IsGivable runs due.second)) (sym (is due.id))
         (givable runs moment (jobs due.id) (fits due.id) due.second (sym (listed due.second due.id) ∙ first.0));
-    first = λ l. subst (λ o. IfSome o (ComesBehind runs due.id due.second l)) (sym (is l))
+    first = λ l. subst (λ o. IfSome o (ComesAfter runs due.id due.second l)) (sym (is l))
         (behind runs moment (jobs l) (fits l) due.id l due.second (λ s at. first.1 s l (listed s l ∙ at)));
   }
-  nearest None first = λ l. subst (λ o. IfSome o (HasNoneLeft runs)) (sym (is l))
-      (none_left runs moment (jobs l) (fits l) (λ s. sym (listed s l) ∙ first s l))
+  nearest None first = λ l. subst (λ o. IfSome o (HasNoneSeen runs)) (sym (is l))
+      (none_seen runs moment (jobs l) (fits l) (λ s. sym (listed s l) ∙ first s l))
 
 -- where the nearest run comes later than now, none is due
 module _ {J : Type 0} (runs : J → Zone → ℤ → Type 0) (h : Held J) (now : ℤ) where
   pub none_due : (due : Due) → IsFirst runs h due.id due.second → now <ℤ due.second → (l : ℕ) → IfSome (h.jobs l) (IsNotDue runs now)
   none_due due is later l = later_than (h.jobs l) (is.first l)
     where
-      later_than : (o : Option (Standing J)) → IfSome o (ComesBehind runs due.id due.second l) → IfSome o (IsNotDue runs now)
+      later_than : (o : Option (Standing J)) → IfSome o (ComesAfter runs due.id due.second l) → IfSome o (IsNotDue runs now)
       later_than None behind = tt
       later_than (Some s) behind = λ goes calm j seen. omega (arith, ints, later, (behind goes calm j seen).0)
 
 -- ---- what is awaited, in every zone
 
-module _ {J T : Type 0} (moment : T → Moment) (jobs : ℕ → Option (Waiting J T)) where
+module _ {J T : Type 0} (moment : T → Moment) (h : Held J) (jobs : ℕ → Option (Waiting J T))
+    (is : (id : ℕ) → h.jobs id ≡ option_map (standing_of moment) (jobs id)) where
   pub awaits_first : (has : ℤ → ℕ → Bool) → ((second : ℤ) (id : ℕ) → has second id ≡ is_awaited_at moment second (jobs id))
-      → (first : Option Due) → IsFirstTurn has first → AwaitsFirst moment jobs first
-  awaits_first has listed (Some due) first =
-      (own (jobs due.id) (sym (listed due.second due.id) ∙ first.0), λ l. behind_all l (jobs l) (λ s at. first.1 s l (listed s l ∙ at)))
+      → (first : Option Due) → IsFirstTurn has first → AwaitsFirst h first
+  awaits_first has listed (Some due) first = (
+    subst (λ o. IsSomeAnd o (λ s. s.next ≡ Some due.second)) (sym (is due.id)) (own (jobs due.id) (sym (listed due.second due.id) ∙ first.0)),
+    λ l. subst (λ o. IfSome o (WaitsAfter due.id due.second l)) (sym (is l)) (after_all l (jobs l) (λ s at. first.1 s l (listed s l ∙ at))),
+  )
     where
-      own_next : (n : Next T) → is_next_at moment due.second n ≡ true → IsSomeAnd (run_of n) (λ t. (moment t).instant ≡ due.second)
-      own_next (Run t) at = same_second (moment t).instant due.second at
+      own_next : (n : Next T) → is_next_at moment due.second n ≡ true → option_map (λ t. (moment t).instant) (run_of n) ≡ Some due.second
+      own_next (Run t) at = ap Some (same_second (moment t).instant due.second at)
       own_next Over at = absurd (false≢true at)
       own_next (Stopped stop) at = absurd (false≢true at)
 
-      own : (o : Option (Waiting J T)) → is_awaited_at moment due.second o ≡ true → IsSomeAnd o (λ w. IsSomeAnd (run_of w.next) (λ t. (moment t).instant ≡ due.second))
+      own : (o : Option (Waiting J T)) → is_awaited_at moment due.second o ≡ true → IsSomeAnd (option_map (standing_of moment) o) (λ s. s.next ≡ Some due.second)
       own None at = absurd (false≢true at)
       own (Some w) at = own_next w.next at
 
-      behind_next : (l : ℕ) (n : Next T) → ((s : ℤ) → is_next_at moment s n ≡ true → (due.second ≤ℤ s) × (s ≡ due.second → due.id ≤ l))
-          → IfSome (run_of n) (λ t. (due.second ≤ℤ (moment t).instant) × ((moment t).instant ≡ due.second → due.id ≤ l))
-      behind_next l (Run t) first = first (moment t).instant (is_itself (moment t).instant)
-      behind_next l Over first = tt
-      behind_next l (Stopped stop) first = tt
+      after_next : (l : ℕ) (n : Next T) → ((s : ℤ) → is_next_at moment s n ≡ true → (due.second ≤ℤ s) × (s ≡ due.second → due.id ≤ l))
+          → IfSome (option_map (λ t. (moment t).instant) (run_of n)) (λ j. (due.second ≤ℤ j) × (j ≡ due.second → due.id ≤ l))
+      after_next l (Run t) first = first (moment t).instant (is_itself (moment t).instant)
+      after_next l Over first = tt
+      after_next l (Stopped stop) first = tt
 
-      behind_all : (l : ℕ) (o : Option (Waiting J T)) → ((s : ℤ) → is_awaited_at moment s o ≡ true → (due.second ≤ℤ s) × (s ≡ due.second → due.id ≤ l))
-          → IfSome o (λ w. IfSome (run_of w.next) (λ t. (due.second ≤ℤ (moment t).instant) × ((moment t).instant ≡ due.second → due.id ≤ l)))
-      behind_all l None first = tt
-      behind_all l (Some w) first = behind_next l w.next first
-  awaits_first has listed None none = λ l. none_in (jobs l) (λ s. sym (listed s l) ∙ none s l)
+      after_all : (l : ℕ) (o : Option (Waiting J T)) → ((s : ℤ) → is_awaited_at moment s o ≡ true → (due.second ≤ℤ s) × (s ≡ due.second → due.id ≤ l))
+          → IfSome (option_map (standing_of moment) o) (WaitsAfter due.id due.second l)
+      after_all l None first = tt
+      after_all l (Some w) first = after_next l w.next first
+  awaits_first has listed None none = λ l. subst (λ o. IfSome o (λ s. s.next ≡ None)) (sym (is l)) (none_in (jobs l) (λ s. sym (listed s l) ∙ none s l))
     where
-      none_next : (n : Next T) → ((s : ℤ) → is_next_at moment s n ≡ false) → run_of n ≡ None
+      none_next : (n : Next T) → ((s : ℤ) → is_next_at moment s n ≡ false) → option_map (λ t. (moment t).instant) (run_of n) ≡ None
       none_next (Run t) none = absurd (false≢true (sym (none (moment t).instant) ∙ is_itself (moment t).instant))
       none_next Over none = refl
       none_next (Stopped stop) none = refl
 
-      none_in : (o : Option (Waiting J T)) → ((s : ℤ) → is_awaited_at moment s o ≡ false) → IfSome o (λ w. run_of w.next ≡ None)
+      none_in : (o : Option (Waiting J T)) → ((s : ℤ) → is_awaited_at moment s o ≡ false) → IfSome (option_map (standing_of moment) o) (λ s. s.next ≡ None)
       none_in None none = tt
       none_in (Some w) none = none_next w.next none
 
+module _ {J : Type 0} (h : Held J) (now : ℤ) where
   -- where the first comes later than now, or there is none, each comes later
-  module _ (now : ℤ) where
-    pub awaits_later : (due : Due) → AwaitsFirst moment jobs (Some due) → now <ℤ due.second → TakesAwaited moment jobs now None
-    awaits_later due first later l = by (jobs l) (first.1 l)
-      where
-        by_run : (o : Option T) → IfSome o (λ t. (due.second ≤ℤ (moment t).instant) × ((moment t).instant ≡ due.second → due.id ≤ l)) → IfSome o (λ t. now <ℤ (moment t).instant)
-        by_run None h = tt
-        by_run (Some t) h = omega (arith, ints, later, h.0)
+  pub awaits_later : (due : Due) → AwaitsFirst h (Some due) → now <ℤ due.second → TakesAwaited h now None
+  awaits_later due first later l = by (h.jobs l) (first.1 l)
+    where
+      by_run : (o : Option ℤ) → IfSome o (λ j. (due.second ≤ℤ j) × (j ≡ due.second → due.id ≤ l)) → IfSome o (λ j. now <ℤ j)
+      by_run None h = tt
+      by_run (Some j) h = omega (arith, ints, later, h.0)
 
-        by : (o : Option (Waiting J T)) → IfSome o (λ w. IfSome (run_of w.next) (λ t. (due.second ≤ℤ (moment t).instant) × ((moment t).instant ≡ due.second → due.id ≤ l)))
-            → IfSome o (λ w. IfSome (run_of w.next) (λ t. now <ℤ (moment t).instant))
-        by None h = tt
-        by (Some w) h = by_run (run_of w.next) h
+      by : (o : Option (Standing J)) → IfSome o (WaitsAfter due.id due.second l) → IfSome o (λ s. IfSome s.next (λ j. now <ℤ j))
+      by None h = tt
+      by (Some s) h = by_run s.next h
 
-    pub awaits_none : AwaitsFirst moment jobs None → TakesAwaited moment jobs now None
-    awaits_none none l = by (jobs l) (none l)
-      where
-        by : (o : Option (Waiting J T)) → IfSome o (λ w. run_of w.next ≡ None) → IfSome o (λ w. IfSome (run_of w.next) (λ t. now <ℤ (moment t).instant))
-        by None h = tt
-        by (Some w) h = subst (λ o. IfSome o (λ t. now <ℤ (moment t).instant)) (sym h) tt
+  -- where the first comes no later, one is due
+  pub awaits_due : (due : Due) → AwaitsFirst h (Some due) → due.second ≤ℤ now → IsSomeDue h now
+  awaits_due due first le = (due.id, by (h.jobs due.id) first.0)
+    where
+      by : (o : Option (Standing J)) → IsSomeAnd o (λ s. s.next ≡ Some due.second) → IsSomeAnd o (λ s. IsSomeAnd s.next (λ j. j ≤ℤ now))
+      by None h = h
+      by (Some s) h = subst (λ o. IsSomeAnd o (λ j. j ≤ℤ now)) (sym h) le
+
+  pub awaits_none : AwaitsFirst h None → TakesAwaited h now None
+  awaits_none none l = by (h.jobs l) (none l)
+    where
+      by : (o : Option (Standing J)) → IfSome o (λ s. s.next ≡ None) → IfSome o (λ s. IfSome s.next (λ j. now <ℤ j))
+      by None h = tt
+      by (Some s) h = subst (λ o. IfSome o (λ j. now <ℤ j)) (sym h) tt

@@ -1,12 +1,13 @@
 -- What comes next of a job is what its search answers.
-use Rattle.std.proofs.Common.{rules, ◌≡◌, refl, inl, inr, ℤ, ◌<ℤ◌, int_lt, Bool, true, false, IfOk}
+use Rattle.std.proofs.Common.{rules, ◌≡◌, refl, ◌⊎◌, inl, inr, ℤ, ◌<ℤ◌, int_lt, Bool, true, false, IfOk}
 use Rattle.croner_base.specs.declared.errors.CronError.{CronError}
 use Rattle.croner_base.specs.declared.errors.CronError.TheVariants.{EmptyPattern, InvalidDate, InvalidTime, TimeSearchLimitExceeded, InvalidPattern, IllegalCharacters, ComponentError, OutOfMemory}
 use Rattle.croner_base.specs.declared.time.Direction.TheVariants.{Forward}
 use Rattle.croner_base.specs.Zone.{Zone, Moment}
 use Rattle.croner.specs.Recurring.{IsRunFound, IsRunRefused}
-use Rattle.croner.specs.search.Premises.{IsSearchable}
-use Rattle.croner_scheduler.specs.Kept.{FitsNext}
+use Rattle.croner.specs.search.Refusal.{IsRefusal, IsLimitOrMemory}
+use Rattle.croner_scheduler.specs.Kept.{StopsAt, FitsNext}
+use Rattle.croner_scheduler.specs.declared.waiting.Stop.TheVariants.{Refused}
 use Rattle.croner_scheduler.specs.Private.Steps.{next_of_run, next_of_refusal}
 
 module _ {T : Type 0} (runs : Zone → ℤ → Type 0) (moment : T → Moment) (position : T) where
@@ -14,7 +15,7 @@ module _ {T : Type 0} (runs : Zone → ℤ → Type 0) (moment : T → Moment) (
       → IsRunFound Forward runs (moment position) (moment found)
       → FitsNext runs moment (moment position) (next_of_run moment position found)
   found_by found true e is = rw e (is, search (rules, e))
-  found_by found false e is = rw e (λ h. absurd (apart e (is.nearest h.starts).counts.0))
+  found_by found false e is = rw e (λ h. absurd (apart e (is.nearest h).counts.0))
     where
       apart : int_lt (moment position).instant (moment found).instant ≡ false → (moment position).instant <ℤ (moment found).instant → ⊥
       apart e lt = search (rules, e, lt)
@@ -24,8 +25,16 @@ module _ {T : Type 0} (runs : Zone → ℤ → Type 0) (moment : T → Moment) (
   fits_found found = found_by found (int_lt (moment position).instant (moment found).instant) refl
 
   other : (lack : Bool) (e : CronError) → IsRunRefused lack Forward runs (moment position) e
-      → ¬ (e ≡ TimeSearchLimitExceeded) → ¬ (e ≡ OutOfMemory) → ¬ (IsSearchable (moment position))
-  other lack e is limit memory h = elim (is.promised h) [ inl same ↦ limit same | inr same ↦ memory same.0 ]
+      → ¬ (e ≡ TimeSearchLimitExceeded) → ¬ (e ≡ OutOfMemory) → StopsAt (moment position) (Refused e)
+  other lack e is limit memory = (λ h. apart (is.promised h), kind is.kind)
+    where
+      apart : ¬ (IsLimitOrMemory lack e)
+      apart (inl same) = limit same
+      apart (inr same) = memory same.0
+
+      kind : IsRefusal lack e → (e ≡ InvalidDate) ⊎ (e ≡ InvalidTime)
+      kind (inl same) = absurd (apart same)
+      kind (inr same) = same
 
   pub fits_refused : (lack : Bool) (e : CronError) → IsRunRefused lack Forward runs (moment position) e
       → IfOk (next_of_refusal {T = T} e) (FitsNext runs moment (moment position))

@@ -3,13 +3,13 @@ use Rattle.std.specs.Prelude.{◌≡◌, Bool, true, ◌+◌, ◌-◌, ◌^◌, 
 use Rattle.std.specs.Option.{IsSomeAnd}
 use Rattle.croner_base.specs.Calm.{IsCalm}
 use Rattle.croner_base.specs.Zone.{Zone, Moment}
-use Rattle.croner.specs.search.Premises.{IsSearchable}
 use Rattle.croner_scheduler.specs.declared.add.AddError.{AddError}
 use Rattle.croner_scheduler.specs.declared.add.AddError.TheVariants.{OutOfMemory, NoIdLeft, PositionNotHeld}
 use Rattle.croner_scheduler.specs.declared.skip.Skip.{Skip}
-use Rattle.croner_scheduler.specs.declared.skip.Skip.TheVariants.{Moved, Behind, NoJob, NotHeld}
+use Rattle.croner_scheduler.specs.declared.skip.Skip.TheVariants.{Moved, AlreadyThere, NoJob, NotHeld}
 use Rattle.croner_scheduler.specs.declared.turns.Due.{Due}
-use Rattle.croner_scheduler.specs.Standing.{Standing, Held, Seen}
+use Rattle.croner_scheduler.specs.Standing.{Standing, Held, Left, Seen}
+use Rattle.croner_scheduler.specs.Kept.{StopsAt}
 
 -- both hold the same
 pub record IsSame {J : Type 0} (h h' : Held J) : Type 0 where
@@ -17,46 +17,50 @@ pub record IsSame {J : Type 0} (h h' : Held J) : Type 0 where
   pub count : h'.count ≡ h.count
   pub next_id : h'.next_id ≡ h.next_id
 
--- i can be given of the job: it isn't stopped, i lies after its position, and in a calm zone it is a run of it
+-- i can be given of the job: it isn't stopped, i lies after its position, and in a calm zone it is a run of it, the nearest of all that are
+-- left of it
 pub record IsGivable {J : Type 0} (runs : J → Zone → ℤ → Type 0) (i : ℤ) (s : Standing J) : Type 0 where
   pub goes : s.stop ≡ None
   pub after : s.position.instant <ℤ i
   pub run : IsCalm s.position.zone → ∥ runs s.job s.position.zone i ∥₁
+  pub nearest : IsCalm s.position.zone → (j : ℤ) → Left runs s j → i ≤ℤ j
 
--- a run of the job of the id l comes before i of k: earlier, or at the same instant with a lower id
-abbrev pub ComesBehind : {J : Type 0} → (J → Zone → ℤ → Type 0) → ℕ → ℤ → ℕ → Standing J → Type 0
-ComesBehind runs k i l s = s.stop ≡ None → IsCalm s.position.zone → (j : ℤ) → Seen runs s j → (i ≤ℤ j) × (j ≡ i → k ≤ l)
+-- no run that is seen of the job of the id l comes before i of k: none is earlier, and at the same instant l isn't lower. That is said of
+-- a job in a calm zone that isn't stopped
+abbrev pub ComesAfter : {J : Type 0} → (J → Zone → ℤ → Type 0) → ℕ → ℤ → ℕ → Standing J → Type 0
+ComesAfter runs k i l s = s.stop ≡ None → IsCalm s.position.zone → (j : ℤ) → Seen runs s j → (i ≤ℤ j) × (j ≡ i → k ≤ l)
 
--- i of the job k is the nearest run that is left, in calm zones, of the jobs that aren't stopped; of several at one instant that of the
--- lowest id
+-- i can be given of the job k, and no run that is seen comes before it, of the jobs in calm zones that aren't stopped; of several at one
+-- instant that of the lowest id is the first
 pub record IsFirst {J : Type 0} (runs : J → Zone → ℤ → Type 0) (h : Held J) (k : ℕ) (i : ℤ) : Type 0 where
   pub givable : IsSomeAnd (h.jobs k) (IsGivable runs i)
-  pub first : (l : ℕ) → IfSome (h.jobs l) (ComesBehind runs k i l)
+  pub first : (l : ℕ) → IfSome (h.jobs l) (ComesAfter runs k i l)
 
--- no run of the job is left up to now
+-- no run of the job that is seen lies up to now, if it isn't stopped and stands in a calm zone
 abbrev pub IsNotDue : {J : Type 0} → (J → Zone → ℤ → Type 0) → ℤ → Standing J → Type 0
 IsNotDue runs now s = s.stop ≡ None → IsCalm s.position.zone → (j : ℤ) → Seen runs s j → now <ℤ j
 
--- no run of the job is left
-abbrev pub HasNoneLeft : {J : Type 0} → (J → Zone → ℤ → Type 0) → Standing J → Type 0
-HasNoneLeft runs s = s.stop ≡ None → IsCalm s.position.zone → (j : ℤ) → ¬ (Seen runs s j)
+-- no run of the job is seen, if it isn't stopped and stands in a calm zone
+abbrev pub HasNoneSeen : {J : Type 0} → (J → Zone → ℤ → Type 0) → Standing J → Type 0
+HasNoneSeen runs s = s.stop ≡ None → IsCalm s.position.zone → (j : ℤ) → ¬ (Seen runs s j)
 
--- the moment of the nearest run that is left; none where no job has one
+-- the first run and whose it is; or none, and then no run of a job is seen
 abbrev pub IsNearest : {J : Type 0} → (J → Zone → ℤ → Type 0) → Held J → Option Due → Type 0
 IsNearest runs h (Some due) = IsFirst runs h due.id due.second
-IsNearest runs h None = (l : ℕ) → IfSome (h.jobs l) (HasNoneLeft runs)
+IsNearest runs h None = (l : ℕ) → IfSome (h.jobs l) (HasNoneSeen runs)
 
+-- the moment of the first run, whosesoever it is; or none
 abbrev pub IsWakeUp : {J : Type 0} → (J → Zone → ℤ → Type 0) → Held J → Option ℤ → Type 0
-IsWakeUp runs h (Some i) = (k : ℕ) × IsFirst runs h k i
-IsWakeUp runs h None = (l : ℕ) → IfSome (h.jobs l) (HasNoneLeft runs)
+IsWakeUp runs h (Some i) = (k : ℕ) × IsNearest runs h (Some (record { id = k; second = i }))
+IsWakeUp runs h None = IsNearest runs h None
 
--- a job that stands at that second of its zone, whole; and it is stopped only where no search is promised from there
+-- a job that stands at that second of its zone, whole; and where it is stopped, the reason holds there
 pub record StandsAt {J : Type 0} (job : J) (zone : Zone) (i : ℤ) (s : Standing J) : Type 0 where
   pub job_is : s.job ≡ job
   pub zone_is : s.position.zone ≡ zone
   pub instant : s.position.instant ≡ i
   pub whole : s.position.fraction ≡ 0
-  pub stop : IsSome s.stop → ¬ (IsSearchable s.position)
+  pub stop : IfSome s.stop (StopsAt s.position)
 
 -- the position of the job k has moved to i, and nothing else has changed
 pub record IsMoved {J : Type 0} (h : Held J) (k : ℕ) (i : ℤ) (h' : Held J) : Type 0 where
@@ -65,20 +69,28 @@ pub record IsMoved {J : Type 0} (h : Held J) (k : ℕ) (i : ℤ) (h' : Held J) :
   pub count : h'.count ≡ h.count
   pub next_id : h'.next_id ≡ h.next_id
 
--- the position of the job k moves on to now; or it stands there already, there is no such job, or its zone doesn't hold that second
+-- a next run that is later than now is kept
+abbrev pub KeepsLater : {J : Type 0} → ℕ → ℤ → Held J → Standing J → Type 0
+KeepsLater k now h' s = IfSome s.next (λ i. now <ℤ i → IsSomeAnd (h'.jobs k) (λ s'. s'.next ≡ Some i))
+
+-- the position of the job k moves on to now; or it stands there already or later, there is no such job, or its zone doesn't hold that second
 abbrev pub SkipsTo : {J : Type 0} → ℕ → ℤ → Held J → Held J → Skip → Type 0
-SkipsTo k now h h' Moved = IsSomeAnd (h.jobs k) (λ s. s.position.instant <ℤ now) × IsMoved h k now h'
-SkipsTo k now h h' Behind = IsSomeAnd (h.jobs k) (λ s. now ≤ℤ s.position.instant) × IsSame h h'
+SkipsTo k now h h' Moved = IsSomeAnd (h.jobs k) (λ s. (s.position.instant <ℤ now) × KeepsLater k now h' s) × IsMoved h k now h'
+SkipsTo k now h h' AlreadyThere = IsSomeAnd (h.jobs k) (λ s. now ≤ℤ s.position.instant) × IsSame h h'
 SkipsTo k now h h' NoJob = (h.jobs k ≡ None) × IsSame h h'
 SkipsTo k now h h' NotHeld =
     IsSomeAnd (h.jobs k) (λ s. (s.position.instant <ℤ now) × (s.position.zone.holds now ≡ false)) × IsSame h h'
 
--- the job k was stopped, and was searched again from where it stands; or there is no such job, or it isn't stopped
+-- a job that is to be moved on to now, in whose zone that second is held, without a next run that is later
+abbrev pub IsToMove : {J : Type 0} → ℤ → Standing J → Type 0
+IsToMove now s = (s.position.instant <ℤ now) × (s.position.zone.holds now ≡ true) × IfSome s.next (λ i. i ≤ℤ now)
+
+-- the job k was stopped, and may from then on be stopped otherwise or go on, from where it stands; or there is no such job, or it isn't stopped
 abbrev pub AsksAgain : {J : Type 0} → ℕ → Held J → Held J → Bool → Type 0
 AsksAgain k h h' true = IsSomeAnd (h.jobs k) (λ s. IsSome s.stop × IsMoved h k s.position.instant h')
 AsksAgain k h h' false = IfSome (h.jobs k) (λ s. s.stop ≡ None) × IsSame h h'
 
--- the nearest run no later than now is given, and its job stands there from then on; or nothing is due
+-- the first run is given, no later than now, and its job stands there from then on; or nothing is due
 abbrev pub TakesDue : {J : Type 0} → (J → Zone → ℤ → Type 0) → ℤ → Held J → Held J → Option Due → Type 0
 TakesDue runs now h h' (Some due) = IsFirst runs h due.id due.second × (due.second ≤ℤ now) × IsMoved h due.id due.second h'
 TakesDue runs now h h' None = ((l : ℕ) → IfSome (h.jobs l) (IsNotDue runs now)) × IsSame h h'
@@ -92,7 +104,7 @@ pub record IsAdded {J : Type 0} (job : J) (position : Moment) (h h' : Held J) (i
   pub count : h'.count ≡ h.count + 1
   pub next_id : h'.next_id ≡ h.next_id + 1
 
--- why a job isn't added: for want of memory; since the last id was given away; or since the whole second of the position isn't held
+-- why a job isn't added: for want of memory; since no id is left; or since the whole second of the position isn't held
 abbrev pub IsAddRefused : {J : Type 0} → Moment → Held J → AddError → Type 0
 IsAddRefused position h OutOfMemory = ⊤
 IsAddRefused position h NoIdLeft = h.next_id ≡ 2 ^ 64 - 1
@@ -116,11 +128,12 @@ abbrev pub Replaces : {J T : Type 0} → (T → Moment) → ℕ → J → Moment
 Replaces moment k job position h h' (Some given) = IsGivenBack moment (h.jobs k) (Some given) × IsPut job position h k h'
 Replaces moment k job position h h' None = (h.jobs k ≡ None) × IsSame h h'
 
--- why no job is put in another's place: for want of memory, or since the whole second of the position isn't held
-abbrev pub IsPutRefused : Moment → AddError → Type 0
-IsPutRefused position OutOfMemory = ⊤
-IsPutRefused position NoIdLeft = ⊥
-IsPutRefused position PositionNotHeld = position.zone.holds position.instant ≡ false
+-- why no job is put in the place of the one of the id k, if there is one: for want of memory, or since the whole second of the position isn't
+-- held
+abbrev pub IsPutRefused : {J : Type 0} → ℕ → Moment → Held J → AddError → Type 0
+IsPutRefused k position h OutOfMemory = IsSome (h.jobs k)
+IsPutRefused k position h NoIdLeft = ⊥
+IsPutRefused k position h PositionNotHeld = IsSome (h.jobs k) × (position.zone.holds position.instant ≡ false)
 
 -- the job of the id is gone, if there was one, and the others stay
 pub record IsRemoved {J : Type 0} (id : ℕ) (h h' : Held J) : Type 0 where

@@ -1,6 +1,7 @@
 -- What is kept of a job: the run that comes next, that none comes in the searched years, or why it is stopped. Source: this crate's
 -- documentation.
-use Rattle.std.specs.Prelude.{◌≡◌, ℤ, ◌<ℤ◌, Option, None, Some}
+use Rattle.std.specs.Prelude.{◌≡◌, ◌⊎◌, ℤ, ◌<ℤ◌, Option, None, Some, option_map}
+use Rattle.croner_base.specs.declared.errors.CronError.TheVariants.{InvalidDate, InvalidTime}
 use Rattle.croner_base.specs.declared.time.Direction.TheVariants.{Forward}
 use Rattle.croner_base.specs.Zone.{Zone, Moment}
 use Rattle.croner.specs.Recurring.{CountsFrom, IsRunFound}
@@ -9,6 +10,7 @@ use Rattle.croner.specs.search.Premises.{IsSearchable, StartsCalm}
 use Rattle.croner_scheduler.specs.declared.waiting.Next.{Next}
 use Rattle.croner_scheduler.specs.declared.waiting.Next.TheVariants.{Run, Over, Stopped}
 use Rattle.croner_scheduler.specs.declared.waiting.Stop.{Stop}
+use Rattle.croner_scheduler.specs.declared.waiting.Stop.TheVariants.{Refused, NotLater}
 use Rattle.croner_scheduler.specs.declared.waiting.Waiting.{Waiting}
 use Rattle.croner_scheduler.specs.Standing.{Standing}
 
@@ -24,14 +26,24 @@ run_of next = None
 
 -- what contracts see of a job
 abbrev pub standing_of : {J T : Type 0} → (T → Moment) → Waiting J T → Standing J
-standing_of moment w = record { job = w.job; position = moment w.position; stop = stop_of w.next }
+standing_of moment w = record {
+  job = w.job;
+  position = moment w.position;
+  stop = stop_of w.next;
+  next = option_map (λ t. (moment t).instant) (run_of w.next);
+}
 
--- what comes next from a moment, of what has these runs: the nearest run; none in the searched years; or a stop, which comes only where the
--- moment isn't searchable
+-- why a job is stopped at a moment: since the run that was found isn't later, which comes only where the moment isn't a whole second in a calm
+-- zone; or since the backend refused the search, which comes only where the moment isn't searchable
+abbrev pub StopsAt : Moment → Stop → Type 0
+StopsAt m NotLater = ¬ (StartsCalm m)
+StopsAt m (Refused e) = ¬ (IsSearchable m) × ((e ≡ InvalidDate) ⊎ (e ≡ InvalidTime))
+
+-- what comes next from a moment, of what has these runs: the nearest run; none in the searched years; or a stop
 abbrev pub FitsNext : {T : Type 0} → (Zone → ℤ → Type 0) → (T → Moment) → Moment → Next T → Type 0
 FitsNext runs moment m (Run t) = IsRunFound Forward runs m (moment t) × (m.instant <ℤ (moment t).instant)
 FitsNext runs moment m Over = StartsCalm m → NoneInSpanWhere Forward m.zone.reads (CountsFrom Forward (runs m.zone) m.instant)
-FitsNext runs moment m (Stopped stop) = ¬ (IsSearchable m)
+FitsNext runs moment m (Stopped stop) = StopsAt m stop
 
 -- a job stands at a whole second, with what comes next from there
 pub record Fits {J T : Type 0} (runs : J → Zone → ℤ → Type 0) (moment : T → Moment) (w : Waiting J T) : Type 0 where

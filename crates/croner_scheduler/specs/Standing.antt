@@ -6,11 +6,12 @@ use Rattle.croner_base.specs.Zone.{Zone, Moment}
 use Rattle.croner.specs.search.Limit.{InSpan}
 use Rattle.croner_scheduler.specs.declared.waiting.Stop.{Stop}
 
--- a job, the moment up to which its runs are done with, and why it is stopped, if it is
+-- a job, the moment up to which its runs are done with, why it is stopped, if it is, and the instant of its next run, if it has one
 pub record Standing (J : Type 0) : Type 0 where
   pub job : J
   pub position : Moment
   pub stop : Option Stop
+  pub next : Option ℤ
 
 -- the jobs by their ids, how many they are, and the id of the next one
 pub record Held (J : Type 0) : Type 0 where

@@ -9,7 +9,7 @@ use std::fmt;
 pub enum AddError {
     /// Memory was asked for and not found.
     OutOfMemory,
-    /// The last id has been given away.
+    /// No id is left: the next one would be 18446744073709551615 (2^64 - 1), which is never given.
     NoIdLeft,
     /// The whole second of the position isn't held.
     PositionNotHeld,

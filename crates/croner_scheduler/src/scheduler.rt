@@ -4,9 +4,9 @@ ghost use Rattle.std.specs.BTreeMap.{get};
 ghost use Rattle.std.specs.Ordering.{nat_cmp};
 ghost use Rattle.croner_scheduler.specs.Private.Turns.{has_turn};
 ghost use Rattle.croner_scheduler.specs.Kept.{Fits};
-ghost use Rattle.croner_scheduler.specs.Private.Steps.{is_awaited_at};
+ghost use Rattle.croner_scheduler.specs.Private.Steps.{is_awaited_at, CanStand};
 
-use crate::jobs::{exchange, next_behind, renew, settle, step};
+use crate::jobs::{exchange, next_but_one, renew, settle, stand, step};
 use crate::turns::{Due, await_next, change_turn, first_turn, leave_next, leave_turn};
 use crate::waiting::{Waiting, next_of};
 use crate::{AddError, Skip};
@@ -21,10 +21,12 @@ use std::collections::{BTreeMap, BTreeSet, btree_map};
 /// What a clock, a crash or a restart does is up to the program: it tells the time, and may keep the positions
 /// ([`iter`](Scheduler::iter)) to add its jobs again where they stood.
 ///
-/// In a calm zone ([`CronDateTime`](croner::CronDateTime) says when a zone is calm) the runs of a job are given in order, each once and
-/// none left out between, up to the end of the years that are searched. In another zone a run is given that its search found, later
-/// than the position. One job in such a zone takes nothing from the others. A job of which no run can be found is *stopped*
-/// ([`Waiting::stop`]), and one that has no run left stays and is silent.
+/// In a calm zone ([`CronDateTime`](croner::CronDateTime) says when a zone is calm) the runs of a job after its position are given in
+/// order, each once and none left out between but those that [`skip_to`](Scheduler::skip_to) passes over, up to the end of the years
+/// that are searched; after [`replace`](Scheduler::replace) they are those of the other job after its position. In another zone a run
+/// is given that its search found, later than the position. One job in such a zone takes nothing from the others. A job whose search
+/// is refused by its backend, or finds a run that isn't later than the position, is *stopped* ([`Waiting::stop`]). One that has no run
+/// left in the searched years stays and is silent.
 ///
 /// Seconds are those of [`Clocked::second`]: since 1970-01-01T00:00:00 UTC, and in civil time since that date and time.
 ///
@@ -57,14 +59,15 @@ impl<J: Recurring + Drop, T: Clocked> Drop for Scheduler<J, T> {
 }
 
 impl<J: Recurring, T: Clocked> Scheduler<J, T> {
-    ghost use Rattle.std.specs.Prelude.{length, ◌<◌, ◌+◌, ◌-◌, ◌^◌, ◌↔◌, IsTrue, IfOk, IfErr, OnOk, OnErr, true, option_map, if◌then◌else◌};
+    ghost use Rattle.std.specs.Prelude.{length, ◌<◌, ◌+◌, ◌-◌, ◌^◌, ◌↔◌, IsTrue, IsSome, IfOk, IfErr, OnOk, OnErr, true, option_map, if◌then◌else◌};
+    ghost use Rattle.std.specs.Option.{IsSomeAnd};
     ghost use Rattle.std.specs.BTreeMap.{is_at};
     ghost use Rattle.std.specs.List.Sorted.{IsStrictlySortedBy};
     ghost use Rattle.std.specs.Map.{lookup, keys_of};
     ghost use Rattle.croner_scheduler.specs.Views.{held_of, waiting_in};
-    ghost use Rattle.croner_scheduler.specs.Awaited.{AwaitsFirst, TakesAwaited, WakesFirst};
+    ghost use Rattle.croner_scheduler.specs.Awaited.{AwaitsFirst, TakesAwaited, WakesFirst, IsSomeDue};
     ghost use Rattle.croner_scheduler.specs.Kept.{standing_of};
-    ghost use Rattle.croner_scheduler.specs.Calls.{IsSame, IsNearest, IsWakeUp, IsMoved, TakesDue, SkipsTo, AsksAgain, IsAdded, IsAddRefused, IsGivenBack, IsPutRefused, Replaces, IsRemoved};
+    ghost use Rattle.croner_scheduler.specs.Calls.{IsSame, IsNearest, IsWakeUp, IsMoved, TakesDue, SkipsTo, IsToMove, AsksAgain, IsAdded, IsAddRefused, IsGivenBack, IsPutRefused, Replaces, IsRemoved};
 
     /// No job yet. The first id is 0.
     pub fn new(alloc: Global) -> Scheduler<J, T>
@@ -75,7 +78,8 @@ impl<J: Recurring, T: Clocked> Scheduler<J, T> {
         Scheduler::with_first_id(alloc, 0)
     }
 
-    /// No job yet, with the first id: where ids that were given away before a restart are not to be used again.
+    /// No job yet, with the first id: where ids that were given away before a restart are not to be used again. The id
+    /// 18446744073709551615 (2^64 - 1) is never given.
     pub fn with_first_id(alloc: Global, first_id: u64) -> Scheduler<J, T>
         ensures jobs { (id : ℕ) → (held_of T.moment result).jobs id ≡ None }
         ensures count { (held_of T.moment result).count ≡ 0 }
@@ -102,7 +106,7 @@ impl<J: Recurring, T: Clocked> Scheduler<J, T> {
         self.jobs.is_empty()
     }
 
-    /// The id of the job that is added next.
+    /// The id of the job that is added next. Where it is 18446744073709551615 (2^64 - 1), no other is added.
     pub fn next_id(&self) -> u64
         ensures { result ≡ (held_of T.moment self.now).next_id }
     {
@@ -118,11 +122,11 @@ impl<J: Recurring, T: Clocked> Scheduler<J, T> {
         self.jobs.get(&id)
     }
 
-    /// The moment of the nearest run that is left: when to call [`take_due`](Scheduler::take_due) next. `None` where no job has a run left
-    /// in the searched years, or all of these are stopped. It makes no search.
+    /// The moment of the first of the next runs ([`Waiting::next_run`]): when to call [`take_due`](Scheduler::take_due) next. `None` exactly
+    /// where no job has a next run. It makes no search.
     pub fn next_wake_up(&self) -> Option<i64>
         ensures wake_up { IsWakeUp J.runs (held_of T.moment self.now) result }
-        ensures awaited { WakesFirst T.moment (waiting_in self.now) result }
+        ensures awaited { WakesFirst (held_of T.moment self.now) result }
     {
         match self.nearest() {
             Some(due) => Some(due.second),
@@ -130,15 +134,17 @@ impl<J: Recurring, T: Clocked> Scheduler<J, T> {
         }
     }
 
-    /// The nearest run no later than `now`, and its job stands there from then on; `None` where nothing is due. Of several at one instant
-    /// that of the lowest id comes first.
+    /// The first of the next runs ([`Waiting::next_run`]), if it is no later than `now`, and its job stands there from then on; `None` where
+    /// nothing is due. Of several at one instant that of the lowest id comes first.
     ///
-    /// The run behind it is searched first. Where that search, or the place of what it finds, lacks memory, the call is refused and
-    /// nothing has changed: the run is still due. Where the search is refused otherwise, the run is given and its job is stopped.
+    /// The run after it is searched first. Where that search, or the place of what it finds, lacks memory, the call is refused and nothing
+    /// has changed: the run is still due. Where the backend refuses that search, or it finds a run that isn't later, the run is given and
+    /// its job is stopped.
     pub fn take_due(&mut self, now: i64) -> Result<Option<Due>, AllocError>
         ensures taken { IfOk result (TakesDue J.runs now (held_of T.moment self.old) (held_of T.moment self.new)) }
-        ensures awaited { IfOk result (TakesAwaited T.moment (waiting_in self.old) now) }
+        ensures awaited { IfOk result (TakesAwaited (held_of T.moment self.old) now) }
         ensures refused { OnErr result (IsSame (held_of T.moment self.old) (held_of T.moment self.new)) }
+        ensures due { OnErr result (IsSomeDue (held_of T.moment self.old) now) }
     {
         match self.nearest() {
             Some(due) => self.give_by(due, now),
@@ -146,7 +152,8 @@ impl<J: Recurring, T: Clocked> Scheduler<J, T> {
         }
     }
 
-    /// Adds a job under the next id, which is given and isn't used again. The runs after its position are left, and none up to it. A fraction of a second is dropped.
+    /// Adds a job under the next id, which is given and isn't used again; the id 18446744073709551615 (2^64 - 1) never is. The runs after
+    /// its position are left, and none up to it. A fraction of a second is dropped.
     ///
     /// A job whose search is refused by its backend is added, and stopped ([`Waiting::stop`]). An error changes nothing.
     pub fn add(&mut self, job: J, position: T) -> Result<u64, AddError>
@@ -174,7 +181,7 @@ impl<J: Recurring, T: Clocked> Scheduler<J, T> {
     where
         J: Drop,
         ensures replaced { IfOk result (Replaces T.moment id job (T.moment position) (held_of T.moment self.old) (held_of T.moment self.new)) }
-        ensures refused { IfErr result (IsPutRefused (T.moment position)) }
+        ensures refused { IfErr result (IsPutRefused id (T.moment position) (held_of T.moment self.old)) }
         ensures same { OnErr result (IsSame (held_of T.moment self.old) (held_of T.moment self.new)) }
     {
         if self.get(id).is_none() {
@@ -190,20 +197,26 @@ impl<J: Recurring, T: Clocked> Scheduler<J, T> {
     }
 
     /// Moves the position of a job on to `now`: its runs up to then are done with, and none of them is given, as after a time for which
-    /// the program didn't run. A position is never moved back. Want of memory changes nothing.
+    /// the program didn't run. A position is never moved back. A next run that is later is kept; else the job is searched again from
+    /// there, and where that search is refused it is stopped. Want of memory changes nothing.
     pub fn skip_to(&mut self, id: u64, now: i64) -> Result<Skip, AllocError>
         ensures skipped { IfOk result (SkipsTo id now (held_of T.moment self.old) (held_of T.moment self.new)) }
+        ensures refused { OnErr result (IsSomeAnd ((held_of T.moment self.old).jobs id) (IsToMove now)) }
         ensures same { OnErr result (IsSame (held_of T.moment self.old) (held_of T.moment self.new)) }
     {
         let Some(waiting) = self.jobs.get(&id) else {
             return Ok(Skip::NoJob);
         };
         if now <= waiting.position.second() {
-            return Ok(Skip::Behind);
+            return Ok(Skip::AlreadyThere);
         }
         match waiting.position.at_second(now) {
             Some(position) => {
-                self.stand_at(id, position)?;
+                if waiting.runs_after(now) {
+                    self.pass_to(id, position);
+                } else {
+                    self.stand_at(id, position)?;
+                }
                 Ok(Skip::Moved)
             }
             None => Ok(Skip::NotHeld),
@@ -214,6 +227,7 @@ impl<J: Recurring, T: Clocked> Scheduler<J, T> {
     /// ([`Waiting::stop`]). Want of memory changes nothing.
     pub fn ask_again(&mut self, id: u64) -> Result<bool, AllocError>
         ensures asked { IfOk result (AsksAgain id (held_of T.moment self.old) (held_of T.moment self.new)) }
+        ensures refused { OnErr result (IsSomeAnd ((held_of T.moment self.old).jobs id) (λ s. IsSome s.stop)) }
         ensures same { OnErr result (IsSame (held_of T.moment self.old) (held_of T.moment self.new)) }
     {
         let Some(waiting) = self.jobs.get(&id) else {
@@ -255,7 +269,7 @@ impl<J: Recurring, T: Clocked> Scheduler<J, T> {
     fn nearest(&self) -> Option<Due>
         ensures nearest { IsNearest J.runs (held_of T.moment self.now) result }
         ensures turn { IfSome result (λ due. has_turn self.now.turns due.second due.id ≡ true) }
-        ensures awaited { AwaitsFirst T.moment (waiting_in self.now) result }
+        ensures awaited { AwaitsFirst (held_of T.moment self.now) result }
     {
         first_turn(&self.turns)
     }
@@ -264,10 +278,11 @@ impl<J: Recurring, T: Clocked> Scheduler<J, T> {
     fn give_by(&mut self, due: Due, now: i64) -> Result<Option<Due>, AllocError>
         requires nearest { IsNearest J.runs (held_of T.moment self.old) (Some due) }
         requires turn { has_turn self.old.turns due.second due.id ≡ true }
-        requires awaited { AwaitsFirst T.moment (waiting_in self.old) (Some due) }
+        requires awaited { AwaitsFirst (held_of T.moment self.old) (Some due) }
         ensures taken { IfOk result (TakesDue J.runs now (held_of T.moment self.old) (held_of T.moment self.new)) }
-        ensures awaited { IfOk result (TakesAwaited T.moment (waiting_in self.old) now) }
+        ensures awaited { IfOk result (TakesAwaited (held_of T.moment self.old) now) }
         ensures refused { OnErr result (IsSame (held_of T.moment self.old) (held_of T.moment self.new)) }
+        ensures due { OnErr result (IsSomeDue (held_of T.moment self.old) now) }
     {
         if due.second > now {
             return Ok(None);
@@ -282,7 +297,7 @@ impl<J: Recurring, T: Clocked> Scheduler<J, T> {
         ensures given { OnOk result (IsMoved (held_of T.moment self.old) due.id due.second (held_of T.moment self.new)) }
         ensures refused { OnErr result (IsSame (held_of T.moment self.old) (held_of T.moment self.new)) }
     {
-        let next = next_behind(&self.jobs, due.id)?;
+        let next = next_but_one(&self.jobs, due.id)?;
         await_next(&mut self.turns, &next, due.id)?;
         leave_turn(&mut self.turns, due.second, due.id);
         step(&mut self.jobs, due.id, next);
@@ -302,6 +317,17 @@ impl<J: Recurring, T: Clocked> Scheduler<J, T> {
         };
         change_turn(&mut self.turns, &waiting.next, &other.next, id)?;
         Ok(exchange(&mut self.jobs, id, other))
+    }
+
+    // Puts a job at another position before its next run.
+    fn pass_to(&mut self, id: u64, position: T)
+        requires whole { (T.moment position).fraction ≡ 0 }
+        requires can { IfSome (get nat_cmp self.old.jobs id) (CanStand T.moment position) }
+        ensures moved { IsMoved (held_of T.moment self.old) id (T.moment position).instant (held_of T.moment self.new) }
+        ensures kept { IfSome ((held_of T.moment self.old).jobs id) (λ s.
+            IsSomeAnd ((held_of T.moment self.new).jobs id) (λ s'. s'.next ≡ s.next)) }
+    {
+        stand(&mut self.jobs, id, position);
     }
 
     // Puts a job at another position.

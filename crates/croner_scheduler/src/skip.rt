@@ -6,7 +6,7 @@ pub enum Skip {
     /// The job stands there from now on.
     Moved,
     /// It stands there already, or later.
-    Behind,
+    AlreadyThere,
     /// No job has the id.
     NoJob,
     /// The job's zone doesn't hold that second.

@@ -1,20 +1,19 @@
 //! A job with its position, and what comes next of it.
 ghost use Rattle.std.specs.Prelude.{◌≡◌, is_some, option_map, IfOk};
 ghost use Rattle.croner_scheduler.specs.Kept.{standing_of, stop_of, run_of, FitsNext, Fits};
-ghost use Rattle.croner_scheduler.specs.Private.Steps.{next_of_run, next_of_refusal, FitsAfter, advanced, settled, renewed};
+ghost use Rattle.croner_scheduler.specs.Private.Steps.{next_of_run, next_of_refusal, FitsAfter, job_after_run, job_at_position, job_standing_at, is_next_after, job_with_next};
 
 use croner::errors::CronError;
 use croner::{Clocked, Recurring};
 use std::alloc::AllocError;
 use std::mem;
 
-/// Why a job is stopped. It can be only where its position isn't a whole second in a calm zone around which the backend holds what
-/// a search needs.
+/// Why a job is stopped. It can be only where its position doesn't lie in a calm zone around which the backend holds what a search needs.
 #[derive(Debug, Drop)]
 pub enum Stop {
-    /// The search after its position was refused by its backend.
+    /// The search after its position was refused by its backend, with `InvalidDate` or `InvalidTime`.
     Refused(CronError),
-    /// The run that the search found isn't later than the position.
+    /// The run that the search found isn't later than the position. That doesn't come in a calm zone.
     NotLater,
 }
 
@@ -45,7 +44,8 @@ impl<J, T> Waiting<J, T> {
         &self.job
     }
 
-    /// The moment up to which its runs are done with, a whole second of its zone: where it was added, or the last run that was given.
+    /// The moment up to which its runs are done with, a whole second of its zone: the one with which it was added or put in another's
+    /// place, and from then on the last run that was given, or the second to which it skipped.
     pub fn position(&self) -> &T
         ensures { result.now ≡ self.now.position }
     {
@@ -76,7 +76,7 @@ impl<J, T> Waiting<J, T> {
     pub(crate) fn advance(&mut self, next: Next<T>)
     where
         T: Drop,
-        ensures { self.new ≡ advanced next self.old }
+        ensures { self.new ≡ job_after_run next self.old }
     {
         if let Next::Run(run) = mem::replace(&mut self.next, next) {
             self.position = run;
@@ -87,17 +87,26 @@ impl<J, T> Waiting<J, T> {
     pub(crate) fn settle(&mut self, position: T, next: Next<T>)
     where
         T: Drop,
-        ensures { self.new ≡ settled position next self.old }
+        ensures { self.new ≡ job_at_position position next self.old }
     {
         self.position = position;
         self.next = next;
+    }
+
+    // Stands at another position, with the same run next.
+    pub(crate) fn stand(&mut self, position: T)
+    where
+        T: Drop,
+        ensures { self.new ≡ job_standing_at position self.old }
+    {
+        self.position = position;
     }
 
     // Has another run next.
     pub(crate) fn renew(&mut self, next: Next<T>)
     where
         T: Drop,
-        ensures { self.new ≡ renewed next self.old }
+        ensures { self.new ≡ job_with_next next self.old }
     {
         self.next = next;
     }
@@ -143,8 +152,18 @@ impl<J: Recurring, T: Clocked> Waiting<J, T> {
         })
     }
 
-    // What comes next behind its next run.
-    pub(crate) fn next_behind(&self) -> Result<Next<T>, AllocError>
+    // Whether its next run is later than a second.
+    pub(crate) fn runs_after(&self, second: i64) -> bool
+        ensures { result ≡ is_next_after T.moment second self.now.next }
+    {
+        match &self.next {
+            Next::Run(run) => second < run.second(),
+            Next::Over | Next::Stopped(_) => false,
+        }
+    }
+
+    // What comes next after its next run.
+    pub(crate) fn next_but_one(&self) -> Result<Next<T>, AllocError>
         ensures { IfOk result (FitsAfter (J.runs self.now.job) T.moment self.now.next) }
     {
         match &self.next {

@@ -1,5 +1,5 @@
 -- How what is kept of a job comes of its search, and changes when its next run is given. Private contracts alone cite these definitions.
-use Rattle.std.specs.Prelude.{◌≡◌, ℕ, ℤ, int_lt, Bool, false, cond, if◌then◌else◌, Option, None, Some, option_map, Result, Ok, Err, alloc_error, ⊤}
+use Rattle.std.specs.Prelude.{◌≡◌, ℕ, ℤ, ◌<ℤ◌, int_lt, Bool, true, false, cond, if◌then◌else◌, Option, None, Some, option_map, Result, Ok, Err, alloc_error, ⊤}
 use Rattle.std.specs.BTreeMap.{is_at}
 use Rattle.std.specs.Ordering.{nat_cmp, int_eq}
 use Rattle.std.specs.declared.alloc.AllocError.{AllocError}
@@ -22,7 +22,7 @@ next_of_refusal TimeSearchLimitExceeded = Ok Over
 next_of_refusal OutOfMemory = Err alloc_error
 next_of_refusal other = Ok (Stopped (Refused other))
 
--- what comes next behind the next run
+-- what comes next after the next run
 abbrev pub FitsAfter : {T : Type 0} → (Zone → ℤ → Type 0) → (T → Moment) → Next T → Next T → Type 0
 FitsAfter runs moment (Run t) next = FitsNext runs moment (moment t) next
 FitsAfter runs moment other next = ⊤
@@ -32,12 +32,12 @@ abbrev pub position_after : {T : Type 0} → T → Next T → T
 position_after position (Run t) = t
 position_after position other = position
 
-abbrev pub advanced : {J T : Type 0} → Next T → Waiting J T → Waiting J T
-advanced next w = record { job = w.job; position = position_after w.position w.next; next = next }
+abbrev pub job_after_run : {J T : Type 0} → Next T → Waiting J T → Waiting J T
+job_after_run next w = record { job = w.job; position = position_after w.position w.next; next = next }
 
--- the job of one id steps, and the others stay
-abbrev pub advanced_at : {J T : Type 0} → ℕ → Next T → ℕ → Option (Waiting J T) → Option (Waiting J T)
-advanced_at id next other o = cond (is_at (nat_cmp id) other) (option_map (advanced next) o) o
+-- of the jobs, where the one of an id has stepped to its next run and the others stay
+abbrev pub jobs_after_run : {J T : Type 0} → ℕ → Next T → ℕ → Option (Waiting J T) → Option (Waiting J T)
+jobs_after_run id next other o = cond (is_at (nat_cmp id) other) (option_map (job_after_run next) o) o
 
 -- the next run is at that second
 abbrev pub is_next_at : {T : Type 0} → (T → Moment) → ℤ → Next T → Bool
@@ -48,20 +48,40 @@ abbrev pub is_awaited_at : {J T : Type 0} → (T → Moment) → ℤ → Option 
 is_awaited_at moment second (Some w) = is_next_at moment second w.next
 is_awaited_at moment second None = false
 
--- a job that was put at another position, with what comes next from there
-abbrev pub settled : {J T : Type 0} → T → Next T → Waiting J T → Waiting J T
-settled position next w = record { job = w.job; position = position; next = next }
+-- a job at another position, with what comes next from there
+abbrev pub job_at_position : {J T : Type 0} → T → Next T → Waiting J T → Waiting J T
+job_at_position position next w = record { job = w.job; position = position; next = next }
 
--- the job of one id is, and the others stay
-abbrev pub settled_at : {J T : Type 0} → ℕ → T → Next T → ℕ → Option (Waiting J T) → Option (Waiting J T)
-settled_at id position next other o = cond (is_at (nat_cmp id) other) (option_map (settled position next) o) o
+-- of the jobs, where the one of an id stands at another position and the others stay
+abbrev pub jobs_at_position : {J T : Type 0} → ℕ → T → Next T → ℕ → Option (Waiting J T) → Option (Waiting J T)
+jobs_at_position id position next other o = cond (is_at (nat_cmp id) other) (option_map (job_at_position position next) o) o
 
--- the job of one id that was searched again, with what comes next of it
-abbrev pub renewed : {J T : Type 0} → Next T → Waiting J T → Waiting J T
-renewed next w = record { job = w.job; position = w.position; next = next }
+-- a job at another position, with the same next
+abbrev pub job_standing_at : {J T : Type 0} → T → Waiting J T → Waiting J T
+job_standing_at position w = record { job = w.job; position = position; next = w.next }
 
-abbrev pub renewed_at : {J T : Type 0} → ℕ → Next T → ℕ → Option (Waiting J T) → Option (Waiting J T)
-renewed_at id next other o = cond (is_at (nat_cmp id) other) (option_map (renewed next) o) o
+-- of the jobs, where the one of an id does and the others stay
+abbrev pub jobs_standing_at : {J T : Type 0} → ℕ → T → ℕ → Option (Waiting J T) → Option (Waiting J T)
+jobs_standing_at id position other o = cond (is_at (nat_cmp id) other) (option_map (job_standing_at position) o) o
+
+-- the next run is later than that second
+abbrev pub is_next_after : {T : Type 0} → (T → Moment) → ℤ → Next T → Bool
+is_next_after moment second (Run t) = int_lt second (moment t).instant
+is_next_after moment second other = false
+
+-- the job can stand at that position with its next run: it is later, and the position lies in the zone of the job, no earlier than it stood
+pub record CanStand {J T : Type 0} (moment : T → Moment) (position : T) (w : Waiting J T) : Type 0 where
+  pub zone : (moment position).zone ≡ (moment w.position).zone
+  pub on : (moment w.position).instant <ℤ (moment position).instant
+  pub later : is_next_after moment (moment position).instant w.next ≡ true
+
+-- a job with something else next, where it stands
+abbrev pub job_with_next : {J T : Type 0} → Next T → Waiting J T → Waiting J T
+job_with_next next w = record { job = w.job; position = w.position; next = next }
+
+-- of the jobs, where the one of an id has something else next and the others stay
+abbrev pub jobs_with_next : {J T : Type 0} → ℕ → Next T → ℕ → Option (Waiting J T) → Option (Waiting J T)
+jobs_with_next id next other o = cond (is_at (nat_cmp id) other) (option_map (job_with_next next) o) o
 
 -- the job of one id has another in its place, and the others stay
 abbrev pub put_at : {J T : Type 0} → ℕ → Waiting J T → ℕ → Option (Waiting J T) → Option (Waiting J T)

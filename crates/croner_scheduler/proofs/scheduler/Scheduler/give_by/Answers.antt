@@ -1,7 +1,7 @@
-use Rattle.std.proofs.Common.{refl, arith, ◌<ℤ◌}
+use Rattle.std.proofs.Common.{refl, arith, ◌<ℤ◌, ◌≤ℤ◌, Result, Ok, Err, OnErr}
 use Rattle.std.proofs.lemmas.Int.{ints}
-use Rattle.croner_scheduler.specs.Views.{held_of, waiting_in}
-use Rattle.croner_scheduler.proofs.Nearest.{none_due, awaits_later}
+use Rattle.croner_scheduler.specs.Views.{held_of}
+use Rattle.croner_scheduler.proofs.Nearest.{none_due, awaits_later, awaits_due}
 use Rattle.croner_scheduler.proofs.scheduler.Scheduler.give_by.Goals as goal
 
 pub returns-then-due-now-clause-taken : goal.returns-then-due-now-clause-taken
@@ -14,4 +14,13 @@ returns-then-due-now-clause-taken g c =
 pub returns-then-due-now-clause-awaited : goal.returns-then-due-now-clause-awaited
 returns-then-due-now-clause-awaited g c =
     let later : c.args.now <ℤ c.args.due.second = omega (arith, ints, c.if-due-now.true) in
-    awaits_later g.T.CronDateTime.moment (waiting_in c.args.self.now) c.args.now c.args.due c.requires.awaited later
+    awaits_later (held_of g.T.CronDateTime.moment c.args.self.now) c.args.now c.args.due c.requires.awaited later
+
+on_err : {A E : Type 0} (P : Type 0) (r : Result A E) → P → OnErr r P
+on_err P (Ok a) h = tt
+on_err P (Err e) h = h
+
+pub returns-in_err-give-clause-due : goal.returns-in_err-give-clause-due
+returns-in_err-give-clause-due g c =
+    let le : c.args.due.second ≤ℤ c.args.now = omega (arith, ints, c.if-due-now.false) in
+    on_err _ c.from_residual.result (awaits_due (held_of g.T.CronDateTime.moment c.args.self.now) c.args.now c.args.due c.requires.awaited le)

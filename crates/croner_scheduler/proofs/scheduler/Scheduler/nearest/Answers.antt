@@ -15,4 +15,4 @@ returns-clause-nearest g c =
 pub returns-clause-awaited : goal.returns-clause-awaited
 returns-clause-awaited g c =
     let self = c.args.self.now in
-    awaits_first g.T.CronDateTime.moment (λ id. get nat_cmp self.jobs id) (has_turn self.turns) self.listed c.first_turn.result c.first_turn.ensures
+    awaits_first g.T.CronDateTime.moment (held_of g.T.CronDateTime.moment self) (λ id. get nat_cmp self.jobs id) (λ id. refl) (has_turn self.turns) self.listed c.first_turn.result c.first_turn.ensures

@@ -1,7 +1,7 @@
 use Rattle.std.proofs.Common.{rules, ℤ, sym, subst, w64, SFits, Some}
 use Rattle.std.proofs.lemmas.Int.{to_z-of_z}
 use Rattle.croner_scheduler.specs.Awaited.{AwaitsFirst}
-use Rattle.croner_scheduler.specs.Views.{waiting_in}
+use Rattle.croner_scheduler.specs.Views.{held_of}
 use Rattle.croner_scheduler.proofs.scheduler.Scheduler.next_wake_up.Goals as goal
 
 pub returns-in-Some-clause-awaited : goal.returns-in-Some-clause-awaited
@@ -9,6 +9,6 @@ returns-in-Some-clause-awaited g c =
     let due = c.in-Some.due in
     let fits : SFits w64 due.second = search rules in (
       due.id,
-      subst (λ (z : ℤ). AwaitsFirst g.T.CronDateTime.moment (waiting_in c.args.self.now) (Some (record { id = due.id; second = z })))
+      subst (λ (z : ℤ). AwaitsFirst (held_of g.T.CronDateTime.moment c.args.self.now) (Some (record { id = due.id; second = z })))
           (sym (to_z-of_z w64 due.second fits)) c.in-Some.ensures.awaited,
     )

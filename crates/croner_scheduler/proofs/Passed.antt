@@ -1,0 +1,116 @@
+-- What a scheduler holds stays in order when a job is put at another position before its next run.
+use Rattle.std.proofs.Common.{rules, ◌≡◌, refl, sym, ap, ◌∙◌, subst, arith, ℕ, ◌≤◌, ℤ, ◌<ℤ◌, Bool, true, false, cond, Option, None, Some, IfSome, is_some, option_map}
+use Rattle.std.proofs.Math.Logic.{∥∥₁_map}
+use Rattle.std.proofs.lemmas.Bool.{false≢true}
+use Rattle.std.proofs.lemmas.Int.{ints}
+use Rattle.std.specs.BTreeMap.{is_at}
+use Rattle.std.specs.Option.{IsSomeAnd}
+use Rattle.std.specs.Ordering.{nat_cmp}
+use Rattle.croner_base.specs.Calm.{IsCalm}
+use Rattle.croner_base.specs.Zone.{Zone, Moment}
+use Rattle.croner_scheduler.proofs.Changes.{each, own_id, other_id}
+use Rattle.croner_scheduler.specs.declared.waiting.Next.{Next}
+use Rattle.croner_scheduler.specs.declared.waiting.Next.TheVariants.{Run, Over, Stopped}
+use Rattle.croner_scheduler.specs.declared.waiting.Waiting.{Waiting}
+use Rattle.croner_scheduler.specs.Calls.{StandsAt, IsMoved}
+use Rattle.croner_scheduler.specs.Kept.{standing_of, stop_of, StopsAt, FitsNext, Fits}
+use Rattle.croner_scheduler.specs.Standing.{Held}
+use Rattle.croner_scheduler.specs.Private.Steps.{job_standing_at, jobs_standing_at, is_next_after, CanStand, is_awaited_at}
+
+module _ {T : Type 0} (rs : Zone → ℤ → Type 0) (moment : T → Moment) where
+  -- what comes next from a moment comes next from a later one before it
+  next_from : (m m' : Moment) → m'.zone ≡ m.zone → m.fraction ≡ 0 → m.instant <ℤ m'.instant → (n : Next T) → is_next_after moment m'.instant n ≡ true
+      → FitsNext rs moment m n → FitsNext rs moment m' n
+  next_from m m' zone whole on (Run t) later fits = (
+    record {
+      nearest = λ calm. let is = fits.0.nearest (record { calm = subst (λ z. IsCalm z) zone calm.calm; whole = whole }) in record {
+        counts = (search (rules, later), subst (λ z. rs z (moment t).instant) (sym zone) is.counts.1);
+        nearest = λ j counted. is.nearest j (omega (arith, ints, on, counted.0), subst (λ z. rs z j) zone counted.1);
+      };
+      zone = fits.0.zone ∙ sym zone;
+      whole = fits.0.whole;
+    },
+    search (rules, later),
+  )
+  next_from m m' zone whole on Over later fits = absurd (false≢true later)
+  next_from m m' zone whole on (Stopped stop) later fits = absurd (false≢true later)
+
+  goes_on : (m : Moment) (i : ℤ) (n : Next T) → is_next_after moment i n ≡ true → IfSome (stop_of n) (StopsAt m)
+  goes_on m i (Run t) later = tt
+  goes_on m i Over later = tt
+  goes_on m i (Stopped stop) later = absurd (false≢true later)
+
+module _ {J T : Type 0} (runs : J → Zone → ℤ → Type 0) (moment : T → Moment) (id : ℕ) (position : T) (jobs jobs' : ℕ → Option (Waiting J T))
+    (fits : (k : ℕ) → ∥ IfSome (jobs k) (Fits runs moment) ∥₁) (whole : (moment position).fraction ≡ 0)
+    (can : IfSome (jobs id) (CanStand moment position)) (stands : (k : ℕ) → jobs' k ≡ jobs_standing_at id position k (jobs k)) where
+  passed_apart : (k : ℕ) → is_at (nat_cmp id) k ≡ false → jobs' k ≡ jobs k
+  passed_apart k e = stands k ∙ ap (λ b. cond b (option_map (job_standing_at position) (jobs k)) (jobs k)) e
+
+  passed_own : jobs' id ≡ option_map (job_standing_at position) (jobs id)
+  passed_own = stands id ∙ ap (λ b. cond b (option_map (job_standing_at position) (jobs id)) (jobs id)) (own_id id)
+
+  pub passed_listed : (has : ℤ → ℕ → Bool) → ((s : ℤ) (k : ℕ) → has s k ≡ is_awaited_at moment s (jobs k)) → (s : ℤ) (k : ℕ) → has s k ≡ is_awaited_at moment s (jobs' k)
+  passed_listed has listed s = each id (λ k. has s k ≡ is_awaited_at moment s (jobs' k))
+      (listed s id ∙ still (jobs id) ∙ sym (ap (is_awaited_at moment s) passed_own))
+      (λ k e. listed s k ∙ sym (ap (is_awaited_at moment s) (passed_apart k e)))
+    where
+      still : (o : Option (Waiting J T)) → is_awaited_at moment s o ≡ is_awaited_at moment s (option_map (job_standing_at position) o)
+      still None = refl
+      still (Some w) = refl
+
+  pub passed_unused : (next_id : ℕ) → ((k : ℕ) → next_id ≤ k → is_some (jobs k) ≡ false) → (k : ℕ) → next_id ≤ k → is_some (jobs' k) ≡ false
+  passed_unused next_id unused = each id (λ k. next_id ≤ k → is_some (jobs' k) ≡ false)
+      (λ le. ap is_some passed_own ∙ still (jobs id) ∙ unused id le) (λ k e le. ap is_some (passed_apart k e) ∙ unused k le)
+    where
+      still : (o : Option (Waiting J T)) → is_some (option_map (job_standing_at position) o) ≡ is_some o
+      still None = refl
+      still (Some w) = refl
+
+  pub passed_fits : (k : ℕ) → ∥ IfSome (jobs' k) (Fits runs moment) ∥₁
+  passed_fits = each id (λ k. ∥ IfSome (jobs' k) (Fits runs moment) ∥₁)
+      (subst (λ o. ∥ IfSome o (Fits runs moment) ∥₁) (sym passed_own) (∥∥₁_map (fits id) (own (jobs id) can)))
+      (λ k e. subst (λ o. ∥ IfSome o (Fits runs moment) ∥₁) (sym (passed_apart k e)) (fits k))
+    where
+      own : (o : Option (Waiting J T)) → IfSome o (CanStand moment position) → IfSome o (Fits runs moment)
+          → IfSome (option_map (job_standing_at position) o) (Fits runs moment)
+      own None can fits = tt
+      own (Some w) can fits = record {
+        whole = whole;
+        next = next_from (runs w.job) moment (moment w.position) (moment position) can.zone fits.whole can.on w.next can.later fits.next;
+      }
+
+  module _ (h h' : Held J) (is : (k : ℕ) → h.jobs k ≡ option_map (standing_of moment) (jobs k))
+      (is' : (k : ℕ) → h'.jobs k ≡ option_map (standing_of moment) (jobs' k)) where
+    pub passed_moved : h'.count ≡ h.count → h'.next_id ≡ h.next_id → IsMoved h id (moment position).instant h'
+    passed_moved count next_id = record {
+      moved =
+          subst (λ o. IfSome o (λ s. IsSomeAnd (h'.jobs id) (StandsAt s.job s.position.zone (moment position).instant))) (sym (is id))
+          (subst (λ o. IfSome (option_map (standing_of moment) (jobs id)) (λ s. IsSomeAnd o (StandsAt s.job s.position.zone (moment position).instant)))
+          (sym (is' id ∙ ap (option_map (standing_of moment)) passed_own)) (own (jobs id) can));
+      others = λ k apart. is' k ∙ ap (option_map (standing_of moment)) (passed_apart k (other_id id k apart)) ∙ sym (is k);
+      count = count;
+      next_id = next_id;
+    }
+      where
+        own : (o : Option (Waiting J T)) → IfSome o (CanStand moment position)
+            → IfSome (option_map (standing_of moment) o)
+            (λ s. IsSomeAnd (option_map (standing_of moment) (option_map (job_standing_at position) o)) (StandsAt s.job s.position.zone (moment position).instant))
+        own None can = tt
+        own (Some w) can = record {
+          job_is = refl;
+          zone_is = can.zone;
+          instant = refl;
+          whole = whole;
+          stop = goes_on (runs w.job) moment (moment position) (moment position).instant w.next can.later;
+        }
+
+    pub passed_kept : IfSome (h.jobs id) (λ s. IsSomeAnd (h'.jobs id) (λ s'. s'.next ≡ s.next))
+    passed_kept =
+        subst (λ o. IfSome o (λ s. IsSomeAnd (h'.jobs id) (λ s'. s'.next ≡ s.next))) (sym (is id))
+        (subst (λ o. IfSome (option_map (standing_of moment) (jobs id)) (λ s. IsSomeAnd o (λ s'. s'.next ≡ s.next)))
+        (sym (is' id ∙ ap (option_map (standing_of moment)) passed_own)) (own (jobs id)))
+      where
+        own : (o : Option (Waiting J T)) → IfSome (option_map (standing_of moment) o)
+            (λ s. IsSomeAnd (option_map (standing_of moment) (option_map (job_standing_at position) o)) (λ s'. s'.next ≡ s.next))
+        own None = tt
+        own (Some w) = refl
