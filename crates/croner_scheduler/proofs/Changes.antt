@@ -19,10 +19,10 @@ use Rattle.croner_scheduler.specs.declared.waiting.Next.{Next}
 use Rattle.croner_scheduler.specs.declared.waiting.Next.TheVariants.{Run, Over, Stopped}
 use Rattle.croner_scheduler.specs.declared.waiting.Waiting.{Waiting}
 use Rattle.croner_scheduler.specs.Standing.{Held}
-use Rattle.croner_scheduler.specs.Calls.{StandsAt, IsMoved, IsAdded, IsRemoved}
+use Rattle.croner_scheduler.specs.Calls.{StandsAt, MovesTo, IsAdded, IsRemoved}
 use Rattle.croner_scheduler.specs.Private.Turns.{is_turn, is_next_turn}
 use Rattle.croner_scheduler.specs.Kept.{standing_of, stop_of, StopsAt, FitsNext, Fits}
-use Rattle.croner_scheduler.specs.Private.Steps.{FitsAfter, job_after_run, jobs_after_run, position_after, is_next_at, is_awaited_at}
+use Rattle.croner_scheduler.specs.Private.Steps.{FitsAfter, jobs_with, job_after_run, position_after, is_next_at, is_awaited_at}
 
 -- ---- ids
 
@@ -119,7 +119,7 @@ module _ {J T : Type 0} (runs : J → Zone → ℤ → Type 0) (moment : T → M
   -- a job steps
   module _ (next : Next T) (second : ℤ) (at : has second id ≡ true)
       (behind : IfSome (jobs id) (λ w. FitsAfter (runs w.job) moment w.next next))
-      (stepped : (k : ℕ) → jobs' k ≡ jobs_after_run id next k (jobs k)) where
+      (stepped : (k : ℕ) → jobs' k ≡ jobs_with id (job_after_run next) k (jobs k)) where
     stepped_apart : (k : ℕ) → is_at (nat_cmp id) k ≡ false → jobs' k ≡ jobs k
     stepped_apart k e = stepped k ∙ ap (λ b. cond b (option_map (job_after_run next) (jobs k)) (jobs k)) e
 
@@ -183,16 +183,18 @@ module _ {J T : Type 0} (runs : J → Zone → ℤ → Type 0) (moment : T → M
         }
 
     pub stepped_moved : (h h' : Held J) → ((k : ℕ) → h.jobs k ≡ option_map (standing_of moment) (jobs k)) → ((k : ℕ) → h'.jobs k ≡ option_map (standing_of moment) (jobs' k))
-        → h'.count ≡ h.count → h'.next_id ≡ h.next_id → IsMoved h id second h'
+        → h'.count ≡ h.count → h'.next_id ≡ h.next_id → MovesTo h id second h'
     stepped_moved h h' is is' count next_id = record {
       moved =
           subst (λ o. IfSome o (λ s. IsSomeAnd (h'.jobs id) (StandsAt s.job s.position.zone second))) (sym (is id))
           (subst (λ o. IfSome (option_map (standing_of moment) (jobs id)) (λ s. IsSomeAnd o (StandsAt s.job s.position.zone second)))
           (sym (is' id ∙ ap (option_map (standing_of moment)) stepped_own))
           (own (jobs id) (sym (listed second id) ∙ at) behind (fits id)));
-      others = λ k apart. is' k ∙ ap (option_map (standing_of moment)) (stepped_apart k (other_id id k apart)) ∙ sym (is k);
-      count = count;
-      next_id = next_id;
+      rest = record {
+        others = λ k apart. is' k ∙ ap (option_map (standing_of moment)) (stepped_apart k (other_id id k apart)) ∙ sym (is k);
+        count = count;
+        next_id = next_id;
+      };
     }
       where
         instant : (position : T) (n : Next T) → is_next_at moment second n ≡ true → (moment (position_after position n)).instant ≡ second

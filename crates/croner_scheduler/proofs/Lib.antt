@@ -1,6 +1,11 @@
 pub mod TurnOrder
 pub mod NextRuns
+pub mod LastRuns
 pub mod Nearest
 pub mod Changes
 pub mod Puts
 pub mod Passed
+pub mod History
+pub mod Lives
+pub mod ExamplesHistory
+pub mod ExamplesLatest

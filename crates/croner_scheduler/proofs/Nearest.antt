@@ -52,7 +52,7 @@ module _ {T : Type 0} (runs : Zone → ℤ → Type 0) (moment : T → Moment) (
   next_before (Stopped stop) fits goes j after run span = absurd (cc)
 
 module _ {J T : Type 0} (runs : J → Zone → ℤ → Type 0) (moment : T → Moment) where
-  seen_before : (w : Waiting J T) → Fits runs moment w → stop_of w.next ≡ None → IsCalm (moment w.position).zone
+  pub seen_before : (w : Waiting J T) → Fits runs moment w → stop_of w.next ≡ None → IsCalm (moment w.position).zone
       → (j : ℤ) → Seen runs (standing_of moment w) j → (i : ℤ) × (is_next_at moment i w.next ≡ true) × (i ≤ℤ j)
   seen_before w fits goes calm j seen =
       next_before (runs w.job) moment (moment w.position) fits.whole calm w.next fits.next goes j seen.0.0 seen.0.1 seen.1

@@ -2,6 +2,7 @@
 use Rattle.std.proofs.Common.{rules, ◌≡◌, refl, ◌⊎◌, inl, inr, ℤ, ◌<ℤ◌, int_lt, Bool, true, false, IfOk}
 use Rattle.croner_base.specs.declared.errors.CronError.{CronError}
 use Rattle.croner_base.specs.declared.errors.CronError.TheVariants.{EmptyPattern, InvalidDate, InvalidTime, TimeSearchLimitExceeded, InvalidPattern, IllegalCharacters, ComponentError, OutOfMemory}
+use Rattle.croner_base.specs.declared.time.Direction.{Direction}
 use Rattle.croner_base.specs.declared.time.Direction.TheVariants.{Forward}
 use Rattle.croner_base.specs.Zone.{Zone, Moment}
 use Rattle.croner.specs.Recurring.{IsRunFound, IsRunRefused}
@@ -9,6 +10,19 @@ use Rattle.croner.specs.search.Refusal.{IsRefusal, IsLimitOrMemory}
 use Rattle.croner_scheduler.specs.Kept.{StopsAt, FitsNext}
 use Rattle.croner_scheduler.specs.declared.waiting.Stop.TheVariants.{Refused}
 use Rattle.croner_scheduler.specs.Private.Steps.{next_of_run, next_of_refusal}
+
+-- a refusal that is neither the limit nor want of memory stops a job
+pub stops_by : (direction : Direction) (runs : Zone → ℤ → Type 0) (m : Moment) (lack : Bool) (e : CronError) → IsRunRefused lack direction runs m e
+    → ¬ (e ≡ TimeSearchLimitExceeded) → ¬ (e ≡ OutOfMemory) → StopsAt m (Refused e)
+stops_by direction runs m lack e is limit memory = (λ h. apart (is.promised h), kind is.kind)
+  where
+    apart : ¬ (IsLimitOrMemory lack e)
+    apart (inl same) = limit same
+    apart (inr same) = memory same.0
+
+    kind : IsRefusal lack e → (e ≡ InvalidDate) ⊎ (e ≡ InvalidTime)
+    kind (inl same) = absurd (apart same)
+    kind (inr same) = same
 
 module _ {T : Type 0} (runs : Zone → ℤ → Type 0) (moment : T → Moment) (position : T) where
   found_by : (found : T) (b : Bool) → int_lt (moment position).instant (moment found).instant ≡ b
@@ -24,25 +38,13 @@ module _ {T : Type 0} (runs : Zone → ℤ → Type 0) (moment : T → Moment) (
       → FitsNext runs moment (moment position) (next_of_run moment position found)
   fits_found found = found_by found (int_lt (moment position).instant (moment found).instant) refl
 
-  other : (lack : Bool) (e : CronError) → IsRunRefused lack Forward runs (moment position) e
-      → ¬ (e ≡ TimeSearchLimitExceeded) → ¬ (e ≡ OutOfMemory) → StopsAt (moment position) (Refused e)
-  other lack e is limit memory = (λ h. apart (is.promised h), kind is.kind)
-    where
-      apart : ¬ (IsLimitOrMemory lack e)
-      apart (inl same) = limit same
-      apart (inr same) = memory same.0
-
-      kind : IsRefusal lack e → (e ≡ InvalidDate) ⊎ (e ≡ InvalidTime)
-      kind (inl same) = absurd (apart same)
-      kind (inr same) = same
-
   pub fits_refused : (lack : Bool) (e : CronError) → IsRunRefused lack Forward runs (moment position) e
       → IfOk (next_of_refusal {T = T} e) (FitsNext runs moment (moment position))
-  fits_refused lack EmptyPattern is = other lack _ is (λ e. cc) (λ e. cc)
-  fits_refused lack InvalidDate is = other lack _ is (λ e. cc) (λ e. cc)
-  fits_refused lack InvalidTime is = other lack _ is (λ e. cc) (λ e. cc)
+  fits_refused lack EmptyPattern is = stops_by Forward runs (moment position) lack _ is (λ e. cc) (λ e. cc)
+  fits_refused lack InvalidDate is = stops_by Forward runs (moment position) lack _ is (λ e. cc) (λ e. cc)
+  fits_refused lack InvalidTime is = stops_by Forward runs (moment position) lack _ is (λ e. cc) (λ e. cc)
   fits_refused lack TimeSearchLimitExceeded is = λ calm. is.limit calm refl
-  fits_refused lack (InvalidPattern m) is = other lack _ is (λ e. cc) (λ e. cc)
-  fits_refused lack (IllegalCharacters m) is = other lack _ is (λ e. cc) (λ e. cc)
-  fits_refused lack (ComponentError m) is = other lack _ is (λ e. cc) (λ e. cc)
+  fits_refused lack (InvalidPattern m) is = stops_by Forward runs (moment position) lack _ is (λ e. cc) (λ e. cc)
+  fits_refused lack (IllegalCharacters m) is = stops_by Forward runs (moment position) lack _ is (λ e. cc) (λ e. cc)
+  fits_refused lack (ComponentError m) is = stops_by Forward runs (moment position) lack _ is (λ e. cc) (λ e. cc)
   fits_refused lack OutOfMemory is = tt

@@ -12,10 +12,10 @@ use Rattle.croner_scheduler.proofs.Changes.{each, own_id, other_id}
 use Rattle.croner_scheduler.specs.declared.waiting.Next.{Next}
 use Rattle.croner_scheduler.specs.declared.waiting.Next.TheVariants.{Run, Over, Stopped}
 use Rattle.croner_scheduler.specs.declared.waiting.Waiting.{Waiting}
-use Rattle.croner_scheduler.specs.Calls.{StandsAt, IsMoved}
+use Rattle.croner_scheduler.specs.Calls.{StandsAt, MovesTo}
 use Rattle.croner_scheduler.specs.Kept.{standing_of, stop_of, StopsAt, FitsNext, Fits}
 use Rattle.croner_scheduler.specs.Standing.{Held}
-use Rattle.croner_scheduler.specs.Private.Steps.{job_standing_at, jobs_standing_at, is_next_after, CanStand, is_awaited_at}
+use Rattle.croner_scheduler.specs.Private.Steps.{jobs_with, job_standing_at, is_next_after, CanStand, is_awaited_at}
 
 module _ {T : Type 0} (rs : Zone → ℤ → Type 0) (moment : T → Moment) where
   -- what comes next from a moment comes next from a later one before it
@@ -42,7 +42,7 @@ module _ {T : Type 0} (rs : Zone → ℤ → Type 0) (moment : T → Moment) whe
 
 module _ {J T : Type 0} (runs : J → Zone → ℤ → Type 0) (moment : T → Moment) (id : ℕ) (position : T) (jobs jobs' : ℕ → Option (Waiting J T))
     (fits : (k : ℕ) → ∥ IfSome (jobs k) (Fits runs moment) ∥₁) (whole : (moment position).fraction ≡ 0)
-    (can : IfSome (jobs id) (CanStand moment position)) (stands : (k : ℕ) → jobs' k ≡ jobs_standing_at id position k (jobs k)) where
+    (can : IfSome (jobs id) (CanStand moment position)) (stands : (k : ℕ) → jobs' k ≡ jobs_with id (job_standing_at position) k (jobs k)) where
   passed_apart : (k : ℕ) → is_at (nat_cmp id) k ≡ false → jobs' k ≡ jobs k
   passed_apart k e = stands k ∙ ap (λ b. cond b (option_map (job_standing_at position) (jobs k)) (jobs k)) e
 
@@ -81,15 +81,17 @@ module _ {J T : Type 0} (runs : J → Zone → ℤ → Type 0) (moment : T → M
 
   module _ (h h' : Held J) (is : (k : ℕ) → h.jobs k ≡ option_map (standing_of moment) (jobs k))
       (is' : (k : ℕ) → h'.jobs k ≡ option_map (standing_of moment) (jobs' k)) where
-    pub passed_moved : h'.count ≡ h.count → h'.next_id ≡ h.next_id → IsMoved h id (moment position).instant h'
+    pub passed_moved : h'.count ≡ h.count → h'.next_id ≡ h.next_id → MovesTo h id (moment position).instant h'
     passed_moved count next_id = record {
       moved =
           subst (λ o. IfSome o (λ s. IsSomeAnd (h'.jobs id) (StandsAt s.job s.position.zone (moment position).instant))) (sym (is id))
           (subst (λ o. IfSome (option_map (standing_of moment) (jobs id)) (λ s. IsSomeAnd o (StandsAt s.job s.position.zone (moment position).instant)))
           (sym (is' id ∙ ap (option_map (standing_of moment)) passed_own)) (own (jobs id) can));
-      others = λ k apart. is' k ∙ ap (option_map (standing_of moment)) (passed_apart k (other_id id k apart)) ∙ sym (is k);
-      count = count;
-      next_id = next_id;
+      rest = record {
+        others = λ k apart. is' k ∙ ap (option_map (standing_of moment)) (passed_apart k (other_id id k apart)) ∙ sym (is k);
+        count = count;
+        next_id = next_id;
+      };
     }
       where
         own : (o : Option (Waiting J T)) → IfSome o (CanStand moment position)

@@ -17,10 +17,10 @@ use Rattle.croner_scheduler.proofs.Nearest.{same_second, is_itself}
 use Rattle.croner_scheduler.specs.declared.waiting.Next.{Next}
 use Rattle.croner_scheduler.specs.declared.waiting.Next.TheVariants.{Run, Over, Stopped}
 use Rattle.croner_scheduler.specs.declared.waiting.Waiting.{Waiting}
-use Rattle.croner_scheduler.specs.Calls.{StandsAt, IsMoved, IsPut}
+use Rattle.croner_scheduler.specs.Calls.{StandsAt, IsSameBut, MovesTo, IsPut}
 use Rattle.croner_scheduler.specs.Kept.{standing_of, Fits}
 use Rattle.croner_scheduler.specs.Standing.{Standing, Held}
-use Rattle.croner_scheduler.specs.Private.Steps.{put_at, is_next_at, is_awaited_at}
+use Rattle.croner_scheduler.specs.Private.Steps.{jobs_with, is_next_at, is_awaited_at}
 use Rattle.croner_scheduler.specs.Private.Turns.{is_turn, is_next_turn, is_same_turn}
 
 turn_second : (a : ℤ) (x : ℕ) (b : ℤ) (y : ℕ) → is_turn a x b y ≡ true → a ≡ b
@@ -79,7 +79,7 @@ module _ {J T : Type 0} (runs : J → Zone → ℤ → Type 0) (moment : T → M
     (listed : (second : ℤ) (k : ℕ) → has second k ≡ is_awaited_at moment second (jobs k))
     (fits : (k : ℕ) → ∥ IfSome (jobs k) (Fits runs moment) ∥₁)
     (w : Waiting J T) (there : jobs id ≡ Some w) (other : Waiting J T) (fit : Fits runs moment other)
-    (puts : (k : ℕ) → jobs' k ≡ put_at id other k (jobs k)) where
+    (puts : (k : ℕ) → jobs' k ≡ jobs_with id (λ _. other) k (jobs k)) where
   put_apart : (k : ℕ) → is_at (nat_cmp id) k ≡ false → jobs' k ≡ jobs k
   put_apart k e = puts k ∙ ap (λ b. cond b (option_map (λ _. other) (jobs k)) (jobs k)) e
 
@@ -114,6 +114,13 @@ module _ {J T : Type 0} (runs : J → Zone → ℤ → Type 0) (moment : T → M
 
   module _ (h h' : Held J) (is : (k : ℕ) → h.jobs k ≡ option_map (standing_of moment) (jobs k))
       (is' : (k : ℕ) → h'.jobs k ≡ option_map (standing_of moment) (jobs' k)) (count : h'.count ≡ h.count) (next_id : h'.next_id ≡ h.next_id) where
+    put_rest : IsSameBut id h h'
+    put_rest = record {
+      others = λ k apart. is' k ∙ ap (option_map (standing_of moment)) (put_apart k (other_id id k apart)) ∙ sym (is k);
+      count = count;
+      next_id = next_id;
+    }
+
     pub put_is : IsPut other.job (moment other.position) h id h'
     put_is = record {
       put = subst (λ o. IsSomeAnd o (StandsAt other.job (moment other.position).zone (moment other.position).instant))
@@ -124,12 +131,10 @@ module _ {J T : Type 0} (runs : J → Zone → ℤ → Type 0) (moment : T → M
             whole = fit.whole;
             stop = stops_where (runs other.job) moment (moment other.position) other.next fit.next;
           });
-      others = λ k apart. is' k ∙ ap (option_map (standing_of moment)) (put_apart k (other_id id k apart)) ∙ sym (is k);
-      count = count;
-      next_id = next_id;
+      rest = put_rest;
     }
 
-    pub put_moved : other.job ≡ w.job → (moment other.position).zone ≡ (moment w.position).zone → IsMoved h id (moment other.position).instant h'
+    pub put_moved : other.job ≡ w.job → (moment other.position).zone ≡ (moment w.position).zone → MovesTo h id (moment other.position).instant h'
     put_moved job zone = record {
       moved =
           subst (λ o. IfSome o (λ s. IsSomeAnd (h'.jobs id) (StandsAt s.job s.position.zone (moment other.position).instant)))
@@ -142,18 +147,21 @@ module _ {J T : Type 0} (runs : J → Zone → ℤ → Type 0) (moment : T → M
             whole = fit.whole;
             stop = stops_where (runs other.job) moment (moment other.position) other.next fit.next;
           }));
-      others = λ k apart. is' k ∙ ap (option_map (standing_of moment)) (put_apart k (other_id id k apart)) ∙ sym (is k);
-      count = count;
-      next_id = next_id;
+      rest = put_rest;
     }
 
 -- the same job at another position, or with another run next, is put in its own place
 module _ {J T : Type 0} (id : ℕ) (jobs jobs' : ℕ → Option (Waiting J T)) (w : Waiting J T) (there : jobs id ≡ Some w) (change : Waiting J T → Waiting J T)
     (changes : (k : ℕ) → jobs' k ≡ cond (is_at (nat_cmp id) k) (option_map change (jobs k)) (jobs k)) where
-  pub changed_puts : (k : ℕ) → jobs' k ≡ put_at id (change w) k (jobs k)
-  changed_puts = each id (λ k. jobs' k ≡ put_at id (change w) k (jobs k))
+  pub changed_puts : (k : ℕ) → jobs' k ≡ jobs_with id (λ _. change w) k (jobs k)
+  changed_puts = each id (λ k. jobs' k ≡ jobs_with id (λ _. change w) k (jobs k))
       (changes id ∙ subst (λ o. cond (is_at (nat_cmp id) id) (option_map change o) o ≡ cond (is_at (nat_cmp id) id) (option_map (λ _. change w) o) o) (sym there) refl)
       (λ k e. changes k ∙ ap (λ b. cond b (option_map change (jobs k)) (jobs k)) e ∙ sym (ap (λ b. cond b (option_map (λ _. change w) (jobs k)) (jobs k)) e))
+
+-- a job fits where it stands
+pub fits_there : {J T : Type 0} (runs : J → Zone → ℤ → Type 0) (moment : T → Moment) (o : Option (Waiting J T)) (w : Waiting J T)
+    → ∥ IfSome o (Fits runs moment) ∥₁ → o ≡ Some w → ∥ Fits runs moment w ∥₁
+fits_there runs moment o w fits there = subst (λ o. ∥ IfSome o (Fits runs moment) ∥₁) there fits
 
 -- a job stands at a whole second
 pub stands_whole : {J T : Type 0} (runs : J → Zone → ℤ → Type 0) (moment : T → Moment) (o : Option (Waiting J T)) (w : Waiting J T)
@@ -163,5 +171,5 @@ stands_whole runs moment o w fits there =
 
 -- what holds of the standing of a job holds of that of its id
 pub of_standing : {J T : Type 0} (moment : T → Moment) (P : Standing J → Type 0) (o : Option (Waiting J T)) (w : Waiting J T) → o ≡ Some w
-    → P (standing_of moment w) → IfSome (option_map (standing_of moment) o) P
-of_standing moment P o w there holds = subst (λ o. IfSome (option_map (standing_of moment) o) P) (sym there) holds
+    → P (standing_of moment w) → IsSomeAnd (option_map (standing_of moment) o) P
+of_standing moment P o w there holds = subst (λ o. IsSomeAnd (option_map (standing_of moment) o) P) (sym there) holds

@@ -1,13 +1,18 @@
 -- What each call of a scheduler answers, and what it holds after it. Source: this crate's documentation.
-use Rattle.std.specs.Prelude.{◌≡◌, Bool, true, ◌+◌, ◌-◌, ◌^◌, ◌≤◌, ⊤, false, ℕ, ℤ, ◌<ℤ◌, ◌≤ℤ◌, Option, None, Some, IfSome, IsSome}
+use Rattle.std.specs.Prelude.{◌≡◌, ◌⊎◌, pos, neg_ℤ, ◌-ℤ◌, Bool, true, ◌+◌, ◌-◌, ◌^◌, ◌≤◌, ⊤, false, ℕ, ℤ, ◌<ℤ◌, ◌≤ℤ◌, Option, None, Some, IfSome, IsSome}
 use Rattle.std.specs.Option.{IsSomeAnd}
 use Rattle.croner_base.specs.Calm.{IsCalm}
-use Rattle.croner_base.specs.Zone.{Zone, Moment}
+use Rattle.croner_base.specs.declared.time.Direction.TheVariants.{Backward}
+use Rattle.croner_base.specs.Zone.{Zone, Moment, at_instant}
+use Rattle.croner.specs.search.Limit.{InSpan}
 use Rattle.croner_scheduler.specs.declared.add.AddError.{AddError}
-use Rattle.croner_scheduler.specs.declared.add.AddError.TheVariants.{OutOfMemory, NoIdLeft, PositionNotHeld}
+use Rattle.croner_scheduler.specs.declared.add.AddError.TheVariants.{OutOfMemory, NoIdLeft, PositionNotHeld, SecondBeforeNotHeld}
+use Rattle.croner_scheduler.specs.declared.latest.Latest.{Latest}
+use Rattle.croner_scheduler.specs.declared.latest.Latest.TheVariants as latest
 use Rattle.croner_scheduler.specs.declared.skip.Skip.{Skip}
 use Rattle.croner_scheduler.specs.declared.skip.Skip.TheVariants.{Moved, AlreadyThere, NoJob, NotHeld}
 use Rattle.croner_scheduler.specs.declared.turns.Due.{Due}
+use Rattle.croner_scheduler.specs.declared.waiting.Stop.TheVariants as stops
 use Rattle.croner_scheduler.specs.Standing.{Standing, Held, Left, Seen}
 use Rattle.croner_scheduler.specs.Kept.{StopsAt}
 
@@ -62,20 +67,26 @@ pub record StandsAt {J : Type 0} (job : J) (zone : Zone) (i : ℤ) (s : Standing
   pub whole : s.position.fraction ≡ 0
   pub stop : IfSome s.stop (StopsAt s.position)
 
--- the position of the job k has moved to i, and nothing else has changed
-pub record IsMoved {J : Type 0} (h : Held J) (k : ℕ) (i : ℤ) (h' : Held J) : Type 0 where
-  pub moved : IfSome (h.jobs k) (λ s. IsSomeAnd (h'.jobs k) (StandsAt s.job s.position.zone i))
+-- nothing has changed but the job k
+pub record IsSameBut {J : Type 0} (k : ℕ) (h h' : Held J) : Type 0 where
   pub others : (id : ℕ) → ¬ (id ≡ k) → h'.jobs id ≡ h.jobs id
   pub count : h'.count ≡ h.count
   pub next_id : h'.next_id ≡ h.next_id
+
+-- the position of the job k has moved to i, and nothing else has changed
+pub record MovesTo {J : Type 0} (h : Held J) (k : ℕ) (i : ℤ) (h' : Held J) : Type 0 where
+  pub moved : IfSome (h.jobs k) (λ s. IsSomeAnd (h'.jobs k) (StandsAt s.job s.position.zone i))
+  pub rest : IsSameBut k h h'
 
 -- a next run that is later than now is kept
 abbrev pub KeepsLater : {J : Type 0} → ℕ → ℤ → Held J → Standing J → Type 0
 KeepsLater k now h' s = IfSome s.next (λ i. now <ℤ i → IsSomeAnd (h'.jobs k) (λ s'. s'.next ≡ Some i))
 
--- the position of the job k moves on to now; or it stands there already or later, there is no such job, or its zone doesn't hold that second
+-- the position of the job k moves on to now, a second that its zone holds; or it stands there already or later, there is no such job, or its
+-- zone doesn't hold that second
 abbrev pub SkipsTo : {J : Type 0} → ℕ → ℤ → Held J → Held J → Skip → Type 0
-SkipsTo k now h h' Moved = IsSomeAnd (h.jobs k) (λ s. (s.position.instant <ℤ now) × KeepsLater k now h' s) × IsMoved h k now h'
+SkipsTo k now h h' Moved =
+    IsSomeAnd (h.jobs k) (λ s. (s.position.instant <ℤ now) × (s.position.zone.holds now ≡ true) × KeepsLater k now h' s) × MovesTo h k now h'
 SkipsTo k now h h' AlreadyThere = IsSomeAnd (h.jobs k) (λ s. now ≤ℤ s.position.instant) × IsSame h h'
 SkipsTo k now h h' NoJob = (h.jobs k ≡ None) × IsSame h h'
 SkipsTo k now h h' NotHeld =
@@ -87,13 +98,42 @@ IsToMove now s = (s.position.instant <ℤ now) × (s.position.zone.holds now ≡
 
 -- the job k was stopped, and may from then on be stopped otherwise or go on, from where it stands; or there is no such job, or it isn't stopped
 abbrev pub AsksAgain : {J : Type 0} → ℕ → Held J → Held J → Bool → Type 0
-AsksAgain k h h' true = IsSomeAnd (h.jobs k) (λ s. IsSome s.stop × IsMoved h k s.position.instant h')
+AsksAgain k h h' true = IsSomeAnd (h.jobs k) (λ s. IsSome s.stop × MovesTo h k s.position.instant h')
 AsksAgain k h h' false = IfSome (h.jobs k) (λ s. s.stop ≡ None) × IsSame h h'
 
 -- the first run is given, no later than now, and its job stands there from then on; or nothing is due
 abbrev pub TakesDue : {J : Type 0} → (J → Zone → ℤ → Type 0) → ℤ → Held J → Held J → Option Due → Type 0
-TakesDue runs now h h' (Some due) = IsFirst runs h due.id due.second × (due.second ≤ℤ now) × IsMoved h due.id due.second h'
+TakesDue runs now h h' (Some due) = IsFirst runs h due.id due.second × (due.second ≤ℤ now) × MovesTo h due.id due.second h'
 TakesDue runs now h h' None = ((l : ℕ) → IfSome (h.jobs l) (IsNotDue runs now)) × IsSame h h'
+
+-- i can be given as the last run of the job that is due at now: the job isn't stopped, i lies after its position and no later than now, and
+-- isn't earlier than its next run; in a calm zone it is a run of it, and of those that are left up to now, in the years that are searched
+-- backward, the last
+pub record IsLastDue {J : Type 0} (runs : J → Zone → ℤ → Type 0) (now i : ℤ) (s : Standing J) : Type 0 where
+  pub goes : s.stop ≡ None
+  pub after : s.position.instant <ℤ i
+  pub due : i ≤ℤ now
+  pub from : IsSomeAnd s.next (λ n. n ≤ℤ i)
+  pub run : IsCalm s.position.zone → ∥ runs s.job s.position.zone i ∥₁
+  pub last : IsCalm s.position.zone → (j : ℤ) → Left runs s j → j ≤ℤ now → InSpan Backward s.position.zone.reads j → j ≤ℤ i
+
+-- the next run lies no later than now
+abbrev pub HasDueRun : {J : Type 0} → ℤ → Standing J → Type 0
+HasDueRun now s = IsSomeAnd s.next (λ n. n ≤ℤ now)
+
+-- a job whose next run is due, in whose zone now is held
+abbrev pub IsToTake : {J : Type 0} → ℤ → Standing J → Type 0
+IsToTake now s = HasDueRun now s × (s.position.zone.holds now ≡ true)
+
+-- the last run of the job k that is due is given, and it stands there from then on; or nothing of it is due, there is no such job, its zone doesn't
+-- hold now, or no search backward from there is promised and this one was refused
+abbrev pub TakesLatest : {J : Type 0} → (J → Zone → ℤ → Type 0) → ℕ → ℤ → Held J → Held J → Latest → Type 0
+TakesLatest runs k now h h' (latest.Given i) = IsSomeAnd (h.jobs k) (λ s. IsLastDue runs now i s × (s.position.zone.holds now ≡ true)) × MovesTo h k i h'
+TakesLatest runs k now h h' latest.NothingDue = IsSomeAnd (h.jobs k) (λ s. IsNotDue runs now s × IfSome s.next (λ n. now <ℤ n)) × IsSame h h'
+TakesLatest runs k now h h' latest.NoJob = (h.jobs k ≡ None) × IsSame h h'
+TakesLatest runs k now h h' latest.NotHeld = IsSomeAnd (h.jobs k) (λ s. HasDueRun now s × (s.position.zone.holds now ≡ false)) × IsSame h h'
+TakesLatest runs k now h h' (latest.Refused e) =
+    IsSomeAnd (h.jobs k) (λ s. IsToTake now s × StopsAt (at_instant s.position.zone now) (stops.Refused e)) × IsSame h h'
 
 -- the job is new under the next id, and stands at the whole second of the position
 pub record IsAdded {J : Type 0} (job : J) (position : Moment) (h h' : Held J) (id : ℕ) : Type 0 where
@@ -104,11 +144,29 @@ pub record IsAdded {J : Type 0} (job : J) (position : Moment) (h h' : Held J) (i
   pub count : h'.count ≡ h.count + 1
   pub next_id : h'.next_id ≡ h.next_id + 1
 
--- why a job isn't added: for want of memory; since no id is left; or since the whole second of the position isn't held
+-- why a job isn't added: for want of memory, and then an id is left and the whole second of the position is held; since no id is left; or
+-- since that second isn't held
 abbrev pub IsAddRefused : {J : Type 0} → Moment → Held J → AddError → Type 0
-IsAddRefused position h OutOfMemory = ⊤
+IsAddRefused position h OutOfMemory = ¬ (h.next_id ≡ 2 ^ 64 - 1) × (position.zone.holds position.instant ≡ true)
 IsAddRefused position h NoIdLeft = h.next_id ≡ 2 ^ 64 - 1
 IsAddRefused position h PositionNotHeld = position.zone.holds position.instant ≡ false
+IsAddRefused position h SecondBeforeNotHeld = ⊥
+
+-- the second before that of a moment
+abbrev pub second_before : Moment → Moment
+second_before m = at_instant m.zone (m.instant -ℤ pos 1)
+
+-- that second isn't held, or lies before all that a position can name
+abbrev pub HasNoneBefore : Moment → Type 0
+HasNoneBefore m = (m.zone.holds (m.instant -ℤ pos 1) ≡ false) ⊎ (m.instant ≡ neg_ℤ (pos (2 ^ 63)))
+
+-- why a job isn't added from a start on: for want of memory, and then an id is left and the second before is held; since no id is left; or
+-- since that second isn't held
+abbrev pub IsAddFromRefused : {J : Type 0} → Moment → Held J → AddError → Type 0
+IsAddFromRefused start h OutOfMemory = ¬ (h.next_id ≡ 2 ^ 64 - 1) × (start.zone.holds (start.instant -ℤ pos 1) ≡ true)
+IsAddFromRefused start h NoIdLeft = h.next_id ≡ 2 ^ 64 - 1
+IsAddFromRefused start h PositionNotHeld = ⊥
+IsAddFromRefused start h SecondBeforeNotHeld = HasNoneBefore start
 
 -- the job of a standing and its position are given back, if there was one
 abbrev pub IsGivenBack : {J T : Type 0} → (T → Moment) → Option (Standing J) → Option (J × T) → Type 0
@@ -119,21 +177,20 @@ IsGivenBack moment standing given = ⊥
 -- the job stands under the id k at the whole second of the position, and nothing else has changed
 pub record IsPut {J : Type 0} (job : J) (position : Moment) (h : Held J) (k : ℕ) (h' : Held J) : Type 0 where
   pub put : IsSomeAnd (h'.jobs k) (StandsAt job position.zone position.instant)
-  pub others : (id : ℕ) → ¬ (id ≡ k) → h'.jobs id ≡ h.jobs id
-  pub count : h'.count ≡ h.count
-  pub next_id : h'.next_id ≡ h.next_id
+  pub rest : IsSameBut k h h'
 
 -- the job of the id is given back, and the other one is in its place; or there is none
 abbrev pub Replaces : {J T : Type 0} → (T → Moment) → ℕ → J → Moment → Held J → Held J → Option (J × T) → Type 0
 Replaces moment k job position h h' (Some given) = IsGivenBack moment (h.jobs k) (Some given) × IsPut job position h k h'
 Replaces moment k job position h h' None = (h.jobs k ≡ None) × IsSame h h'
 
--- why no job is put in the place of the one of the id k, if there is one: for want of memory, or since the whole second of the position isn't
--- held
+-- why no job is put in the place of the one of the id k, if there is one: for want of memory, and then the whole second of the position is
+-- held; or since that second isn't held
 abbrev pub IsPutRefused : {J : Type 0} → ℕ → Moment → Held J → AddError → Type 0
-IsPutRefused k position h OutOfMemory = IsSome (h.jobs k)
+IsPutRefused k position h OutOfMemory = IsSome (h.jobs k) × (position.zone.holds position.instant ≡ true)
 IsPutRefused k position h NoIdLeft = ⊥
 IsPutRefused k position h PositionNotHeld = IsSome (h.jobs k) × (position.zone.holds position.instant ≡ false)
+IsPutRefused k position h SecondBeforeNotHeld = ⊥
 
 -- the job of the id is gone, if there was one, and the others stay
 pub record IsRemoved {J : Type 0} (id : ℕ) (h h' : Held J) : Type 0 where

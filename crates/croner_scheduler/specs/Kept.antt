@@ -33,13 +33,14 @@ standing_of moment w = record {
   next = option_map (λ t. (moment t).instant) (run_of w.next);
 }
 
--- why a job is stopped at a moment: since the run that was found isn't later, which comes only where the moment isn't a whole second in a calm
--- zone; or since the backend refused the search, which comes only where the moment isn't searchable
+-- the stops that can be at a moment: a run that isn't later only where the moment isn't a whole second in a calm zone; a refusal, by InvalidDate or
+-- InvalidTime, only where no search is promised from there
 abbrev pub StopsAt : Moment → Stop → Type 0
 StopsAt m NotLater = ¬ (StartsCalm m)
 StopsAt m (Refused e) = ¬ (IsSearchable m) × ((e ≡ InvalidDate) ⊎ (e ≡ InvalidTime))
 
--- what comes next from a moment, of what has these runs: the nearest run; none in the searched years; or a stop
+-- what comes next from a moment, of what has these runs: a later whole second of the zone, in a calm zone the nearest run; none, and in a calm zone
+-- none is in the span; or a stop
 abbrev pub FitsNext : {T : Type 0} → (Zone → ℤ → Type 0) → (T → Moment) → Moment → Next T → Type 0
 FitsNext runs moment m (Run t) = IsRunFound Forward runs m (moment t) × (m.instant <ℤ (moment t).instant)
 FitsNext runs moment m Over = StartsCalm m → NoneInSpanWhere Forward m.zone.reads (CountsFrom Forward (runs m.zone) m.instant)

@@ -3,5 +3,7 @@ pub mod Kept
 pub mod Views
 pub mod Awaited
 pub mod Calls
+pub mod History
+pub mod Lives
 pub mod Messages
 pub mod Private

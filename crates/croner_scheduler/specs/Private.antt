@@ -1,3 +1,4 @@
 -- What private contracts alone cite.
 pub mod Turns
 pub mod Steps
+pub mod Latest

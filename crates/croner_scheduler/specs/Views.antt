@@ -1,10 +1,9 @@
 -- What contracts see of a scheduler and of a job in it.
-use Rattle.std.specs.Prelude.{ℕ, Option, option_map}
+use Rattle.std.specs.Prelude.{option_map}
 use Rattle.std.specs.BTreeMap.{get, btree_map_len}
 use Rattle.std.specs.Ordering.{nat_cmp}
 use Rattle.croner_base.specs.Zone.{Moment}
 use Rattle.croner_scheduler.specs.declared.scheduler.Scheduler.{Scheduler}
-use Rattle.croner_scheduler.specs.declared.waiting.Waiting.{Waiting}
 use Rattle.croner_scheduler.specs.Standing.{Held}
 use Rattle.croner_scheduler.specs.Kept.{standing_of}
 
@@ -15,7 +14,3 @@ held_of moment s = record {
   count = btree_map_len s.jobs;
   next_id = s.next_id;
 }
-
--- the job under each id, with what comes next of it
-abbrev pub waiting_in : {J T : Type 0} {a : _} {b : _} {c : _} → Scheduler J T a b c → ℕ → Option (Waiting J T)
-waiting_in s id = get nat_cmp s.jobs id

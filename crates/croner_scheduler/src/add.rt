@@ -1,10 +1,10 @@
-//! Why a job isn't added.
+//! Why a job isn't added, or put in another's place.
 
 use std::alloc::AllocError;
 use std::error::Error;
 use std::fmt;
 
-/// Why a job isn't added.
+/// Why a job isn't added, or put in another's place.
 #[derive(Debug, Drop)]
 pub enum AddError {
     /// Memory was asked for and not found.
@@ -13,6 +13,8 @@ pub enum AddError {
     NoIdLeft,
     /// The whole second of the position isn't held.
     PositionNotHeld,
+    /// The second before the start isn't held ([`Scheduler::add_from`](crate::Scheduler::add_from) alone).
+    SecondBeforeNotHeld,
 }
 
 /// A sentence for a person.
@@ -27,6 +29,7 @@ impl fmt::Display for AddError {
             AddError::OutOfMemory => write!(f, "Out of memory."),
             AddError::NoIdLeft => write!(f, "No id is left for another job."),
             AddError::PositionNotHeld => write!(f, "The second of the position isn't held."),
+            AddError::SecondBeforeNotHeld => write!(f, "The second before the start isn't held."),
         }
     }
 }

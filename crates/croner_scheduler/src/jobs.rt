@@ -2,7 +2,7 @@
 ghost use Rattle.std.specs.Prelude.{◌≡◌, ℕ, IfOk, IfSome};
 ghost use Rattle.std.specs.BTreeMap.{get, btree_map_len};
 ghost use Rattle.std.specs.Ordering.{nat_cmp};
-ghost use Rattle.croner_scheduler.specs.Private.Steps.{FitsAfter, jobs_after_run, jobs_at_position, jobs_standing_at, jobs_with_next, put_at, ArePartsOf};
+ghost use Rattle.croner_scheduler.specs.Private.Steps.{FitsAfter, jobs_with, job_after_run, job_at_position, job_standing_at, job_with_next, ArePartsOf};
 
 use crate::waiting::{Next, Waiting};
 use croner::{Clocked, Recurring};
@@ -25,42 +25,46 @@ pub(crate) fn next_but_one<J: Recurring, T: Clocked>(
 
 // One job steps to its next run.
 pub(crate) fn step<J, T: Drop>(jobs: &mut BTreeMap<u64, Waiting<J, T>>, id: u64, next: Next<T>)
-    ensures jobs { (other : ℕ) → get nat_cmp jobs.new other ≡ jobs_after_run id next other (get nat_cmp jobs.old other) }
+    ensures jobs { (other : ℕ) → get nat_cmp jobs.new other ≡ jobs_with id (job_after_run next) other (get nat_cmp jobs.old other) }
     ensures count { btree_map_len jobs.new ≡ btree_map_len jobs.old }
 {
     if let Some(waiting) = jobs.get_mut(&id) {
-        waiting.advance(next);
+        waiting.step(next);
     }
 }
 
-// One job is put at another position.
-pub(crate) fn settle<J, T: Drop>(
+// One job moves to another position.
+pub(crate) fn move_to<J, T: Drop>(
     jobs: &mut BTreeMap<u64, Waiting<J, T>>,
     id: u64,
     position: T,
     next: Next<T>,
 )
-    ensures jobs { (other : ℕ) → get nat_cmp jobs.new other ≡ jobs_at_position id position next other (get nat_cmp jobs.old other) }
+    ensures jobs { (other : ℕ) → get nat_cmp jobs.new other ≡ jobs_with id (job_at_position position next) other (get nat_cmp jobs.old other) }
     ensures count { btree_map_len jobs.new ≡ btree_map_len jobs.old }
 {
     if let Some(waiting) = jobs.get_mut(&id) {
-        waiting.settle(position, next);
+        waiting.move_to(position, next);
     }
 }
 
-// One job is put at another position, with the same run next.
-pub(crate) fn stand<J, T: Drop>(jobs: &mut BTreeMap<u64, Waiting<J, T>>, id: u64, position: T)
-    ensures jobs { (other : ℕ) → get nat_cmp jobs.new other ≡ jobs_standing_at id position other (get nat_cmp jobs.old other) }
+// One job moves to another position, with the same run next.
+pub(crate) fn move_before_next<J, T: Drop>(
+    jobs: &mut BTreeMap<u64, Waiting<J, T>>,
+    id: u64,
+    position: T,
+)
+    ensures jobs { (other : ℕ) → get nat_cmp jobs.new other ≡ jobs_with id (job_standing_at position) other (get nat_cmp jobs.old other) }
     ensures count { btree_map_len jobs.new ≡ btree_map_len jobs.old }
 {
     if let Some(waiting) = jobs.get_mut(&id) {
-        waiting.stand(position);
+        waiting.move_before_next(position);
     }
 }
 
 // One job has another run next.
 pub(crate) fn renew<J, T: Drop>(jobs: &mut BTreeMap<u64, Waiting<J, T>>, id: u64, next: Next<T>)
-    ensures jobs { (other : ℕ) → get nat_cmp jobs.new other ≡ jobs_with_next id next other (get nat_cmp jobs.old other) }
+    ensures jobs { (other : ℕ) → get nat_cmp jobs.new other ≡ jobs_with id (job_with_next next) other (get nat_cmp jobs.old other) }
     ensures count { btree_map_len jobs.new ≡ btree_map_len jobs.old }
 {
     if let Some(waiting) = jobs.get_mut(&id) {
@@ -75,7 +79,7 @@ pub(crate) fn exchange<J: Drop, T: Drop>(
     other: Waiting<J, T>,
 ) -> Option<(J, T)>
     ensures parts { ArePartsOf (get nat_cmp jobs.old id) result }
-    ensures jobs { (at : ℕ) → get nat_cmp jobs.new at ≡ put_at id other at (get nat_cmp jobs.old at) }
+    ensures jobs { (at : ℕ) → get nat_cmp jobs.new at ≡ jobs_with id (λ _. other) at (get nat_cmp jobs.old at) }
     ensures count { btree_map_len jobs.new ≡ btree_map_len jobs.old }
 {
     match jobs.get_mut(&id) {

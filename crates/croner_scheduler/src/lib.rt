@@ -3,12 +3,15 @@
 
 mod add;
 mod jobs;
+mod latest;
+pub mod laws;
 mod scheduler;
 mod skip;
 mod turns;
 mod waiting;
 
 pub use add::AddError;
+pub use latest::Latest;
 pub use scheduler::Scheduler;
 pub use skip::Skip;
 pub use turns::Due;

@@ -51,12 +51,12 @@ pub(crate) fn await_next<T: Clocked>(
 }
 
 // Takes out the turn of what comes next of a job.
-pub(crate) fn leave_next<T: Clocked>(turns: &mut BTreeSet<(i64, u64)>, next: &Next<T>, id: u64)
+pub(crate) fn take_out_next<T: Clocked>(turns: &mut BTreeSet<(i64, u64)>, next: &Next<T>, id: u64)
     ensures { (second : ℤ) (other : ℕ) → has_turn turns.new second other
         ≡ cond (is_next_turn T.moment next.now id second other) false (has_turn turns.old second other) }
 {
     match next {
-        Next::Run(run) => leave_turn(turns, run.second(), id),
+        Next::Run(run) => take_out_turn(turns, run.second(), id),
         Next::Over | Next::Stopped(_) => {}
     }
 }
@@ -78,7 +78,7 @@ pub(crate) fn change_turn<T: Clocked>(
     if is_same_turn(old, next) {
         return Ok(());
     }
-    leave_next(turns, old, id);
+    take_out_next(turns, old, id);
     Ok(())
 }
 
@@ -88,7 +88,7 @@ fn is_same_turn<T: Clocked>(old: &Next<T>, next: &Next<T>) -> bool
 {
     match (old, next) {
         (Next::Run(a), Next::Run(b)) => a.second() == b.second(),
-        _ => false,
+        (Next::Over | Next::Stopped(_), _) | (_, Next::Over | Next::Stopped(_)) => false,
     }
 }
 
@@ -102,7 +102,7 @@ fn add_turn(turns: &mut BTreeSet<(i64, u64)>, second: i64, id: u64) -> Result<()
 }
 
 // Takes out a turn.
-pub(crate) fn leave_turn(turns: &mut BTreeSet<(i64, u64)>, second: i64, id: u64)
+pub(crate) fn take_out_turn(turns: &mut BTreeSet<(i64, u64)>, second: i64, id: u64)
     ensures { (at : ℤ) (other : ℕ) → has_turn turns.new at other
         ≡ cond (is_turn second id at other) false (has_turn turns.old at other) }
 {

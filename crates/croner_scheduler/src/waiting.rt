@@ -1,14 +1,15 @@
 //! A job with its position, and what comes next of it.
 ghost use Rattle.std.specs.Prelude.{◌≡◌, is_some, option_map, IfOk};
 ghost use Rattle.croner_scheduler.specs.Kept.{standing_of, stop_of, run_of, FitsNext, Fits};
-ghost use Rattle.croner_scheduler.specs.Private.Steps.{next_of_run, next_of_refusal, FitsAfter, job_after_run, job_at_position, job_standing_at, is_next_after, job_with_next};
+ghost use Rattle.croner_scheduler.specs.Private.Latest.{due_run};
+ghost use Rattle.croner_scheduler.specs.Private.Steps.{next_of_run, next_of_refusal, IsSecondBefore, FitsAfter, job_after_run, job_at_position, job_standing_at, is_next_after, job_with_next};
 
 use croner::errors::CronError;
 use croner::{Clocked, Recurring};
 use std::alloc::AllocError;
 use std::mem;
 
-/// Why a job is stopped. It can be only where its position doesn't lie in a calm zone around which the backend holds what a search needs.
+/// Why a job is stopped. It can be only where its zone isn't calm, or the backend doesn't hold what a search from its position needs.
 #[derive(Debug, Drop)]
 pub enum Stop {
     /// The search after its position was refused by its backend, with `InvalidDate` or `InvalidTime`.
@@ -45,7 +46,8 @@ impl<J, T> Waiting<J, T> {
     }
 
     /// The moment up to which its runs are done with, a whole second of its zone: the one with which it was added or put in another's
-    /// place, and from then on the last run that was given, or the second to which it skipped.
+    /// place, or the second before the start from which it was added; and from then on the last run that was given, or the second to
+    /// which it skipped.
     pub fn position(&self) -> &T
         ensures { result.now ≡ self.now.position }
     {
@@ -73,7 +75,7 @@ impl<J, T> Waiting<J, T> {
     }
 
     // Steps to its next run.
-    pub(crate) fn advance(&mut self, next: Next<T>)
+    pub(crate) fn step(&mut self, next: Next<T>)
     where
         T: Drop,
         ensures { self.new ≡ job_after_run next self.old }
@@ -83,8 +85,8 @@ impl<J, T> Waiting<J, T> {
         }
     }
 
-    // Stands at another position.
-    pub(crate) fn settle(&mut self, position: T, next: Next<T>)
+    // Moves to another position.
+    pub(crate) fn move_to(&mut self, position: T, next: Next<T>)
     where
         T: Drop,
         ensures { self.new ≡ job_at_position position next self.old }
@@ -93,8 +95,8 @@ impl<J, T> Waiting<J, T> {
         self.next = next;
     }
 
-    // Stands at another position, with the same run next.
-    pub(crate) fn stand(&mut self, position: T)
+    // Moves to another position, with the same run next.
+    pub(crate) fn move_before_next(&mut self, position: T)
     where
         T: Drop,
         ensures { self.new ≡ job_standing_at position self.old }
@@ -162,6 +164,16 @@ impl<J: Recurring, T: Clocked> Waiting<J, T> {
         }
     }
 
+    // Its next run, if that lies no later than a second.
+    pub(crate) fn due_run(&self, now: i64) -> Option<&T>
+        ensures { option_map (λ t. t.now) result ≡ due_run T.moment now self.now.next }
+    {
+        match &self.next {
+            Next::Run(run) if run.second() <= now => Some(run),
+            Next::Run(_) | Next::Over | Next::Stopped(_) => None,
+        }
+    }
+
     // What comes next after its next run.
     pub(crate) fn next_but_one(&self) -> Result<Next<T>, AllocError>
         ensures { IfOk result (FitsAfter (J.runs self.now.job) T.moment self.now.next) }
@@ -171,6 +183,17 @@ impl<J: Recurring, T: Clocked> Waiting<J, T> {
             Next::Over | Next::Stopped(_) => Ok(Next::Over),
         }
     }
+}
+
+// The second before that in which a time lies, on its clock.
+pub(crate) fn second_before<T: Clocked>(time: &T) -> Option<T>
+    ensures { IsSecondBefore T.moment (T.moment time.now) result }
+{
+    let second = time.second();
+    if second == i64::MIN {
+        return None;
+    }
+    time.at_second(second - 1)
 }
 
 // What comes next of a job from a position.

@@ -1,5 +1,5 @@
 -- How what is kept of a job comes of its search, and changes when its next run is given. Private contracts alone cite these definitions.
-use Rattle.std.specs.Prelude.{◌≡◌, ℕ, ℤ, ◌<ℤ◌, int_lt, Bool, true, false, cond, if◌then◌else◌, Option, None, Some, option_map, Result, Ok, Err, alloc_error, ⊤}
+use Rattle.std.specs.Prelude.{◌≡◌, ℕ, ℤ, pos, ◌-ℤ◌, ◌<ℤ◌, int_lt, Bool, true, false, cond, if◌then◌else◌, Option, None, Some, option_map, Result, Ok, Err, alloc_error, ⊤}
 use Rattle.std.specs.BTreeMap.{is_at}
 use Rattle.std.specs.Ordering.{nat_cmp, int_eq}
 use Rattle.std.specs.declared.alloc.AllocError.{AllocError}
@@ -10,6 +10,7 @@ use Rattle.croner_scheduler.specs.declared.waiting.Next.{Next}
 use Rattle.croner_scheduler.specs.declared.waiting.Next.TheVariants.{Run, Over, Stopped}
 use Rattle.croner_scheduler.specs.declared.waiting.Stop.TheVariants.{Refused, NotLater}
 use Rattle.croner_scheduler.specs.declared.waiting.Waiting.{Waiting}
+use Rattle.croner_scheduler.specs.Calls.{second_before, HasNoneBefore}
 use Rattle.croner_scheduler.specs.Kept.{FitsNext}
 
 -- what a run that was found is to the job: its next one, if it lies after the position
@@ -22,10 +23,19 @@ next_of_refusal TimeSearchLimitExceeded = Ok Over
 next_of_refusal OutOfMemory = Err alloc_error
 next_of_refusal other = Ok (Stopped (Refused other))
 
+-- the value names the second before that of a moment; or there is none
+abbrev pub IsSecondBefore : {T : Type 0} → (T → Moment) → Moment → Option T → Type 0
+IsSecondBefore moment m (Some t) = (moment t ≡ second_before m) × (m.zone.holds (m.instant -ℤ pos 1) ≡ true)
+IsSecondBefore moment m None = HasNoneBefore m
+
 -- what comes next after the next run
 abbrev pub FitsAfter : {T : Type 0} → (Zone → ℤ → Type 0) → (T → Moment) → Next T → Next T → Type 0
 FitsAfter runs moment (Run t) next = FitsNext runs moment (moment t) next
 FitsAfter runs moment other next = ⊤
+
+-- of the jobs, where the one of an id is changed and the others stay
+abbrev pub jobs_with : {J T : Type 0} → ℕ → (Waiting J T → Waiting J T) → ℕ → Option (Waiting J T) → Option (Waiting J T)
+jobs_with id change other o = cond (is_at (nat_cmp id) other) (option_map change o) o
 
 -- a job that has stepped to its next run
 abbrev pub position_after : {T : Type 0} → T → Next T → T
@@ -34,10 +44,6 @@ position_after position other = position
 
 abbrev pub job_after_run : {J T : Type 0} → Next T → Waiting J T → Waiting J T
 job_after_run next w = record { job = w.job; position = position_after w.position w.next; next = next }
-
--- of the jobs, where the one of an id has stepped to its next run and the others stay
-abbrev pub jobs_after_run : {J T : Type 0} → ℕ → Next T → ℕ → Option (Waiting J T) → Option (Waiting J T)
-jobs_after_run id next other o = cond (is_at (nat_cmp id) other) (option_map (job_after_run next) o) o
 
 -- the next run is at that second
 abbrev pub is_next_at : {T : Type 0} → (T → Moment) → ℤ → Next T → Bool
@@ -52,17 +58,9 @@ is_awaited_at moment second None = false
 abbrev pub job_at_position : {J T : Type 0} → T → Next T → Waiting J T → Waiting J T
 job_at_position position next w = record { job = w.job; position = position; next = next }
 
--- of the jobs, where the one of an id stands at another position and the others stay
-abbrev pub jobs_at_position : {J T : Type 0} → ℕ → T → Next T → ℕ → Option (Waiting J T) → Option (Waiting J T)
-jobs_at_position id position next other o = cond (is_at (nat_cmp id) other) (option_map (job_at_position position next) o) o
-
 -- a job at another position, with the same next
 abbrev pub job_standing_at : {J T : Type 0} → T → Waiting J T → Waiting J T
 job_standing_at position w = record { job = w.job; position = position; next = w.next }
-
--- of the jobs, where the one of an id does and the others stay
-abbrev pub jobs_standing_at : {J T : Type 0} → ℕ → T → ℕ → Option (Waiting J T) → Option (Waiting J T)
-jobs_standing_at id position other o = cond (is_at (nat_cmp id) other) (option_map (job_standing_at position) o) o
 
 -- the next run is later than that second
 abbrev pub is_next_after : {T : Type 0} → (T → Moment) → ℤ → Next T → Bool
@@ -78,14 +76,6 @@ pub record CanStand {J T : Type 0} (moment : T → Moment) (position : T) (w : W
 -- a job with something else next, where it stands
 abbrev pub job_with_next : {J T : Type 0} → Next T → Waiting J T → Waiting J T
 job_with_next next w = record { job = w.job; position = w.position; next = next }
-
--- of the jobs, where the one of an id has something else next and the others stay
-abbrev pub jobs_with_next : {J T : Type 0} → ℕ → Next T → ℕ → Option (Waiting J T) → Option (Waiting J T)
-jobs_with_next id next other o = cond (is_at (nat_cmp id) other) (option_map (job_with_next next) o) o
-
--- the job of one id has another in its place, and the others stay
-abbrev pub put_at : {J T : Type 0} → ℕ → Waiting J T → ℕ → Option (Waiting J T) → Option (Waiting J T)
-put_at id w other o = cond (is_at (nat_cmp id) other) (option_map (λ _. w) o) o
 
 -- the job and the position are those of what stood there, if something did
 abbrev pub ArePartsOf : {J T : Type 0} → Option (Waiting J T) → Option (J × T) → Type 0

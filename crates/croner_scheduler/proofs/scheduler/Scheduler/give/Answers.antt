@@ -12,13 +12,13 @@ pub invariant_of-self-2 : goal.invariant_of-self-2
 invariant_of-self-2 g c =
     let self = c.args.self.now in
     let fits : SFits w64 c.args.due.second = search rules in
-    let left : (s : ℤ) (k : ℕ) → has_turn c.leave_turn.new.turns s k ≡ cond (is_turn c.args.due.second c.args.due.id s k) false (has_turn c.await_next.new.turns s k) =
-    subst (λ (z : ℤ). (s : ℤ) (k : ℕ) → has_turn c.leave_turn.new.turns s k ≡ cond (is_turn z c.args.due.id s k) false (has_turn c.await_next.new.turns s k))
-    (to_z-of_z w64 c.args.due.second fits) c.leave_turn.ensures in
+    let left : (s : ℤ) (k : ℕ) → has_turn c.take_out_turn.new.turns s k ≡ cond (is_turn c.args.due.second c.args.due.id s k) false (has_turn c.await_next.new.turns s k) =
+    subst (λ (z : ℤ). (s : ℤ) (k : ℕ) → has_turn c.take_out_turn.new.turns s k ≡ cond (is_turn z c.args.due.id s k) false (has_turn c.await_next.new.turns s k))
+    (to_z-of_z w64 c.args.due.second fits) c.take_out_turn.ensures in
     record {
       listed = stepped_listed g.J.Recurring.runs g.T.CronDateTime.moment c.args.due.id (λ k. get nat_cmp self.jobs k) (λ k. get nat_cmp c.step.new.jobs k) (has_turn self.turns)
           self.listed self.fits c.in_ok-next.next c.args.due.second c.requires c.in_ok-next.ensures c.step.ensures.jobs
-          (has_turn c.await_next.new.turns) (has_turn c.leave_turn.new.turns) c.in_ok-await_next.ensures.added left;
+          (has_turn c.await_next.new.turns) (has_turn c.take_out_turn.new.turns) c.in_ok-await_next.ensures.added left;
       unused = stepped_unused g.J.Recurring.runs g.T.CronDateTime.moment c.args.due.id (λ k. get nat_cmp self.jobs k) (λ k. get nat_cmp c.step.new.jobs k) (has_turn self.turns)
           self.listed self.fits c.in_ok-next.next c.args.due.second c.requires c.in_ok-next.ensures c.step.ensures.jobs self.next_id self.unused;
       fits = stepped_fits g.J.Recurring.runs g.T.CronDateTime.moment c.args.due.id (λ k. get nat_cmp self.jobs k) (λ k. get nat_cmp c.step.new.jobs k) (has_turn self.turns)

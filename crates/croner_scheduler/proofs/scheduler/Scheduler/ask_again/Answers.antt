@@ -1,13 +1,14 @@
-use Rattle.std.proofs.Common.{rules, ◌≡◌, refl, Some, option_map}
+use Rattle.std.proofs.Common.{rules, ◌≡◌, refl, Some, IsSome, option_map}
 use Rattle.std.specs.BTreeMap.{get, btree_map_len}
 use Rattle.std.specs.Ordering.{nat_cmp}
-use Rattle.croner_scheduler.specs.Calls.{IsMoved}
-use Rattle.croner_scheduler.specs.Kept.{standing_of, Fits}
+use Rattle.croner_scheduler.specs.Calls.{MovesTo}
+use Rattle.croner_scheduler.specs.Kept.{standing_of, stop_of, Fits}
 use Rattle.croner_scheduler.specs.Private.Steps.{job_with_next}
 use Rattle.croner_scheduler.specs.Private.Turns.{has_turn}
+use Rattle.croner_scheduler.specs.Standing.{Held}
 use Rattle.croner_scheduler.specs.Views.{held_of}
 use Rattle.croner_scheduler.proofs.Puts.{put_listed, put_unused, put_fits, put_moved, changed_puts, stands_whole, of_standing}
-use Rattle.croner_scheduler.proofs.scheduler.Scheduler.search_again.Goals as goal
+use Rattle.croner_scheduler.proofs.scheduler.Scheduler.ask_again.Goals as goal
 
 pub invariant_of-self-2 : goal.invariant_of-self-2
 invariant_of-self-2 g c =
@@ -29,19 +30,24 @@ invariant_of-self-2 g c =
           self.listed self.fits w there other fit puts;
     }
 
-pub returns-clause-moved : goal.returns-clause-moved
-returns-clause-moved g c =
+pub returns-clause-asked : goal.returns-clause-asked
+returns-clause-asked g c =
     let self = c.args.self.now in
     let w = c.in-Some.waiting.now in
     let there : get nat_cmp self.jobs c.args.id ≡ Some w = search rules in
+    let stopped : IsSome (stop_of w.next) = search rules in
     let other = job_with_next c.in_ok-next.next w in
     let fit : Fits g.J.Recurring.runs g.T.CronDateTime.moment other = record {
       whole = stands_whole g.J.Recurring.runs g.T.CronDateTime.moment (get nat_cmp self.jobs c.args.id) w (self.fits c.args.id) there;
       next = c.in_ok-next.ensures;
     } in
     let puts = changed_puts c.args.id (λ k. get nat_cmp self.jobs k) (λ k. get nat_cmp c.renew.new.jobs k) w there (job_with_next c.in_ok-next.next) c.renew.ensures.jobs in
-    of_standing g.T.CronDateTime.moment (λ s. IsMoved (held_of g.T.CronDateTime.moment self) c.args.id s.position.instant (record { jobs = λ k. option_map (standing_of g.T.CronDateTime.moment) (get nat_cmp c.renew.new.jobs k); count = btree_map_len c.renew.new.jobs; next_id = self.next_id }))
-    (get nat_cmp self.jobs c.args.id) w there
-    (put_moved g.J.Recurring.runs g.T.CronDateTime.moment c.args.id (λ k. get nat_cmp self.jobs k) (λ k. get nat_cmp c.renew.new.jobs k) (has_turn self.turns)
-    self.listed self.fits w there other fit puts
-    (held_of g.T.CronDateTime.moment self) (record { jobs = λ k. option_map (standing_of g.T.CronDateTime.moment) (get nat_cmp c.renew.new.jobs k); count = btree_map_len c.renew.new.jobs; next_id = self.next_id }) (λ k. refl) (λ k. refl) c.renew.ensures.count refl refl refl)
+    let held = held_of g.T.CronDateTime.moment self in
+    let held' : Held _ = record { jobs = λ k. option_map (standing_of g.T.CronDateTime.moment) (get nat_cmp c.renew.new.jobs k); count = btree_map_len c.renew.new.jobs; next_id = self.next_id } in
+    of_standing g.T.CronDateTime.moment (λ s. IsSome s.stop × MovesTo held c.args.id s.position.instant held')
+    (get nat_cmp self.jobs c.args.id) w there (
+      stopped,
+      put_moved g.J.Recurring.runs g.T.CronDateTime.moment c.args.id (λ k. get nat_cmp self.jobs k) (λ k. get nat_cmp c.renew.new.jobs k) (has_turn self.turns)
+          self.listed self.fits w there other fit puts
+          held held' (λ k. refl) (λ k. refl) c.renew.ensures.count refl refl refl,
+    )

@@ -1,7 +1,7 @@
 use Rattle.std.proofs.Common.{◌≡◌, ℕ, ℤ, false, cond, subst, w64}
 use Rattle.std.proofs.lemmas.Int.{to_z-of_z}
 use Rattle.croner_scheduler.specs.Private.Turns.{has_turn, is_turn}
-use Rattle.croner_scheduler.proofs.turns.leave_turn.Goals as goal
+use Rattle.croner_scheduler.proofs.turns.take_out_turn.Goals as goal
 
 pub returns : goal.returns
 returns c =

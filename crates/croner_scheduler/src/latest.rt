@@ -1,0 +1,70 @@
+//! The last of a job's runs that are due.
+ghost use Rattle.std.specs.Prelude.{◌≡◌, IfOk};
+ghost use Rattle.croner_scheduler.specs.Private.Latest.{last_of_run, last_of_refusal, FitsLast};
+
+use croner::errors::CronError;
+use croner::{Clocked, Recurring};
+use std::alloc::AllocError;
+
+/// What became of a call for the last due run of a job ([`Scheduler::take_latest_due`](crate::Scheduler::take_latest_due)).
+#[derive(Debug, Drop)]
+pub enum Latest {
+    /// The second of the last run that was due. The job stands there from now on.
+    Given(i64),
+    /// No run of it is due.
+    NothingDue,
+    /// No job has the id.
+    NoJob,
+    /// The job's zone doesn't hold the second `now`.
+    NotHeld,
+    /// The search backward from `now` was refused by its backend, with `InvalidDate` or `InvalidTime`.
+    Refused(CronError),
+}
+
+// What a search backward says of the last run of a job.
+#[derive(Debug, Drop)]
+pub(crate) enum Last<T> {
+    // It is this one, later than the next run.
+    Later(T),
+    // It is the next run.
+    Known,
+    // The backend refused the search.
+    Refused(CronError),
+}
+
+// The last run of a job up to a moment, where its next run lies no later.
+#[tactic(auto, using(crate::proofs::LastRuns::last_refused))]
+pub(crate) fn last_of<J: Recurring, T: Clocked>(
+    job: &J,
+    next: &T,
+    until: &T,
+) -> Result<Last<T>, AllocError>
+    ensures { IfOk result (FitsLast (J.runs job.now) T.moment next.now (T.moment until.now)) }
+{
+    match job.last_until(until) {
+        Ok(found) => Ok(last_of_run(next, until, found)),
+        Err(refusal) => last_of_refusal(refusal),
+    }
+}
+
+// What a run that was found is, where another is the next one.
+fn last_of_run<T: Clocked>(next: &T, until: &T, found: T) -> Last<T>
+    ensures { result ≡ last_of_run T.moment next.now until.now found }
+{
+    if next.second() < found.second() && found.second() <= until.second() {
+        Last::Later(found)
+    } else {
+        Last::Known
+    }
+}
+
+// What a refusal is, where a next run is known.
+fn last_of_refusal<T>(refusal: CronError) -> Result<Last<T>, AllocError>
+    ensures { result ≡ last_of_refusal refusal }
+{
+    match refusal {
+        CronError::TimeSearchLimitExceeded => Ok(Last::Known),
+        CronError::OutOfMemory => Err(AllocError),
+        refused => Ok(Last::Refused(refused)),
+    }
+}
