@@ -3,6 +3,7 @@
 
     tools/crontab_model.py lines    [--system] FILE                        what each line is
     tools/crontab_model.py runs     [--system] FILE ZONE FROM UNTIL        the runs of each job, behind FROM and up to UNTIL
+    tools/crontab_model.py starts   [--system] FILE ZONE FROM UNTIL        what cron itself starts there: instants, and how many times
     tools/crontab_model.py warnings [--system | --patterns] FILE ZONE FROM what is to be said of each line that is taken
 
 ZONE is a name of the machine's database or a POSIX rule; FROM and UNTIL are seconds since 1970. One line of JSON is
@@ -16,6 +17,9 @@ line with a byte 0, and one that ends at a quote that it began, are decided with
 How runs come about. The clock of a zone is its spans of one offset. In each span one wall minute after another is
 looked at: it is named, or not. A job of one plain minute and one plain hour runs only where no earlier instant shows
 the same minute; and at the first instant behind a gap that holds a named minute, if the date there is named.
+
+What cron starts: by its main loop, with its variables and its four cases by their names. Its sleep takes no time: it looks at
+the clock at each second, and what it starts is started at that second.
 
 How warnings come about: by the words of docs/CRONTAB.md over what the fields name, each month of each named year, each
 second that a change of the clock skips or repeats; that a job never runs, by looking for a run to the end of year 5000.
@@ -519,6 +523,97 @@ def first_run(job, zone, start):
     return None
 
 
+# ---- what cron starts
+
+MINUTE_COUNT = 60
+
+
+class Cron:
+    """The main loop of cron.c, for one job, over the spans of a clock, each of which has a first instant and an offset."""
+
+    def __init__(self, job, spans):
+        self.job, self.spans = job, spans
+        self.clock_time = self.time_running = self.virtual_time = self.gmt_off = None
+        self.span, self.queue = 0, 0
+
+    def set_time(self, start_time):
+        """The minute that the clock shows at a second."""
+        while self.span + 1 < len(self.spans) and self.spans[self.span + 1][0] <= start_time:
+            self.span += 1
+        self.gmt_off = self.spans[self.span][1]
+        self.clock_time = (start_time + self.gmt_off) // 60
+
+    def find_jobs(self, vtime, do_wild, do_non_wild):
+        if not self.job.is_scheduled(vtime * 60):
+            return
+        is_wild = self.job.is_repeated_by_cron
+        if do_non_wild and not is_wild or do_wild and is_wild:
+            self.queue += 1
+
+    def wake(self):
+        """One turn of the loop, at a second at which another minute is shown than that of the last turn."""
+        self.time_running = self.clock_time
+        time_diff = self.time_running - self.virtual_time
+        if time_diff == 1:
+            self.virtual_time = self.time_running
+            self.find_jobs(self.virtual_time, True, True)
+            return
+        wakeup_kind = -1
+        if time_diff > -(3 * MINUTE_COUNT):
+            wakeup_kind = 0
+        if time_diff > 0:
+            wakeup_kind = 1
+        if time_diff > 5:
+            wakeup_kind = 2
+        if time_diff > 3 * MINUTE_COUNT:
+            wakeup_kind = 3
+        if wakeup_kind == 1:
+            while True:
+                self.virtual_time += 1
+                self.find_jobs(self.virtual_time, True, True)
+                if not self.virtual_time < self.time_running:
+                    break
+        elif wakeup_kind == 2:
+            self.find_jobs(self.time_running, True, False)
+            while True:
+                self.virtual_time += 1
+                self.find_jobs(self.virtual_time, False, True)
+                if not (self.virtual_time < self.time_running and self.clock_time == self.time_running):
+                    break
+        elif wakeup_kind == 0:
+            self.find_jobs(self.time_running, True, False)
+        else:
+            self.virtual_time = self.time_running
+            self.find_jobs(self.time_running, True, True)
+
+    def next_look(self, second):
+        """The next second that is worth a look: the next whole minute, or the next change of the clock."""
+        minute = second + 60 - (second + self.gmt_off) % 60
+        changes = [first for first, _ in self.spans[self.span + 1:self.span + 2]]
+        return min([minute] + changes)
+
+    def starts(self, until):
+        """The seconds at which the job is started, from the first span's on, and how many times."""
+        second = self.spans[0][0]
+        self.set_time(second)
+        self.time_running = self.virtual_time = self.clock_time
+        while (second := self.next_look(second)) <= until:
+            self.set_time(second)
+            if self.clock_time == self.time_running:
+                continue
+            self.queue = 0
+            self.wake()
+            if self.queue:
+                yield second, self.queue
+
+
+def starts_of(job, spans, start, until):
+    """What cron starts of a job behind a start and up to an end."""
+    if job.fields is None:
+        return []
+    return [(second, count) for second, count in Cron(job, spans).starts(until) if start < second]
+
+
 # ---- warnings
 
 ORDER = [
@@ -823,6 +918,14 @@ def told_runs(text, is_system, zone, start, until):
     return told
 
 
+def told_starts(text, is_system, zone, start, until):
+    kind, job = line_of(text, is_system)
+    told = {"kind": kind}
+    if kind == "job":
+        told["starts"] = starts_of(job, Clock(zone, start, until).spans, start, until)
+    return told
+
+
 def print_warnings(path, is_system, is_pattern, zone, start):
     """The warnings of each line of a file that has some, and those of the file."""
     data = pathlib.Path(path).read_bytes()
@@ -847,6 +950,8 @@ def main(words):
             told = told_line(text, is_fed, is_system)
         elif words[0] == "runs" and len(words) == 5:
             told = told_runs(text, is_system, words[2], int(words[3]), int(words[4]))
+        elif words[0] == "starts" and len(words) == 5:
+            told = told_starts(text, is_system, words[2], int(words[3]), int(words[4]))
         else:
             sys.exit(__doc__)
         print(json.dumps(told))

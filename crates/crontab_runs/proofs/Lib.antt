@@ -1,0 +1,14 @@
+pub mod DueMinutes
+pub mod NamedMinutes
+pub mod TableStarts
+pub mod Examples
+pub mod EachSecond
+pub mod NearestNamed
+pub mod TableStretches
+pub mod StretchStarts
+pub mod InsideStarts
+pub mod BeginStarts
+pub mod PartStarts
+pub mod SearchSteps
+pub mod SearchLoops
+pub mod NoneDue

@@ -1,0 +1,4 @@
+pub mod Starts
+pub mod Views
+pub mod Searches
+pub mod Private

@@ -1,0 +1,112 @@
+//! What of a job is due when the clock shows another minute.
+ghost use Rattle.std.specs.Prelude.{◌≡◌, ◌↔◌, ◌≤◌, IsTrue, pos, neg_ℤ, ◌+ℤ◌, ◌-ℤ◌, ◌*ℤ◌, ◌≤ℤ◌};
+ghost use Rattle.croner_base.specs.TableZone.{table_zone};
+ghost use Rattle.croner.specs.Views.{job_of};
+ghost use Rattle.croner.specs.search.Limit.{IsWithin};
+ghost use Rattle.crontab_runs.specs.Starts.{NamesMinute, due_after as first_due, most_changed};
+ghost use Rattle.crontab_runs.specs.Views.{cron_job_of};
+ghost use Rattle.crontab_runs.specs.Private.Due.{IsNamedCount, AreStarts};
+ghost use Rattle.crontab_runs.specs.Private.Stretches.{far};
+
+use crate::job::CrontabJob;
+use crate::minutes::{SECONDS_PER_MINUTE, is_within, minute_of, nearest_named};
+use crate::stretch::Stretch;
+use croner::Direction;
+
+/// So many minutes late cron makes up for each of them, as if it had waked late.
+const MOST_LATE: i64 = 5;
+
+/// So many minutes the clock is put forward, or by less is it put back, where cron takes it for a change of the clock that it makes up for.
+const MOST_CHANGED: i64 = 180;
+
+// The direction from a minute to the year 1970.
+fn towards_1970(minute: i64) -> Direction
+    ensures { IsWithin result (minute *ℤ pos 60) }
+{
+    if minute < 0 {
+        Direction::Forward
+    } else {
+        Direction::Backward
+    }
+}
+
+impl CrontabJob {
+    // Whether the job names a minute: then it is the nearest one from itself on.
+    fn names(&self, minute: i64) -> bool
+        ensures { IsTrue result ↔ NamesMinute (job_of self.now.cron) minute }
+    {
+        match nearest_named(&self.cron, minute, towards_1970(minute)) {
+            Some(nearest) => nearest == minute,
+            None => false,
+        }
+    }
+
+    // The minute after which the job is due up to the one that the clock shows now. `shown` is the greatest that it has shown before.
+    fn due_after(&self, shown: i64, minute: i64) -> i64
+        requires shown_low { neg_ℤ (pos far) ≤ℤ shown }
+        requires shown_high { shown ≤ℤ pos far }
+        requires low { neg_ℤ (pos far) ≤ℤ minute }
+        requires high { minute ≤ℤ pos far }
+        ensures { result ≡ first_due self.now.is_starred shown minute }
+    {
+        let late = minute - shown;
+        if late <= -MOST_CHANGED {
+            return minute - 1;
+        }
+        if late <= 0 {
+            return if self.is_starred { minute - 1 } else { minute };
+        }
+        if late <= MOST_LATE {
+            return shown;
+        }
+        if late <= MOST_CHANGED {
+            return if self.is_starred { minute - 1 } else { shown };
+        }
+        minute - 1
+    }
+
+    // Whether one search shows that the job names no minute after one and up to another.
+    fn names_none(&self, after: i64, upto: i64) -> bool
+        requires low { neg_ℤ (pos far) ≤ℤ after }
+        requires order { after ≤ℤ upto }
+        requires high { upto ≤ℤ pos far }
+        ensures { IsTrue result → IsNamedCount (NamesMinute (job_of self.now.cron)) after upto 0 }
+    {
+        match nearest_named(&self.cron, after + 1, Direction::Forward) {
+            Some(nearest) => nearest > upto,
+            None => is_within(upto * SECONDS_PER_MINUTE, Direction::Forward),
+        }
+    }
+
+    // How many minutes the job names, after one and up to another.
+    fn named_count(&self, after: i64, upto: i64) -> u32
+        requires low { neg_ℤ (pos far) ≤ℤ after }
+        requires order { after ≤ℤ upto }
+        requires near { upto ≤ℤ (after +ℤ pos most_changed) }
+        requires high { upto ≤ℤ pos far }
+        ensures { IsNamedCount (NamesMinute (job_of self.now.cron)) after upto result }
+    {
+        if self.names_none(after, upto) {
+            return 0;
+        }
+        let mut count = 0;
+        for minute in after + 1..upto + 1 {
+            if self.names(minute) {
+                count += 1;
+            }
+        }
+        count
+    }
+
+    /// How many times the job is started at the first second of a stretch.
+    pub(crate) fn count_at_begin(&self, stretch: &Stretch<'_>) -> u32
+        ensures { AreStarts (cron_job_of self.now) (table_zone stretch.now.table.now) stretch.now.begin result }
+    {
+        let shown = minute_of(stretch.before);
+        let minute = minute_of(stretch.begin + stretch.offset);
+        if minute == shown {
+            return 0;
+        }
+        self.named_count(self.due_after(shown, minute), minute)
+    }
+}

@@ -1,0 +1,83 @@
+//! The stretches of the clock of a table in which it doesn't change.
+ghost use Rattle.std.specs.Prelude.{◌≡◌, ◌≤◌, length};
+ghost use Rattle.croner_base.specs.TableZone.{table_zone};
+ghost use Rattle.croner_base.specs.Private.TableSteps.{offset_past};
+ghost use Rattle.crontab_runs.specs.Private.Stretches.{begin_of as first_second, end_of as second_behind, offset_before as earlier_offset, IsStretch};
+
+use croner::time::table::ClockTable;
+
+/// So many seconds from 1970 no table has an instant.
+const FAR_SECONDS: i64 = 1_000_000_000_000;
+
+/// A stretch of the clock of a table in which it doesn't change, between two changes, or before or behind all of them.
+#[derive(Clone, Copy)]
+pub(crate) struct Stretch<'t> {
+    pub(crate) table: &'t ClockTable,
+    /// Its first second, at which the clock changes; of the first stretch a second before all instants.
+    pub(crate) begin: i64,
+    /// The second behind its last.
+    pub(crate) end: i64,
+    /// How many seconds the clock is ahead of UTC in it.
+    pub(crate) offset: i64,
+    /// The wall second that the clock shows right before it.
+    pub(crate) before: i64,
+    pub ghost fits: { IsStretch (table_zone table.now) begin end offset before },
+}
+
+impl<'t> Stretch<'t> {
+    /// The stretch behind so many changes.
+
+    pub(crate) fn behind(table: &'t ClockTable, changes: usize) -> Stretch<'t>
+        requires { changes ≤ length table.now.changes.items }
+        ensures table { result.table.now ≡ table.now }
+        ensures begin { result.begin ≡ first_second table.now.changes.items changes }
+        ensures end { result.end ≡ second_behind table.now.changes.items changes }
+    {
+        let begin = begin_of(table, changes);
+        let before = begin - 1 + offset_of(table, changes.saturating_sub(1));
+        Stretch {
+            table,
+            begin,
+            end: end_of(table, changes),
+            offset: offset_of(table, changes),
+            before,
+        }
+    }
+}
+
+// The first second of the stretch behind so many changes.
+fn begin_of(table: &ClockTable, changes: usize) -> i64
+    requires { changes ≤ length table.now.changes.items }
+    ensures { result ≡ first_second table.now.changes.items changes }
+{
+    if changes == 0 {
+        -FAR_SECONDS
+    } else {
+        table.changes()[changes - 1].0
+    }
+}
+
+// The second behind its last.
+fn end_of(table: &ClockTable, changes: usize) -> i64
+    requires { changes ≤ length table.now.changes.items }
+    ensures { result ≡ second_behind table.now.changes.items changes }
+{
+    let all = table.changes();
+    if changes < all.len() {
+        all[changes].0
+    } else {
+        FAR_SECONDS
+    }
+}
+
+// The offset in force in it.
+fn offset_of(table: &ClockTable, changes: usize) -> i64
+    requires { changes ≤ length table.now.changes.items }
+    ensures { result ≡ offset_past table.now.first_offset table.now.changes.items changes }
+{
+    if changes == 0 {
+        table.first_offset() as i64
+    } else {
+        table.changes()[changes - 1].1 as i64
+    }
+}
