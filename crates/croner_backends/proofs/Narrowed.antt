@@ -7,6 +7,7 @@ use Rattle.croner_base.specs.declared.time.table.TableTime.{TableTime}
 use Rattle.croner_base.specs.declared.time.value.Resolution.{Resolution}
 use Rattle.croner_base.specs.declared.time.value.Resolution.TheVariants.{Single, Ambiguous}
 use Rattle.croner_base.specs.Civil.{wall_second}
+use Rattle.croner_base.specs.Clocked.{IsAtSecond}
 use Rattle.croner_base.specs.TableZone.{table_moment}
 use Rattle.croner_base.specs.Zone.{Zone, Moment, Names, IsResolved, IsUnheld, IsMoved}
 use Rattle.croner_backends.specs.declared.narrow.NarrowTime.{NarrowTime}
@@ -107,3 +108,21 @@ moved_kept t x s None m h e =
 
 pub not_moved : (t : NarrowTime) (s : ℤ) → IsMoved table_moment (table_moment t.time) s None → IsMoved narrow_moment (narrow_moment t) s None
 not_moved t s m = both_false _ _ m
+
+-- ---- at a second
+
+pub kept_at : (t : NarrowTime) (x : TableTime) (s : ℤ) (r : Option NarrowTime) → IsAtSecond table_moment (table_moment t.time).zone s (Some x) → IsSome r ↔ IsTrue (is_between t.low t.high x.second) → IfSome r (IsKept t.low t.high x) → IsAtSecond narrow_moment (narrow_moment t).zone s r
+kept_at t x s (Some k) m h e =
+    let i : x.second ≡ s = ap (λ (v : Moment). v.instant) m.0 in
+    let b : is_between t.low t.high x.second ≡ true = some_true k _ h in (
+      e ∙ ap (λ (v : Moment). record v { zone = narrow v.zone t.low t.high }) m.0,
+      let both : is_between t.low t.high s ≡ true = rw i at b in rw (both, m.1) refl,
+    )
+kept_at t x s None m h e =
+    let i : x.second ≡ s = ap (λ (v : Moment). v.instant) m.0 in
+    let none : Option NarrowTime = None in
+    let b : is_between t.low t.high x.second ≡ false = none_false none _ refl h in
+    let out : is_between t.low t.high s ≡ false = rw i at b in rw out refl
+
+pub not_at : (t : NarrowTime) (s : ℤ) → IsAtSecond table_moment (table_moment t.time).zone s None → IsAtSecond narrow_moment (narrow_moment t).zone s None
+not_at t s m = both_false _ _ m

@@ -1,3 +1,4 @@
+pub mod AskingMoment
 pub mod BoxedMoment
 pub mod Narrow
 pub mod NarrowMoment

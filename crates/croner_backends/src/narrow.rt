@@ -5,7 +5,7 @@ ghost use Rattle.std.proofs.Common.{ap};
 
 use croner_base::errors::CronError;
 use croner_base::time::table::TableTime;
-use croner_base::time::{CivilDateTime, CronDateTime, Resolution, Weekday};
+use croner_base::time::{CivilDateTime, Clocked, CronDateTime, Resolution, Weekday};
 use std::alloc::Global;
 use std::cmp::Ordering;
 
@@ -187,4 +187,19 @@ impl<'t> CronDateTime for NarrowTime<'t> {
     ghost clone_keeps = { λ a b e. ap narrow_moment e };
 
     ghost clone_memory = { λ a h. tt };
+}
+
+/// The seconds that are held.
+impl<'t> Clocked for NarrowTime<'t> {
+    fn second(&self) -> i64 {
+        self.time.second()
+    }
+
+    #[tactic(auto, using(crate::proofs::Narrowed::kept_at, crate::proofs::Narrowed::not_at))]
+    fn at_second(&self, second: i64) -> Option<NarrowTime<'t>> {
+        match self.time.at_second(second) {
+            Some(time) => self.kept(time),
+            None => None,
+        }
+    }
 }
