@@ -2,6 +2,7 @@
 #![tactic(auto)]
 
 mod asked;
+mod clock_lists;
 mod clocks;
 mod comparisons;
 mod faults;
@@ -13,12 +14,14 @@ mod members;
 mod moments;
 mod outcomes;
 mod pattern_calls;
+mod schedulers;
 pub mod shown;
 mod subjects;
 mod texts;
 mod times;
 
 pub use asked::ask;
+pub use clock_lists::{OverClocks, over_clocks};
 pub use clocks::{
     OverTime, add_series, clock_changes, clock_table, narrow_time, over_time, read_rule,
 };
@@ -34,6 +37,7 @@ pub use members::{
 pub use moments::Moment;
 pub use outcomes::{Answer, Outcome};
 pub use pattern_calls::{field_at, time_component};
+pub use schedulers::{Named, call_in_turn, call_scheduler, new_scheduler, standings};
 pub use subjects::{How, Run, Runs, Subject, Table};
 pub use texts::printed;
 pub use times::{bare, instants, time_and_job};

@@ -3,6 +3,7 @@
 use crate::calendar::{calendar, clock_face, clock_table, date_and_time, weekday, zone_table};
 use crate::clones::clone_of;
 use crate::iterators::{handed, listing};
+use crate::schedulers::call_of_scheduler;
 use crate::searches::{reading, search};
 use crate::tables;
 use crate::texts::{explanation, new_field, parser, questions, to_json, words_of_language};
@@ -41,6 +42,7 @@ fn calls_of_runs(caller: Caller<'_>, question: &Value, op: &str) -> Result<Outco
         "search of a table" => tables::search(caller, question),
         "list of a table" => tables::item_at(caller, question, 0),
         "third item of a table" => tables::item_at(caller, question, 2),
+        "call of a scheduler" => call_of_scheduler(caller, question),
         op => match op.strip_prefix("clone of a") {
             Some(kind) => clone_of(caller, question, kind),
             None => ask(caller, question, op),

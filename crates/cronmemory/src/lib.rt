@@ -6,6 +6,7 @@ mod calendar;
 mod case;
 mod clones;
 mod iterators;
+mod schedulers;
 mod searches;
 mod tables;
 mod texts;

@@ -14,6 +14,7 @@ mod laws;
 mod narrow;
 mod question;
 mod replay;
+mod schedulers;
 mod tables;
 mod values;
 mod writer;

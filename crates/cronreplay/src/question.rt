@@ -9,6 +9,7 @@ use crate::explain::{explain, suggest};
 use crate::json::{json_again, reread};
 use crate::laws::law;
 use crate::narrow::as_bounds_move;
+use crate::schedulers::scheduler;
 use crate::{tables, values};
 use croner::crontable::CronTable;
 use croner::time::Direction;
@@ -35,6 +36,7 @@ pub fn answer(alloc: Global, question: &Value) -> Result<Value> {
         "words" => values::words_of_language(alloc, question),
         "law" => law(alloc, question),
         "table_change" => tables::change(alloc, question),
+        "scheduler" => scheduler(alloc, question),
         op => match op.strip_prefix("table_") {
             Some(op) => answer_on_table(alloc, question, op, &Table::read(alloc, question)?.jobs),
             None => answer_of_job(alloc, question, op),

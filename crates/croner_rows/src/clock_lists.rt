@@ -1,0 +1,123 @@
+//! Clocks of one kind, and calls that are made over them.
+
+use crate::{
+    Caller, Fault, Outcome, Result, clock_table, list, member, narrow_time, number, parts,
+    read_rule, switch,
+};
+use croner::Clocked;
+use croner::time::table::{ClockTable, TableTime};
+use croner_backends::{AskingTime, NarrowTime};
+use jiff::civil::DateTime;
+use jiff::{Timestamp, Zoned};
+use serde_json::Value;
+use std::alloc::{AllocError, Global};
+
+/// Calls that are made over clocks of any kind.
+pub trait OverClocks {
+    /// Makes the calls over a time on each clock, and gives what they gave.
+    fn outcome<T: Clocked>(&self, caller: Caller<'_>, clocks: &[T]) -> Result<Outcome>;
+}
+
+/// Makes calls over the clocks of a question's member `zones`. All are of the kind of the first: civil time where that is null, a rule,
+/// a table that is `asking`, over the backend that asks for memory for each answer, one that is `held`, over the one that holds what
+/// lies between two instants, or a table.
+pub fn over_clocks<C: OverClocks>(
+    caller: Caller<'_>,
+    question: &Value,
+    calls: &C,
+) -> Result<Outcome> {
+    let zones = list(question, "zones")?;
+    match zones.first() {
+        None => Err(Fault::Malformed),
+        Some(Value::Null) => calls.outcome(caller, &[DateTime::MIN]),
+        Some(zone) if zone.get("rule").is_some() => over_rules(caller, zones, calls),
+        Some(zone) => {
+            let tables = tables_of(caller.alloc, zones)?;
+            let times = times_of(caller.alloc, zones, tables.as_slice())?;
+            over_tables(caller, zone, zones, times.as_slice(), calls)
+        }
+    }
+}
+
+fn over_rules<C: OverClocks>(caller: Caller<'_>, zones: &[Value], calls: &C) -> Result<Outcome> {
+    let mut clocks = Vec::new(caller.alloc);
+    for zone in zones {
+        let rule = read_rule(member(zone, "rule")?)?;
+        clocks.push(Zoned::new(Timestamp::UNIX_EPOCH, rule))?;
+    }
+    calls.outcome(caller, clocks.as_slice())
+}
+
+fn over_tables<C: OverClocks>(
+    caller: Caller<'_>,
+    first: &Value,
+    zones: &[Value],
+    times: &[TableTime<'_>],
+    calls: &C,
+) -> Result<Outcome> {
+    if switch(first, "asking")? {
+        let clocks = asking_times(caller.alloc, times)?;
+        return calls.outcome(caller, clocks.as_slice());
+    }
+    match first.get("held") {
+        None => calls.outcome(caller, times),
+        Some(_) => {
+            let clocks = narrow_times(caller.alloc, zones, times)?;
+            calls.outcome(caller, clocks.as_slice())
+        }
+    }
+}
+
+fn tables_of(alloc: Global, zones: &[Value]) -> Result<Vec<ClockTable>> {
+    let mut tables = Vec::new(alloc);
+    for zone in zones {
+        tables.push(clock_table(alloc, zone)?)?;
+    }
+    Ok(tables)
+}
+
+// A second on each table: the first that is held, where that is said.
+fn times_of<'t>(
+    alloc: Global,
+    zones: &[Value],
+    tables: &'t [ClockTable],
+) -> Result<Vec<TableTime<'t>>> {
+    let mut times = Vec::new(alloc);
+    for (zone, table) in zones.iter().zip(tables) {
+        times.push(TableTime::new(table, first_held(zone)?)?)?;
+    }
+    Ok(times)
+}
+
+fn first_held(zone: &Value) -> Result<i64> {
+    match zone.get("held") {
+        None => Ok(0),
+        Some(held) => {
+            let [low, _] = parts::<2>(held)?;
+            number(low)
+        }
+    }
+}
+
+fn asking_times<'t>(
+    alloc: Global,
+    times: &[TableTime<'t>],
+) -> Result<Vec<AskingTime<'t>>, AllocError> {
+    let mut clocks = Vec::new(alloc);
+    for time in times {
+        clocks.push(AskingTime::new(*time))?;
+    }
+    Ok(clocks)
+}
+
+fn narrow_times<'t>(
+    alloc: Global,
+    zones: &[Value],
+    times: &[TableTime<'t>],
+) -> Result<Vec<NarrowTime<'t>>> {
+    let mut clocks = Vec::new(alloc);
+    for (zone, time) in zones.iter().zip(times) {
+        clocks.push(narrow_time(*time, member(zone, "held")?)?)?;
+    }
+    Ok(clocks)
+}

@@ -1,0 +1,308 @@
+//! Schedulers: calls one after another, over clocks of one kind.
+
+use crate::{Caller, Fault, Job, Result, items, number, number_at, parts, shown, word};
+use croner::{Clocked, Cron};
+use croner_scheduler::{AddError, Due, Latest, Scheduler, Skip, Stop, Waiting};
+use serde_json::Value;
+use std::alloc::{AllocError, Global};
+
+/// What the calls of a scheduler name by its place: patterns, and a time on each clock.
+#[derive(Drop)]
+pub struct Named<'q, T: Clocked> {
+    pub patterns: &'q [Value],
+    pub clocks: &'q [T],
+}
+
+impl<'q, T: Clocked> Named<'q, T> {
+    // The job of a pattern.
+    fn job(&self, alloc: Global, place: &Value) -> Result<Cron> {
+        let place: usize = number(place)?;
+        let pattern = self.patterns.get(place).ok_or(Fault::Malformed)?;
+        Ok(Job::read(alloc, pattern)?.into_cron())
+    }
+
+    // The time at a second of a clock, if it has that second.
+    fn position(&self, place: &Value, second: &Value) -> Result<Option<T>> {
+        let place: usize = number(place)?;
+        let clock = self.clocks.get(place).ok_or(Fault::Malformed)?;
+        Ok(clock.at_second(number(second)?))
+    }
+}
+
+/// The scheduler of a question before its calls: without jobs, its first id the member `first_id`, or 0.
+pub fn new_scheduler<T: Clocked>(alloc: Global, question: &Value) -> Result<Scheduler<Cron, T>> {
+    match question.get("first_id") {
+        None => Ok(Scheduler::new(alloc)),
+        Some(first) => {
+            let first = first.as_u64().ok_or(Fault::Malformed)?;
+            Ok(Scheduler::with_first_id(alloc, first))
+        }
+    }
+}
+
+/// The answers of calls of a scheduler, one after another.
+pub fn call_in_turn<T: Clocked>(
+    caller: Caller<'_>,
+    scheduler: &mut Scheduler<Cron, T>,
+    named: &Named<'_, T>,
+    calls: &[Value],
+) -> Result<Value> {
+    let mut answers = Vec::new(caller.alloc);
+    for call in calls {
+        answers.push(call_scheduler(caller, scheduler, named, call)?)?;
+    }
+    Ok(Value::Array(answers))
+}
+
+/// What a call of a scheduler answers. The call is a list: its name, and what it is given.
+pub fn call_scheduler<T: Clocked>(
+    caller: Caller<'_>,
+    scheduler: &mut Scheduler<Cron, T>,
+    named: &Named<'_, T>,
+    call: &Value,
+) -> Result<Value> {
+    let name = items(call)?.first().ok_or(Fault::Malformed)?;
+    match word(name)? {
+        "add" => add(caller, scheduler, named, call, false),
+        "add_from" => add(caller, scheduler, named, call, true),
+        "replace" => replace(caller, scheduler, named, call),
+        "remove" => remove(caller, scheduler, call),
+        "skip_to" => skip_to(caller, scheduler, call),
+        "ask_again" => ask_again(caller, scheduler, call),
+        "take_due" => take_due(caller, scheduler, call),
+        "take_latest_due" => take_latest_due(caller, scheduler, call),
+        name => view(caller, scheduler, name),
+    }
+}
+
+// What is asked of a scheduler that doesn't change it.
+fn view<T: Clocked>(
+    caller: Caller<'_>,
+    scheduler: &Scheduler<Cron, T>,
+    name: &str,
+) -> Result<Value> {
+    match name {
+        "next_wake_up" => Ok(next_wake_up(caller, scheduler)),
+        "standings" => standings(caller.alloc, scheduler),
+        _ => Err(Fault::Unsupported),
+    }
+}
+
+// A job whose runs after a second are left, or with `starts` those from it on.
+fn add<T: Clocked>(
+    caller: Caller<'_>,
+    scheduler: &mut Scheduler<Cron, T>,
+    named: &Named<'_, T>,
+    call: &Value,
+    starts: bool,
+) -> Result<Value> {
+    let [_, job, clock, second] = parts::<4>(call)?;
+    let Some(position) = named.position(clock, second)? else {
+        return no_second(caller.alloc);
+    };
+    let job = named.job(caller.alloc, job)?;
+    caller.begin();
+    let added = if starts {
+        scheduler.add_from(job, position)
+    } else {
+        scheduler.add(job, position)
+    };
+    caller.end();
+    match added {
+        Ok(id) => Ok(Value::from(id)),
+        Err(refusal) => not_added(caller.alloc, refusal),
+    }
+}
+
+fn replace<T: Clocked>(
+    caller: Caller<'_>,
+    scheduler: &mut Scheduler<Cron, T>,
+    named: &Named<'_, T>,
+    call: &Value,
+) -> Result<Value> {
+    let [_, id, job, clock, second] = parts::<5>(call)?;
+    let id = id_of(id)?;
+    let Some(position) = named.position(clock, second)? else {
+        return no_second(caller.alloc);
+    };
+    let job = named.job(caller.alloc, job)?;
+    caller.begin();
+    let replaced = scheduler.replace(id, job, position);
+    caller.end();
+    match replaced {
+        Ok(out) => given_back(caller.alloc, out),
+        Err(refusal) => not_added(caller.alloc, refusal),
+    }
+}
+
+fn remove<T: Clocked>(
+    caller: Caller<'_>,
+    scheduler: &mut Scheduler<Cron, T>,
+    call: &Value,
+) -> Result<Value> {
+    let [_, id] = parts::<2>(call)?;
+    let id = id_of(id)?;
+    caller.begin();
+    let out = scheduler.remove(id);
+    caller.end();
+    given_back(caller.alloc, out)
+}
+
+fn skip_to<T: Clocked>(
+    caller: Caller<'_>,
+    scheduler: &mut Scheduler<Cron, T>,
+    call: &Value,
+) -> Result<Value> {
+    let [_, id, now] = parts::<3>(call)?;
+    let (id, now) = (id_of(id)?, number(now)?);
+    caller.begin();
+    let skipped = scheduler.skip_to(id, now);
+    caller.end();
+    shown::text(caller.alloc, skip_name(skipped?))
+}
+
+fn ask_again<T: Clocked>(
+    caller: Caller<'_>,
+    scheduler: &mut Scheduler<Cron, T>,
+    call: &Value,
+) -> Result<Value> {
+    let [_, id] = parts::<2>(call)?;
+    let id = id_of(id)?;
+    caller.begin();
+    let asked = scheduler.ask_again(id);
+    caller.end();
+    Ok(Value::Bool(asked?))
+}
+
+// At most so many runs, up to the first call that gives none.
+fn take_due<T: Clocked>(
+    caller: Caller<'_>,
+    scheduler: &mut Scheduler<Cron, T>,
+    call: &Value,
+) -> Result<Value> {
+    let [_, now, most] = parts::<3>(call)?;
+    let (now, most): (i64, u32) = (number(now)?, number(most)?);
+    let mut given = Vec::new(caller.alloc);
+    for _ in 0..most {
+        let Some(due) = next_due(caller, scheduler, now)? else {
+            break;
+        };
+        given.push(shown_due(caller.alloc, due)?)?;
+    }
+    Ok(Value::Array(given))
+}
+
+fn next_due<T: Clocked>(
+    caller: Caller<'_>,
+    scheduler: &mut Scheduler<Cron, T>,
+    now: i64,
+) -> Result<Option<Due>, AllocError> {
+    caller.begin();
+    let due = scheduler.take_due(now);
+    caller.end();
+    due
+}
+
+fn take_latest_due<T: Clocked>(
+    caller: Caller<'_>,
+    scheduler: &mut Scheduler<Cron, T>,
+    call: &Value,
+) -> Result<Value> {
+    let [_, id, now] = parts::<3>(call)?;
+    let (id, now) = (id_of(id)?, number(now)?);
+    caller.begin();
+    let latest = scheduler.take_latest_due(id, now);
+    caller.end();
+    shown_latest(caller.alloc, latest?)
+}
+
+// The second of a run, or why there is none.
+fn shown_latest(alloc: Global, latest: Latest) -> Result<Value> {
+    match latest {
+        Latest::Given(second) => Ok(Value::from(second)),
+        Latest::NothingDue => shown::text(alloc, "NothingDue"),
+        Latest::NoJob => shown::text(alloc, "NoJob"),
+        Latest::NotHeld => shown::text(alloc, "NotHeld"),
+        Latest::Refused(error) => shown::refused(alloc, &error),
+    }
+}
+
+fn next_wake_up<T: Clocked>(caller: Caller<'_>, scheduler: &Scheduler<Cron, T>) -> Value {
+    caller.begin();
+    let second = scheduler.next_wake_up();
+    caller.end();
+    match second {
+        Some(second) => Value::from(second),
+        None => Value::Null,
+    }
+}
+
+/// Each job of a scheduler in the order of the ids: its id, the second of its position, and that of its next run; null in its place where
+/// none is left, and where the job is stopped, why.
+pub fn standings<T: Clocked>(alloc: Global, scheduler: &Scheduler<Cron, T>) -> Result<Value> {
+    let mut standings = Vec::new(alloc);
+    for (id, waiting) in scheduler.iter() {
+        standings.push(standing(alloc, *id, waiting)?)?;
+    }
+    Ok(Value::Array(standings))
+}
+
+fn standing<T: Clocked>(alloc: Global, id: u64, waiting: &Waiting<Cron, T>) -> Result<Value> {
+    let next = what_comes_next(alloc, waiting)?;
+    let mut standing = Vec::new(alloc);
+    standing.push(Value::from(id))?;
+    standing.push(Value::from(waiting.position().second()))?;
+    standing.push(next)?;
+    Ok(Value::Array(standing))
+}
+
+fn what_comes_next<T: Clocked>(alloc: Global, waiting: &Waiting<Cron, T>) -> Result<Value> {
+    match (waiting.next_run(), waiting.stop()) {
+        (Some(run), _) => Ok(Value::from(run.second())),
+        (None, Some(Stop::Refused(error))) => shown::refused(alloc, error),
+        (None, Some(Stop::NotLater)) => shown::text(alloc, "NotLater"),
+        (None, None) => Ok(Value::Null),
+    }
+}
+
+// A job that is given back, as its text, and its position; or null.
+fn given_back<T: Clocked>(alloc: Global, out: Option<(Cron, T)>) -> Result<Value> {
+    match out {
+        Some((job, position)) => {
+            let text = shown::text(alloc, job.as_str())?;
+            shown::pair(alloc, text, Value::from(position.second()))
+        }
+        None => Ok(Value::Null),
+    }
+}
+
+fn shown_due(alloc: Global, due: Due) -> Result<Value> {
+    shown::pair(alloc, Value::from(due.id), Value::from(due.second))
+}
+
+fn not_added(alloc: Global, refusal: AddError) -> Result<Value> {
+    match refusal {
+        AddError::OutOfMemory => Err(Fault::OutOfMemory),
+        AddError::NoIdLeft => shown::text(alloc, "NoIdLeft"),
+        AddError::PositionNotHeld => shown::text(alloc, "PositionNotHeld"),
+        AddError::SecondBeforeNotHeld => shown::text(alloc, "SecondBeforeNotHeld"),
+    }
+}
+
+// The answer where a call names a second that its clock doesn't have.
+fn no_second(alloc: Global) -> Result<Value> {
+    shown::text(alloc, "no such second")
+}
+
+fn skip_name(skip: Skip) -> &'static str {
+    match skip {
+        Skip::Moved => "Moved",
+        Skip::AlreadyThere => "AlreadyThere",
+        Skip::NoJob => "NoJob",
+        Skip::NotHeld => "NotHeld",
+    }
+}
+
+fn id_of(id: &Value) -> Result<u64> {
+    id.as_u64().ok_or(Fault::Malformed)
+}
