@@ -2,12 +2,17 @@
 #![tactic(auto)]
 
 mod guide;
+mod interval;
+mod kept;
 mod named_job;
 mod next_run;
 mod own_pattern;
 mod own_time;
+mod plan;
+mod restart;
 mod scheduler;
 mod wake_ups;
+mod workdays;
 mod zones;
 
 use croner::time::table::{ClockTable, TableTime};
@@ -81,41 +86,42 @@ fn show_own_time(rt: &HostRuntime) -> anyhow::Result<()> {
 // Adds a job, whose runs after a position are started.
 fn add<'z>(
     rt: &HostRuntime,
-    scheduler: &mut Scheduler<Task, Zoned<'z>>,
+    scheduler: &mut Scheduler<Task<Cron>, Zoned<'z>>,
     name: &str,
     pattern: &str,
     position: Zoned<'z>,
 ) -> anyhow::Result<u64> {
-    let cron = Cron::from_str(rt.alloc(), pattern)?;
+    let when = Cron::from_str(rt.alloc(), pattern)?;
     let name = String::from_str(rt.alloc(), name)?;
-    Ok(scheduler.add(Task { name, cron }, position)?)
+    Ok(scheduler.add(Task { name, when }, position)?)
 }
 
 // Jobs of two zones, which come and go.
 fn start_jobs<'z>(
     rt: &HostRuntime,
     zones: &'z TimeZoneDatabase,
-    scheduler: &mut Scheduler<Task, Zoned<'z>>,
+    scheduler: &mut Scheduler<Task<Cron>, Zoned<'z>>,
 ) -> anyhow::Result<()> {
     let saturday = Timestamp::new(1_719_655_200, 0)?; // 2024-06-29T12:00:00 in Paris
     let monday = Timestamp::new(1_719_828_000, 0)?; // two days later
-    let noon = saturday.to_zoned(zones.get("Europe/Paris")?);
-    let backup = add(rt, scheduler, "backup", "0 0 * * *", noon)?;
-    let noon = saturday.to_zoned(TimeZone::UTC);
-    add(rt, scheduler, "report", "0 9 * * MON", noon)?;
+    let position = saturday.to_zoned(zones.get("Europe/Paris")?);
+    let backup = add(rt, scheduler, "backup", "0 0 * * *", position)?;
+    let position = saturday.to_zoned(TimeZone::UTC);
+    add(rt, scheduler, "report", "0 9 * * MON", position)?;
     start_due(rt, scheduler, monday.as_second())?;
     scheduler.remove(backup);
-    let noon = monday.to_zoned(zones.get("Europe/Paris")?);
-    add(rt, scheduler, "lunch", "0 13 * * *", noon)?;
+    let position = monday.to_zoned(zones.get("Europe/Paris")?);
+    add(rt, scheduler, "lunch", "0 13 * * *", position)?;
     let next = start_due(rt, scheduler, monday.as_second() + 3_600)?;
-    println!(rt; "next: {next:?}")?; // next: Some(1719918000): 13:00 of the day behind
+    println!(rt; "next: {next:?}")?; // next: Some(1719918000): 13:00 of the next day
     Ok(())
 }
 
 fn show_scheduler(rt: &HostRuntime) -> anyhow::Result<()> {
     let zones = TimeZoneDatabase::from_dir(rt, "zones")?;
     let mut scheduler = Scheduler::new(rt.alloc());
-    start_jobs(rt, &zones, &mut scheduler)
+    start_jobs(rt, &zones, &mut scheduler)?;
+    restart::show_restart(rt, &zones)
 }
 
 // The snippets of the guide.

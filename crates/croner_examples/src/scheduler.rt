@@ -1,44 +1,56 @@
 //! Jobs that come and go, each on the clock of its own zone.
 use croner::errors::CronError;
-use croner::{Clocked, Cron, Recurring};
+use croner::{Clocked, Recurring};
 use croner_scheduler::Scheduler;
 use jiff::Zoned;
 
-/// When a job runs, and what it starts.
+/// What a job starts, and when it runs.
 #[derive(Debug, Drop)]
-pub struct Task {
+pub struct Task<J> {
     pub name: String,
-    pub cron: Cron,
+    pub when: J,
 }
 
-/// Its runs are those of its pattern.
-impl Recurring for Task {
-    ghost use Rattle.croner.specs.Recurring.{runs_of};
-    ghost use Rattle.croner.specs.Views.{job_of};
-
-    ghost runs = { λ task. runs_of (job_of task.cron) };
+/// Its runs are those of what says when it runs.
+impl<J: Recurring> Recurring for Task<J> {
+    ghost runs = { λ task. J.runs task.when };
 
     fn next_after<T: Clocked>(&self, after: &T) -> Result<T, CronError> {
-        self.cron.next_after(after)
+        self.when.next_after(after)
     }
 
     fn last_until<T: Clocked>(&self, until: &T) -> Result<T, CronError> {
-        self.cron.last_until(until)
+        self.when.last_until(until)
     }
 }
 
-/// Starts what is due up to a second, in order of time. Gives the second at which to call again; none where no run is left.
-pub fn start_due(
+/// Starts the first run that is due up to a second; whether there was one.
+pub fn start_next<J: Recurring>(
     rt: &HostRuntime,
-    scheduler: &mut Scheduler<Task, Zoned<'_>>,
+    scheduler: &mut Scheduler<Task<J>, Zoned<'_>>,
+    now: i64,
+) -> anyhow::Result<bool> {
+    let Some(due) = scheduler.take_due(now)? else {
+        return Ok(false);
+    };
+    if let Some(job) = scheduler.get(due.id) {
+        println!(rt; "{}: {}", job.job().name, job.position())?; // here it would be started
+        if let Some(stop) = job.stop() {
+            eprintln!(rt; "{} is stopped: {stop:?}", job.job().name)?;
+        }
+    }
+    Ok(true)
+}
+
+/// Starts what is due up to a second, in order of time. Gives the second at which to call again; none where no run is left.
+pub fn start_due<J: Recurring>(
+    rt: &HostRuntime,
+    scheduler: &mut Scheduler<Task<J>, Zoned<'_>>,
     now: i64,
 ) -> anyhow::Result<Option<i64>> {
     for _run in 0..u64::MAX {
-        let Some(due) = scheduler.take_due(now)? else {
+        if !start_next(rt, scheduler, now)? {
             break;
-        };
-        if let Some(job) = scheduler.get(due.id) {
-            println!(rt; "{}: {}", job.job().name, job.position())?; // here it would be started
         }
     }
     Ok(scheduler.next_wake_up())

@@ -1,0 +1,3 @@
+pub mod HeldRuns
+pub mod Intervals
+pub mod Passing
