@@ -1,18 +1,32 @@
 //! The groups of calls that are measured.
 
 use crate::answers::Answers;
-use crate::many;
 use crate::many::{ITEMS, LONG_ITEMS};
 use crate::passes::{
     compare, copy, describe, iterate, limit, matching, next, parse, previous, read_hostile,
 };
-use crate::subjects::Subjects;
+use crate::scheduler::Call;
+use crate::subjects::{Subjects, Times};
 use crate::watch::Watch;
+use crate::{many, scheduler};
 use croner::describe::lang::english::English;
 use croner::describe::lang::swedish::Swedish;
 use croner::errors::CronError;
+use croner::time::table::TableTime;
 use std::alloc::Global;
 use std::slice::from_ref;
+
+/// A zone in which a scheduler's jobs run.
+#[derive(Clone, Copy)]
+pub enum Place {
+    Utc,
+    Paris,
+}
+
+/// How many jobs a scheduler has.
+const THOUSAND: u32 = 1_000;
+
+const HUNDRED_THOUSAND: u32 = 100_000;
 
 /// A group of calls of one kind.
 #[derive(Clone, Copy)]
@@ -50,10 +64,11 @@ pub enum Group {
     OverADay,
     HourlyOverAnHour,
     OftenOverAnHour,
+    Scheduler(Call, u32, Place),
 }
 
 /// Every group and its name, in the order in which they are shown.
-pub const GROUPS: [(Group, &str); 33] = [
+pub const GROUPS: [(Group, &str); 49] = [
     (Group::Parse, "parse"),
     (Group::MatchCivil, "match, civil time"),
     (Group::NextCivil, "next run, civil time"),
@@ -111,7 +126,79 @@ pub const GROUPS: [(Group, &str); 33] = [
         Group::OftenOverAnHour,
         "next run of */5 * * * *, over a gap of an hour",
     ),
+    (
+        Group::Scheduler(Call::WakeMany, THOUSAND, Place::Utc),
+        "wake-up of 1,000 jobs, 4 in 100 run, UTC",
+    ),
+    (
+        Group::Scheduler(Call::WakeOne, THOUSAND, Place::Utc),
+        "wake-up of 1,000 jobs, one runs, UTC",
+    ),
+    (
+        Group::Scheduler(Call::Add, THOUSAND, Place::Utc),
+        "a job that comes to 1,000, UTC",
+    ),
+    (
+        Group::Scheduler(Call::Remove, THOUSAND, Place::Utc),
+        "a job that goes from 1,000, UTC",
+    ),
+    (
+        Group::Scheduler(Call::WakeMany, HUNDRED_THOUSAND, Place::Utc),
+        "wake-up of 100,000 jobs, 4 in 100 run, UTC",
+    ),
+    (
+        Group::Scheduler(Call::WakeOne, HUNDRED_THOUSAND, Place::Utc),
+        "wake-up of 100,000 jobs, one runs, UTC",
+    ),
+    (
+        Group::Scheduler(Call::Add, HUNDRED_THOUSAND, Place::Utc),
+        "a job that comes to 100,000, UTC",
+    ),
+    (
+        Group::Scheduler(Call::Remove, HUNDRED_THOUSAND, Place::Utc),
+        "a job that goes from 100,000, UTC",
+    ),
+    (
+        Group::Scheduler(Call::WakeMany, THOUSAND, Place::Paris),
+        "wake-up of 1,000 jobs, 4 in 100 run, Paris",
+    ),
+    (
+        Group::Scheduler(Call::WakeOne, THOUSAND, Place::Paris),
+        "wake-up of 1,000 jobs, one runs, Paris",
+    ),
+    (
+        Group::Scheduler(Call::Add, THOUSAND, Place::Paris),
+        "a job that comes to 1,000, Paris",
+    ),
+    (
+        Group::Scheduler(Call::Remove, THOUSAND, Place::Paris),
+        "a job that goes from 1,000, Paris",
+    ),
+    (
+        Group::Scheduler(Call::WakeMany, HUNDRED_THOUSAND, Place::Paris),
+        "wake-up of 100,000 jobs, 4 in 100 run, Paris",
+    ),
+    (
+        Group::Scheduler(Call::WakeOne, HUNDRED_THOUSAND, Place::Paris),
+        "wake-up of 100,000 jobs, one runs, Paris",
+    ),
+    (
+        Group::Scheduler(Call::Add, HUNDRED_THOUSAND, Place::Paris),
+        "a job that comes to 100,000, Paris",
+    ),
+    (
+        Group::Scheduler(Call::Remove, HUNDRED_THOUSAND, Place::Paris),
+        "a job that goes from 100,000, Paris",
+    ),
 ];
+
+// Where the scheduler's jobs start.
+fn start_in<'t>(times: &Times<'t>, place: Place) -> TableTime<'t> {
+    match place {
+        Place::Utc => times.in_utc,
+        Place::Paris => times.in_paris,
+    }
+}
 
 impl Group {
     /// Makes each call of the group once. What comes before a restart of the watch is not measured.
@@ -132,6 +219,9 @@ impl Group {
             Group::DescribeSwedish => describe(jobs, Swedish),
             Group::Compare => compare(jobs),
             Group::Copy => copy(jobs),
+            Group::Scheduler(call, jobs, place) => {
+                scheduler::pass(alloc, call, jobs, start_in(&subjects.times, place), watch)
+            }
             _ => self.search(subjects, watch),
         }
     }

@@ -16,6 +16,7 @@ mod measure;
 mod memory;
 mod paris;
 mod passes;
+mod scheduler;
 mod starts;
 mod subjects;
 mod watch;

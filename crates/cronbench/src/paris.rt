@@ -1,4 +1,4 @@
-//! The clocks: that of Paris, as a table of its changes and as a rule, and two with one gap.
+//! The clocks: that of Paris, as a table of its changes and as a rule, two with one gap, and one that never changes.
 
 use crate::starts::FIRST_SECOND;
 use croner::time::table::ClockTable;
@@ -28,7 +28,7 @@ const HOUR: i32 = 3_600;
 
 const DAY: i32 = 86_400;
 
-/// The clock of Paris, in three forms, and two clocks with one gap.
+/// The clock of Paris, in three forms, two clocks with one gap, and one that never changes.
 #[derive(Drop)]
 pub struct Clocks {
     /// The changes of 2020 to 2059. Before the first it is winter time, and after the last too.
@@ -41,6 +41,8 @@ pub struct Clocks {
     pub gap_of_an_hour: ClockTable,
     /// A clock that is put on by a day there.
     pub gap_of_a_day: ClockTable,
+    /// UTC.
+    pub utc: ClockTable,
 }
 
 impl Clocks {
@@ -51,12 +53,14 @@ impl Clocks {
         let long_table = long_table(alloc)?;
         let gap_of_an_hour = gap_of(alloc, HOUR)?;
         let gap_of_a_day = gap_of(alloc, DAY)?;
+        let utc = ClockTable::new(0, Vec::new(alloc))?;
         Ok(Clocks {
             table,
             long_table,
             zone,
             gap_of_an_hour,
             gap_of_a_day,
+            utc,
         })
     }
 }

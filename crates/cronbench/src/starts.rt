@@ -11,6 +11,9 @@ const COUNT: u32 = 64;
 /// 2024-01-01T00:00:00, in seconds from 1970-01-01T00:00:00.
 pub const FIRST_SECOND: i64 = 1_704_067_200;
 
+/// The last second before 2024-06-03T00:00:00, a Monday, in UTC.
+pub const BEFORE_MONDAY: i64 = 1_717_372_799;
+
 /// The times lie within so many seconds from the first one: ten years of 365 days.
 const SPAN_SECONDS: u64 = 315_360_000;
 

@@ -3,7 +3,7 @@
 use crate::hostile::texts;
 use crate::many::{LARGER_TIMES, TIMES, daily_table, table_of};
 use crate::paris::Clocks;
-use crate::starts::{FIRST_SECOND, civil_at, far_seconds, seconds};
+use crate::starts::{BEFORE_MONDAY, FIRST_SECOND, civil_at, far_seconds, seconds};
 use croner::Cron;
 use croner::crontable::CronTable;
 use croner::errors::CronError;
@@ -241,6 +241,10 @@ pub struct Times<'t> {
     pub before_an_hour: Vec<TableTime<'t>>,
     /// The last second before a gap of a day.
     pub before_a_day: Vec<TableTime<'t>>,
+    /// The last second before a Monday, in UTC.
+    pub in_utc: TableTime<'t>,
+    /// The same second in Paris.
+    pub in_paris: TableTime<'t>,
 }
 
 impl<'t> Times<'t> {
@@ -255,6 +259,8 @@ impl<'t> Times<'t> {
         let far_on_long_table = table_times(alloc, &clocks.long_table, far.as_slice())?;
         let before_an_hour = table_times(alloc, &clocks.gap_of_an_hour, &[FIRST_SECOND - 1])?;
         let before_a_day = table_times(alloc, &clocks.gap_of_a_day, &[FIRST_SECOND - 1])?;
+        let in_utc = TableTime::new(&clocks.utc, BEFORE_MONDAY)?;
+        let in_paris = TableTime::new(&clocks.table, BEFORE_MONDAY)?;
         Ok(Times {
             civil,
             table,
@@ -263,6 +269,8 @@ impl<'t> Times<'t> {
             far_on_long_table,
             before_an_hour,
             before_a_day,
+            in_utc,
+            in_paris,
         })
     }
 }

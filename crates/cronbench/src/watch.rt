@@ -4,18 +4,23 @@ use std::io;
 use std::rt::CpuClock;
 use std::time::Duration;
 
-/// A watch that runs.
+/// A watch that runs, or was stopped.
 #[derive(Drop)]
 pub struct Watch<'r> {
     rt: &'r HostRuntime,
     begin: io::Result<Duration>,
+    end: Option<io::Result<Duration>>,
 }
 
 impl<'r> Watch<'r> {
     /// A watch that begins now.
     pub fn start(rt: &'r HostRuntime) -> Watch<'r> {
         let begin = rt.thread_cpu_time();
-        Watch { rt, begin }
+        Watch {
+            rt,
+            begin,
+            end: None,
+        }
     }
 
     /// Begins anew.
@@ -23,10 +28,16 @@ impl<'r> Watch<'r> {
         self.begin = self.rt.thread_cpu_time();
     }
 
-    /// The processor time since it began; the error of either reading of the clock.
+    /// Stops: what comes later is not measured.
+    pub fn stop(&mut self) {
+        self.end = Some(self.rt.thread_cpu_time());
+    }
+
+    /// The processor time since it began, up to its stop, or up to now where it wasn't stopped; the error of either reading of the clock.
     pub fn time(self) -> io::Result<Duration> {
-        let Watch { rt, begin } = self;
+        let Watch { rt, begin, end } = self;
         let begin = begin?;
-        Ok(rt.thread_cpu_time()?.saturating_sub(begin))
+        let end = end.unwrap_or(rt.thread_cpu_time())?;
+        Ok(end.saturating_sub(begin))
     }
 }
