@@ -113,9 +113,9 @@ abbrev pub are_words_noted : Note → Five → Bool
 are_words_noted notes.StarDay w = is_star_day w
 are_words_noted note w = any_field (is_field_noted note) w
 
--- a note of a job, from its first byte that is no blank on
-abbrev pub is_job_noted : Note → List ℕ → Bool
-is_job_noted note text = not (begins_with 64 text) && are_words_noted note (words_of text)
+-- a note of a job, by its bytes from the first that is no blank on, and by their words
+abbrev pub is_job_noted : Note → List ℕ → Five → Bool
+is_job_noted note text w = not (begins_with 64 text) && are_words_noted note w
 
 -- ---- what cron refuses and croner's parser takes
 
@@ -176,19 +176,23 @@ abbrev pub is_of_nickname : Fault → Bool
 is_of_nickname faults.Nickname = true
 is_of_nickname other = false
 
--- a note of a line that is refused for this fault
-abbrev pub is_refusal_noted : Note → Fault → List ℕ → Bool
-is_refusal_noted notes.CapitalNickname fault text =
+-- a note of a line that is refused for this fault, by the same
+abbrev pub is_refusal_noted : Note → Fault → List ℕ → Five → Bool
+is_refusal_noted notes.CapitalNickname fault text w =
     is_of_nickname fault && is_some (nickname_of (lowered (front kinds.Word (rest_of text))))
-is_refusal_noted notes.Seconds fault text = is_of_fields fault && has_seconds text
-is_refusal_noted note fault text = is_refused_field_noted note fault (field_at fault (words_of text))
+is_refusal_noted notes.Seconds fault text w = is_of_fields fault && has_seconds text
+is_refusal_noted note fault text w = is_refused_field_noted note fault (field_at fault w)
 
 -- ---- the line
 
 -- a line has a note, of which the fault is told that cron refuses it for, if it does
+abbrev pub is_text_noted : Note → Option Fault → List ℕ → Five → Bool
+is_text_noted note None text w = is_job_noted note text w
+is_text_noted note (Some fault) text w = is_refusal_noted note fault text w
+
+-- the same by the bytes of the line
 abbrev pub is_noted : Note → Option Fault → List ℕ → Bool
-is_noted note None line = is_job_noted note (behind kinds.Blank line)
-is_noted note (Some fault) line = is_refusal_noted note fault (behind kinds.Blank line)
+is_noted note fault line = is_text_noted note fault (behind kinds.Blank line) (words_of (behind kinds.Blank line))
 
 -- all notes, in the order in which they are given
 abbrev pub all_notes : List Note

@@ -18,6 +18,7 @@ use croner::parser::{CronParser, PatternFault};
 use std::alloc::{AllocError, Global};
 
 /// What croner's parser makes of the times of a line.
+#[derive(Drop)]
 pub enum Outcome {
     /// The line has no text for the parser: it is neither a job nor a pattern, or it is a job that runs as the machine
     /// starts, or at no time.
@@ -32,19 +33,6 @@ pub enum Outcome {
     NotUtf8,
 }
 
-// By hand, so that a function that lets one go calls this one: its proof doesn't go through the fields at each exit.
-impl Drop for Outcome {
-    fn drop(self) {
-        match self {
-            Outcome::NoText => {}
-            Outcome::Job(_) => {}
-            Outcome::TimesRefused(_) => {}
-            Outcome::PatternRefused(_) => {}
-            Outcome::NotUtf8 => {}
-        }
-    }
-}
-
 /// The content of a line, found by one reading of it.
 pub struct Content<'l> {
     /// What the line is.
@@ -56,7 +44,7 @@ pub struct Content<'l> {
     pub notes: Vec<Note>,
 }
 
-// By hand, as that of `Outcome`.
+// By hand, so that a function that lets one go calls this one: its proof doesn't go through the fields at each exit.
 impl Drop for Content<'_> {
     fn drop(self) {
         let Content {

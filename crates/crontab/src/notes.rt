@@ -10,7 +10,7 @@ ghost use Rattle.crontab.specs.Field.{name_of, part_of};
 ghost use Rattle.crontab.specs.Line.{nickname_of};
 ghost use Rattle.crontab.specs.Line.{words_of as words_in};
 ghost use Rattle.crontab.specs.List.{names_nothing, parts_of};
-ghost use Rattle.crontab.specs.Notes.{is_followed, is_large, is_named, reads, is_numbered, is_named_last, passes, any_run, is_whole_star, has_range_down, has_star_among, is_field_noted, any_field, is_star_day, are_words_noted, is_job_noted, field_at, has_modifier, is_fault_noted, takes, is_refused_field_noted, takes_all, has_seconds, lowered, is_of_fields, is_of_nickname, is_refusal_noted, is_noted, note_name, notes_of};
+ghost use Rattle.crontab.specs.Notes.{is_followed, is_large, is_named, reads, is_numbered, is_named_last, passes, any_run, is_whole_star, has_range_down, has_star_among, is_field_noted, any_field, is_star_day, are_words_noted, is_job_noted, field_at, has_modifier, is_fault_noted, takes, is_refused_field_noted, takes_all, has_seconds, lowered, is_of_fields, is_of_nickname, is_refusal_noted, is_text_noted, note_name, notes_of};
 
 use crate::bytes::{Kind, begins_with, cut, is_digit, is_of, rest_of};
 use crate::field::{Names, Part, Place, all_digits, digits, is_name, name_of, part_of};
@@ -262,13 +262,18 @@ fn are_words_noted(alloc: Global, note: Note, words: Words<'_>) -> Result<bool, 
     }
 }
 
-fn is_job_noted(alloc: Global, note: Note, text: &[u8]) -> Result<bool, AllocError>
-    ensures { IfOk result (λ b. b ≡ is_job_noted note text.now) }
+fn is_job_noted(
+    alloc: Global,
+    note: Note,
+    text: &[u8],
+    words: Words<'_>,
+) -> Result<bool, AllocError>
+    ensures { IfOk result (λ b. b ≡ is_job_noted note text.now (words_seen words.entry)) }
 {
     if begins_with(text, b'@') {
         return Ok(false);
     }
-    are_words_noted(alloc, note, words_of(text))
+    are_words_noted(alloc, note, words)
 }
 
 // ---- what cron refuses and croner's parser takes
@@ -394,8 +399,9 @@ fn is_refusal_noted(
     note: Note,
     fault: Fault,
     text: &[u8],
+    words: Words<'_>,
 ) -> Result<bool, AllocError>
-    ensures { IfOk result (λ b. b ≡ is_refusal_noted note fault text.now) }
+    ensures { IfOk result (λ b. b ≡ is_refusal_noted note fault text.now (words_seen words.entry)) }
 {
     match note {
         Note::CapitalNickname => {
@@ -404,28 +410,25 @@ fn is_refusal_noted(
         }
         Note::Seconds if is_of_fields(fault) => has_seconds(alloc, text),
         Note::Seconds => Ok(false),
-        _ => is_refused_field_noted(alloc, note, fault, words_of(text)),
+        _ => is_refused_field_noted(alloc, note, fault, words),
     }
 }
 
 // ---- the line
 
-/// Whether a line of a crontab has a note. The line is a job, or one that cron refuses for this fault, and is given
-/// without its line feed.
-///
-/// The only error is want of memory.
-pub fn is_noted(
+// Whether a line has a note, by its bytes from the first that is no blank on, and by their words.
+fn is_noted(
     alloc: Global,
     note: Note,
     fault: Option<Fault>,
-    line: &[u8],
+    text: &[u8],
+    words: Words<'_>,
 ) -> Result<bool, AllocError>
-    ensures { IfOk result (λ b. b ≡ is_noted note fault line.now) }
+    ensures { IfOk result (λ b. b ≡ is_text_noted note fault text.now (words_seen words.entry)) }
 {
-    let (_, text) = cut(line, Kind::Blank);
     match fault {
-        None => is_job_noted(alloc, note, text),
-        Some(fault) => is_refusal_noted(alloc, note, fault, text),
+        None => is_job_noted(alloc, note, text, words),
+        Some(fault) => is_refusal_noted(alloc, note, fault, text, words),
     }
 }
 
@@ -436,21 +439,24 @@ pub fn is_noted(
 pub fn notes_of(alloc: Global, fault: Option<Fault>, line: &[u8]) -> Result<Vec<Note>, AllocError>
     ensures { IfOk result (λ found. found.items ≡ notes_of fault line.now) }
 {
-    those_noted(alloc, fault, line, &Note::ALL)
+    let (_, text) = cut(line, Kind::Blank);
+    let found = those_noted(alloc, fault, text, words_of(text), &Note::ALL)?;
+    Ok(found)
 }
 
-// Of some notes those that a line has.
+// Of some notes those that a line has, by its bytes from the first that is no blank on, and by their words.
 fn those_noted(
     alloc: Global,
     fault: Option<Fault>,
-    line: &[u8],
+    text: &[u8],
+    words: Words<'_>,
     notes: &[Note],
 ) -> Result<Vec<Note>, AllocError>
-    ensures { IfOk result (λ found. found.items ≡ filter (λ note. is_noted note fault line.now) notes.now) }
+    ensures { IfOk result (λ found. found.items ≡ filter (λ note. is_text_noted note fault text.now (words_seen words.entry)) notes.now) }
 {
     let mut found = Vec::new(alloc);
     for note in notes {
-        if is_noted(alloc, *note, fault, line)? {
+        if is_noted(alloc, *note, fault, text, words)? {
             found.push(*note)?;
         }
     }
