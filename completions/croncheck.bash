@@ -6,6 +6,20 @@ _croncheck_zones() {
     sed -n 's/^[^#\t]*\t[^\t]*\t\([^\t]*\).*/\1/p' "${TZDIR:-/usr/share/zoneinfo}/zone.tab" 2>/dev/null
 }
 
+# The options of a command; without one those of check.
+_croncheck_options() {
+    local clock='--zone --from' span='--runs --until' output='--json --strict --same-job' kinds='--system --user --patterns'
+    local settings='--alternative-weekdays --dom-and-dow --sloppy-ranges --seconds --year'
+    case $1 in
+        check) printf '%s\n' "$clock $output $kinds --language $settings -h --help" ;;
+        show) printf '%s\n' "$clock $span $output $kinds --language $settings -h --help" ;;
+        plan) printf '%s\n' "$clock $span $kinds $settings -h --help" ;;
+        next) printf '%s\n' "$clock $span --language $settings -h --help" ;;
+        describe) printf '%s\n' "--language $settings -h --help" ;;
+        *) printf '%s\n' "$clock $output $kinds --language $settings -h --help -V --version" ;;
+    esac
+}
+
 _croncheck() {
     local word=${COMP_WORDS[COMP_CWORD]} option=${COMP_WORDS[COMP_CWORD - 1]} words=
     COMPREPLY=()
@@ -21,11 +35,18 @@ _croncheck() {
         --runs | --until) ;;
         --language) words='en sv' ;;
         --seconds | --year) words='optional required disallowed' ;;
+        help) words='check show plan next describe' ;;
         *)
-            # Other words are files, which bash completes by itself.
-            [[ $word == -* ]] || return 0
-            words='--zone --from --runs --until --plan --json --strict --same-job --system --patterns --language
-                --alternative-weekdays --dom-and-dow --sloppy-ranges --seconds --year -h --help -V --version'
+            if [[ $word == -* ]]; then
+                words=$(_croncheck_options "${COMP_WORDS[1]}")
+            elif ((COMP_CWORD == 1)); then
+                words='check show plan next describe help'
+                # Where none of these begins so, the word is a file, which bash completes by itself.
+                mapfile -t COMPREPLY < <(compgen -W "$words" -- "$word")
+                return 0
+            else
+                return 0
+            fi
             ;;
     esac
     compopt +o bashdefault +o default 2>/dev/null

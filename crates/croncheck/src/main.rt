@@ -2,10 +2,15 @@
 #![tactic(auto)]
 
 use croncheck_command::changes::Changes;
+use croncheck_command::checker::Checker;
 use croncheck_command::clock::Clock;
 use croncheck_command::files::{Sources, tell_files};
+use croncheck_command::form::Form;
+use croncheck_command::json_checker::JsonChecker;
 use croncheck_command::json_reporter::JsonReporter;
 use croncheck_command::moment::second_of;
+use croncheck_command::output::Output;
+use croncheck_command::patterns::{Answer, tell_patterns};
 use croncheck_command::planner::Planner;
 use croncheck_command::problem::Problem;
 use croncheck_command::progress::Terms;
@@ -14,13 +19,13 @@ use croncheck_command::runs::Listing;
 use croncheck_command::settings::Settings;
 use croncheck_command::shown::Shared;
 use croncheck_command::sink::Sink;
-use croncheck_command::words::{Call, Form, NoCall, Span, USAGE, read_call};
+use croncheck_command::words::{Call, NoCall, Span, USAGE, Verb, read_call};
 use croncheck_command::zone::{note_of, refusal_of};
 use either::{Either, Left, Right};
 use jiff::Timestamp;
 use jiff::tz::{SystemTimeZone, TimeZone, TimeZoneDatabase};
 use std::fs::File;
-use std::io::{BufReader, BufWriter, ErrorKind, Stdin};
+use std::io::{BufReader, BufWriter, ErrorKind, IsTerminal, Stdin};
 use std::process::ExitCode;
 use std::{env, io};
 
@@ -152,6 +157,7 @@ impl Sources for Machine<'_> {
 
     fn open(&self, name: &str) -> io::Result<Either<BufReader<Stdin>, BufReader<File>>> {
         if name == "-" {
+            announce_typing(self.rt);
             let reader = BufReader::new(self.rt.alloc(), self.rt.stdin())?;
             return Ok(Left(reader));
         }
@@ -161,23 +167,53 @@ impl Sources for Machine<'_> {
     }
 }
 
-// Tells of the files in the form that the call asks for.
-fn tell(rt: &HostRuntime, call: &Call<'_>, terms: Terms<'_, '_>) -> io::Result<u8> {
-    let out = BufWriter::new(rt.alloc(), rt.stdout())?;
-    let (names, machine) = (call.files.as_slice(), Machine { rt });
-    let mut notes = rt.stderr();
-    match call.form {
-        Form::Report => {
-            let mut sink = Sink::new(terms, Reporter, out);
-            tell_files(&machine, names, &mut sink, &mut notes)
-        }
-        Form::Plan => {
-            let mut sink = Sink::new(terms, Planner::new(rt.alloc()), out);
-            tell_files(&machine, names, &mut sink, &mut notes)
-        }
-        Form::Json => {
-            let mut sink = Sink::new(terms, JsonReporter, out);
-            tell_files(&machine, names, &mut sink, &mut notes)
-        }
+// Says that standard input is read, where that is a terminal: nothing else would show it.
+fn announce_typing(rt: &HostRuntime) {
+    if rt.stdin().is_terminal() {
+        let _ = eprintln!(rt;
+            "croncheck: reads the lines that are typed here, up to Ctrl-D; croncheck --help lists its commands"
+        );
     }
+}
+
+// Tells of the files or the patterns in the form that the call asks for.
+fn tell(rt: &HostRuntime, call: &Call<'_>, terms: Terms<'_, '_>) -> io::Result<u8> {
+    match call.verb {
+        Verb::Check if call.is_json => tell_in(rt, call, terms, JsonChecker),
+        Verb::Check => tell_in(rt, call, terms, Checker),
+        Verb::Show if call.is_json => tell_in(rt, call, terms, JsonReporter),
+        Verb::Show => tell_in(rt, call, terms, Reporter),
+        Verb::Plan => tell_in(rt, call, terms, Planner::new(rt.alloc())),
+        Verb::Next => answer(rt, call, terms, Answer::Runs),
+        Verb::Describe => answer(rt, call, terms, Answer::Description),
+    }
+}
+
+// Tells of the files in a form.
+fn tell_in<F: Form + Drop>(
+    rt: &HostRuntime,
+    call: &Call<'_>,
+    terms: Terms<'_, '_>,
+    form: F,
+) -> io::Result<u8> {
+    let out = BufWriter::new(rt.alloc(), rt.stdout())?;
+    let mut notes = rt.stderr();
+    let mut sink = Sink::new(terms, form, out);
+    tell_files(
+        &Machine { rt },
+        call.words.as_slice(),
+        &mut sink,
+        &mut notes,
+    )
+}
+
+// Answers the patterns.
+fn answer(
+    rt: &HostRuntime,
+    call: &Call<'_>,
+    terms: Terms<'_, '_>,
+    answer: Answer,
+) -> io::Result<u8> {
+    let mut output = Output::new(BufWriter::new(rt.alloc(), rt.stdout())?);
+    tell_patterns(&terms, call.words.as_slice(), answer, &mut output)
 }

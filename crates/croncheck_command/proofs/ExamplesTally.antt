@@ -1,5 +1,5 @@
 -- Worked rows of counts and of the status, computed from their definitions.
-use Rattle.std.proofs.Common.{◌≡◌, ℕ, true, false, refl}
+use Rattle.std.proofs.Common.{◌≡◌, ℕ, Bool, true, false, refl}
 use Rattle.std.specs.Prelude.{codes}
 use Rattle.std.specs.Fmt.{digits}
 use Rattle.crontab.specs.declared.line.Dialect.{Dialect}
@@ -7,12 +7,13 @@ use Rattle.crontab.specs.declared.line.Dialect.TheVariants as dialects
 use Rattle.croncheck_command.specs.declared.report.Report.{Report}
 use Rattle.croncheck_command.specs.declared.report.Report.TheVariants as reports
 use Rattle.croncheck_command.specs.declared.tally.Tally.{Tally}
+use Rattle.croncheck_command.specs.FileSeen.{File, is_ignored}
 use Rattle.croncheck_command.specs.Files.{summary_of}
-use Rattle.croncheck_command.specs.Tally.{none_counted, counted, added, status_of}
+use Rattle.croncheck_command.specs.Tally.{none_counted, counted, added, with_file, status_of}
 
 -- a tally of this many refused lines, and lines with a warning
 abbrev tally : ℕ → ℕ → Tally
-tally refused warned = record { lines = 20_000; jobs = 2; refused = refused; warned = warned }
+tally refused warned = record { lines = 20_000; jobs = 2; refused = refused; warned = warned; ignored = 0 }
 
 -- how many lines have a warning with the one behind so many of a file
 abbrev warned_with : Dialect → ℕ → Report → ℕ
@@ -20,7 +21,7 @@ warned_with dialect lines report = (added dialect lines (tally 0 0) report).warn
 
 -- ---- lines
 
-a_zone : added dialects.User 0 none_counted (reports.Setting true true) ≡ record { lines = 1; jobs = 0; refused = 0; warned = 1 }
+a_zone : added dialects.User 0 none_counted (reports.Setting true true) ≡ record { lines = 1; jobs = 0; refused = 0; warned = 1; ignored = 0 }
 a_zone = refl
 
 a_setting_without_its_line_feed : warned_with dialects.System 0 (reports.Setting false false) ≡ 1
@@ -69,6 +70,32 @@ refused = refl
 
 strictly_refused : status_of true (tally 1 0) ≡ 1
 strictly_refused = refl
+
+-- cron ignores a whole file, as one without its last line feed: a finding of any call
+ignored : status_of false (with_file true (tally 0 0)) ≡ 1
+ignored = refl
+
+not_ignored : status_of false (with_file false (tally 0 0)) ≡ 0
+not_ignored = refl
+
+-- a crontab of so many lines, of which none is refused, and whose last line has its line feed or hasn't
+abbrev file_of : Bool → File
+file_of is_unfed = record { name = codes "tab"; has_refused = false; is_unfed = is_unfed }
+
+without_its_line_feed : is_ignored dialects.User 3 (file_of true) ≡ true
+without_its_line_feed = refl
+
+with_its_line_feed : is_ignored dialects.User 3 (file_of false) ≡ false
+with_its_line_feed = refl
+
+of_10001_lines : is_ignored dialects.System 10_001 (file_of false) ≡ true
+of_10001_lines = refl
+
+of_10000_lines : is_ignored dialects.System 10_000 (file_of false) ≡ false
+of_10000_lines = refl
+
+patterns_without_their_line_feed : is_ignored dialects.Patterns 10_001 (file_of true) ≡ false
+patterns_without_their_line_feed = refl
 
 -- ---- the summary
 

@@ -11,12 +11,14 @@ use Rattle.std.specs.declared.cmp.Ordering.{Ordering}
 use Rattle.std.specs.declared.cmp.Ordering.TheVariants.{Less, Equal, Greater}
 use Rattle.croner_pattern.specs.Order.{pattern_cmp_total}
 use Rattle.croner.specs.Views.{job_of}
+use Rattle.croner_pattern.specs.Meaning.{Meaning}
+use Rattle.crontab.specs.declared.content.Outcome.{Outcome}
 use Rattle.crontab.specs.Line.{Line}
 use Rattle.croncheck_command.specs.declared.report.Same.{Same}
-use Rattle.croncheck_command.specs.declared.settings.Settings.{Settings}
 use Rattle.croncheck_command.specs.declared.same.Seen.{Seen}
+use Rattle.croncheck_command.specs.Plan.{meaning_found}
 use Rattle.croncheck_command.specs.Report.{file_and_line}
-use Rattle.croncheck_command.specs.Same.{HasTimesCompared, owner_of, JobKey, key_cmp, are_same, IsCompared, place_kept, KeepsPlaces, Finds, FindsAny}
+use Rattle.croncheck_command.specs.Same.{compared_in, owner_of, JobKey, key_cmp, are_same, IsCompared, place_kept, KeepsPlaces, Finds, FindsAny}
 
 key_cmp_total : IsTotalOrder key_cmp
 key_cmp_total = then_total (on_total (λ (k : JobKey). k.0.items) nat_list_cmp_total) (on_total (λ (k : JobKey). k.1.pattern) pattern_cmp_total)
@@ -89,19 +91,18 @@ kept_after old new key here place gets is other =
 
 -- ---- of a line
 
+none_found : (view : Meaning → Meaning) (found : Option Meaning) → None ≡ option_map view found → found ≡ None
+none_found view None h = refl
+none_found view (Some m) h = absurd (true≢false (ap is_some (sym h)))
+
 -- nothing is compared of it
-pub finds_nothing : (s : Settings) (line : Line) (here : List ℕ × ℕ) (seen : Seen) → HasTimesCompared s line None
-    → (key : Option JobKey) × IsCompared s line key × FindsAny key here seen seen None
-finds_nothing s line here seen h = (None, h, (refl, refl))
+pub finds_nothing : (line : Line) (found : Outcome) (here : List ℕ × ℕ) (seen : Seen) → None ≡ option_map (compared_in line) (meaning_found found)
+    → (key : Option JobKey) × IsCompared line found key × FindsAny key here seen seen None
+finds_nothing line found here seen h = (None, none_found (compared_in line) (meaning_found found) h, (refl, refl))
 
 -- it has a job
-pub finds_job : (s : Settings) (line : Line) (key : JobKey) (here : List ℕ × ℕ) (old new : Seen) (found : Option Same)
-    → HasTimesCompared s line (Some (job_of key.1)) → key.0.items ≡ owner_of line → Finds key here old new found
-    → (key : Option JobKey) × IsCompared s line key × FindsAny key here old new found
-finds_job s line key here old new found times owner finds = (Some key, (times, owner), finds)
-
-pub if_found : {E : Type 0} (s : Settings) (line : Line) (key : JobKey) (here : List ℕ × ℕ) (old new : Seen) (r : Result (Option Same) E)
-    → HasTimesCompared s line (Some (job_of key.1)) → key.0.items ≡ owner_of line → IfOk r (λ found. Finds key here old new found)
-    → IfOk r (λ found. (key : Option JobKey) × IsCompared s line key × FindsAny key here old new found)
-if_found s line key here old new (Ok found) times owner finds = finds_job s line key here old new found times owner finds
-if_found s line key here old new (Err e) times owner finds = finds
+pub if_found : {E : Type 0} (line : Line) (outcome : Outcome) (key : JobKey) (here : List ℕ × ℕ) (old new : Seen) (r : Result (Option Same) E)
+    → Some (job_of key.1) ≡ option_map (compared_in line) (meaning_found outcome) → key.0.items ≡ owner_of line
+    → IfOk r (λ found. Finds key here old new found) → IfOk r (λ found. (key : Option JobKey) × IsCompared line outcome key × FindsAny key here old new found)
+if_found line outcome key here old new (Ok found) times owner finds = (Some key, (times, owner), finds)
+if_found line outcome key here old new (Err e) times owner finds = finds

@@ -1,10 +1,10 @@
 -- The watched changes of a table's clock are those that the table lists.
-use Rattle.std.proofs.Common.{◌≡◌, ℕ, zero, suc, ◌+◌, ◌<◌, ◌≤◌, Bool, true, false, ◌&&◌, refl, sym, ap, ◌∙◌, subst, inl, inr, arith, ℤ, pos, ◌+ℤ◌, ◌-ℤ◌, ◌<ℤ◌, ◌≤ℤ◌, int_lt, int_le, if◌then◌else◌, List, [], ◌∷◌, ◌++◌, length, get_or, drop, FitsSigned, w32, w64}
+use Rattle.std.proofs.Common.{◌≡◌, ℕ, zero, suc, ◌+◌, ◌<◌, ◌≤◌, Bool, true, false, refl, sym, ap, ◌∙◌, subst, inl, inr, arith, ℤ, pos, ◌+ℤ◌, ◌-ℤ◌, ◌<ℤ◌, ◌≤ℤ◌, if◌then◌else◌, List, [], ◌∷◌, ◌++◌, length, get_or, drop, FitsSigned, w32, w64}
 use Rattle.std.specs.Bool.{Decides}
 use Rattle.std.specs.List.{All}
 use Rattle.std.proofs.lemmas.Bool.{false≢true}
 use Rattle.std.proofs.lemmas.Bool.Decides.{Decides-and}
-use Rattle.std.proofs.lemmas.Int.{ints, by_lt_z}
+use Rattle.std.proofs.lemmas.Int.{ints, by_lt_z, to_z-of_z}
 use Rattle.std.proofs.lemmas.List.{append_assoc, append-nil, drop_all, drop_more}
 use Rattle.std.proofs.lemmas.List.Elements.{All-nil, All-cons, All-head, All-tail, All-weaker}
 use Rattle.croner_base.specs.declared.time.table.ClockTable.{ClockTable}
@@ -20,13 +20,9 @@ use Rattle.croner_base.proofs.tables.TableReadings.{passed}
 use Rattle.croner_base.proofs.tables.TableTests.{lt_of, le_of, lt_test, le_test, not_true, step_moves, instant_bounds, offset_bounds}
 use Rattle.croncheck_command.specs.Changes.{IsJump, IsWatched, AreChanges, AreChangesFrom, watched_seconds, first_watched, end_watched}
 use Rattle.croncheck_command.specs.declared.changes.Change.{Change}
+use Rattle.croncheck_command.specs.Private.Watched.{is_watched, change_of, watched_at}
 
 -- ---- what a loop over a table's changes keeps of them
-
--- a change at an instant is watched
-abbrev pub is_watched : ℤ → ℤ → Bool
-is_watched start i =
-    int_lt start i && (int_le i (start +ℤ pos watched_seconds) && (int_le first_watched i && int_lt i end_watched))
 
 watched_parts : (s i : ℤ) → Decides (is_watched s i) ((s <ℤ i) × ((i ≤ℤ (s +ℤ pos watched_seconds)) × ((first_watched ≤ℤ i) × (i <ℤ end_watched))))
 watched_parts s i =
@@ -41,14 +37,14 @@ watched_by s i =
     )
 
 -- a change of a table, behind an offset
-abbrev pub change_of : ℤ → ℤ × ℤ → Change
-change_of offset c = record { instant = c.0; before = c.0 +ℤ offset; after = c.0 +ℤ c.1 }
+abbrev row_change : ℤ → ℤ × ℤ → Change
+row_change offset c = change_of offset c.0 c.1
 
 -- the watched ones of a first offset and changes
 abbrev pub watched_of : ℤ → ℤ → List (ℤ × ℤ) → List Change
 watched_of start offset [] = []
 watched_of start offset (c ∷ cs) =
-    if is_watched start c.0 then change_of offset c ∷ watched_of start c.1 cs else watched_of start c.1 cs
+    if is_watched start c.0 then row_change offset c ∷ watched_of start c.1 cs else watched_of start c.1 cs
 
 -- ---- they are the clock's
 
@@ -82,7 +78,7 @@ reads_on : (z : Zone) (past o : ℤ) (c : ℤ × ℤ) (cs : List (ℤ × ℤ)) �
 reads_on z past o c cs behind reads i from = reads i (omega (arith, ints, behind, from)) ∙ ap (λ (x : ℤ). i +ℤ x) (passed o c cs i from)
 
 -- the first change moves the clock
-is_jump : (z : Zone) (past o : ℤ) (c : ℤ × ℤ) (cs : List (ℤ × ℤ)) → past <ℤ c.0 → are_changes o (c ∷ cs) ≡ true → ReadsAs z past o (c ∷ cs) → IsJump z (change_of o c)
+is_jump : (z : Zone) (past o : ℤ) (c : ℤ × ℤ) (cs : List (ℤ × ℤ)) → past <ℤ c.0 → are_changes o (c ∷ cs) ≡ true → ReadsAs z past o (c ∷ cs) → IsJump z (row_change o c)
 is_jump z past o c cs behind h reads =
     let f = first_change o c cs h in
     let at = at_change o c cs c.0 f.apart refl in
@@ -118,15 +114,15 @@ wider z start past later changes behind rest =
     (λ c h. (omega (arith, ints, behind, h.0), h.1, h.2)) changes rest.each
 
 one_more : (z : Zone) (start past o : ℤ) (c : ℤ × ℤ) (cs : List (ℤ × ℤ)) (changes : List Change) → past <ℤ c.0 → are_changes o (c ∷ cs) ≡ true → ReadsAs z past o (c ∷ cs)
-    → IsWatched start c.0 → ArePast z start c.0 changes → ArePast z start past (change_of o c ∷ changes)
+    → IsWatched start c.0 → ArePast z start c.0 changes → ArePast z start past (row_change o c ∷ changes)
 one_more z start past o c cs changes behind h reads watched rest = record {
-  each = All-cons (λ (d : Change). (past <ℤ d.instant) × IsJump z d × IsWatched start d.instant) (change_of o c) changes (behind, is_jump z past o c cs behind h reads, watched)
+  each = All-cons (λ (d : Change). (past <ℤ d.instant) × IsJump z d × IsWatched start d.instant) (row_change o c) changes (behind, is_jump z past o c cs behind h reads, watched)
       (wider z start past c.0 changes behind rest);
   every = λ i after change is others. elim (place o c cs i (offset_changes z past o (c ∷ cs) i reads after change)) [
-    | inl here ↦ All-head (λ (d : Change). ¬ (d.instant ≡ i)) (change_of o c) changes others (sym here)
-    | inr later ↦ rest.every i later.0 change is (All-tail (λ (d : Change). ¬ (d.instant ≡ i)) (change_of o c) changes others)
+    | inl here ↦ All-head (λ (d : Change). ¬ (d.instant ≡ i)) (row_change o c) changes others (sym here)
+    | inr later ↦ rest.every i later.0 change is (All-tail (λ (d : Change). ¬ (d.instant ≡ i)) (row_change o c) changes others)
   ];
-  ordered = ordered_more z start past (change_of o c) changes rest;
+  ordered = ordered_more z start past (row_change o c) changes rest;
 }
 
 no_more : (z : Zone) (start past o : ℤ) (c : ℤ × ℤ) (cs : List (ℤ × ℤ)) (changes : List Change) → past <ℤ c.0 → ReadsAs z past o (c ∷ cs)
@@ -173,7 +169,7 @@ reads_as : (t : ClockTable) (past : ℤ) → ReadsAs (table_zone t) past t.first
 unfolding clock
 reads_as t past i from = refl
 
-pub watched_changes : (t : ClockTable) (start : ℤ) → AreChanges (table_zone t) start (watched_of start t.first_offset t.changes.items)
+watched_changes : (t : ClockTable) (start : ℤ) → AreChanges (table_zone t) start (watched_of start t.first_offset t.changes.items)
 watched_changes t start =
     let first = before_all start t.changes.items in
     all_past (table_zone t) start first.0 _ first.1
@@ -181,38 +177,29 @@ watched_changes t start =
 
 -- ---- a loop
 
--- nothing is read
-pub none_read : (start o p : ℤ) (found : List Change) (read cs : List (ℤ × ℤ)) → found ≡ [] → p ≡ o → read ≡ cs → found ++ watched_of start p (drop 0 read) ≡ watched_of start o cs
-none_read start o p found read cs e f g = rw (e, f, g) refl
+-- one change more is read
+read_by : (b : Bool) (start o : ℤ) (c : ℤ × ℤ) (cs : List (ℤ × ℤ)) → is_watched start c.0 ≡ b
+    → watched_of start o (c ∷ cs) ≡ watched_at start o c.0 c.1 ++ watched_of start c.1 cs
+read_by true start o c cs is = rw is refl
+read_by false start o c cs is = rw is refl
 
--- one change more is read, which is watched or not
-read_watched : (start o : ℤ) (cs : List (ℤ × ℤ)) (n : ℕ) (d : ℤ × ℤ) (found all : List Change) → n < length cs → IsWatched start (get_or cs n d).0
-    → found ++ watched_of start o (drop n cs) ≡ all → (found ++ change_of o (get_or cs n d) ∷ []) ++ watched_of start (get_or cs n d).1 (drop (n + 1) cs) ≡ all
-read_watched start o cs n d found all inside watched same =
-    let test = (watched_by start (get_or cs n d).0).1 watched in
-    append_assoc found _ _ ∙ rw (drop_more cs n d inside, test) at same
+pub one_read : (start o p : ℤ) (cs : List (ℤ × ℤ)) (n : ℕ) (offset instant next : ℤ) (found more all : List Change) → n < length cs → offset ≡ o
+    → instant ≡ (get_or cs n (pos 0, pos 0)).0 → next ≡ (get_or cs n (pos 0, pos 0)).1 → p ≡ (get_or cs n (pos 0, pos 0)).1
+    → more ≡ found ++ watched_at start offset instant next → found ++ watched_of start o (drop n cs) ≡ all → more ++ watched_of start p (drop (n + 1) cs) ≡ all
+one_read start o p cs n offset instant next found more all inside before at to on is same =
+    let row = get_or cs n (pos 0, pos 0) in
+    let rest = watched_of start row.1 (drop (n + 1) cs) in
+    let put : more ≡ found ++ watched_at start o row.0 row.1 = is ∙ rw (before, at, to) refl in
+    let read : watched_of start o (drop n cs) ≡ watched_at start o row.0 row.1 ++ rest = rw (drop_more cs n (pos 0, pos 0) inside) (read_by _ start o row (drop (n + 1) cs) refl) in
+    ap (λ (x : ℤ). more ++ watched_of start x (drop (n + 1) cs)) on ∙ ap (λ (xs : List Change). xs ++ rest) put
+    ∙ append_assoc found (watched_at start o row.0 row.1) rest ∙ ap (λ (xs : List Change). found ++ xs) (sym read) ∙ same
 
-read_other : (start o : ℤ) (cs : List (ℤ × ℤ)) (n : ℕ) (d : ℤ × ℤ) (found all : List Change) → n < length cs → ¬ (IsWatched start (get_or cs n d).0)
-    → found ++ watched_of start o (drop n cs) ≡ all → found ++ watched_of start (get_or cs n d).1 (drop (n + 1) cs) ≡ all
-read_other start o cs n d found all inside not_watched same =
-    let test = not_true (is_watched start (get_or cs n d).0) (λ h. not_watched ((watched_by start (get_or cs n d).0).0 h)) in
-    rw (drop_more cs n d inside, test) at same
-
--- what is pushed is the change
-pushed_is : (x : Change) (o : ℤ) (c : ℤ × ℤ) → x.instant ≡ c.0 → x.before ≡ c.0 +ℤ o → x.after ≡ c.0 +ℤ c.1 → x ≡ change_of o c
-pushed_is x o c instant before after = λ i. record { instant = instant i; before = before i; after = after i }
-
-pub pushed_on : (start o p : ℤ) (cs : List (ℤ × ℤ)) (n : ℕ) (d : ℤ × ℤ) (x : Change) (found more all : List Change) → n < length cs → IsWatched start (get_or cs n d).0
-    → found ++ watched_of start o (drop n cs) ≡ all → more ≡ found ++ x ∷ [] → x.instant ≡ (get_or cs n d).0 → x.before ≡ (get_or cs n d).0 +ℤ o → x.after ≡ (get_or cs n d).0 +ℤ (get_or cs n d).1
-    → p ≡ (get_or cs n d).1 → more ++ watched_of start p (drop (n + 1) cs) ≡ all
-pushed_on start o p cs n d x found more all inside watched same is instant before after at =
-    let row = pushed_is x o (get_or cs n d) instant before after in
-    let one : more ≡ found ++ change_of o (get_or cs n d) ∷ [] = is ∙ ap (λ (y : Change). found ++ y ∷ []) row in
-    rw (one, at) (read_watched start o cs n d found all inside watched same)
-
-pub passed_on : (start o p : ℤ) (cs : List (ℤ × ℤ)) (n : ℕ) (d : ℤ × ℤ) (found more all : List Change) → n < length cs → ¬ (IsWatched start (get_or cs n d).0)
-    → found ++ watched_of start o (drop n cs) ≡ all → more ≡ found → p ≡ (get_or cs n d).1 → more ++ watched_of start p (drop (n + 1) cs) ≡ all
-passed_on start o p cs n d found more all inside not_watched same is at = rw (is, at) (read_other start o cs n d found all inside not_watched same)
+-- all is read
+pub all_read : (t : TableTime) (o : ℤ) (found : List Change) (read : List (ℤ × ℤ)) (n : ℕ) → length read ≤ n
+    → found ++ watched_of t.second o (drop n read) ≡ watched_of t.second t.table.now.first_offset t.table.now.changes.items → AreChangesFrom t found
+all_read t o found read n end same =
+    let all : found ≡ watched_of t.second t.table.now.first_offset t.table.now.changes.items = sym (append-nil found) ∙ rw (drop_all n read end) at same in
+    subst (λ (changes : List Change). AreChangesFrom t changes) (sym all) (watched_changes t.table.now t.second)
 
 -- a row's numbers fit their types
 row_fits : (o : ℤ) (cs : List (ℤ × ℤ)) (n : ℕ) (d : ℤ × ℤ) → are_changes o cs ≡ true → n < length cs → FitsSigned w64 (get_or cs n d).0 × FitsSigned w32 (get_or cs n d).1
@@ -228,9 +215,15 @@ pub table_fits : (t : ClockTable) (read : List (ℤ × ℤ)) (n : ℕ) (d : ℤ 
 table_fits t read n d same inside =
     row_fits t.first_offset read n d (subst (λ (cs : List (ℤ × ℤ)). are_changes t.first_offset cs ≡ true) (sym same) (calm_parts t.first_offset t.changes.items t.calm).changes) inside
 
--- all is read
-pub all_read : (t : TableTime) (o : ℤ) (found : List Change) (read : List (ℤ × ℤ)) (n : ℕ) → length read ≤ n
-    → found ++ watched_of t.second o (drop n read) ≡ watched_of t.second t.table.now.first_offset t.table.now.changes.items → AreChangesFrom t found
-all_read t o found read n end same =
-    let all : found ≡ watched_of t.second t.table.now.first_offset t.table.now.changes.items = sym (append-nil found) ∙ rw (drop_all n read end) at same in
-    subst (λ (changes : List Change). AreChangesFrom t changes) (sym all) (watched_changes t.table.now t.second)
+-- a change that is watched, and another
+pub at_watched : (start o i next : ℤ) → IsWatched start i → watched_at start o i next ≡ change_of o i next ∷ []
+at_watched start o i next watched = rw ((watched_by start i).1 watched) refl
+
+pub at_other : (start o i next : ℤ) → ¬ (IsWatched start i) → watched_at start o i next ≡ []
+at_other start o i next not_watched = rw (not_true (is_watched start i) (λ h. not_watched ((watched_by start i).0 h))) refl
+
+pub ruleset one_watched = (to_z-of_z, append-nil, at_watched, at_other)
+
+-- a change with these seconds
+pub is_change : (x : Change) (offset instant next : ℤ) → x.instant ≡ instant → x.before ≡ instant +ℤ offset → x.after ≡ instant +ℤ next → x ≡ change_of offset instant next
+is_change x offset instant next e f g = λ i. record { instant = e i; before = f i; after = g i }

@@ -2,7 +2,7 @@
 use Rattle.std.proofs.Common.{◌≡◌, ℕ, ◌+◌, ◌<◌, Bool, true, false, ◌&&◌, refl, sym, ap, ◌∙◌, subst, inl, inr, arith, ℤ, pos, ◌+ℤ◌, ◌-ℤ◌, ◌<ℤ◌, ◌≤ℤ◌, Option, Some, None, List, length, get_or}
 use Rattle.std.specs.Prelude.{MatchOption, if◌then◌else◌}
 use Rattle.std.proofs.lemmas.Bool.{cases_lt, false≢true}
-use Rattle.std.proofs.lemmas.Int.{ints, by_lt_z}
+use Rattle.std.proofs.lemmas.Int.{ints, by_lt_z, to_z-of_z}
 use Rattle.std.proofs.lemmas.List.{get_or_default}
 use Rattle.croner_base.specs.declared.errors.CronError.{CronError}
 use Rattle.croner_base.specs.declared.time.Direction.TheVariants.{Forward}
@@ -23,18 +23,33 @@ use Rattle.croncheck_command.specs.declared.changes.Range.{Range}
 use Rattle.croncheck_command.specs.declared.changes.Range.TheVariants as ranges
 use Rattle.croncheck_command.specs.Private.Level.{IsNoneWithin, IsLeastWithin}
 use Rattle.croncheck_command.specs.Private.Met.{IsToldOf, IsNoneIn, IsFirstIn}
-use Rattle.croncheck_command.proofs.WatchedYears.{near_utc}
+use Rattle.croncheck_command.proofs.WatchedYears.{near_utc, fits_in_years}
 use Rattle.croncheck_command.proofs.Listings.{starts_calm, searchable}
 
 -- ---- the first scheduled second of a range
 
-pub in_gap : (m : Meaning) (c : Change) (r : Option ℤ) → MatchOption r (IsNoneWithin m c.before c.after) (IsLeastWithin m c.before c.after) → MatchOption r (IsNoneIn m ranges.Gap c) (IsFirstIn m ranges.Gap c)
+in_gap : (m : Meaning) (c : Change) (r : Option ℤ) → MatchOption r (IsNoneWithin m c.before c.after) (IsLeastWithin m c.before c.after) → MatchOption r (IsNoneIn m ranges.Gap c) (IsFirstIn m ranges.Gap c)
 in_gap m c None none = λ w lies. none w lies.0 lies.1
 in_gap m c (Some w) least = record { lies = (least.0.behind, least.1); scheduled = least.0.scheduled; least = λ v lies s. least.0.least v lies.0 s }
 
-pub in_repeated : (m : Meaning) (c : Change) (r : Option ℤ) → MatchOption r (IsNoneWithin m c.after c.before) (IsLeastWithin m c.after c.before) → MatchOption r (IsNoneIn m ranges.Repeated c) (IsFirstIn m ranges.Repeated c)
+in_repeated : (m : Meaning) (c : Change) (r : Option ℤ) → MatchOption r (IsNoneWithin m c.after c.before) (IsLeastWithin m c.after c.before) → MatchOption r (IsNoneIn m ranges.Repeated c) (IsFirstIn m ranges.Repeated c)
 in_repeated m c None none = λ w lies. none w lies.0 lies.1
 in_repeated m c (Some w) least = record { lies = (least.0.behind, least.1); scheduled = least.0.scheduled; least = λ v lies s. least.0.least v lies.0 s }
+
+-- the first part of the conclusion shows `grind` what to match
+pub first_in : (m : Meaning) (from end : ℤ) (r : Option ℤ) → MatchOption r (IsNoneWithin m from end) (IsLeastWithin m from end)
+    → MatchOption r (IsNoneWithin m from end) (IsLeastWithin m from end)
+    × ((range : Range) (c : Change) → range ≡ ranges.Gap → from ≡ c.before → end ≡ c.after → MatchOption r (IsNoneIn m range c) (IsFirstIn m range c))
+    × ((range : Range) (c : Change) → range ≡ ranges.Repeated → from ≡ c.after → end ≡ c.before → MatchOption r (IsNoneIn m range c) (IsFirstIn m range c))
+first_in m from end r h = (
+  h,
+  (λ range c is at to. subst (λ x. MatchOption r (IsNoneIn m x c) (IsFirstIn m x c)) (sym is)
+      (in_gap m c r (subst (λ x. MatchOption r (IsNoneWithin m c.before x) (IsLeastWithin m c.before x)) to (subst (λ x. MatchOption r (IsNoneWithin m x end) (IsLeastWithin m x end)) at h)))),
+  λ range c is at to. subst (λ x. MatchOption r (IsNoneIn m x c) (IsFirstIn m x c)) (sym is)
+      (in_repeated m c r (subst (λ x. MatchOption r (IsNoneWithin m c.after x) (IsLeastWithin m c.after x)) to (subst (λ x. MatchOption r (IsNoneWithin m x end) (IsLeastWithin m x end)) at h))),
+)
+
+pub ruleset seconds_in_range = (to_z-of_z, fits_in_years, first_in)
 
 -- ---- which kind of job it is
 

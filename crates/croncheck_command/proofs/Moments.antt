@@ -2,6 +2,7 @@
 use Rattle.std.proofs.Common.{◌≡◌, ◌∙◌, ◌+ℤ◌, ◌*ℤ◌, pos, ℕ, ℤ, List, Result, Ok, Err, Option, Some, None, inl, inr, ap, refl, sym, subst, w64, FitsSigned, arith}
 use Rattle.std.proofs.lemmas.Fmt.{parse-signed_decimal}
 use Rattle.std.proofs.lemmas.Int.{ints}
+use Rattle.std.proofs.lemmas.Slice.Eq.{bytes_eq-Decides}
 use Rattle.std.specs.Fmt.{signed_decimal}
 use Rattle.std.specs.Str.Parse.{ParsesSigned}
 use Rattle.jiff.specs.Names.{iso_datetime_text}
@@ -40,17 +41,18 @@ ok_value d (Ok x) = x
 ok_value d (Err e) = d
 
 -- one result has one value
-pub ok_same : {T E : Type 0} (a b : T) (r : Result T E) → r ≡ Ok a → r ≡ Ok b → a ≡ b
+ok_same : {T E : Type 0} (a b : T) (r : Result T E) → r ≡ Ok a → r ≡ Ok b → a ≡ b
 ok_same a b r p q = sym (ap (ok_value a) p) ∙ ap (ok_value a) q
 
 -- and no value beside an error
-pub ok_no_err : {T E : Type 0} (e : E) (a : T) (r : Result T E) → r ≡ Err e → r ≡ Ok a → ⊥
+ok_no_err : {T E : Type 0} (e : E) (a : T) (r : Result T E) → r ≡ Err e → r ≡ Ok a → ⊥
 ok_no_err e a r p q = cc
 
--- a second that is held is read back
-pub second_back : {E : Type 0} (digits : List ℕ) (r : Result ℤ E) (second : ℤ) → ParsesSigned w64 10 digits r → FitsSigned w64 second → signed_decimal second ≡ digits
-    → r ≡ Ok second
-second_back digits r second read fits is = parse-signed_decimal w64 second digits r fits (omega (arith, ints, fits)) (sym is) read
+-- a second that is held is read back from the text that it prints; the first parts of the conclusion show `grind` what to match
+pub second_back : {E : Type 0} (digits : List ℕ) (r : Result ℤ E) → ParsesSigned w64 10 digits r
+    → ParsesSigned w64 10 digits r
+    × ((second : ℤ) → FitsSigned w64 second → signed_decimal second ≡ digits → (signed_decimal second ≡ digits) × (r ≡ Ok second))
+second_back digits r read = (read, λ second fits is. (is, parse-signed_decimal w64 second digits r fits (omega (arith, ints, fits)) (sym is) read))
 
 -- dates and times of the same parts are the same
 same_parts : (a b : DateTime) → datetime_view (Ok a) ≡ datetime_view (Ok b) → a ≡ b
@@ -68,8 +70,18 @@ same_parts a b h =
 read_back : (word : List ℕ) (civil : DateTime) → iso_datetime_text civil ≡ word → parse_datetime word ≡ datetime_view (Ok civil)
 read_back word civil is = subst (λ (bytes : List ℕ). parse_datetime bytes ≡ datetime_view (Ok civil)) is (parse_datetime-datetime_text civil)
 
--- a date and time that prints as a word is read from it, or one that prints so too
-pub civil_back : (word : List ℕ) (r : Result DateTime Error) (civil : DateTime) → datetime_view r ≡ parse_datetime word → iso_datetime_text civil ≡ word
+read_as : (word : List ℕ) (r : Result DateTime Error) (civil : DateTime) → datetime_view r ≡ parse_datetime word → iso_datetime_text civil ≡ word
     → (read : DateTime) × (r ≡ Ok read) × (iso_datetime_text read ≡ word)
-civil_back word (Ok a) civil view is = (a, refl, ap iso_datetime_text (same_parts a civil (view ∙ read_back word civil is)) ∙ is)
-civil_back word (Err e) civil view is = absurd (ok_no_err e (date_parts civil.date, time_parts civil.time) (datetime_view (Err e)) refl (view ∙ read_back word civil is))
+read_as word (Ok a) civil view is = (a, refl, ap iso_datetime_text (same_parts a civil (view ∙ read_back word civil is)) ∙ is)
+read_as word (Err e) civil view is = absurd (ok_no_err e (date_parts civil.date, time_parts civil.time) (datetime_view (Err e)) refl (view ∙ read_back word civil is))
+
+-- a date and time that prints as a word is read from it, or one that prints so too; the first parts show `grind` what to match
+pub civil_back : (word : List ℕ) (r : Result DateTime Error) → datetime_view r ≡ parse_datetime word
+    → (datetime_view r ≡ parse_datetime word)
+    × ((civil : DateTime) → iso_datetime_text civil ≡ word → (iso_datetime_text civil ≡ word) × ((read : DateTime) × (r ≡ Ok read) × (iso_datetime_text read ≡ word)))
+civil_back word r view = (view, λ civil is. (is, read_as word r civil view is))
+
+-- a word is compared with what is printed
+pub ruleset printed_seconds = (second_back, bytes_eq-Decides)
+
+pub ruleset printed_civils = (civil_back, bytes_eq-Decides)

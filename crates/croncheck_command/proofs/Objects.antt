@@ -20,7 +20,7 @@ use Rattle.croncheck_command.specs.declared.settings.Settings.{Settings}
 use Rattle.croncheck_command.specs.declared.told.Told.{Told}
 use Rattle.croncheck_command.specs.declared.told.Told.TheVariants as tolds
 use Rattle.crontab.specs.Checked.{LineRead}
-use Rattle.croncheck_command.specs.Json.{kind_of_line, kind_of, Remark, Origin, Sentences, string_or_null, remark_object, remark_objects, run_object, times_object, job_object, job_data, refusal_data, notes_of_line, warnings_of_line, object_of, WritesObject, Writes}
+use Rattle.croncheck_command.specs.Json.{kind_of_line, kind_of, Remark, Origin, Sentences, string_or_null, remark_object, remark_objects, run_object, times_object, job_object, job_data, refusal_data, notes_of_line, warnings_of_line, object_of, WritesObject, Writes, WritesFoundObject, WritesFound}
 use Rattle.croncheck_command.specs.Output.{Written}
 use Rattle.croncheck_command.specs.Private.Remarks.{remarks_seen, texts_of, AreRemarksOf, object_of_remark, objects_of_remarks, object_with}
 use Rattle.croncheck_command.specs.Tally.{is_too_many}
@@ -146,6 +146,33 @@ line_written s zone old before y new after report o told is written =
       is_too_many = is_too_many s.dialect old.lines;
     }) report before.contents after.contents in
     let wrote : Wrote new.file.name new.lines = subst (λ (x : Origin). WritesObject x report before.contents after.contents) is written in
+    record {
+      report = report;
+      reported = told;
+      written = subst (λ (line : ℕ). Wrote old.file.name line) told.next
+          (subst (λ (name : List ℕ). Wrote name new.lines) (ap (λ (f : File). f.name) told.file) wrote);
+    }
+
+-- the object of the next line was written, where something is found of it
+pub finding_written : (s : Settings) (zone : TimeZone) (old : Stand) (before : Written) (y : LineRead) (new : Stand) (after : Written) (report : Report)
+    (o : Origin) → Reports s old y report new → o ≡ record {
+      zone = zone;
+      kind = kind_of_line y.is;
+      text = y.bytes;
+      file = new.file.name;
+      line = new.lines;
+      is_too_many = is_too_many s.dialect old.lines;
+    } → WritesFoundObject o report before after → WritesFound s zone old before y new after
+finding_written s zone old before y new after report o told is written =
+    let Wrote : List ℕ → ℕ → Type 0 = λ file line. WritesFoundObject (record {
+      zone = zone;
+      kind = kind_of_line y.is;
+      text = y.bytes;
+      file = file;
+      line = line;
+      is_too_many = is_too_many s.dialect old.lines;
+    }) report before after in
+    let wrote : Wrote new.file.name new.lines = subst (λ (x : Origin). WritesFoundObject x report before after) is written in
     record {
       report = report;
       reported = told;

@@ -1,11 +1,12 @@
 -- The second from which on a window is calm no more, and why.
-use Rattle.std.proofs.Common.{◌≡◌, ◌∙◌, ◌≤◌, ◌+◌, ℕ, zero, suc, ℤ, Bool, true, false, refl, pos, ◌+ℤ◌, ◌-ℤ◌, ◌≤ℤ◌, sym, subst, arith}
+use Rattle.std.proofs.Common.{◌≡◌, ◌∙◌, ◌≤◌, ◌+◌, ℕ, zero, suc, ℤ, Bool, true, false, refl, pos, ◌+ℤ◌, ◌-ℤ◌, ◌<ℤ◌, ◌≤ℤ◌, sym, subst, inr, arith}
 use Rattle.std.proofs.lemmas.Int.{ints, by_lt_z}
 use Rattle.std.proofs.lemmas.Bool.{false≢true}
-use Rattle.std.specs.Prelude.{not}
+use Rattle.std.specs.Prelude.{not, Option, Some, None}
 use Rattle.jiff_tz.specs.declared.timezone.TimeZone.{TimeZone}
 use Rattle.croner_base.specs.Table.{is_offset}
 use Rattle.croner_base.specs.Zone.{Zone}
+use Rattle.croner_base.specs.ZonedZone.{first_timestamp}
 use Rattle.croner_base.specs.ZoneTable.{IsWindow, IsCalmWindow, ahead_at, nearest_in}
 use Rattle.croner.specs.laws.Zones.{IsClockOf}
 use Rattle.croncheck_command.specs.declared.clock.NoClock.{NoClock}
@@ -13,7 +14,7 @@ use Rattle.croncheck_command.specs.declared.clock.NoClock.TheVariants as refusal
 use Rattle.croncheck_command.specs.declared.clock.stop.Stop.{Stop}
 use Rattle.croncheck_command.specs.declared.clock.stop.Reason.{Reason}
 use Rattle.croncheck_command.specs.declared.clock.stop.Reason.TheVariants as reasons
-use Rattle.croncheck_command.specs.Clock.{last_second, first_of, two_days_before, skipped_with, IsStop, IsStopOf, IsReasonBy, IsReasonAt, IsReason, IsFollowed, IsRefusalBy, IsNoClock}
+use Rattle.croncheck_command.specs.Clock.{last_second, first_of, two_days_before, skipped_with, IsStop, IsStopOf, IsReasonBy, IsReasonAt, IsReason, IsFollowed, seconds_before, start_behind, IsStartFrom, IsStopBehind, IsNextStop, IsNext, IsRefusalBy, IsNoClock}
 use Rattle.croncheck_command.proofs.CalmFronts.{calm_up_to}
 
 none_behind : (first : ℤ) → (first +ℤ pos 0) ≡ first
@@ -112,6 +113,64 @@ clock_of tz first last f l z first_is last_is calm shows =
 pub followed_on : (tz : TimeZone) (start at : ℤ) → IsFollowed tz start → at ≤ℤ start → ¬ (IsStop tz (first_of start) last_second at)
 followed_on tz start at followed le stop = stop.not_calm (calm_up_to tz (first_of start) at start stop.window.order le followed.1)
 
+-- the window of the start three days behind a second begins there
+begins_there : (first : ℤ) → first_of (start_behind first) ≡ first
+begins_there first = omega (arith, ints)
+
+-- three days behind a second, of a window that is calm
+pub followed_there : (tz : TimeZone) (first : ℤ) → first_timestamp ≤ℤ first → first ≤ℤ (last_second -ℤ pos seconds_before) → IsCalmWindow tz first (start_behind first)
+    → IsFollowed tz (start_behind first)
+followed_there tz first low high calm =
+    let begins = begins_there first in
+    ((omega (arith, ints, low, begins), omega (arith, ints, high)), subst (λ (f : ℤ). IsCalmWindow tz f (start_behind first)) (sym begins) calm)
+
+-- of one that isn't
+pub not_followed_there : (tz : TimeZone) (first : ℤ) → ¬ (IsCalmWindow tz first (start_behind first)) → ¬ (IsFollowed tz (start_behind first))
+not_followed_there tz first not_calm followed = not_calm (subst (λ (f : ℤ). IsCalmWindow tz f (start_behind first)) (begins_there first) followed.1)
+
+-- behind the last start
+pub not_followed_late : (tz : TimeZone) (first : ℤ) → (last_second -ℤ pos seconds_before) <ℤ first → ¬ (IsFollowed tz (start_behind first))
+not_followed_late tz first late followed =
+    let high : start_behind first ≤ℤ last_second = followed.0.1 in omega (arith, ints, late, high)
+
+-- a window stops once
+one_stop : (tz : TimeZone) (first last a b : ℤ) → IsStop tz first last a → IsStop tz first last b → a ≡ b
+one_stop tz first last a b s t =
+    by_lt_z a b
+    (λ less. absurd (s.not_calm (calm_up_to tz first a (b -ℤ pos 1) s.window.order (omega (arith, ints, less)) (t.calm_before (omega (arith, ints, less, s.window.order))))))
+    (λ ge. by_lt_z b a
+    (λ less. absurd (t.not_calm (calm_up_to tz first b (a -ℤ pos 1) t.window.order (omega (arith, ints, less)) (s.calm_before (omega (arith, ints, less, t.window.order))))))
+    (λ other. omega (arith, ints, ge, other)))
+
+-- behind a second that isn't calm by itself there is no stop
+pub no_stop_behind : (tz : TimeZone) (stop : ℤ) → ¬ (IsCalmWindow tz stop (stop +ℤ pos 0)) → IsNextStop tz stop None
+no_stop_behind tz stop not_calm again behind followed =
+    let less : stop <ℤ again = behind.0 in
+    let same = none_behind stop in
+    not_calm (subst (λ (at : ℤ). IsCalmWindow tz stop at) (sym same)
+    (calm_up_to tz stop stop (again -ℤ pos 1) (omega (arith, ints)) (omega (arith, ints, less)) (behind.1.calm_before less)))
+
+-- nor one from which a start is followed, where the second lies behind the last start
+pub no_stop_late : (tz : TimeZone) (stop : ℤ) → (last_second -ℤ pos seconds_before) <ℤ stop → IsNextStop tz stop None
+no_stop_late tz stop late again behind = not_followed_late tz again (omega (arith, ints, late, behind.0))
+
+-- behind a second that is calm by itself the stop lies
+pub again_at : (tz : TimeZone) (first : ℤ) (n : ℕ) (at : ℤ) → IsCalmWindow tz first (first +ℤ pos 0) → IsStop tz first (start_behind first) (first +ℤ pos n)
+    → at ≡ (first +ℤ pos n) → IsStopBehind tz first at
+again_at tz first n at calm stop at_is =
+    let here : IsStop tz first (start_behind first) at = subst (λ (i : ℤ). IsStop tz first (start_behind first) i) (sym at_is) stop in
+    let less : first <ℤ at =
+    by_lt_z first at (λ less. less)
+    (λ ge. absurd (here.not_calm (subst (λ (i : ℤ). IsCalmWindow tz first i) (omega (arith, ints, ge, here.window.order)) calm))) in
+    (less, here)
+
+-- the start behind a stop, from the stop behind that
+pub next_from : (tz : TimeZone) (stop again : ℤ) (found : Option ℤ) → ¬ (IsFollowed tz (start_behind stop)) → IsStopBehind tz stop again → IsStartFrom tz again found
+    → IsNext tz stop found
+next_from tz stop again None not behind none =
+    (not, λ other is followed. none (subst (λ (at : ℤ). IsFollowed tz (start_behind at)) (one_stop tz stop (start_behind stop) other again is.1 behind.1) followed))
+next_from tz stop again (Some start) not behind some = (some.0, inr (not, (again, behind, some.1)))
+
 -- what is said of a start at a stop, or behind it
 pub refused_by : (tz : TimeZone) (start first : ℤ) (stop : Stop) (r : NoClock) → first ≡ first_of start → IsWindow first last_second → IsStopOf tz first stop
     → stop.second ≤ℤ start → IsRefusalBy tz stop r → IsNoClock tz start r × (IsFollowed tz start → r ≡ refusals.OutOfMemory)
@@ -120,7 +179,7 @@ refused_by tz start first stop (refusals.Change s next) first_is window is le by
       (
         subst (λ (x : Stop). IsStopOf tz (first_of start) x) (sym by.0) here,
         subst (λ (x : Stop). x.second ≤ℤ start) (sym by.0) le,
-        by.1,
+        subst (λ (x : Stop). IsNext tz x.second next) (sym by.0) by.1,
       ),
       λ followed. absurd (followed_on tz start stop.second followed le here.stops),
     )

@@ -67,7 +67,7 @@ module _ {S T V Y : Type 0} (view : S → V) (terms_of : S → T) (Leaves : T �
 pub file_told : {S T F : Type 0} (view : S → State F) (terms_of : S → T) (Leaves : T → State F → LineRead → State F → Type 0)
     (ends : F → Stand → Written → Written → Type 0) (dialect : Dialect) (name : List ℕ) (remaining : Option (List ℕ)) (t : T) (before : State F) (old new : S)
     (after : State F) → terms_of old ≡ t → view old ≡ at_file name before → TakesAll (Takes view terms_of Leaves) dialect remaining old new
-    → EndsFile ends (view new) after → IfSome remaining (λ text. IsToldFile (Leaves t) ends dialect name text before after × (terms_of new ≡ t))
+    → EndsFile ends dialect (view new) after → IfSome remaining (λ text. IsToldFile (Leaves t) ends dialect name text before after × (terms_of new ≡ t))
 file_told view terms_of Leaves ends dialect name None t before old new after same begun taken ended = tt
 file_told {S} {T} {F} view terms_of Leaves ends dialect name (Some text) t before old new after same begun taken ended =
     let ys = map (entry_of_line dialect) taken.0 in

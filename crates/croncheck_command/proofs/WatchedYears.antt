@@ -1,5 +1,5 @@
 -- A table's clock is near UTC, so at a watched change it shows a year from 1 to 4999.
-use Rattle.std.proofs.Common.{◌≡◌, true, refl, arith, ℤ, pos, neg_ℤ, ◌+ℤ◌, ◌-ℤ◌, ◌≤ℤ◌}
+use Rattle.std.proofs.Common.{◌≡◌, true, refl, arith, ℤ, pos, neg_ℤ, ◌+ℤ◌, ◌-ℤ◌, ◌≤ℤ◌, w64, FitsSigned}
 use Rattle.std.proofs.lemmas.Int.{ints}
 use Rattle.croner_base.specs.declared.time.table.ClockTable.{ClockTable}
 use Rattle.croner_base.specs.declared.time.table.TableTime.{TableTime}
@@ -31,6 +31,10 @@ in_years t c told =
       after_from = omega (arith, ints, told.0.after_is, here.0, w.from);
       after_to = omega (arith, ints, told.0.after_is, here.1, w.before);
     }
+
+-- they fit; the first part of the conclusion shows `grind` what to match
+pub fits_in_years : (c : Change) → IsInYears c → IsInYears c × FitsSigned w64 c.before × FitsSigned w64 c.after
+fits_in_years c y = (y, omega (arith, ints, y.before_from, y.before_to), omega (arith, ints, y.after_from, y.after_to))
 
 -- ---- the second before a watched change
 

@@ -1,5 +1,5 @@
 -- The window of a clock, and why a zone has none. Source: this crate's documentation of `Clock`.
-use Rattle.std.specs.Prelude.{◌≡◌, ℕ, ◌+◌, ◌<◌, ◌≤◌, true, false, if◌then◌else◌, int_lt, ℤ, pos, ◌-ℤ◌, ◌<ℤ◌, ◌≤ℤ◌, Option, Some, None, IfSome}
+use Rattle.std.specs.Prelude.{◌≡◌, ℕ, ◌+◌, ◌<◌, ◌≤◌, true, false, if◌then◌else◌, int_lt, ℤ, pos, ◌+ℤ◌, ◌-ℤ◌, ◌<ℤ◌, ◌≤ℤ◌, Option, Some, None, ◌⊎◌}
 use Rattle.jiff_tz.specs.declared.timezone.TimeZone.{TimeZone}
 use Rattle.croner_base.specs.Limits.{gap_limit, fold_limit, apart_limit, most_gap_seconds}
 use Rattle.croner_base.specs.Table.{is_offset, met_gaps, gap_at}
@@ -42,9 +42,10 @@ abbrev pub skipped_with : TimeZone → ℤ → ℤ → ℕ
 skipped_with tz first at =
     met_gaps (ahead_at tz first) (window_changes tz first (at -ℤ pos 1)) + gap_at (ahead_at tz (at -ℤ pos 1)) (at, ahead_at tz at)
 
--- a change comes two days or more behind the one before, and goes forward and back by no more than searches go over
-abbrev pub IsSmall : ℤ → ℤ → ℤ → Type 0
-IsSmall earlier before there = (before ≡ earlier) × ((there -ℤ before) ≤ℤ pos gap_limit) × ((before -ℤ there) ≤ℤ pos fold_limit)
+-- searches go over the change by itself: two days before the clock was as far ahead of UTC as it is in the second before, and it goes forward
+-- and back by no more than they do
+abbrev pub IsCalmStep : ℤ → ℤ → ℤ → Type 0
+IsCalmStep earlier before there = (before ≡ earlier) × ((there -ℤ before) ≤ℤ pos gap_limit) × ((before -ℤ there) ≤ℤ pos fold_limit)
 
 -- why searches don't go over a change, by how far the clock is ahead of UTC there, in the second before, and two days before that, and by how
 -- many seconds it has skipped with the change
@@ -53,8 +54,8 @@ IsReasonBy earlier before there skipped (reasons.Far ahead) = ⊥
 IsReasonBy earlier before there skipped (reasons.Forward n) = (n ≡ there -ℤ before) × (pos gap_limit <ℤ n)
 IsReasonBy earlier before there skipped (reasons.Back n) = (n ≡ before -ℤ there) × (pos fold_limit <ℤ n)
 IsReasonBy earlier before there skipped reasons.Soon = ¬ (before ≡ earlier)
-IsReasonBy earlier before there skipped reasons.Skipped = IsSmall earlier before there × (most_gap_seconds < skipped)
-IsReasonBy earlier before there skipped reasons.Many = IsSmall earlier before there × (skipped ≤ most_gap_seconds)
+IsReasonBy earlier before there skipped reasons.Skipped = IsCalmStep earlier before there × (most_gap_seconds < skipped)
+IsReasonBy earlier before there skipped reasons.Many = IsCalmStep earlier before there × (skipped ≤ most_gap_seconds)
 
 -- the same of the change at a second of a zone's clock
 abbrev pub IsReasonAt : TimeZone → ℤ → ℤ → Reason → Type 0
@@ -94,15 +95,42 @@ IsHeldStart start = (first_timestamp ≤ℤ first_of start) × (start ≤ℤ las
 abbrev pub IsFollowed : TimeZone → ℤ → Type 0
 IsFollowed tz start = IsHeldStart start × IsCalmWindow tz (first_of start) start
 
--- what is said where a window stops at its start or before it: where, and a start that has a clock, if one was found; or memory is wanting
+-- the start three days behind a second, whose window begins there
+abbrev pub start_behind : ℤ → ℤ
+start_behind second = second +ℤ pos seconds_before
+
+-- it is found exactly where its window is calm up to it
+abbrev pub IsStartFrom : TimeZone → ℤ → Option ℤ → Type 0
+IsStartFrom tz second None = ¬ (IsFollowed tz (start_behind second))
+IsStartFrom tz second (Some start) = IsFollowed tz start × (start ≡ start_behind second)
+
+-- behind a stop its window of three days stops again
+abbrev pub IsStopBehind : TimeZone → ℤ → ℤ → Type 0
+IsStopBehind tz stop again = (stop <ℤ again) × IsStop tz stop (start_behind stop) again
+
+-- the stop behind another one, if there is one from which a start may be followed
+abbrev pub IsNextStop : TimeZone → ℤ → Option ℤ → Type 0
+IsNextStop tz stop None = (again : ℤ) → IsStopBehind tz stop again → ¬ (IsFollowed tz (start_behind again))
+IsNextStop tz stop (Some again) = IsStopBehind tz stop again
+
+-- the start behind a stop from which on runs are listed: three days behind it, if that one is followed, and else three days behind the stop in
+-- these days; there is none where neither is
+abbrev pub IsNext : TimeZone → ℤ → Option ℤ → Type 0
+IsNext tz stop None = ¬ (IsFollowed tz (start_behind stop)) × ((again : ℤ) → IsStopBehind tz stop again → ¬ (IsFollowed tz (start_behind again)))
+IsNext tz stop (Some start) =
+    IsFollowed tz start
+    × ((start ≡ start_behind stop)
+    ⊎ (¬ (IsFollowed tz (start_behind stop)) × ((again : ℤ) × IsStopBehind tz stop again × (start ≡ start_behind again))))
+
+-- what is said where a window stops at its start or before it: where, and the start behind it; or memory is wanting
 abbrev pub IsRefusalBy : TimeZone → Stop → NoClock → Type 0
-IsRefusalBy tz stop (refusals.Change s next) = (s ≡ stop) × IfSome next (IsFollowed tz)
+IsRefusalBy tz stop (refusals.Change s next) = (s ≡ stop) × IsNext tz stop.second next
 IsRefusalBy tz stop refusals.Outside = ⊥
 IsRefusalBy tz stop refusals.OutOfMemory = Unit {0}
 
--- why there is no clock from a start on: its window stops at it or before it, and then a start that is named has one; it lies outside; or
+-- why there is no clock from a start on: its window stops at it or before it, and the start behind that stop is named; it lies outside; or
 -- memory is wanting
 abbrev pub IsNoClock : TimeZone → ℤ → NoClock → Type 0
-IsNoClock tz start (refusals.Change s next) = IsStopOf tz (first_of start) s × (s.second ≤ℤ start) × IfSome next (IsFollowed tz)
+IsNoClock tz start (refusals.Change s next) = IsStopOf tz (first_of start) s × (s.second ≤ℤ start) × IsNext tz s.second next
 IsNoClock tz start refusals.Outside = ¬ (IsHeldStart start)
 IsNoClock tz start refusals.OutOfMemory = IsWindow (first_of start) last_second

@@ -56,6 +56,16 @@ ignored name reason = name ++ (codes ": cron ignores the whole file: " ++ reason
 abbrev pub if_so : Bool → List ℕ → List ℕ
 if_so holds text = if holds then text else []
 
+-- cron ignores a crontab of so many lines as a whole: a line is refused, the last one has no line feed, or there are too many
+abbrev pub has_reason : ℕ → File → Bool
+has_reason lines f = (f.has_refused || f.is_unfed) || are_many_lines lines
+
+-- the same of a file, which may be one of patterns: cron doesn't read it
+abbrev pub is_ignored : Dialect → ℕ → File → Bool
+is_ignored dialects.User lines f = has_reason lines f
+is_ignored dialects.System lines f = has_reason lines f
+is_ignored dialects.Patterns lines f = false
+
 -- the reasons for which cron ignores a crontab of so many lines
 abbrev pub reasons_of : ℕ → File → List ℕ
 reasons_of lines f =

@@ -1,6 +1,6 @@
 -- Reports as JSON: one object a line of input. The members of an object stand in the order of their names. Source: this crate's documentation
 -- ("JSON").
-use Rattle.std.specs.Prelude.{ℕ, ℤ, Bool, true, false, not, List, [], ◌∷◌, ◌++◌, map, codes, Option, Some, None, option_map, is_some, string_bytes, if◌then◌else◌}
+use Rattle.std.specs.Prelude.{◌≡◌, ◌||◌, ◌==◌, ℕ, ℤ, Bool, true, false, not, List, [], ◌∷◌, ◌++◌, length, map, codes, Option, Some, None, option_map, is_some, string_bytes, if◌then◌else◌}
 use Rattle.std.specs.Io.KnownBytes.{Appends}
 use Rattle.serde_json.specs.Data.{Data, null, number, unsigned, string, array, object, member, no_members}
 use Rattle.serde_json.specs.Find.{of_integer}
@@ -13,7 +13,7 @@ use Rattle.crontab.specs.declared.line.Fault.TheVariants as faults
 use Rattle.crontab.specs.declared.notes.Note.{Note}
 use Rattle.crontab.specs.Checked.{LineRead}
 use Rattle.crontab.specs.Line.{Line, blank, comment, setting, job, pattern, refused}
-use Rattle.crontab.specs.Notes.{note_name, notes_of}
+use Rattle.crontab.specs.Notes.{note_name}
 use Rattle.croncheck_command.specs.declared.changes.meetings.Compared.{Compared}
 use Rattle.croncheck_command.specs.declared.changes.meetings.Meetings.{Meetings}
 use Rattle.croncheck_command.specs.declared.report.JobReport.{JobReport}
@@ -31,8 +31,10 @@ use Rattle.croncheck_command.specs.declared.warnings.OtherWarning.TheVariants as
 use Rattle.croncheck_command.specs.declared.warnings.Warning.{Warning}
 use Rattle.croncheck_command.specs.Changes.{is_harmful, name_of}
 use Rattle.crontab.specs.Checked.{LineRead}
+use Rattle.croncheck_command.specs.FileSeen.{is_refused}
 use Rattle.croncheck_command.specs.Output.{Written}
 use Rattle.croncheck_command.specs.Tally.{is_too_many, one_more}
+use Rattle.croncheck_command.specs.Report.{notes_of_report}
 use Rattle.croncheck_command.specs.Reported.{Reports}
 use Rattle.croncheck_command.specs.Shown.{bytes_shown, offset_of}
 use Rattle.croncheck_command.specs.Stand.{Stand}
@@ -150,25 +152,23 @@ warnings_of_report (reports.Refused start end why) = []
 abbrev pub warnings_of_line : Bool → Report → List Remark
 warnings_of_line is_too_many report = warnings_of_report report ++ only_if is_too_many (remark_of_other others.ManyLines)
 
--- the notes of a job's line: a pattern, which has no command, has none
-abbrev pub notes_of_job : Option (List ℕ) → List ℕ → List Note
-notes_of_job None line = []
-notes_of_job (Some command) line = notes_of None line
+-- the changes of the clock that are no warnings
+abbrev pub harmless_of_report : Report → List Remark
+harmless_of_report reports.Silent = []
+harmless_of_report (reports.Setting is_zone is_fed) = []
+harmless_of_report (reports.Job j) = remarks_of_changes false j.meetings
+harmless_of_report (reports.Refused start end why) = []
 
--- the notes of a line that is refused: where cron refuses it
-abbrev pub notes_of_refusal : Why → List ℕ → List Note
-notes_of_refusal (whys.Cron fault) line = notes_of (Some fault) line
-notes_of_refusal (whys.Pattern fault) line = []
-notes_of_refusal (whys.Crate e) line = []
-notes_of_refusal whys.NotText line = []
-
--- the notes of a line with a report: those of its bytes, and the changes of the clock that are no warnings
+-- the notes of the object of a line with a report: those of its bytes, and these changes
 abbrev pub notes_of_line : List ℕ → Report → List Remark
-notes_of_line line reports.Silent = []
-notes_of_line line (reports.Setting is_zone is_fed) = []
-notes_of_line line (reports.Job j) =
-    map remark_of_note (notes_of_job (option_map (λ c. c.now) j.command) line) ++ remarks_of_changes false j.meetings
-notes_of_line line (reports.Refused start end why) = map remark_of_note (notes_of_refusal why line)
+notes_of_line line report = map remark_of_note (notes_of_report line report) ++ harmless_of_report report
+
+-- ---- what is found
+
+-- a line is refused, or has a warning or a note
+abbrev pub has_finding : Bool → List ℕ → Report → Bool
+has_finding is_too_many line report =
+    (is_refused report || not (length (warnings_of_line is_too_many report) == 0)) || not (length (notes_of_line line report) == 0)
 
 -- ---- objects
 
@@ -286,3 +286,16 @@ pub record Writes (s : Settings) (zone : TimeZone) (old : Stand) (before : Writt
   pub report : Report
   pub reported : Reports s old y report new
   pub written : WritesObject (next_origin s zone old y) report before.contents after.contents
+
+-- ---- what is written of findings alone
+
+-- the object of a report was written where something is found of the line, and else nothing
+pub record WritesFoundObject (o : Origin) (report : Report) (old new : Written) : Type 0 where
+  pub told : has_finding o.is_too_many o.text report ≡ true → WritesObject o report old.contents new.contents
+  pub silent : has_finding o.is_too_many o.text report ≡ false → new ≡ old
+
+-- what a line leaves: the object of its report was written, where something is found of it
+pub record WritesFound (s : Settings) (zone : TimeZone) (old : Stand) (before : Written) (y : LineRead) (new : Stand) (after : Written) : Type 0 where
+  pub report : Report
+  pub reported : Reports s old y report new
+  pub written : WritesFoundObject (next_origin s zone old y) report before after

@@ -2,10 +2,13 @@ pub mod Changes
 pub mod Clock
 pub mod FileSeen
 pub mod Files
+pub mod Found
 pub mod Json
 pub mod Length
 pub mod Moment
+pub mod Names
 pub mod Output
+pub mod Patterns
 pub mod Plan
 pub mod Planner
 pub mod Private

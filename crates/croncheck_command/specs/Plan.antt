@@ -1,5 +1,5 @@
 -- Plans: one list of the runs of all jobs of all files, in order of time. Source: this crate's documentation of `Plan`.
-use Rattle.std.specs.Prelude.{◌≡◌, ℕ, ℤ, false, List, Option, Some, None, Result, Ok, Err, IsUtf8}
+use Rattle.std.specs.Prelude.{ℕ, ℤ, false, List, Option, Some, None}
 use Rattle.std.specs.List.{All}
 use Rattle.std.specs.declared.alloc.Global.{Global}
 use Rattle.std.specs.declared.vec.Vec.{Vec}
@@ -9,13 +9,11 @@ use Rattle.croner_base.specs.TableZone.{table_moment}
 use Rattle.croner_pattern.specs.Meaning.{Meaning}
 use Rattle.croner.specs.crontable.TableItems.{item_instants, table_items, BeginsTableRest}
 use Rattle.croner.specs.crontable.TableListing.{TableStanding, new_table_standing, IsTableLeft}
-use Rattle.croner.specs.parser.Grammar.{Refusal, outcome}
-use Rattle.croner.specs.parser.Settings.{Settings as ParserSettings}
+use Rattle.croner.specs.Views.{job_of}
+use Rattle.crontab.specs.declared.content.Outcome.{Outcome}
+use Rattle.crontab.specs.declared.content.Outcome.TheVariants as outcomes
 use Rattle.croncheck_command.specs.declared.plan.Plan.{Plan}
-use Rattle.croncheck_command.specs.declared.settings.Settings.{Settings}
 use Rattle.croncheck_command.specs.declared.runs.Listing.{Listing}
-use Rattle.crontab.specs.Line.{Timing, reboot, never, named, Line, job, pattern}
-use Rattle.crontab.specs.Parsed.{crontab_settings}
 use Rattle.croncheck_command.specs.Runs.{Rest, IsInWindow, IsAsked, IsEnd}
 
 -- ---- the moments
@@ -43,24 +41,10 @@ pub record IsPlanned (patterns : List Meaning) (start : TableTime) (last : Optio
 
 -- ---- the jobs
 
--- the meaning that was read, if the text wasn't refused
-abbrev pub accepted : Result Meaning Refusal → Option Meaning
-accepted (Ok m) = Some m
-accepted (Err refusal) = None
-
--- the meaning of a job's times, if it has some and the parser takes their text
-abbrev pub HasTiming : Timing → Option Meaning → Type 0
-HasTiming reboot found = found ≡ None
-HasTiming never found = found ≡ None
-HasTiming (named text both) found = found ≡ accepted (outcome (crontab_settings both) text)
-
--- that of a pattern, if it is a text that the parser takes
-pub record HasPatternMeaning (s : ParserSettings) (text : List ℕ) (found : Option Meaning) : Type 0 where
-  pub of_text : IsUtf8 text → found ≡ accepted (outcome s text)
-  pub of_none : ¬ (IsUtf8 text) → found ≡ None
-
--- that of a line
-abbrev pub HasMeaning : Settings → Line → Option Meaning → Type 0
-HasMeaning s (job task) found = HasTiming task.times found
-HasMeaning s (pattern text) found = HasPatternMeaning s.parser text found
-HasMeaning s other found = found ≡ None
+-- the meaning of the job that the parser makes of a line's times, if it makes one
+abbrev pub meaning_found : Outcome → Option Meaning
+meaning_found outcomes.NoText = None
+meaning_found (outcomes.Job found) = Some (job_of found)
+meaning_found (outcomes.TimesRefused e) = None
+meaning_found (outcomes.PatternRefused fault) = None
+meaning_found outcomes.NotUtf8 = None

@@ -1,13 +1,16 @@
 -- What a planner takes of files, and what it writes. Source: this crate's documentation of `Planner`.
-use Rattle.std.specs.Prelude.{◌≡◌, ◌==◌, ℕ, Bool, List, [], ◌∷◌, ◌++◌, codes, length, map, slice_get, Option, Some, None, string_bytes, if◌then◌else◌}
+use Rattle.std.specs.Prelude.{◌≡◌, ◌==◌, ℕ, Bool, true, List, [], ◌∷◌, ◌++◌, codes, length, map, slice_get, Option, Some, None, string_bytes, if◌then◌else◌}
 use Rattle.std.specs.Fmt.{decimal}
 use Rattle.std.specs.declared.alloc.Global.{Global}
 use Rattle.std.specs.declared.vec.Vec.{Vec}
+use Rattle.jiff.specs.ZoneView.{plain_zone}
+use Rattle.jiff_tz.specs.declared.timezone.TimeZone.{TimeZone}
 use Rattle.croner_base.specs.declared.time.table.TableTime.{TableTime}
 use Rattle.croner_base.specs.Refusal.{text_of}
 use Rattle.croner_pattern.specs.Meaning.{Meaning}
 use Rattle.croner.specs.declared.crontable.CronTable.{CronTable}
 use Rattle.croner.specs.crontable.Tables.{patterns_of}
+use Rattle.crontab.specs.declared.content.Outcome.{Outcome}
 use Rattle.crontab.specs.declared.line.Entry.{Entry}
 use Rattle.croncheck_command.specs.declared.plan.Plan.{Plan}
 use Rattle.croncheck_command.specs.declared.planner.Planned.{Planned}
@@ -20,15 +23,17 @@ use Rattle.croncheck_command.specs.declared.settings.Settings.{Settings}
 use Rattle.croncheck_command.specs.declared.shown.Shared.{Shared}
 use Rattle.croncheck_command.specs.declared.tally.Tally.{Tally}
 use Rattle.crontab.specs.Checked.{LineRead, IsEntryOf, TakesInTurn}
+use Rattle.crontab.specs.Content.{IsOutcome}
+use Rattle.crontab.specs.Line.{Line, blank, comment, setting, job, pattern, refused}
 use Rattle.croncheck_command.specs.FileSeen.{with_report}
 use Rattle.croncheck_command.specs.Output.{Written, WritesApart}
-use Rattle.croncheck_command.specs.Plan.{HasMeaning, IsPlanned}
-use Rattle.croncheck_command.specs.Report.{IsReport}
+use Rattle.croncheck_command.specs.Plan.{meaning_found, IsPlanned}
+use Rattle.croncheck_command.specs.Report.{IsReportOfLine}
 use Rattle.croncheck_command.specs.Settings.{start_of, window_end}
 use Rattle.croncheck_command.specs.Tally.{counted, one_more}
 use Rattle.croncheck_command.specs.Reported.{WritesReport}
 use Rattle.croncheck_command.specs.Runs.{most_runs}
-use Rattle.croncheck_command.specs.Shown.{IsWindowEnd}
+use Rattle.croncheck_command.specs.Shown.{front_text, IsClockText, place_text, IsWindowEnd}
 use Rattle.croncheck_command.specs.Stand.{Stand, at_line}
 
 -- ---- the jobs
@@ -59,14 +64,14 @@ pub record Adds (m : Meaning) (old new : Seen) : Type 0 where
   pub stand : new.stand ≡ record old.stand { tally = with_job old.stand.tally }
   pub written : new.written ≡ old.written
 
--- a line without a place in the plan is told as in a report; warnings are not counted
+-- a line without a place in the plan is told as in a report of a line that has its line feed; warnings are not counted
 pub record Passes (s : Settings) (text : List ℕ) (entry : Entry) (old new : Seen) : Type 0 where
   pub report : Report
-  pub reported : IsReport s text entry report
+  pub reported : IsReportOfLine true s text entry report
   pub patterns : new.patterns ≡ old.patterns
   pub places : new.places ≡ old.places
   pub stand : new.stand ≡ record old.stand { tally = counted old.stand.tally report; file = with_report report old.stand.file }
-  pub written : WritesReport report old.written new.written
+  pub written : WritesReport old.stand.file.name old.stand.lines report old.written new.written
 
 -- what a line with that meaning leaves
 abbrev pub PlansMeaning : Settings → LineRead → Option Meaning → Seen → Seen → Type 0
@@ -75,9 +80,27 @@ PlansMeaning s y None old new = (entry : Entry) × IsEntryOf y entry × Passes s
 
 -- the job of a line that has one is added, with the place of the line
 abbrev pub Plans : Settings → Seen → LineRead → Seen → Type 0
-Plans s old y new = (found : Option Meaning) × HasMeaning s y.is found × PlansMeaning s y found (record old { stand = at_line y.is y.is_fed old.stand }) new
+Plans s old y new =
+    (found : Outcome) × IsOutcome s.parser y.is found × PlansMeaning s y (meaning_found found) (record old { stand = at_line y.is y.is_fed old.stand }) new
 
 -- ---- the text
+
+-- so many bytes of a command or a pattern are shown at most
+abbrev pub command_bytes : ℕ
+command_bytes = 40
+
+-- the front of a job's command, or of a pattern
+abbrev pub command_text : Line → List ℕ
+command_text blank = []
+command_text comment = []
+command_text (setting is_zone) = []
+command_text (job task) = front_text command_bytes task.command
+command_text (pattern text) = front_text command_bytes text
+command_text (refused fault) = []
+
+-- what is shown of the job of a line in a plan, as a line: its file, its number there, and that front
+abbrev pub label_text : List ℕ → ℕ → Line → List ℕ
+label_text file line is = codes "  " ++ (place_text file line ++ (command_text is ++ codes "\n"))
 
 -- what is shown of each job
 abbrev pub labels : List Planned → List (List ℕ)
@@ -92,9 +115,10 @@ abbrev pub labels_at : List (List ℕ) → List ℕ → List ℕ
 labels_at all [] = []
 labels_at all (k ∷ ks) = label_at (slice_get all k) ++ labels_at all ks
 
--- a moment was written, set apart: a line that shows it, and what is shown of the jobs that run then
-abbrev pub WritesMoment : List (List ℕ) → Written → TableTime × Vec ℕ Global → Written → Type 0
-WritesMoment all old item new = (clock : List ℕ) × WritesApart (clock ++ 10 ∷ labels_at all item.1.items) old new
+-- a moment was written, set apart: a line with what the zone's clock shows, and what is shown of the jobs that run then
+abbrev pub WritesMoment : TimeZone → List (List ℕ) → Written → TableTime × Vec ℕ Global → Written → Type 0
+WritesMoment zone all old item new =
+    (clock : List ℕ) × IsClockText zone item.0 clock × WritesApart (clock ++ 10 ∷ labels_at all item.1.items) old new
 
 -- where no run is left; it may be that no job runs at all
 abbrev pub over_text : Bool → List ℕ
@@ -120,6 +144,6 @@ pub record WritesPlan (s : Settings) (shared : Shared) (patterns : List Meaning)
   pub text : List ℕ
   pub between : Written
   pub planned : IsPlanned patterns (start_of s) (window_end s) s.listing plan
-  pub moments : TakesInTurn (WritesMoment all) old plan.items.items between
+  pub moments : TakesInTurn (WritesMoment (plain_zone shared.zone) all) old plan.items.items between
   pub end_is : IsPlanEnd shared (length plan.items.items == 0) plan.end text
   pub end : WritesApart text between new

@@ -1,7 +1,6 @@
 -- What a line is told. Source: this crate's documentation of `Report`.
-use Rattle.std.specs.Prelude.{◌≡◌, ◌⊎◌, ◌<◌, get_or, not, ◌||◌, ◌==◌, ℕ, ◌+◌, Bool, true, false, List, length, Option, Some, None, option_map, is_some, Result, Ok, Err, string_bytes, IsUtf8}
+use Rattle.std.specs.Prelude.{◌≡◌, ◌⊎◌, ◌<◌, get_or, not, ◌||◌, ◌==◌, ℕ, ◌+◌, Bool, true, false, List, [], length, Option, Some, None, option_map, is_some, Result, Ok, Err, string_bytes, IsUtf8}
 use Rattle.croner_base.specs.declared.errors.CronError.{CronError}
-use Rattle.croner_base.specs.declared.errors.CronError.TheVariants.{OutOfMemory}
 use Rattle.croner_base.specs.declared.time.civil.CivilDateTime.{CivilDateTime}
 use Rattle.croner_base.specs.declared.time.table.TableTime.{TableTime}
 use Rattle.croner_base.specs.Civil.{wall_second, weekday_of_second}
@@ -9,14 +8,15 @@ use Rattle.croner_base.specs.TableZone.{table_moment}
 use Rattle.croner_base.specs.Zone.{reading}
 use Rattle.croner_pattern.specs.Meaning.{Meaning}
 use Rattle.croner.specs.declared.parser.fault.PatternFault.{PatternFault}
-use Rattle.croner.specs.parser.Faults.{IsFault}
-use Rattle.croner.specs.parser.Gives.{Fails}
 use Rattle.croner.specs.parser.Grammar.{Refusal, outcome, Texts}
 use Rattle.crontab.specs.declared.bytes.Kind.TheVariants as kinds
 use Rattle.crontab.specs.declared.line.Entry.{Entry}
 use Rattle.crontab.specs.declared.line.Entry.TheVariants as entries
 use Rattle.crontab.specs.Bytes.{front}
+use Rattle.crontab.specs.Content.{IsRefusalOf, IsFaultOf}
 use Rattle.crontab.specs.Entries.{job_seen}
+use Rattle.crontab.specs.declared.notes.Note.{Note}
+use Rattle.crontab.specs.Notes.{notes_of}
 use Rattle.crontab.specs.Line.{Timing, reboot, never, named, Task}
 use Rattle.crontab.specs.Parsed.{crontab_settings}
 use Rattle.croncheck_command.specs.declared.changes.meetings.Meetings.{Meetings}
@@ -141,11 +141,7 @@ pub record IsJobTold (schedule : List ℕ) (user command : Option (List ℕ)) (t
   pub met : meets j.times j.meetings
   pub dated : dates_are j.times j.dates
 
--- the parser refuses a text with an error of this kind
-abbrev pub IsRefusalOf : CronError → Result Meaning Refusal → Type 0
-IsRefusalOf e read = Fails e read × ¬ (e ≡ OutOfMemory)
-
--- so it refuses the text that a job's times were made into
+-- the parser refuses the text that a job's times were made into with an error of this kind
 abbrev pub IsUnreadTiming : Timing → CronError → Type 0
 IsUnreadTiming reboot e = ⊥
 IsUnreadTiming never e = ⊥
@@ -182,7 +178,7 @@ IsReportOfJob is_fed s blanks task (reports.Refused start end why) = IsWholeBehi
 abbrev pub IsPatternRefused : Settings → ℕ → List ℕ → ℕ → ℕ → Why → Type 0
 IsPatternRefused s blanks text start end (whys.Cron fault) = ⊥
 IsPatternRefused s blanks text start end (whys.Pattern fault) =
-    (refusal : Refusal) × (outcome s.parser text ≡ Err refusal) × IsFault s.parser text refusal fault × IsFaultBehind blanks fault start end
+    IsFaultOf s.parser text fault × IsFaultBehind blanks fault start end
 IsPatternRefused s blanks text start end (whys.Crate e) = ⊥
 IsPatternRefused s blanks text start end whys.NotText = ¬ (IsUtf8 text) × IsWholeBehind blanks text start end
 
@@ -210,10 +206,6 @@ IsReportOfLine is_fed s line (entries.Job j) r = IsReportOfJob is_fed s (blanks_
 IsReportOfLine is_fed s line (entries.Pattern text) r = IsReportOfPattern is_fed s (blanks_of line) text.now r
 IsReportOfLine is_fed s line (entries.Refused fault start end) r = r ≡ reports.Refused start end (whys.Cron fault)
 
--- the same of a line that has it
-abbrev pub IsReport : Settings → List ℕ → Entry → Report → Type 0
-IsReport s line entry r = IsReportOfLine true s line entry r
-
 -- ---- the same job
 
 -- the place of a job: the name of its file as it is shown, and the number of its line
@@ -235,10 +227,6 @@ place_for (reports.Setting is_zone has_feed) found = None
 place_for (reports.Job j) found = found
 place_for (reports.Refused start end why) found = None
 
--- where the settings compare no jobs, a report has none
-abbrev pub IsAlone : Settings → Report → Type 0
-IsAlone s r = s.compares_jobs ≡ false → earlier_of r ≡ None
-
 -- ---- lines with a warning
 
 -- a job or a pattern has a warning, or is the same as an earlier one
@@ -251,3 +239,24 @@ has_warnings reports.Silent = false
 has_warnings (reports.Setting is_zone has_feed) = is_zone || not has_feed
 has_warnings (reports.Job j) = has_job_warnings j
 has_warnings (reports.Refused start end why) = false
+
+-- ---- notes
+
+-- the notes of a job's line: a pattern, which has no command, has none
+abbrev pub notes_of_job : Option (List ℕ) → List ℕ → List Note
+notes_of_job None line = []
+notes_of_job (Some command) line = notes_of None line
+
+-- the notes of a line that is refused: where cron refuses it
+abbrev pub notes_of_refusal : Why → List ℕ → List Note
+notes_of_refusal (whys.Cron fault) line = notes_of (Some fault) line
+notes_of_refusal (whys.Pattern fault) line = []
+notes_of_refusal (whys.Crate e) line = []
+notes_of_refusal whys.NotText line = []
+
+-- the notes of a line with a report
+abbrev pub notes_of_report : List ℕ → Report → List Note
+notes_of_report line reports.Silent = []
+notes_of_report line (reports.Setting is_zone is_fed) = []
+notes_of_report line (reports.Job j) = notes_of_job (option_map (λ c. c.now) j.command) line
+notes_of_report line (reports.Refused start end why) = notes_of_refusal why line

@@ -1,10 +1,9 @@
 -- Jobs that are the same as an earlier one. Source: docs/CRONTAB.md, `same-job`.
-use Rattle.std.specs.Prelude.{◌≡◌, ◌++◌, ◌∷◌, ◌||◌, ℕ, Bool, false, List, [], codes, Option, Some, None, option_map, unwrap_or, if◌then◌else◌}
+use Rattle.std.specs.Prelude.{◌≡◌, ◌++◌, ◌∷◌, ◌||◌, ℕ, Bool, false, List, [], Option, Some, None, option_map, unwrap_or, if◌then◌else◌}
 use Rattle.std.specs.BTreeMap.{get}
 use Rattle.std.specs.Cmp.Lexicographic.{slice_cmp}
 use Rattle.std.specs.Option.{option_or}
 use Rattle.std.specs.Ordering.{nat_cmp, ordering_then, is_eq}
-use Rattle.std.specs.Str.{bytes_eq}
 use Rattle.std.specs.declared.alloc.Global.{Global}
 use Rattle.std.specs.declared.cmp.Ordering.{Ordering}
 use Rattle.std.specs.declared.vec.Vec.{Vec}
@@ -12,28 +11,23 @@ use Rattle.croner_pattern.specs.Meaning.{Meaning}
 use Rattle.croner_pattern.specs.Order.{pattern_cmp}
 use Rattle.croner.specs.declared.job.Cron.{Cron}
 use Rattle.croner.specs.Views.{job_of}
-use Rattle.crontab.specs.Line.{Timing, named, Five, words_of, Line, job}
+use Rattle.crontab.specs.declared.content.Outcome.{Outcome}
+use Rattle.crontab.specs.Line.{Line, job}
 use Rattle.croncheck_command.specs.declared.report.Same.{Same}
-use Rattle.croncheck_command.specs.declared.settings.Settings.{Settings}
 use Rattle.croncheck_command.specs.declared.same.Seen.{Seen}
-use Rattle.croncheck_command.specs.Plan.{HasTiming, HasMeaning}
+use Rattle.croncheck_command.specs.Plan.{meaning_found}
 use Rattle.croncheck_command.specs.Report.{file_and_line}
 
 -- ---- what is compared
 
--- one of the day fields is `*`: then it doesn't count that a day has to match both
-abbrev pub has_star_day : Five → Bool
-has_star_day w = bytes_eq w.days (codes "*") || bytes_eq w.weekdays (codes "*")
+-- the times of a job as they are compared: where a day field is `*`, it doesn't count that a day has to match both
+abbrev pub times_compared : Meaning → Meaning
+times_compared m = if m.star_day || m.star_weekday then record m { and = false } else m
 
--- the times of a job as they are compared
-abbrev pub times_compared : Timing → Timing
-times_compared (named text both) = if has_star_day (words_of text) then named text false else named text both
-times_compared other = other
-
--- the meaning of the times of a line as they are compared, if it has some
-abbrev pub HasTimesCompared : Settings → Line → Option Meaning → Type 0
-HasTimesCompared s (job task) found = HasTiming (times_compared task.times) found
-HasTimesCompared s other found = HasMeaning s other found
+-- those of the job of a line: a pattern's are compared as they are
+abbrev pub compared_in : Line → Meaning → Meaning
+compared_in (job task) m = times_compared m
+compared_in other m = m
 
 -- the bytes of a job's user and of its command, with a byte 0 between, which is in neither
 abbrev pub owner_of : Line → List ℕ
@@ -52,10 +46,10 @@ key_cmp a b = ordering_then (slice_cmp nat_cmp a.0.items b.0.items) (pattern_cmp
 abbrev pub are_same : JobKey → JobKey → Bool
 are_same a b = is_eq (key_cmp a b)
 
--- what is compared of a line, if anything is
-abbrev pub IsCompared : Settings → Line → Option JobKey → Type 0
-IsCompared s line None = HasTimesCompared s line None
-IsCompared s line (Some key) = HasTimesCompared s line (Some (job_of key.1)) × (key.0.items ≡ owner_of line)
+-- what is compared of a line of which the parser makes this, if anything is
+abbrev pub IsCompared : Line → Outcome → Option JobKey → Type 0
+IsCompared line found None = meaning_found found ≡ None
+IsCompared line found (Some key) = (Some (job_of key.1) ≡ option_map (compared_in line) (meaning_found found)) × (key.0.items ≡ owner_of line)
 
 -- ---- what is kept
 

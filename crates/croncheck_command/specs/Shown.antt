@@ -1,10 +1,17 @@
--- Bytes of a file and offsets of a clock as they are shown.
-use Rattle.std.specs.Prelude.{◌≡◌, ℕ, zero, suc, ℤ, pos, Bool, true, false, not, ◌&&◌, ◌==◌, nat_le, List, [], ◌∷◌, ◌++◌, length, take, drop, codes, Option, Some, None, if◌then◌else◌}
+-- Bytes of a file, what a clock shows and reports, as they are shown.
+use Rattle.std.specs.Prelude.{◌≡◌, ℕ, zero, suc, ◌-◌, ◌/◌, ◌%◌, ℤ, pos, int_lt, unsigned_abs, Bool, true, false, not, ◌&&◌, ◌==◌, nat_le, nat_lt, slice_get, List, [], ◌∷◌, ◌++◌, length, take, drop, codes, Option, Some, None, if◌then◌else◌}
+use Rattle.std.specs.Fmt.{decimal, signed_decimal}
 use Rattle.std.specs.Str.{encode_utf8_all}
 use Rattle.bstr.specs.Escape.{escaped}
 use Rattle.bstr.specs.Utf8.{decoded}
 use Rattle.jiff_tz.specs.declared.timezone.TimeZone.{TimeZone}
+use Rattle.croner_base.specs.declared.time.civil.CivilDateTime.{CivilDateTime}
+use Rattle.croner_base.specs.declared.time.table.TableTime.{TableTime}
+use Rattle.croner_base.specs.Civil.{wall_second, weekday_of_second}
+use Rattle.croner_base.specs.CivilText.{two_places, date_text, time_text}
 use Rattle.croner_base.specs.Excerpt.{shown}
+use Rattle.croner_base.specs.TableZone.{table_moment}
+use Rattle.croner_base.specs.Zone.{reading}
 use Rattle.croner_base.specs.ZoneTable.{ahead_at}
 use Rattle.croner_base.specs.ZonedZone.{is_timestamp_second}
 use Rattle.croncheck_command.specs.declared.clock.stop.Stop.{Stop}
@@ -39,12 +46,92 @@ is_harmless b = nat_le 32 b && not (b == 127)
 abbrev pub is_printed : ℕ → Bool
 is_printed b = nat_le 32 b && nat_le b 126
 
+-- ---- the front of a text
+
+-- bytes of a line as they are shown, a tab as a space: some that stand before a tab or the end, and those that follow
+abbrev pub spaced_behind : List ℕ → List ℕ → List ℕ
+spaced_behind before [] = bytes_shown before
+spaced_behind before (b ∷ bs) = if b == 9 then bytes_shown before ++ 32 ∷ spaced_behind [] bs else spaced_behind (before ++ b ∷ []) bs
+
+abbrev pub spaced : List ℕ → List ℕ
+spaced bytes = spaced_behind [] bytes
+
+-- the byte at a place continues a character of UTF-8
+abbrev pub is_continuing : Option ℕ → Bool
+is_continuing None = false
+is_continuing (Some b) = nat_le 128 b && nat_lt b 192
+
+abbrev pub continues : List ℕ → ℕ → Bool
+continues bytes at = is_continuing (slice_get bytes at)
+
+-- the last place up to this one where no character of UTF-8, which has four bytes at most, is cut; this one where there is none
+abbrev pub start_at : ℕ → List ℕ → ℕ
+start_at most bytes =
+    if not (continues bytes most) then most
+    else if not (continues bytes (most - 1)) then most - 1
+    else if not (continues bytes (most - 2)) then most - 2
+    else if not (continues bytes (most - 3)) then most - 3
+    else most
+
+-- where a text is cut of which so many bytes are shown at most
+abbrev pub cut_at : ℕ → List ℕ → ℕ
+cut_at most bytes = if nat_le (length bytes) most then length bytes else start_at most bytes
+
+-- what stands where something is left out
+abbrev pub left_out_text : Bool → List ℕ
+left_out_text is_left_out = if is_left_out then codes ".." else []
+
+-- the front of a text as it is shown, so many bytes at most, and a mark where there are more
+abbrev pub front_text : ℕ → List ℕ → List ℕ
+front_text most bytes = spaced (take (cut_at most bytes) bytes) ++ left_out_text (not (length (drop (cut_at most bytes) bytes) == 0))
+
 -- ---- offsets
 
 -- how far a zone's clock is ahead of UTC at a second: what the zone gives for each second that it has, which are those of the years -9998 to
 -- 9998 at least
 abbrev pub offset_of : TimeZone → ℤ → ℤ
 offset_of zone second = if is_timestamp_second second then ahead_at zone second else pos 0
+
+-- ---- the clock
+
+-- the front of a weekday's name, by how many days it comes behind Sunday
+abbrev pub weekday_text : ℕ → List ℕ
+weekday_text n =
+    if n == 0 then codes "Sun"
+    else if n == 1 then codes "Mon"
+    else if n == 2 then codes "Tue"
+    else if n == 3 then codes "Wed"
+    else if n == 4 then codes "Thu"
+    else if n == 5 then codes "Fri"
+    else codes "Sat"
+
+-- seconds behind hours and minutes: nothing where there are none
+abbrev pub odd_seconds : ℕ → List ℕ
+odd_seconds n = if n == 0 then [] else 58 ∷ two_places n
+
+-- so many seconds as hours, minutes and, where there are some, seconds
+abbrev pub clock_length : ℕ → List ℕ
+clock_length n = two_places (n / 3_600) ++ (58 ∷ (two_places (n / 60 % 60) ++ odd_seconds (n % 60)))
+
+-- the sign of a number of seconds ahead of UTC
+abbrev pub sign_text : ℤ → List ℕ
+sign_text ahead = if int_lt ahead (pos 0) then codes "-" else codes "+"
+
+-- how far a clock is ahead of UTC, or behind it, as `+02:00`
+abbrev pub ahead_text : ℤ → List ℕ
+ahead_text ahead = sign_text ahead ++ clock_length (unsigned_abs ahead)
+
+-- what a clock shows at a second: the weekday, the date, the time and how far it is ahead of UTC; and the second
+abbrev pub clock_text : List ℕ → CivilDateTime → ℤ → ℤ → List ℕ
+clock_text weekday c ahead second =
+    weekday ++ (32 ∷ (date_text c.date.year c.date.month c.date.day ++ (32 ∷ (time_text c.time.hour c.time.minute c.time.second
+    ++ (32 ∷ (ahead_text ahead ++ (codes "  @" ++ signed_decimal second)))))))
+
+-- what is shown of a run: the date and time that its clock reads, and how far the zone's clock is ahead of UTC then
+abbrev pub IsClockText : TimeZone → TableTime → List ℕ → Type 0
+IsClockText zone run text =
+    (civil : CivilDateTime) × (wall_second civil ≡ reading (table_moment run))
+    × (text ≡ clock_text (weekday_text (weekday_of_second (reading (table_moment run)))) civil (offset_of zone run.second) run.second)
 
 -- ---- the text of a report
 
@@ -54,6 +141,14 @@ is_told reports.Silent = false
 is_told (reports.Setting is_zone has_feed) = is_zone
 is_told (reports.Job j) = true
 is_told (reports.Refused start end why) = true
+
+-- a file and the number of a line there, as they stand in front of what is told of it
+abbrev pub place_text : List ℕ → ℕ → List ℕ
+place_text file line = file ++ (codes ":" ++ (decimal line ++ codes "  "))
+
+-- the text is lines, the first of which begins with this place, and the last of which has its line feed
+abbrev pub AreLinesOf : List ℕ → ℕ → List ℕ → Type 0
+AreLinesOf file line text = (told : List ℕ) × (text ≡ place_text file line ++ (told ++ 10 ∷ []))
 
 -- the text is lines, one at least, the last of which has its line feed
 abbrev pub AreLines : List ℕ → Type 0

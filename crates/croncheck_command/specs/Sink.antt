@@ -10,7 +10,7 @@ use Rattle.croncheck_command.specs.Output.{Written, written_of, IsFlushed}
 use Rattle.croncheck_command.specs.Tally.{none_counted, status_of}
 use Rattle.croncheck_command.specs.Same.{JobKey, place_kept}
 use Rattle.croncheck_command.specs.Shown.{bytes_shown}
-use Rattle.croncheck_command.specs.Stand.{Stand, stand_of, begin_of_file}
+use Rattle.croncheck_command.specs.Stand.{Stand, stand_of, begin_of_file, end_of_file}
 
 -- nothing was read yet
 pub record StandsAtBegin (s : Stand) : Type 0 where
@@ -36,9 +36,9 @@ at_file name s = record s { stand = begin_of_file name s.stand }
 abbrev pub Ends : {F : Type 0} → (F → Written → Written → Type 0) → State F → State F → Type 0
 Ends ends old new = (new.form ≡ old.form) × (new.stand ≡ old.stand) × ends old.form old.written new.written
 
--- the same of the end of a file, which is told by how far the reading has come
-abbrev pub EndsFile : {F : Type 0} → (F → Stand → Written → Written → Type 0) → State F → State F → Type 0
-EndsFile ends old new = Ends (λ form. ends form old.stand) old new
+-- the end of a file was told, by how far the reading has come, and the file was counted
+abbrev pub EndsFile : {F : Type 0} → (F → Stand → Written → Written → Type 0) → Dialect → State F → State F → Type 0
+EndsFile ends dialect old new = (new.form ≡ old.form) × (new.stand ≡ end_of_file dialect old.stand) × ends old.form old.stand old.written new.written
 
 -- ---- files
 
@@ -47,7 +47,7 @@ abbrev pub IsToldFile : {F : Type 0} → (State F → LineRead → State F → T
     → State F → State F → Type 0
 IsToldFile {F} takes ends dialect name text old new =
     (lines : List (List ℕ)) × (last : State F) × AreLines text lines
-    × TakesInTurn takes (at_file name old) (map (entry_of_line dialect) lines) last × EndsFile ends last new
+    × TakesInTurn takes (at_file name old) (map (entry_of_line dialect) lines) last × EndsFile ends dialect last new
 
 -- the files of these names were told, one behind the other, each with its text
 abbrev pub AreToldFiles : {F : Type 0} → (State F → LineRead → State F → Type 0) → (F → Stand → Written → Written → Type 0) → Dialect

@@ -4,10 +4,11 @@ use Rattle.croncheck_command.specs.declared.progress.Line.{Line}
 use Rattle.croncheck_command.specs.declared.progress.Progress.{Progress}
 use Rattle.croncheck_command.specs.declared.tally.Tally.{Tally}
 use Rattle.croncheck_command.specs.declared.same.Seen.{Seen}
+use Rattle.crontab.specs.declared.line.Dialect.{Dialect}
 use Rattle.crontab.specs.Checked.{LineRead, line_seen}
 use Rattle.crontab.specs.Line.{Line as Meant}
-use Rattle.croncheck_command.specs.FileSeen.{File, file_seen, unread, with_line}
-use Rattle.croncheck_command.specs.Tally.{one_more}
+use Rattle.croncheck_command.specs.FileSeen.{File, file_seen, is_ignored, unread, with_line}
+use Rattle.croncheck_command.specs.Tally.{one_more, with_file}
 
 -- how far the reading has come: what was counted, the jobs that were seen, what was seen of the file, its number from 1, and how many of its
 -- lines were read
@@ -28,6 +29,10 @@ begin_of_file name s = record s { file = unread name; files = one_more s.files; 
 -- at the next line, which is this and has its line feed or hasn't
 abbrev pub at_line : Meant → Bool → Stand → Stand
 at_line line is_fed s = record s { file = with_line line is_fed s.file; lines = one_more s.lines }
+
+-- at the end of the file: it is counted, if cron ignores it as a whole
+abbrev pub end_of_file : Dialect → Stand → Stand
+end_of_file dialect s = record s { tally = with_file (is_ignored dialect s.lines s.file) s.tally }
 
 -- what is seen of a line
 abbrev pub line_taken : Line → LineRead

@@ -18,7 +18,7 @@ one_more n = min (n + 1) most_counted
 
 -- nothing is counted yet
 abbrev pub none_counted : Tally
-none_counted = record { lines = 0; jobs = 0; refused = 0; warned = 0 }
+none_counted = record { lines = 0; jobs = 0; refused = 0; warned = 0; ignored = 0 }
 
 -- with one more line, of which no warning is counted
 abbrev pub counted : Tally → Report → Tally
@@ -45,9 +45,13 @@ one_more_if counts n = if counts then one_more n else n
 abbrev pub added : Dialect → ℕ → Tally → Report → Tally
 added dialect lines t report = record (counted t report) { warned = one_more_if (is_line_warned dialect lines report) t.warned }
 
--- a line is refused, or one has a warning where the call is strict
+-- with one more file, which cron ignores as a whole or doesn't
+abbrev pub with_file : Bool → Tally → Tally
+with_file is_ignored t = record t { ignored = one_more_if is_ignored t.ignored }
+
+-- a line is refused, cron ignores a whole file, or a line has a warning where the call is strict
 abbrev pub has_findings : Bool → Tally → Bool
-has_findings is_strict t = not (t.refused == 0) || (is_strict && not (t.warned == 0))
+has_findings is_strict t = (not (t.refused == 0) || not (t.ignored == 0)) || (is_strict && not (t.warned == 0))
 
 -- 1 where there is a finding, else 0
 abbrev pub status_of : Bool → Tally → ℕ

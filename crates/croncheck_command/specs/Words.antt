@@ -1,10 +1,20 @@
 -- The words of a call.
-use Rattle.std.specs.Prelude.{◌≤◌}
+use Rattle.std.specs.Prelude.{◌≡◌, ◌≤◌, ⊤}
 use Rattle.croncheck_command.specs.declared.words.Span.{Span}
 use Rattle.croncheck_command.specs.declared.words.Span.TheVariants as spans
+use Rattle.croncheck_command.specs.declared.words.Verb.{Verb}
+use Rattle.croncheck_command.specs.declared.words.Verb.TheVariants as verbs
 use Rattle.croncheck_command.specs.Moment.{IsNamed}
 
 -- what may be asked for: up to 1000 runs, or those up to a moment that a word names
 abbrev pub IsInRange : Span → Type 0
 IsInRange (spans.Count n) = n ≤ 1000
 IsInRange (spans.Until moment) = IsNamed moment
+
+-- how many runs are looked at where none is told: one to check, none to describe
+abbrev pub TellsRuns : Verb → Span → Type 0
+TellsRuns verbs.Check span = span ≡ spans.Count 1
+TellsRuns verbs.Show span = ⊤
+TellsRuns verbs.Plan span = ⊤
+TellsRuns verbs.Next span = ⊤
+TellsRuns verbs.Describe span = span ≡ spans.Count 0

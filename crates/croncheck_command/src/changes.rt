@@ -131,6 +131,7 @@ impl<'t> Changes<'t> {
     }
 
     // The first scheduled second in a range of a change.
+    #[tactic(auto, using(crate::proofs::Meetings::seconds_in_range))]
     fn second_in(&self, job: &Cron, range: Range, change: Change) -> Option<i64>
         requires { IsInYears change }
         ensures { MatchOption result (IsNoneIn (job_of job.now) range change) (IsFirstIn (job_of job.now) range change) }

@@ -9,7 +9,7 @@ ghost use Rattle.croner_base.specs.TableZone.{table_zone};
 ghost use Rattle.croner_base.specs.ZoneTable.{IsWindow, IsCalmWindow, ahead_at, window_changes};
 ghost use Rattle.croner_base.specs.ZonedZone.{first_timestamp};
 ghost use Rattle.croner.specs.laws.Zones.{IsClockOf, IsWellIn};
-ghost use Rattle.croncheck_command.specs.Clock.{last_second, first_of, last_of, last_before, two_days_before, IsHeldSecond, IsStop, HasStop, IsStopOf, IsReason, IsReasonBy, IsFollowed, IsRefusalBy, IsNoClock};
+ghost use Rattle.croncheck_command.specs.Clock.{last_second, first_of, last_of, last_before, two_days_before, start_behind, IsHeldSecond, IsStop, HasStop, IsStopOf, IsReason, IsReasonBy, IsFollowed, IsStartFrom, IsNextStop, IsNext, IsRefusalBy, IsNoClock};
 
 mod skipped;
 pub mod stop;
@@ -18,6 +18,7 @@ use crate::clock::skipped::{skipped_at, skipped_in};
 use crate::clock::stop::{Reason, Stop};
 use croner::errors::CronError;
 use croner::time::table::ClockTable;
+use croner_base::limits::{GAP_LIMIT_SECONDS, SECONDS_PER_DAY};
 use jiff::tz::TimeZone;
 use jiff_core::Timestamp;
 use std::alloc::{AllocError, Global};
@@ -33,11 +34,11 @@ const LAST_SECOND: i64 = 95_649_206_399;
 
 const NANOS_PER_SECOND: i128 = 1_000_000_000;
 
-/// Searches are made on a clock that is so many seconds ahead of UTC at most, or behind it.
-const SECONDS_PER_DAY: i32 = 86_400;
+/// Searches are made on a clock that is so many seconds ahead of UTC at most, or behind it: a day.
+const MOST_AHEAD: i32 = SECONDS_PER_DAY as i32;
 
 /// They go over a change by so many seconds forward at most.
-const SECONDS_FORWARD: i64 = 86_400;
+const SECONDS_FORWARD: i64 = GAP_LIMIT_SECONDS as i64;
 
 /// And by so many back.
 const SECONDS_BACK: i64 = 7_200;
@@ -173,17 +174,16 @@ fn refusal_by(alloc: Global, zone: &TimeZone<'_>, stop: Stop) -> NoClock
     }
 }
 
-// A start that has a clock: three days behind a second, or behind the next stop from there on.
-fn start_behind(alloc: Global, zone: &TimeZone<'_>, second: i64) -> Result<Option<i64>, AllocError>
-    requires { IsHeldSecond second }
-    ensures { IfOk result (λ found. IfSome found (IsFollowed (plain_zone zone.now))) }
+// A start that has a clock: three days behind a stop, or behind the next stop in these days.
+fn start_behind(alloc: Global, zone: &TimeZone<'_>, stop: i64) -> Result<Option<i64>, AllocError>
+    requires { IsHeldSecond stop }
+    ensures { IfOk result (IsNext (plain_zone zone.now) stop) }
 {
-    let start = start_from(alloc, zone, second)?;
-    if start.is_some() {
-        return Ok(start);
+    if let Some(start) = start_from(alloc, zone, stop)? {
+        return Ok(Some(start));
     }
-    match stop_within(alloc, zone, second)? {
-        Some(stop) => start_from(alloc, zone, stop),
+    match stop_behind(alloc, zone, stop)? {
+        Some(again) => start_from(alloc, zone, again),
         None => Ok(None),
     }
 }
@@ -191,7 +191,7 @@ fn start_behind(alloc: Global, zone: &TimeZone<'_>, second: i64) -> Result<Optio
 // The start three days behind a second, if its window, which begins there, is calm up to it.
 fn start_from(alloc: Global, zone: &TimeZone<'_>, first: i64) -> Result<Option<i64>, AllocError>
     requires { IsHeldSecond first }
-    ensures { IfOk result (λ found. IfSome found (IsFollowed (plain_zone zone.now))) }
+    ensures { IfOk result (IsStartFrom (plain_zone zone.now) first) }
 {
     if LAST_SECOND - SECONDS_BEFORE < first {
         return Ok(None);
@@ -203,15 +203,16 @@ fn start_from(alloc: Global, zone: &TimeZone<'_>, first: i64) -> Result<Option<i
     }
 }
 
-// Where the three days behind a second stop to be calm, if they do so behind it.
-fn stop_within(alloc: Global, zone: &TimeZone<'_>, first: i64) -> Result<Option<i64>, AllocError>
-    requires { IsHeldSecond first }
-    ensures { IfOk result (λ found. IfSome found IsHeldSecond) }
+// Where the three days behind a second, which aren't calm, stop to be it, if they do so behind it.
+fn stop_behind(alloc: Global, zone: &TimeZone<'_>, first: i64) -> Result<Option<i64>, AllocError>
+    requires held { IsHeldSecond first }
+    requires not_followed { ¬ (IsFollowed (plain_zone zone.now) (start_behind first)) }
+    ensures { IfOk result (IsNextStop (plain_zone zone.now) first) }
 {
-    if LAST_SECOND - SECONDS_BEFORE < first || !is_calm(alloc, zone, first, 0)? {
+    if LAST_SECOND - SECONDS_BEFORE < first {
         return Ok(None);
     }
-    if is_calm(alloc, zone, first, SECONDS_BEFORE as u64)? {
+    if !is_calm(alloc, zone, first, 0)? {
         return Ok(None);
     }
     let seconds = first_stop(alloc, zone, first, SECONDS_BEFORE as u64)?;
@@ -292,7 +293,7 @@ fn skipped_up_to(
 fn is_far(ahead: i32) -> bool
     ensures { result ≡ not (is_offset ahead) }
 {
-    ahead < -SECONDS_PER_DAY || SECONDS_PER_DAY < ahead
+    ahead < -MOST_AHEAD || MOST_AHEAD < ahead
 }
 
 // Two days before the second in front of another one, but no second before the first.

@@ -1,7 +1,7 @@
 //! What was seen of the file that is read, and what cron makes of it as a whole.
 ghost use Rattle.std.specs.Prelude.{◌≡◌, ◌++◌, IfOk, OnOk, string_bytes};
 ghost use Rattle.crontab.specs.Entries.{entry_seen};
-ghost use Rattle.croncheck_command.specs.FileSeen.{file_seen, unread, with_line, with_report, counts, is_refused, if_so, ignored, reasons_of, ending_of};
+ghost use Rattle.croncheck_command.specs.FileSeen.{file_seen, unread, with_line, with_report, counts, is_refused, if_so, ignored, is_ignored, reasons_of, ending_of};
 
 use crate::report::Report;
 use crate::warnings::are_many_lines;
@@ -64,6 +64,18 @@ impl FileSeen {
         }
     }
 
+    /// Whether cron ignores the file of so many lines as a whole. One of patterns it doesn't read.
+    pub fn is_ignored(&self, dialect: Dialect, lines: u64) -> bool
+        ensures { result ≡ is_ignored dialect lines (file_seen self.now) }
+    {
+        match dialect {
+            Dialect::Patterns => false,
+            Dialect::User | Dialect::System => {
+                self.has_refused || self.is_unfed || are_many_lines(lines)
+            }
+        }
+    }
+
     // A line for each reason for which cron ignores a crontab of so many lines.
     fn reasons(&self, alloc: Global, lines: u64) -> Result<String, AllocError>
         ensures { IfOk result (λ text. string_bytes text ≡ reasons_of lines (file_seen self.now)) }
@@ -106,7 +118,7 @@ fn push_ignored(text: &mut String, name: &str, reason: &str) -> Result<(), Alloc
 }
 
 // Whether the report of a line is a refusal.
-fn is_refused(report: &Report<'_, '_>) -> bool
+pub(crate) fn is_refused(report: &Report<'_, '_>) -> bool
     ensures { result ≡ is_refused report.now }
 {
     match report {

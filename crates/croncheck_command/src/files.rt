@@ -33,8 +33,8 @@ pub trait Sources {
 }
 
 /// Tells of the files of these names, in order, or of standard input where there are none, and answers the status of the
-/// call: 3 where a file failed, else 1 where a line is refused, or where one has a warning and the settings are strict,
-/// else 0.
+/// call: 3 where a file failed, else 1 where a line is refused, where cron ignores a whole file, or where a line has a
+/// warning and the settings are strict, else 0.
 ///
 /// A file fails that isn't opened or isn't read to its end. Its name and the reason are written to `notes`, and so is at
 /// the end how many jobs were read, how many lines are refused and how many have warnings; an error of `notes` is passed

@@ -4,19 +4,17 @@ ghost use Rattle.serde_json.specs.Data.{array};
 ghost use Rattle.serde_json.specs.View.{view, items_of};
 ghost use Rattle.jiff.specs.ZoneView.{plain_zone};
 ghost use Rattle.crontab.specs.Entries.{entry_seen};
-ghost use Rattle.croncheck_command.specs.Json.{kind_of_line, kind_of, fault_kind, refusal_kind, end_name, remark_of_warning, remark_of_other, remark_of_note, remark_of_change, remark_without_field, only_if, counts_as, remarks_of_range, remarks_of_changes, warnings_of_job, warnings_of_setting, warnings_of_report, warnings_of_line, notes_of_job, notes_of_refusal, notes_of_line, Sentences, string_or_null, remark_object, run_object, times_object, job_object, job_data, refusal_object, refusal_data, object_of};
+ghost use Rattle.croncheck_command.specs.Json.{kind_of_line, kind_of, fault_kind, refusal_kind, end_name, remark_of_warning, remark_of_other, remark_of_note, remark_of_change, remark_without_field, only_if, counts_as, remarks_of_range, remarks_of_changes, warnings_of_job, warnings_of_setting, warnings_of_report, warnings_of_line, harmless_of_report, notes_of_line, Sentences, has_finding, string_or_null, remark_object, run_object, times_object, job_object, job_data, refusal_object, refusal_data, object_of};
 ghost use Rattle.croncheck_command.specs.Private.Remarks.{remark_seen, remarks_seen, AreRemarksOf, object_of_remark, objects_of_remarks, object_with};
-ghost use Rattle.crontab.specs.Notes.{notes_of as notes_of_bytes};
 ghost use Rattle.croncheck_command.specs.Shown.{bytes_shown};
 ghost use Rattle.croncheck_command.specs.Warnings.{field_name};
 
 use crate::changes::meetings::{Compared, Meetings};
 use crate::escaped::shown;
+use crate::file_seen::is_refused;
 use crate::report::{JobReport, Report, Why};
 use crate::runs::{End, Runs};
-use crate::shown::{
-    Place, SAME_JOB, Shared, ahead_of, at_fault, field_name, push_reason, push_same,
-};
+use crate::shown::{Place, SAME_JOB, Shared, ahead_of, at_fault, field_name, push_same, push_why};
 use crate::tally::{Tally, is_too_many};
 use crate::told::Told;
 use crate::warnings::{Dates, OtherWarning, Warning, push_warning_text};
@@ -108,6 +106,21 @@ pub(crate) fn object_of(
 {
     let remarks = remarks_of(alloc, report, text, is_too_many)?;
     object_with(alloc, shared, kind, place, report, &remarks)
+}
+
+/// Whether something is found of a line of this text: it is refused, or its object has a warning or a note. Of a crontab
+/// it may be the first line too many.
+pub(crate) fn has_finding(
+    alloc: Global,
+    report: &Report<'_, '_>,
+    text: &[u8],
+    is_too_many: bool,
+) -> Result<bool, AllocError>
+    ensures { IfOk result (λ found. found ≡ has_finding is_too_many text.now report.now) }
+{
+    let warnings = warnings_of(alloc, report, is_too_many)?;
+    let notes = notes_of(alloc, report, text)?;
+    Ok(is_refused(report) || !warnings.is_empty() || !notes.is_empty())
 }
 
 // The object of a line of which this is said.
@@ -269,6 +282,17 @@ pub struct Remark {
     text: String,
 }
 
+// One of no field.
+fn remark_without_field(name: &'static str, text: String) -> Remark
+    ensures { remark_seen result ≡ remark_without_field name.now }
+{
+    Remark {
+        name,
+        field: None,
+        text,
+    }
+}
+
 /// What is said of a line.
 #[derive(Drop)]
 pub struct Remarks {
@@ -299,29 +323,11 @@ fn remarks_of(
 
 // Why a line of this text is refused; empty where it isn't.
 fn message_of(alloc: Global, report: &Report<'_, '_>, text: &[u8]) -> Result<String, AllocError> {
-    match report {
-        Report::Refused { start, end, why } => reason_of(
-            alloc,
-            why,
-            text,
-            at_fault(text, *start, *end),
-        ),
-        Report::Silent | Report::Setting { .. } | Report::Job(_) => Ok(String::new(alloc)),
+    let mut message = String::new(alloc);
+    if let Report::Refused { start, end, why } = report {
+        push_why(alloc, &mut message, text, at_fault(text, *start, *end), why)?;
     }
-}
-
-// Why a line of this text is refused, of which this piece is at fault.
-fn reason_of(alloc: Global, why: &Why, text: &[u8], piece: &[u8]) -> Result<String, AllocError> {
-    match why {
-        Why::Cron(fault) => {
-            let mut reason = String::new(alloc);
-            push_reason(alloc, &mut reason, *fault, text, piece)?;
-            Ok(reason)
-        }
-        Why::Pattern(fault) => format!(in alloc; "{fault}"),
-        Why::Crate(refusal) => format!(in alloc; "{refusal}"),
-        Why::NotText => String::from_str(alloc, "a pattern is text in UTF-8"),
-    }
+    Ok(message)
 }
 
 // A list of an object for each.
@@ -440,11 +446,7 @@ fn remark_of_same_job(alloc: Global, job: &JobReport<'_, '_>) -> Result<Remark, 
 {
     let mut text = String::new(alloc);
     push_same(&mut text, job)?;
-    Ok(Remark {
-        name: SAME_JOB,
-        field: None,
-        text,
-    })
+    Ok(remark_without_field(SAME_JOB, text))
 }
 
 // A warning of a setting, or of the number of lines, if it holds.
@@ -466,11 +468,7 @@ fn remark_of_other(alloc: Global, warning: OtherWarning) -> Result<Remark, Alloc
     ensures { IfOk result (λ r. remark_seen r ≡ remark_of_other warning) }
 {
     let text = String::from_str(alloc, warning.text())?;
-    Ok(Remark {
-        name: warning.name(),
-        field: None,
-        text,
-    })
+    Ok(remark_without_field(warning.name(), text))
 }
 
 fn remark_of_warning(
@@ -503,79 +501,23 @@ fn notes_of(alloc: Global, report: &Report<'_, '_>, text: &[u8]) -> Result<Vec<R
     ensures { IfOk result (λ found. remarks_seen found.items ≡ notes_of_line text.now report.now) }
 {
     let mut found = Vec::new(alloc);
-    push_notes(alloc, &mut found, report, text)?;
+    let noted = report.notes(alloc, text)?;
+    push_each_note(alloc, &mut found, noted.as_slice())?;
+    push_harmless(alloc, &mut found, report)?;
     Ok(found)
 }
 
-fn push_notes(
+fn push_harmless(
     alloc: Global,
     found: &mut Vec<Remark>,
     report: &Report<'_, '_>,
-    text: &[u8],
 ) -> Result<(), AllocError>
-    ensures { OnOk result (remarks_seen found.new.items ≡ remarks_seen found.old.items ++ notes_of_line text.now report.now) }
+    ensures { OnOk result (remarks_seen found.new.items ≡ remarks_seen found.old.items ++ harmless_of_report report.now) }
 {
     match report {
-        Report::Job(job) => push_job_notes(alloc, found, job, text),
-        Report::Refused { why, .. } => push_refusal_notes(alloc, found, why, text),
-        Report::Silent | Report::Setting { .. } => Ok(()),
+        Report::Job(job) => push_changes(alloc, found, &job.meetings, false),
+        Report::Silent | Report::Setting { .. } | Report::Refused { .. } => Ok(()),
     }
-}
-
-fn push_job_notes(
-    alloc: Global,
-    found: &mut Vec<Remark>,
-    job: &JobReport<'_, '_>,
-    text: &[u8],
-) -> Result<(), AllocError>
-    ensures { OnOk result (remarks_seen found.new.items ≡ remarks_seen found.old.items
-        ++ (map remark_of_note (notes_of_job (option_map (λ c. c.now) job.now.command) text.now) ++ remarks_of_changes false job.now.meetings)) }
-{
-    push_command_notes(alloc, found, job.command, text)?;
-    push_changes(alloc, found, &job.meetings, false)
-}
-
-// The notes of a line with a job, where the line has a command: a pattern has none.
-fn push_command_notes(
-    alloc: Global,
-    found: &mut Vec<Remark>,
-    command: Option<&[u8]>,
-    text: &[u8],
-) -> Result<(), AllocError>
-    ensures { OnOk result (remarks_seen found.new.items
-        ≡ remarks_seen found.old.items ++ map remark_of_note (notes_of_job (option_map (λ c. c.now) command.entry) text.now)) }
-{
-    match command {
-        Some(_) => push_notes_of(alloc, found, None, text),
-        None => Ok(()),
-    }
-}
-
-// The notes of a line that is refused, where cron refuses it.
-fn push_refusal_notes(
-    alloc: Global,
-    found: &mut Vec<Remark>,
-    why: &Why,
-    text: &[u8],
-) -> Result<(), AllocError>
-    ensures { OnOk result (remarks_seen found.new.items ≡ remarks_seen found.old.items ++ map remark_of_note (notes_of_refusal why.now text.now)) }
-{
-    match why {
-        Why::Cron(fault) => push_notes_of(alloc, found, Some(*fault), text),
-        Why::Pattern(_) | Why::Crate(_) | Why::NotText => Ok(()),
-    }
-}
-
-fn push_notes_of(
-    alloc: Global,
-    found: &mut Vec<Remark>,
-    fault: Option<Fault>,
-    text: &[u8],
-) -> Result<(), AllocError>
-    ensures { OnOk result (remarks_seen found.new.items ≡ remarks_seen found.old.items ++ map remark_of_note (notes_of_bytes fault text.now)) }
-{
-    let noted = notes::notes_of(alloc, fault, text)?;
-    push_each_note(alloc, found, noted.as_slice())
 }
 
 fn push_each_note(alloc: Global, found: &mut Vec<Remark>, all: &[Note]) -> Result<(), AllocError>
@@ -591,11 +533,7 @@ fn remark_of_note(alloc: Global, note: Note) -> Result<Remark, AllocError>
     ensures { IfOk result (λ r. remark_seen r ≡ remark_of_note note) }
 {
     let text = String::from_str(alloc, notes::text(note))?;
-    Ok(Remark {
-        name: note.name(),
-        field: None,
-        text,
-    })
+    Ok(remark_without_field(note.name(), text))
 }
 
 // Those of a job's changes of the clock that are warnings, or those that are notes.
@@ -640,9 +578,5 @@ fn remark_of_change(alloc: Global, compared: &Compared) -> Result<Remark, AllocE
 {
     let mut text = String::new(alloc);
     compared.push_text(&mut text)?;
-    Ok(Remark {
-        name: compared.name(),
-        field: None,
-        text,
-    })
+    Ok(remark_without_field(compared.name(), text))
 }

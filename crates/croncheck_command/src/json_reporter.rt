@@ -68,7 +68,7 @@ impl Form for JsonReporter {
 // Writes the object of a line of this text at a place, of this kind of entry, with its report; of a crontab it may be
 // the first line too many.
 #[tactic(auto, using(crate::proofs::Objects::object_written))]
-fn write_object<W: Write>(
+pub(crate) fn write_object<W: Write>(
     terms: &Terms<'_, '_>,
     kind: &str,
     place: Place<'_>,

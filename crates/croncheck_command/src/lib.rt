@@ -1,17 +1,22 @@
 //! The crontab checker `croncheck` as a function: what each line of a crontab is to cron, what it means, and when it runs.
 #![tactic(auto)]
 
+mod ahead;
 pub mod changes;
+pub mod checker;
 pub mod clock;
 pub mod escaped;
 mod file_seen;
 pub mod files;
 pub mod form;
 pub mod json;
+pub mod json_checker;
 pub mod json_reporter;
 mod length;
 pub mod moment;
+pub mod names;
 pub mod output;
+pub mod patterns;
 pub mod plan;
 pub mod planner;
 pub mod problem;

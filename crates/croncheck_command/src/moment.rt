@@ -56,6 +56,7 @@ fn read_second(alloc: Global, word: &str) -> Result<Option<i64>, AllocError>
 }
 
 // A second as it is printed: without a plus, or zeros in front.
+#[tactic(auto, using(crate::proofs::Moments::printed_seconds))]
 fn second_of_digits(alloc: Global, digits: &str) -> Result<Option<i64>, AllocError>
     ensures found { IfOk result (λ found. IfSome found (λ second. signed_decimal second ≡ digits.now)) }
     ensures none { IfOk result (λ found. found ≡ None → (second : ℤ) → FitsSigned w64 second → ¬ (signed_decimal second ≡ digits.now)) }
@@ -72,6 +73,7 @@ fn second_of_digits(alloc: Global, digits: &str) -> Result<Option<i64>, AllocErr
 }
 
 // A date and time as it is printed, with no fraction and no sign.
+#[tactic(auto, using(crate::proofs::Moments::printed_civils))]
 fn read_civil(alloc: Global, word: &str) -> Result<Option<DateTime>, AllocError>
     ensures found { IfOk result (λ found. IfSome found (λ civil. IsNamed (Moment.Civil civil) × (iso_datetime_text civil ≡ word.now))) }
     ensures none { IfOk result (λ found. found ≡ None → (civil : DateTime) → IsNamed (Moment.Civil civil) → ¬ (iso_datetime_text civil ≡ word.now)) }

@@ -1,20 +1,23 @@
 //! The form of a plan: the jobs of all files, and behind them one list of their runs.
 ghost use Rattle.std.specs.Prelude.{◌≡◌, ◌==◌, ◌<◌, ◌++◌, ◌∷◌, ℕ, List, [], IfOk, IfErr, OnOk, length, string_bytes};
+ghost use Rattle.jiff.specs.ZoneView.{plain_zone};
 ghost use Rattle.croner.specs.crontable.Tables.{patterns_of};
 ghost use Rattle.croner.specs.Views.{job_of as meaning_of_job};
 ghost use Rattle.crontab.specs.Checked.{TakesInTurn};
+ghost use Rattle.crontab.specs.Content.{IsOutcome};
+ghost use Rattle.crontab.specs.Entries.{entry_seen};
 ghost use Rattle.croncheck_command.specs.Output.{Written, written_of};
 ghost use Rattle.croncheck_command.specs.Plan.{IsPlanned};
-ghost use Rattle.croncheck_command.specs.Planner.{seen, with_job, Adds, Passes, labels, labels_at, WritesMoment, over_text, more_text, IsPlanEnd};
+ghost use Rattle.croncheck_command.specs.Planner.{seen, with_job, Adds, Passes, labels, labels_at, command_text, label_text, WritesMoment, over_text, more_text, IsPlanEnd};
 ghost use Rattle.croncheck_command.specs.Settings.{start_of, window_end};
 ghost use Rattle.croncheck_command.specs.Shown.{IsWindowEnd};
 ghost use Rattle.croncheck_command.specs.Stand.{stand_of};
 
 use crate::form::Form;
 use crate::output::Output;
-use crate::plan::{Plan, job_of_entry, plan_of};
+use crate::plan::{Plan, plan_of};
 use crate::progress::{Line, Progress, Terms};
-use crate::report::report_of;
+use crate::report::report_of_line;
 use crate::reporter::{write_ending, write_report};
 use crate::runs::{End, Listing, MOST_RUNS};
 use crate::shown::{COMMAND_BYTES, Place, Shared, push_clock, push_front, window_end};
@@ -23,6 +26,7 @@ use croner::Cron;
 use croner::crontable::CronTable;
 use croner::errors::CronError;
 use croner::time::table::TableTime;
+use crontab::content::{Outcome, outcome_of};
 use crontab::line::Entry;
 use std::alloc::{AllocError, Global};
 use std::io;
@@ -98,20 +102,29 @@ impl Planner {
         Ok(())
     }
 
-    // Tells the line that was read last, which has no place in the plan.
+    // Tells the line that was read last, which has no place in the plan. The parser makes this of it.
     fn pass<W: Write>(
         &self,
         terms: &Terms<'_, '_>,
         progress: &mut Progress,
         line: &[u8],
         entry: Entry<'_>,
+        outcome: Outcome,
         output: &mut Output<W>,
     ) -> io::Result<()>
-        ensures { OnOk result (Passes terms.now.settings.now line.now entry.entry
+        ensures { IsOutcome terms.now.settings.now.parser (entry_seen entry.entry) outcome → OnOk result (Passes terms.now.settings.now line.now entry.entry
             (seen self.now.table self.now.jobs (stand_of progress.old) (written_of W.contents output.old))
             (seen self.now.table self.now.jobs (stand_of progress.new) (written_of W.contents output.new))) }
     {
-        let Ok(report) = report_of(terms.alloc, terms.settings, line, entry) else {
+        let Ok(report) = report_of_line(
+            terms.alloc,
+            terms.settings,
+            line,
+            entry,
+            outcome,
+            true,
+            None,
+        ) else {
             return Err(io::Error::from(ErrorKind::OutOfMemory));
         };
         progress.tally.count(&report);
@@ -145,9 +158,13 @@ impl Form for Planner {
             is_fed,
         } = line;
         progress.next_line(&entry, is_fed);
-        match job_of_entry(terms.alloc, terms.settings, &entry)? {
-            Some(job) => self.add(terms.alloc, progress, job, &entry),
-            None => self.pass(terms, progress, text, entry, output),
+        let outcome = outcome_of(terms.alloc, terms.settings.parser, &entry)?;
+        match outcome {
+            Outcome::Job(job) => self.add(terms.alloc, progress, job, &entry),
+            Outcome::NoText
+            | Outcome::TimesRefused(_)
+            | Outcome::PatternRefused(_)
+            | Outcome::NotUtf8 => self.pass(terms, progress, text, entry, outcome, output),
         }
     }
 
@@ -179,20 +196,30 @@ fn with_job(tally: Tally) -> Tally
         jobs: one_more(tally.jobs),
         refused: tally.refused,
         warned: tally.warned,
+        ignored: tally.ignored,
     }
 }
 
-// Its place, and its command or pattern, as they are shown.
-fn label_of(alloc: Global, place: Place<'_>, entry: &Entry<'_>) -> Result<String, AllocError> {
+// What is shown of a job in a plan, as a line: its place, and its command or pattern.
+fn label_of(alloc: Global, place: Place<'_>, entry: &Entry<'_>) -> Result<String, AllocError>
+    ensures { IfOk result (λ label. string_bytes label ≡ label_text place.entry.file.now place.entry.line (entry_seen entry.now)) }
+{
     let (file, line) = (place.file, place.line);
     let mut label = format!(in alloc; "  {file}:{line}  ")?;
-    match entry {
-        Entry::Job(job) => push_front(&mut label, job.command, COMMAND_BYTES)?,
-        Entry::Pattern(text) => push_front(&mut label, text, COMMAND_BYTES)?,
-        Entry::Blank | Entry::Comment | Entry::Setting { .. } | Entry::Refused { .. } => {}
-    }
+    push_command(&mut label, entry)?;
     label.push('\n')?;
     Ok(label)
+}
+
+// Puts the front of a job's command behind a text, or that of a pattern, as a report shows it.
+fn push_command(text: &mut String, entry: &Entry<'_>) -> Result<(), AllocError>
+    ensures { OnOk result (string_bytes text.new ≡ string_bytes text.old ++ command_text (entry_seen entry.now)) }
+{
+    match entry {
+        Entry::Job(job) => push_front(text, job.command, COMMAND_BYTES),
+        Entry::Pattern(pattern) => push_front(text, pattern, COMMAND_BYTES),
+        Entry::Blank | Entry::Comment | Entry::Setting { .. } | Entry::Refused { .. } => Ok(()),
+    }
 }
 
 // Writes moments and the jobs that run then, in order.
@@ -202,7 +229,7 @@ fn write_moments<W: Write>(
     moments: &[(TableTime<'_>, Vec<usize>)],
     output: &mut Output<W>,
 ) -> io::Result<()>
-    ensures { OnOk result (TakesInTurn (WritesMoment (labels jobs.now)) (written_of W.contents output.old) moments.now (written_of W.contents output.new)) }
+    ensures { OnOk result (TakesInTurn (WritesMoment (plain_zone terms.now.shared.now.zone) (labels jobs.now)) (written_of W.contents output.old) moments.now (written_of W.contents output.new)) }
 {
     for k in 0..moments.len() {
         write_moment(terms, jobs, &moments[k], output)?;
@@ -217,7 +244,7 @@ fn write_moment<W: Write>(
     moment: &(TableTime<'_>, Vec<usize>),
     output: &mut Output<W>,
 ) -> io::Result<()>
-    ensures { OnOk result (WritesMoment (labels jobs.now) (written_of W.contents output.old) moment.now (written_of W.contents output.new)) }
+    ensures { OnOk result (WritesMoment (plain_zone terms.now.shared.now.zone) (labels jobs.now) (written_of W.contents output.old) moment.now (written_of W.contents output.new)) }
 {
     let mut text = String::new(terms.alloc);
     push_clock(&mut text, terms.shared, &moment.0)?;

@@ -54,7 +54,7 @@ impl fmt::Display for Problem {
             Problem::Words(error) => write!(f, "the words of the call: {error}"),
             Problem::Zone(error) => write!(
                 f,
-                "the zone: {error}; --zone takes a name of the database, as Europe/Paris, a POSIX rule, as CET-1CEST,M3.5.0,M10.5.0/3, or local"
+                "the zone: {error}; --zone takes a name of the database, as Europe/Paris, a POSIX rule, as CET-1CEST,M3.5.0,M10.5.0/3, or local: the zone that TZ names, or without TZ that of /etc/localtime"
             ),
             Problem::NoZone(text) => f.write_str(text.as_str()),
             Problem::Clock(reason) => write_reason(f, *reason),
@@ -91,6 +91,8 @@ fn write_stop<W: fmt::Write>(
     write!(f, "the zone: its clock is not followed over {stop}")?;
     match next {
         Some(next) => write!(f, "; runs are listed from --from @{next} on"),
-        None => Ok(()),
+        None => f.write_str(
+            "; no start that has a clock was found behind it: write another --from, or another --zone",
+        ),
     }
 }

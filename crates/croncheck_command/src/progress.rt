@@ -11,6 +11,7 @@ use crate::same::Seen;
 use crate::settings::Settings;
 use crate::shown::{Place, Shared};
 use crate::tally::{Tally, one_more};
+use crontab::content::outcome_of;
 use crontab::line::Entry;
 use std::alloc::Global;
 use std::io;
@@ -135,11 +136,19 @@ impl Progress {
             file: self.file.name(),
             line: self.lines,
         };
+        let outcome = outcome_of(terms.alloc, terms.settings.parser, &entry)?;
         let same = self
             .seen
-            .earlier(terms.alloc, terms.settings, &entry, place)?;
-        let Ok(report) = report_of_line(terms.alloc, terms.settings, text, entry, is_fed, same)
-        else {
+            .earlier(terms.alloc, terms.settings, &entry, &outcome, place)?;
+        let Ok(report) = report_of_line(
+            terms.alloc,
+            terms.settings,
+            text,
+            entry,
+            outcome,
+            is_fed,
+            same,
+        ) else {
             return Err(io::Error::from(ErrorKind::OutOfMemory));
         };
         self.tally.add(terms.settings.dialect, before, &report);

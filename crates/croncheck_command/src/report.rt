@@ -1,12 +1,12 @@
 //! What a line is told: values, and no text but the description.
-ghost use Rattle.std.specs.Prelude.{◌≡◌, ◌+◌, ◌≤◌, Ok, ℕ, length, IfOk, IfErr, None, Some, option_map, Result};
-ghost use Rattle.croner_pattern.specs.Meaning.{Meaning};
-ghost use Rattle.croner.specs.parser.Gives.{Fails};
-ghost use Rattle.croner.specs.parser.Grammar.{Refusal};
+ghost use Rattle.std.specs.Prelude.{◌≡◌, ◌+◌, Ok, ℕ, length, min, IfOk, IfErr, None, Some, option_map, Result};
+ghost use Rattle.croner.specs.parser.Grammar.{outcome as outcome_of_text};
 ghost use Rattle.croner.specs.Views.{job_of as meaning_of_job};
-ghost use Rattle.crontab.specs.Entries.{job_seen};
-ghost use Rattle.croncheck_command.specs.Report.{IsRefusalOf, IsUnreadTiming, IsReportOfJob, IsReportOfPattern, blanks_of, IsReport, IsReportOfLine, TellsChanges, subject_of, IsWarned, WarnsJob, WarnsPattern, MeetsJob, DatesOf, TellsDates, meaning_of_timing, file_and_line, earlier_of, place_for, has_job_warnings, has_warnings};
-ghost use Rattle.croncheck_command.specs.Told.{TellsMeaning, TellsTiming};
+ghost use Rattle.crontab.specs.Content.{IsOutcome, IsOutcomeOfTimes, IsOutcomeOfPattern};
+ghost use Rattle.crontab.specs.Entries.{entry_seen, job_seen, times_seen};
+ghost use Rattle.croncheck_command.specs.declared.settings.Settings.{Settings as Made};
+ghost use Rattle.croncheck_command.specs.Report.{IsReportOfJob, IsReportOfPattern, blanks_of, IsReportOfLine, TellsChanges, subject_of, IsWarned, WarnsPattern, TellsDates, file_and_line, earlier_of, place_for, has_job_warnings, has_warnings, notes_of_job, notes_of_refusal, notes_of_report};
+ghost use Rattle.croncheck_command.specs.Told.{TellsTiming};
 ghost use Rattle.croncheck_command.specs.Warnings.{fields_seen, subject_seen};
 
 use crate::changes::meetings::Meetings;
@@ -21,9 +21,10 @@ use croner::errors::CronError;
 use croner::parser::PatternFault;
 use croner::time::CronDateTime;
 use crontab::bytes::{Kind, cut};
+use crontab::content::Outcome;
 use crontab::line::{Entry, Fault, Job, Times};
-use crontab::parsed::job_of;
-use std::alloc::Global;
+use crontab::notes::{Note, notes_of};
+use std::alloc::{AllocError, Global};
 
 /// What a line is told.
 pub enum Report<'l, 't> {
@@ -124,6 +125,19 @@ impl Report<'_, '_> {
             Report::Silent | Report::Refused { .. } => false,
         }
     }
+
+    /// The notes of a line of this report, which is given without its line feed.
+    ///
+    /// The only error is want of memory.
+    pub fn notes(&self, alloc: Global, line: &[u8]) -> Result<Vec<Note>, AllocError>
+        ensures { IfOk result (λ found. found.items ≡ notes_of_report line.now self.now) }
+    {
+        match self {
+            Report::Job(job) => job.notes(alloc, line),
+            Report::Refused { why, .. } => why.notes(alloc, line),
+            Report::Silent | Report::Setting { .. } => Ok(Vec::new(alloc)),
+        }
+    }
 }
 
 impl JobReport<'_, '_> {
@@ -133,39 +147,47 @@ impl JobReport<'_, '_> {
     {
         !self.warnings.is_empty() || self.meetings.are_warned() || self.same.is_some()
     }
+
+    // The notes of its line: a pattern, which has no command, has none.
+    pub(crate) fn notes(&self, alloc: Global, line: &[u8]) -> Result<Vec<Note>, AllocError>
+        ensures { IfOk result (λ found. found.items ≡ notes_of_job (option_map (λ c. c.now) self.now.command) line.now) }
+    {
+        match self.command {
+            Some(_) => notes_of(alloc, None, line),
+            None => Ok(Vec::new(alloc)),
+        }
+    }
 }
 
-/// The report of the entry of a line that has its line feed, and is given without it.
+impl Why {
+    // The notes of a line that is refused so: where cron refuses it.
+    pub(crate) fn notes(&self, alloc: Global, line: &[u8]) -> Result<Vec<Note>, AllocError>
+        ensures { IfOk result (λ found. found.items ≡ notes_of_refusal self.now line.now) }
+    {
+        match self {
+            Why::Cron(fault) => notes_of(alloc, Some(*fault), line),
+            Why::Pattern(_) | Why::Crate(_) | Why::NotText => Ok(Vec::new(alloc)),
+        }
+    }
+}
+
+/// The report of the entry of a line, which has its line feed or hasn't, and is given without it. The outcome is what the
+/// parser makes of the line's times, and an earlier job was looked for that is the same.
 ///
 /// A job is refused exactly where the crate's parser refuses the text of its times, and a pattern where the parser
-/// refuses it or it is no UTF-8. The place of such a refusal lies behind the blanks in front of the line. No earlier job
-/// that is the same stands in the report. The only error is `OutOfMemory`.
-pub fn report_of<'l, 't>(
-    alloc: Global,
-    settings: &Settings<'t>,
-    line: &[u8],
-    entry: Entry<'l>,
-) -> Result<Report<'l, 't>, CronError>
-    ensures report { IfOk result (IsReport settings.now line.now entry.entry) }
-    ensures alone { IfOk result (λ r. earlier_of r ≡ None) }
-    ensures err { IfErr result (λ e. e ≡ CronError.OutOfMemory) }
-{
-    report_of_line(alloc, settings, line, entry, true, None)
-}
-
-/// The same of a line that has its line feed or hasn't, and for which an earlier job was looked for that is the same.
-///
-/// The place that was found stands in the report, if that is of a job or a pattern that is read. The only error is
+/// refuses it or it is no UTF-8. The place of such a refusal lies behind the blanks in front of the line. The place that
+/// was found of an earlier job stands in the report, if that is of a job or a pattern that is read. The only error is
 /// `OutOfMemory`.
 pub fn report_of_line<'l, 't>(
     alloc: Global,
     settings: &Settings<'t>,
     line: &[u8],
     entry: Entry<'l>,
+    outcome: Outcome,
     is_fed: bool,
     same: Option<Same>,
 ) -> Result<Report<'l, 't>, CronError>
-    ensures report { IfOk result (IsReportOfLine is_fed settings.now line.now entry.entry) }
+    ensures report { IsOutcome settings.now.parser (entry_seen entry.entry) outcome → IfOk result (IsReportOfLine is_fed settings.now line.now entry.entry) }
     ensures passed { IfOk result (λ r. earlier_of r ≡ place_for r (option_map file_and_line same)) }
     ensures err { IfErr result (λ e. e ≡ CronError.OutOfMemory) }
 {
@@ -177,8 +199,10 @@ pub fn report_of_line<'l, 't>(
             end,
             why: Why::Cron(fault),
         }),
-        Entry::Job(job) => report_of_job(alloc, settings, line, job, is_fed, same),
-        Entry::Pattern(text) => report_of_pattern(alloc, settings, line, text, is_fed, same),
+        Entry::Job(job) => report_of_job(alloc, settings, line, job, outcome, is_fed, same),
+        Entry::Pattern(text) => report_of_pattern(
+            alloc, settings, line, text, outcome, is_fed, same,
+        ),
     }
 }
 
@@ -190,116 +214,97 @@ fn blanks(line: &[u8]) -> &[u8]
     blanks
 }
 
-// The report of the job of a line.
+// The report of the job of a line, of whose times the parser makes this.
 fn report_of_job<'l, 't>(
     alloc: Global,
     settings: &Settings<'t>,
     line: &[u8],
     job: Job<'l>,
+    outcome: Outcome,
     is_fed: bool,
     same: Option<Same>,
 ) -> Result<Report<'l, 't>, CronError>
-    ensures report { IfOk result (IsReportOfJob is_fed settings.now (blanks_of line.now) (job_seen job.entry)) }
+    ensures report { IsOutcomeOfTimes (job_seen job.entry).times outcome → IfOk result (IsReportOfJob is_fed settings.now (blanks_of line.now) (job_seen job.entry)) }
     ensures passed { IfOk result (λ r. earlier_of r ≡ place_for r (option_map file_and_line same)) }
     ensures err { IfErr result (λ e. e ≡ CronError.OutOfMemory) }
 {
-    match told_of_times(alloc, settings, &job, is_fed)? {
-        Ok(warned) => Ok(Report::Job(JobReport {
-            schedule: job.schedule,
-            user: job.user,
-            command: Some(job.command),
-            same,
-            times: warned.times,
-            warnings: warned.warnings,
-            meetings: warned.meetings,
-            dates: warned.dates,
-        })),
-        Err(refusal) => Ok(refused(line, job.schedule, Why::Crate(refusal))),
+    match outcome {
+        Outcome::Job(cron) => told_of_job(alloc, settings, job, &cron, is_fed, same),
+        Outcome::NoText => told_of_no_text(alloc, job, is_fed, same),
+        Outcome::TimesRefused(refusal) => Ok(refused(line, job.schedule, Why::Crate(refusal))),
+        // A pattern alone is refused so.
+        Outcome::PatternRefused(_) | Outcome::NotUtf8 => Ok(refused(
+            line,
+            job.schedule,
+            Why::NotText,
+        )),
     }
 }
 
-// What a job's times are told, its warnings, and what it is told of changes of the clock.
-#[derive(Drop)]
-struct Warned<'t> {
-    times: Told<'t>,
-    warnings: Vec<Warning>,
-    meetings: Meetings,
-    dates: Option<Dates>,
-}
-
-// What a job's times are told, and its warnings; or why the crate's parser refuses the text that they were made into.
-fn told_of_times<'t>(
+// The report of a job of whose times the parser makes this one.
+fn told_of_job<'l, 't>(
     alloc: Global,
     settings: &Settings<'t>,
-    job: &Job<'_>,
-    is_fed: bool,
-) -> Result<Result<Warned<'t>, CronError>, CronError>
-    ensures told { IfOk result (λ read. IfOk read (λ w. TellsTiming settings.now (job_seen job.now).times w.times)) }
-    ensures warned { IfOk result (λ read. IfOk read (λ w. WarnsJob is_fed (job_seen job.now) w.times w.warnings.items)) }
-    ensures met { IfOk result (λ read. IfOk read (λ w. MeetsJob settings.now (job_seen job.now) w.times w.meetings)) }
-    ensures dated { IfOk result (λ read. IfOk read (λ w. DatesOf (meaning_of_timing (job_seen job.now).times) w.times w.dates)) }
-    ensures refused { IfOk result (λ read. IfErr read (IsUnreadTiming (job_seen job.now).times)) }
-    ensures err { IfErr result (λ e. e ≡ CronError.OutOfMemory) }
-{
-    match &job.times {
-        Times::Reboot => {
-            let warned = with_warnings(
-                alloc,
-                job,
-                None,
-                Told::Reboot,
-                Meetings::none(),
-                None,
-                is_fed,
-            )?;
-            Ok(Ok(warned))
-        }
-        Times::Never => {
-            let warned = with_warnings(
-                alloc,
-                job,
-                None,
-                Told::Nothing,
-                Meetings::none(),
-                None,
-                is_fed,
-            )?;
-            Ok(Ok(warned))
-        }
-        Times::Named { text, both_days } => match job_of(alloc, text.as_str(), *both_days) {
-            Ok(cron) => {
-                let warned = told_of_job(alloc, settings, job, &cron, is_fed)?;
-                Ok(Ok(warned))
-            }
-            Err(refusal) => {
-                let cause = refusal_of_text(refusal)?;
-                Ok(Err(cause))
-            }
-        },
-    }
-}
-
-// What a job is told of which the parser made this one.
-fn told_of_job<'t>(
-    alloc: Global,
-    settings: &Settings<'t>,
-    job: &Job<'_>,
+    job: Job<'l>,
     cron: &Cron,
     is_fed: bool,
-) -> Result<Warned<'t>, CronError>
-    ensures told { IfOk result (λ w. TellsMeaning settings.now (Ok (meaning_of_job cron.now)) w.times) }
-    ensures warnings { IfOk result (λ w.
-        IsWarned is_fed job.now.schedule.now (option_map (λ u. u.now) job.now.user) job.now.command.now (Some (meaning_of_job cron.now)) w.times w.warnings.items) }
-    ensures met { IfOk result (λ w.
-        TellsChanges settings.now (Some job.now.schedule.now) (Some (meaning_of_job cron.now)) w.times w.meetings) }
-    ensures dated { IfOk result (λ w. TellsDates (meaning_of_job cron.now) w.times w.dates) }
+    same: Option<Same>,
+) -> Result<Report<'l, 't>, CronError>
+    ensures report { (blanks : ℕ) → IsOutcomeOfTimes (job_seen job.entry).times (Outcome.Job cron.now)
+        → IfOk result (IsReportOfJob is_fed settings.now blanks (job_seen job.entry)) }
+    ensures passed { IfOk result (λ r. earlier_of r ≡ place_for r (option_map file_and_line same)) }
     ensures err { IfErr result (λ e. e ≡ CronError.OutOfMemory) }
 {
-    let told = told_of(alloc, settings, cron)?;
-    let meetings = meetings_of(settings, cron, Some(job.schedule), &told);
-    let dates = dates_of(cron, &told)?;
-    let warned = with_warnings(alloc, job, Some(cron), told, meetings, dates, is_fed)?;
-    Ok(warned)
+    let times = told_of(alloc, settings, cron)?;
+    let meetings = meetings_of(settings, cron, Some(job.schedule), &times);
+    let dates = dates_of(cron, &times)?;
+    let warnings = warnings_of_job(alloc, &job, Some(cron), &times, is_fed)?;
+    Ok(Report::Job(JobReport {
+        schedule: job.schedule,
+        user: job.user,
+        command: Some(job.command),
+        same,
+        times,
+        warnings,
+        meetings,
+        dates,
+    }))
+}
+
+// The report of a job that has no text for the parser.
+fn told_of_no_text<'l, 't>(
+    alloc: Global,
+    job: Job<'l>,
+    is_fed: bool,
+    same: Option<Same>,
+) -> Result<Report<'l, 't>, CronError>
+    ensures report { (s : Made) (blanks : ℕ) → IsOutcomeOfTimes (job_seen job.entry).times Outcome.NoText
+        → IfOk result (IsReportOfJob is_fed s blanks (job_seen job.entry)) }
+    ensures passed { IfOk result (λ r. earlier_of r ≡ place_for r (option_map file_and_line same)) }
+    ensures err { IfErr result (λ e. e ≡ CronError.OutOfMemory) }
+{
+    let times = times_of_no_text(&job.times);
+    let warnings = warnings_of_job(alloc, &job, None, &times, is_fed)?;
+    Ok(Report::Job(JobReport {
+        schedule: job.schedule,
+        user: job.user,
+        command: Some(job.command),
+        same,
+        times,
+        warnings,
+        meetings: Meetings::none(),
+        dates: None,
+    }))
+}
+
+// Times of no text are told so.
+fn times_of_no_text<'t>(times: &Times) -> Told<'t>
+    ensures { (s : Made) → IsOutcomeOfTimes (times_seen times.now) Outcome.NoText → TellsTiming s (times_seen times.now) result }
+{
+    match times {
+        Times::Reboot => Told::Reboot,
+        Times::Never | Times::Named { .. } => Told::Nothing,
+    }
 }
 
 // What a job is told of changes of the clock, whose times were told so.
@@ -335,35 +340,25 @@ fn dates_of(job: &Cron, told: &Told<'_>) -> Result<Option<Dates>, CronError>
     }
 }
 
-// What a job of a crontab is told, with its warnings.
-fn with_warnings<'t>(
+// The warnings of a job of a crontab, of whose times the parser made this job, if they have a text.
+fn warnings_of_job(
     alloc: Global,
     job: &Job<'_>,
     cron: Option<&Cron>,
-    times: Told<'t>,
-    meetings: Meetings,
-    dates: Option<Dates>,
+    told: &Told<'_>,
     is_fed: bool,
-) -> Result<Warned<'t>, CronError>
-    ensures times { IfOk result (λ w. w.times ≡ times.entry) }
-    ensures met { IfOk result (λ w. w.meetings ≡ meetings) }
-    ensures dated { IfOk result (λ w. w.dates ≡ dates) }
-    ensures warnings { IfOk result (λ w. IsWarned is_fed job.now.schedule.now (option_map (λ u. u.now) job.now.user) job.now.command.now
-        (option_map (λ j. meaning_of_job j.now) cron.entry) w.times w.warnings.items) }
+) -> Result<Vec<Warning>, CronError>
+    ensures warnings { IfOk result (λ found. IsWarned is_fed job.now.schedule.now (option_map (λ u. u.now) job.now.user) job.now.command.now
+        (option_map (λ j. meaning_of_job j.now) cron.entry) told.now found.items) }
     ensures err { IfErr result (λ e. e ≡ CronError.OutOfMemory) }
 {
     let fields = fields_of_schedule(job.schedule);
     let command = Some(job.command);
     let warnings = warnings_of(
         alloc,
-        &subject_of(fields, cron, job.user, command, true, is_fed, &times),
+        &subject_of(fields, cron, job.user, command, true, is_fed, told),
     )?;
-    Ok(Warned {
-        times,
-        warnings,
-        meetings,
-        dates,
-    })
+    Ok(warnings)
 }
 
 // What is looked at of a job or a pattern for its warnings.
@@ -392,20 +387,6 @@ fn subject_of<'s, 'j>(
     }
 }
 
-// A refusal of a text, but for want of memory.
-fn refusal_of_text(refusal: CronError) -> Result<CronError, CronError>
-    ensures refused { IfOk result (λ e. (read : Result Meaning Refusal) → Fails refusal read → IsRefusalOf e read) }
-    ensures err { IfErr result (λ e. e ≡ CronError.OutOfMemory) }
-{
-    match refusal {
-        CronError::EmptyPattern => Ok(CronError::EmptyPattern),
-        CronError::InvalidPattern(message) => Ok(CronError::InvalidPattern(message)),
-        CronError::IllegalCharacters(message) => Ok(CronError::IllegalCharacters(message)),
-        CronError::ComponentError(message) => Ok(CronError::ComponentError(message)),
-        _ => Err(CronError::OutOfMemory),
-    }
-}
-
 // The whole of a text behind the blanks of a line is refused.
 fn refused<'l, 't>(line: &[u8], text: &[u8], why: Why) -> Report<'l, 't>
     ensures { result ≡ Report.Refused (blanks_of line.now) (blanks_of line.now + length text.now) why }
@@ -420,71 +401,73 @@ fn refused<'l, 't>(line: &[u8], text: &[u8], why: Why) -> Report<'l, 't>
 
 // A text behind the blanks of a line is refused for a fault in it.
 fn pattern_refused<'l, 't>(line: &[u8], text: &str, fault: PatternFault) -> Report<'l, 't>
-    requires start { fault.start ≤ length text.now }
-    requires end { fault.end ≤ length text.now }
-    ensures { result ≡ Report.Refused (blanks_of line.now + fault.start) (blanks_of line.now + fault.end) (Why.Pattern fault) }
+    ensures { result ≡ Report.Refused (blanks_of line.now + min fault.start (length text.now)) (blanks_of line.now + min fault.end (length text.now)) (Why.Pattern fault) }
 {
     let blanks = blanks(line);
     Report::Refused {
-        start: blanks.len() + fault.start,
-        end: blanks.len() + fault.end,
+        start: blanks.len() + fault.start.min(text.len()),
+        end: blanks.len() + fault.end.min(text.len()),
         why: Why::Pattern(fault),
     }
 }
 
-// The report of the pattern of a line.
+// The report of the pattern of a line, of which the parser makes this.
 fn report_of_pattern<'l, 't>(
     alloc: Global,
     settings: &Settings<'t>,
     line: &[u8],
     bytes: &'l [u8],
+    outcome: Outcome,
     is_fed: bool,
     same: Option<Same>,
 ) -> Result<Report<'l, 't>, CronError>
-    ensures report { IfOk result (IsReportOfPattern is_fed settings.now (blanks_of line.now) bytes.now) }
+    ensures report { IsOutcomeOfPattern settings.now.parser bytes.now outcome → IfOk result (IsReportOfPattern is_fed settings.now (blanks_of line.now) bytes.now) }
     ensures passed { IfOk result (λ r. earlier_of r ≡ place_for r (option_map file_and_line same)) }
     ensures err { IfErr result (λ e. e ≡ CronError.OutOfMemory) }
 {
     let Ok(text) = std::str::from_utf8(bytes) else {
         return Ok(refused(line, bytes, Why::NotText));
     };
-    match settings.parser.explain(alloc, text)? {
-        Some(fault) => Ok(pattern_refused(line, text, fault)),
-        None => told_of_pattern(alloc, settings, text, is_fed, same),
+    match outcome {
+        Outcome::Job(job) => told_of_pattern(alloc, settings, text, &job, is_fed, same),
+        Outcome::PatternRefused(fault) => Ok(pattern_refused(line, text, fault)),
+        // No pattern that is UTF-8 is refused so.
+        Outcome::NoText | Outcome::TimesRefused(_) | Outcome::NotUtf8 => Ok(refused(
+            line,
+            bytes,
+            Why::NotText,
+        )),
     }
 }
 
-// The report of a pattern that the parser takes.
+// The report of a pattern that the parser takes, and makes this job of.
 fn told_of_pattern<'l, 't>(
     alloc: Global,
     settings: &Settings<'t>,
     text: &'l str,
+    job: &Cron,
     is_fed: bool,
     same: Option<Same>,
 ) -> Result<Report<'l, 't>, CronError>
-    ensures report { (blanks : ℕ) → IfOk result (IsReportOfPattern is_fed settings.now blanks text.now) }
+    ensures report { (blanks : ℕ) → outcome_of_text settings.now.parser text.now ≡ Ok (meaning_of_job job.now)
+        → IfOk result (IsReportOfPattern is_fed settings.now blanks text.now) }
     ensures passed { IfOk result (λ r. earlier_of r ≡ place_for r (option_map file_and_line same)) }
     ensures err { IfErr result (λ e. e ≡ CronError.OutOfMemory) }
 {
-    match settings.parser.parse(alloc, text) {
-        Ok(job) => {
-            let times = told_of(alloc, settings, &job)?;
-            let meetings = meetings_of(settings, &job, None, &times);
-            let dates = dates_of(&job, &times)?;
-            let warnings = warnings_of_pattern(alloc, text, &job, &times, is_fed)?;
-            Ok(Report::Job(JobReport {
-                schedule: text.as_bytes(),
-                user: None,
-                command: None,
-                same,
-                times,
-                warnings,
-                meetings,
-                dates,
-            }))
-        }
-        Err(_) => Err(CronError::OutOfMemory),
-    }
+    let times = told_of(alloc, settings, job)?;
+    let meetings = meetings_of(settings, job, None, &times);
+    let dates = dates_of(job, &times)?;
+    let warnings = warnings_of_pattern(alloc, text, job, &times, is_fed)?;
+    Ok(Report::Job(JobReport {
+        schedule: text.as_bytes(),
+        user: None,
+        command: None,
+        same,
+        times,
+        warnings,
+        meetings,
+        dates,
+    }))
 }
 
 // The warnings of a pattern that the parser takes.

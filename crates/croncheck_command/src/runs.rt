@@ -6,7 +6,7 @@ ghost use Rattle.croner_base.specs.TableZone.{table_zone, table_moment};
 ghost use Rattle.croner_base.specs.ZonedZone.{zoned_zone};
 ghost use Rattle.croner_pattern.specs.Meaning.{Meaning};
 ghost use Rattle.croner_base.specs.declared.time.Direction.{Direction};
-ghost use Rattle.croner.specs.iterator.Listing.{IsLeft, BeginsRest, GaveAll};
+ghost use Rattle.croner.specs.iterator.Listing.{IsLeft, BeginsRest, GaveAll, standing_of};
 ghost use Rattle.croner.specs.laws.Zones.{IsOnClockOf, in_zone};
 ghost use Rattle.croner.specs.search.Limit.{InSpan};
 ghost use Rattle.croner.specs.Views.{job_of};
@@ -15,11 +15,11 @@ ghost use Rattle.croncheck_command.specs.Clock.{last_second};
 ghost use Rattle.croncheck_command.specs.Runs.{starts, IsListed, GaveUntil};
 
 use crate::clock::Clock;
-use croner::Cron;
 use croner::errors::CronError;
 use croner::laws::listing::{ListingEnd, next_runs_until};
 use croner::laws::zones::listing_of_a_window;
 use croner::time::table::TableTime;
+use croner::{Cron, CronIterator};
 use std::alloc::Global;
 
 /// The most runs that are listed up to a second.
@@ -86,9 +86,23 @@ pub fn runs_of<'t>(
     ensures err { IfErr result (λ e. e ≡ CronError.OutOfMemory) }
 {
     let mut iterator = job.iter_after(start)?;
+    runs_from(alloc, &mut iterator, start, last, listing)
+}
+
+// The runs that an iterator gives which is new at a start.
+fn runs_from<'t>(
+    alloc: Global,
+    iterator: &mut CronIterator<TableTime<'t>>,
+    start: TableTime<'t>,
+    last: Option<i64>,
+    listing: Listing,
+) -> Result<Runs<'t>, CronError>
+    ensures listed { (m : Meaning) → standing_of table_moment iterator.old ≡ starts m start.entry → IfOk result (IsListed m start.entry last listing) }
+    ensures err { IfErr result (λ e. e ≡ CronError.OutOfMemory) }
+{
     let until = bound_of(start.second(), last, listing);
     let most = limit_of(listing);
-    let (items, ending) = next_runs_until(alloc, &mut iterator, until, most)?;
+    let (items, ending) = next_runs_until(alloc, iterator, until, most)?;
     let end = end_of(listing, last, ending, iterator.fault())?;
     Ok(Runs { items, end })
 }

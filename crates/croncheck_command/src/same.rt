@@ -1,19 +1,17 @@
 //! The jobs that were seen, of which each has one place: that of the first that is the same.
-ghost use Rattle.std.specs.Prelude.{◌≡◌, true, false, Option, None, Some, codes, option_map, string_bytes, IfOk, OnOk, OnErr, if◌then◌else◌};
-ghost use Rattle.std.specs.Str.{bytes_eq};
+ghost use Rattle.std.specs.Prelude.{◌≡◌, true, false, Option, None, Some, option_map, string_bytes, IfOk, OnOk, OnErr, if◌then◌else◌};
 ghost use Rattle.croner.specs.Views.{job_of as meaning_of_job};
 ghost use Rattle.crontab.specs.Entries.{entry_seen};
-ghost use Rattle.crontab.specs.Line.{words_of as words_in};
+ghost use Rattle.croncheck_command.specs.Plan.{meaning_found};
 ghost use Rattle.croncheck_command.specs.Report.{file_and_line};
-ghost use Rattle.croncheck_command.specs.Same.{has_star_day, HasTimesCompared, owner_of, JobKey, IsCompared, are_same, place_kept, KeepsPlaces, Finds, FindsAny};
+ghost use Rattle.croncheck_command.specs.Same.{times_compared, compared_in, owner_of, JobKey, IsCompared, are_same, place_kept, KeepsPlaces, Finds, FindsAny};
 
-use crate::plan::{accepted, job_of_entry};
 use crate::report::Same;
 use crate::settings::Settings;
 use crate::shown::Place;
 use croner::Cron;
-use crontab::line::{Entry, Times, words_of};
-use crontab::parsed::job_of;
+use crontab::content::Outcome;
+use crontab::line::Entry;
 use std::alloc::{AllocError, Global};
 use std::collections::BTreeMap;
 
@@ -40,26 +38,27 @@ impl Seen {
         }
     }
 
-    /// The place of the first job that is the same as that of an entry: its times have the same meaning, and its user and its command have
-    /// the same bytes. Where there is none, this one is kept, with its place. Nothing is found and nothing kept where the settings compare no
+    /// The place of the first job that is the same as that of an entry, of which the parser makes this: its times have the same meaning, and
+    /// its user and its command have the same bytes. Where there is none, this one is kept, with its place. Nothing is found and nothing kept where the settings compare no
     /// jobs, or the entry has no job or one without times. An error leaves what was kept.
     pub fn earlier(
         &mut self,
         alloc: Global,
         settings: &Settings<'_>,
         entry: &Entry<'_>,
+        outcome: &Outcome,
         place: Place<'_>,
     ) -> Result<Option<Same>, AllocError>
         ensures alone { settings.now.compares_jobs ≡ false → IfOk result (λ found. found ≡ None) }
         ensures unasked { settings.now.compares_jobs ≡ false → self.new ≡ self.old }
-        ensures found { settings.now.compares_jobs ≡ true → IfOk result (λ found. (key : Option JobKey) × IsCompared settings.now (entry_seen entry.now) key
+        ensures found { settings.now.compares_jobs ≡ true → IfOk result (λ found. (key : Option JobKey) × IsCompared (entry_seen entry.now) outcome.now key
             × FindsAny key (place.entry.file.now, place.entry.line) self.old self.new found) }
         ensures err { OnErr result (KeepsPlaces self.old self.new) }
     {
         if !settings.compares_jobs {
             return Ok(None);
         }
-        match job_compared(alloc, settings, entry)? {
+        match job_compared(entry, outcome)? {
             Some(job) => self.earlier_job(alloc, owner_of(alloc, entry)?, job, place),
             None => Ok(None),
         }
@@ -114,37 +113,43 @@ impl Seen {
     }
 }
 
-// The job of an entry as it is compared. Where a day field is `*`, a day has to match the other, whether both must or either: so `@hourly`
-// and `0 * * * *` are one.
-fn job_compared(
-    alloc: Global,
-    settings: &Settings<'_>,
-    entry: &Entry<'_>,
-) -> Result<Option<Cron>, AllocError>
-    ensures { IfOk result (λ found. HasTimesCompared settings.now (entry_seen entry.now) (option_map meaning_of_job found)) }
+// The job of an entry as it is compared, of which the parser makes this.
+fn job_compared(entry: &Entry<'_>, outcome: &Outcome) -> Result<Option<Cron>, AllocError>
+    ensures { IfOk result (λ found. option_map meaning_of_job found ≡ option_map (compared_in (entry_seen entry.now)) (meaning_found outcome.now)) }
 {
-    if let Entry::Job(job) = entry {
-        if let Times::Named { text, .. } = &job.times {
-            if has_star_day(text.as_str().as_bytes()) {
-                return accepted(job_of(alloc, text.as_str(), false));
-            }
-        }
+    match outcome {
+        Outcome::Job(job) => Ok(Some(compared_in(entry, job)?)),
+        Outcome::NoText
+        | Outcome::TimesRefused(_)
+        | Outcome::PatternRefused(_)
+        | Outcome::NotUtf8 => Ok(None),
     }
-    job_of_entry(alloc, settings, entry)
 }
 
-// Whether a day field of five is `*`.
-fn has_star_day(text: &[u8]) -> bool
-    ensures { result ≡ has_star_day (words_in text.now) }
+// The job of an entry as it is compared.
+fn compared_in(entry: &Entry<'_>, job: &Cron) -> Result<Cron, AllocError>
+    ensures { IfOk result (λ found. meaning_of_job found ≡ compared_in (entry_seen entry.now) (meaning_of_job job.now)) }
 {
-    let words = words_of(text);
-    is_star(words.days) || is_star(words.weekdays)
+    match entry {
+        Entry::Job(_) => times_compared(job),
+        Entry::Blank
+        | Entry::Comment
+        | Entry::Setting { .. }
+        | Entry::Pattern(_)
+        | Entry::Refused { .. } => job.clone(),
+    }
 }
 
-fn is_star(field: &[u8]) -> bool
-    ensures { result ≡ bytes_eq field.now (codes "*") }
+// Where a day field is `*`, a day has to match the other, whether both must or either: so `@hourly` and `0 * * * *` are one.
+fn times_compared(job: &Cron) -> Result<Cron, AllocError>
+    ensures { IfOk result (λ found. meaning_of_job found ≡ times_compared (meaning_of_job job.now)) }
 {
-    field == "*".as_bytes()
+    let mut pattern = job.pattern.clone()?;
+    let (star_day, star_weekday) = (pattern.is_dom_wildcard(), pattern.is_dow_wildcard());
+    if star_day || star_weekday {
+        pattern.set_flags(star_day, star_weekday, false);
+    }
+    Ok(Cron { pattern })
 }
 
 fn same_at(alloc: Global, file: &str, line: u64) -> Result<Same, AllocError>

@@ -1,10 +1,16 @@
 //! The text of a report.
-ghost use Rattle.std.specs.Prelude.{◌≡◌, ◌≤◌, ◌++◌, ℕ, List, [], length, true, false, codes, IfOk, string_bytes};
+ghost use Rattle.std.specs.Prelude.{◌≡◌, ◌≤◌, ◌<◌, ◌++◌, ℕ, List, [], length, true, false, codes, IfOk, OnOk, IsTrue, string_bytes};
 ghost use Rattle.jiff.specs.ZoneView.{plain_zone};
+ghost use Rattle.croner_base.specs.Civil.{weekday_index};
+ghost use Rattle.crontab.specs.Setting.{has};
 ghost use Rattle.croncheck_command.specs.Settings.{stop_of};
-ghost use Rattle.croncheck_command.specs.Shown.{is_told, AreLines, offset_of, IsWindowEnd};
+ghost use Rattle.croncheck_command.specs.Shown.{spaced, continues, start_at, cut_at, left_out_text, front_text, weekday_text, IsClockText, is_told, place_text, AreLinesOf, offset_of, IsWindowEnd};
 ghost use Rattle.croncheck_command.specs.Warnings.{field_name};
 
+pub mod found;
+pub mod pattern;
+
+use crate::ahead::Ahead;
 use crate::changes::meetings::{Compared, Meetings};
 use crate::clock::stop::Stop;
 use crate::escaped::push_shown;
@@ -15,11 +21,11 @@ use crate::told::Told;
 use crate::warnings::{Dates, Warning, push_warning_text};
 use croner::parser::PatternField;
 use croner::time::table::TableTime;
-use croner::time::{CronDateTime, Weekday};
+use croner::time::{CivilDateTime, CronDateTime, Weekday};
 use crontab::bytes::{Kind, begins_with, cut, is_quote, rest_of, trimmed};
 use crontab::line::{Fault, WEEKDAYS};
 use crontab::notes;
-use crontab::notes::{Note, is_nickname, notes_of, takes};
+use crontab::notes::{Note, is_nickname, takes};
 use crontab::setting::has;
 use jiff::tz::TimeZone;
 use std::alloc::{AllocError, Global};
@@ -89,15 +95,30 @@ pub fn text_of(
     report: &Report<'_, '_>,
 ) -> Result<String, AllocError>
     ensures silent { is_told report.now ≡ false → IfOk result (λ text. string_bytes text ≡ []) }
-    ensures told { is_told report.now ≡ true → IfOk result (λ text. AreLines (string_bytes text)) }
+    ensures told { is_told report.now ≡ true → IfOk result (λ text. AreLinesOf place.entry.file.now place.entry.line (string_bytes text)) }
 {
-    let mut text = String::new(alloc);
+    let mut told = String::new(alloc);
     if !is_told(report) {
-        return Ok(text);
+        return Ok(told);
     }
-    push_report(alloc, &mut text, shared, place, line, report)?;
-    text.push('\n')?;
-    Ok(text)
+    let place = text_of_place(alloc, place)?;
+    push_report(
+        alloc,
+        &mut told,
+        shared,
+        place.as_str().width(),
+        line,
+        report,
+    )?;
+    format!(in alloc; "{place}{told}\n")
+}
+
+// The place of a line, as its report begins.
+fn text_of_place(alloc: Global, place: Place<'_>) -> Result<String, AllocError>
+    ensures { IfOk result (λ text. string_bytes text ≡ place_text place.entry.file.now place.entry.line) }
+{
+    let (file, line) = (place.file, place.line);
+    format!(in alloc; "{file}:{line}  ")
 }
 
 // Whether there is something to tell of a line.
@@ -111,26 +132,40 @@ fn is_told(report: &Report<'_, '_>) -> bool
     }
 }
 
-// What is told of a line, without the last line feed.
+// Puts what is told of a line into an empty text, without the last line feed. It stands so many columns to the right.
 fn push_report(
     alloc: Global,
     text: &mut String,
     shared: &Shared<'_>,
-    place: Place<'_>,
+    column: usize,
     line: &[u8],
     report: &Report<'_, '_>,
 ) -> Result<(), AllocError> {
-    push_place(text, place)?;
     match report {
         Report::Silent => Ok(()),
         Report::Setting { .. } => push_setting(text, line),
         Report::Job(job) => push_job(alloc, text, shared, line, job),
         Report::Refused { start, end, why } => {
-            let view = View::of(line, *start, *end);
-            push_view(text, view)?;
-            push_why(alloc, text, line, at_fault(line, *start, *end), why)
+            push_refused(alloc, text, column, line, *start, *end, why)
         }
     }
+}
+
+// Where a line is refused, and why, in an empty text that stands so many columns to the right.
+fn push_refused(
+    alloc: Global,
+    text: &mut String,
+    column: usize,
+    line: &[u8],
+    start: usize,
+    end: usize,
+    why: &Why,
+) -> Result<(), AllocError> {
+    let view = View::of(line, start, end);
+    push_view(text, view, column)?;
+    text.push_str("\n  ")?;
+    push_why(alloc, text, line, at_fault(line, start, end), why)?;
+    push_notes(text, why.notes(alloc, line)?.as_slice())
 }
 
 fn push_setting(text: &mut String, line: &[u8]) -> Result<(), AllocError> {
@@ -139,15 +174,9 @@ fn push_setting(text: &mut String, line: &[u8]) -> Result<(), AllocError> {
     text.push_str("\n  changes no time: this cron runs all jobs by the machine's zone")
 }
 
-// The notes of a line of a crontab, which is a job or is refused for this fault, below it.
-fn push_notes(
-    alloc: Global,
-    text: &mut String,
-    fault: Option<Fault>,
-    line: &[u8],
-) -> Result<(), AllocError> {
-    let found = notes_of(alloc, fault, line)?;
-    for note in found.as_slice() {
+// The notes of a line below it.
+fn push_notes(text: &mut String, all: &[Note]) -> Result<(), AllocError> {
+    for note in all {
         push_note(text, *note)?;
     }
     Ok(())
@@ -158,34 +187,44 @@ fn push_note(text: &mut String, note: Note) -> Result<(), AllocError> {
     write!(text, "\n  note: {name}: {sentence}")
 }
 
-fn push_place(text: &mut String, place: Place<'_>) -> Result<(), AllocError> {
-    let (file, line) = (place.file, place.line);
-    write!(text, "{file}:{line}  ")
-}
-
 // ---- bytes of a line
 
-// Bytes of a line as they are shown, a tab as a space.
-fn push_spaced(text: &mut String, bytes: &[u8]) -> Result<(), AllocError> {
-    let mut is_first = true;
-    for piece in bytes.split(|byte| *byte == b'\t') {
-        if !is_first {
-            text.push(' ')?;
-        }
-        is_first = false;
-        push_shown(text, piece)?;
+// Puts bytes of a line behind a text, as they are shown, a tab as a space.
+fn push_spaced(text: &mut String, bytes: &[u8]) -> Result<(), AllocError>
+    ensures { OnOk result (string_bytes text.new ≡ string_bytes text.old ++ spaced bytes.now) }
+{
+    let mut rest = bytes;
+    while has(rest, b'\t') {
+        rest = push_piece(text, rest)?;
     }
-    Ok(())
+    push_shown(text, rest)
 }
 
-// The first bytes of a text, so many at most, and a mark where there are more.
-pub(crate) fn push_front(text: &mut String, bytes: &[u8], most: usize) -> Result<(), AllocError> {
+// Puts what stands before the first tab behind a text, as it is shown, and a space. What stands behind the tab is left.
+#[tactic(auto, using(crate::proofs::SpacedBytes::one_piece))]
+fn push_piece<'b>(text: &mut String, bytes: &'b [u8]) -> Result<&'b [u8], AllocError>
+    requires { IsTrue (has 9 bytes.now) }
+    ensures shown { IfOk result (λ rest. string_bytes text.new ++ spaced rest.now ≡ string_bytes text.old ++ spaced bytes.now) }
+    ensures shorter { IfOk result (λ rest. length rest.now < length bytes.now) }
+{
+    let (piece, behind) = cut(bytes, Kind::But(b'\t'));
+    push_shown(text, piece)?;
+    text.push(' ')?;
+    Ok(rest_of(behind))
+}
+
+// Puts the first bytes of a text behind another, so many at most, and a mark where there are more.
+pub(crate) fn push_front(text: &mut String, bytes: &[u8], most: usize) -> Result<(), AllocError>
+    ensures { OnOk result (string_bytes text.new ≡ string_bytes text.old ++ front_text most bytes.now) }
+{
     let (front, rest) = bytes.split_at(cut_at(bytes, most));
     push_spaced(text, front)?;
     push_left_out(text, !rest.is_empty())
 }
 
-fn push_left_out(text: &mut String, is_left_out: bool) -> Result<(), AllocError> {
+fn push_left_out(text: &mut String, is_left_out: bool) -> Result<(), AllocError>
+    ensures { OnOk result (string_bytes text.new ≡ string_bytes text.old ++ left_out_text is_left_out) }
+{
     if is_left_out {
         text.push_str(LEFT_OUT)?;
     }
@@ -194,22 +233,38 @@ fn push_left_out(text: &mut String, is_left_out: bool) -> Result<(), AllocError>
 
 // Where bytes may be cut in two, at most so many in front, with no character of UTF-8 cut.
 fn cut_at(bytes: &[u8], most: usize) -> usize
-    ensures { result ≤ length bytes.now }
+    ensures value { result ≡ cut_at most bytes.now }
+    ensures bound { result ≤ length bytes.now }
 {
     if bytes.len() <= most {
-        return bytes.len();
+        bytes.len()
+    } else {
+        start_at(bytes, most)
     }
-    for back in 0..3 {
-        let at = most.saturating_sub(back);
-        if !continues(bytes, at) {
-            return at;
-        }
+}
+
+// The last place up to this one where no character of UTF-8 is cut, if it is one of the last four, and else this one.
+fn start_at(bytes: &[u8], most: usize) -> usize
+    ensures value { result ≡ start_at most bytes.now }
+    ensures bound { result ≤ most }
+{
+    if !continues(bytes, most) {
+        most
+    } else if !continues(bytes, most.saturating_sub(1)) {
+        most.saturating_sub(1)
+    } else if !continues(bytes, most.saturating_sub(2)) {
+        most.saturating_sub(2)
+    } else if !continues(bytes, most.saturating_sub(3)) {
+        most.saturating_sub(3)
+    } else {
+        most
     }
-    most
 }
 
 // Whether the byte at a place continues a character of UTF-8.
-fn continues(bytes: &[u8], at: usize) -> bool {
+fn continues(bytes: &[u8], at: usize) -> bool
+    ensures { result ≡ continues bytes.now at }
+{
     match bytes.get(at) {
         Some(byte) => 0x80 <= *byte && *byte < 0xc0,
         None => false,
@@ -261,13 +316,14 @@ fn front_at(front: &[u8], piece: &[u8]) -> usize
     cut_at(front, front.len().saturating_sub(BYTES_BEFORE))
 }
 
-// The line of a fault, and below it marks at its place.
-fn push_view(text: &mut String, view: View<'_>) -> Result<(), AllocError> {
+// Puts the line of a fault into an empty text, and below it marks at its place. The text stands so many columns to the right.
+fn push_view(text: &mut String, view: View<'_>, column: usize) -> Result<(), AllocError> {
     push_left_out(text, view.is_begun)?;
     push_spaced(text, view.front)?;
-    let indent = text.as_str().width();
+    let front = text.as_str().width();
     push_spaced(text, view.piece)?;
-    let marks = text.as_str().width().saturating_sub(indent).max(1);
+    let marks = text.as_str().width().saturating_sub(front).max(1);
+    let indent = column.saturating_add(front);
     push_spaced(text, view.rest)?;
     push_left_out(text, view.is_cut)?;
     text.push('\n')?;
@@ -290,7 +346,7 @@ pub(crate) fn at_fault(line: &[u8], start: usize, end: usize) -> &[u8] {
 }
 
 // Why a line is refused, of which these bytes are at fault.
-fn push_why(
+pub(crate) fn push_why(
     alloc: Global,
     text: &mut String,
     line: &[u8],
@@ -298,19 +354,15 @@ fn push_why(
     why: &Why,
 ) -> Result<(), AllocError> {
     match why {
-        Why::Cron(fault) => {
-            text.push_str("\n  ")?;
-            push_reason(alloc, text, *fault, line, piece)?;
-            push_notes(alloc, text, Some(*fault), line)
-        }
-        Why::Pattern(fault) => write!(text, "\n  {fault}"),
-        Why::Crate(refusal) => write!(text, "\n  {refusal}"),
-        Why::NotText => text.push_str("\n  a pattern is text in UTF-8"),
+        Why::Cron(fault) => push_reason(alloc, text, *fault, line, piece),
+        Why::Pattern(fault) => write!(text, "{fault}"),
+        Why::Crate(refusal) => write!(text, "{refusal}"),
+        Why::NotText => text.push_str("a pattern is text in UTF-8"),
     }
 }
 
 // Why cron refuses a line, of which these bytes are at fault: its own words first, where it has some.
-pub(crate) fn push_reason(
+fn push_reason(
     alloc: Global,
     text: &mut String,
     fault: Fault,
@@ -461,6 +513,14 @@ fn push_job(
     line: &[u8],
     job: &JobReport<'_, '_>,
 ) -> Result<(), AllocError> {
+    push_head(text, job)?;
+    push_notes(text, job.notes(alloc, line)?.as_slice())?;
+    push_told(alloc, text, shared, &job.times)?;
+    push_job_warnings(text, job)
+}
+
+// The times of a job, its user and its command.
+fn push_head(text: &mut String, job: &JobReport<'_, '_>) -> Result<(), AllocError> {
     push_front(text, job.schedule, SHOWN_BYTES)?;
     if let Some(user) = job.user {
         text.push_str("  (")?;
@@ -469,9 +529,12 @@ fn push_job(
     }
     if let Some(command) = job.command {
         push_command(text, command)?;
-        push_notes(alloc, text, None, line)?;
     }
-    push_told(alloc, text, shared, &job.times)?;
+    Ok(())
+}
+
+// The warnings of a job, and what it is told of changes of the clock.
+fn push_job_warnings(text: &mut String, job: &JobReport<'_, '_>) -> Result<(), AllocError> {
     push_warnings(text, job)?;
     push_meetings(text, &job.meetings)?;
     if job.same.is_some() {
@@ -603,22 +666,51 @@ fn push_run(text: &mut String, shared: &Shared<'_>, run: &TableTime<'_>) -> Resu
     push_clock(text, shared, run)
 }
 
-// What the zone's clock shows at a run, and its second.
+// Puts what the zone's clock shows at a run behind a text, and its second.
 pub(crate) fn push_clock(
     text: &mut String,
     shared: &Shared<'_>,
     run: &TableTime<'_>,
-) -> Result<(), AllocError> {
-    let civil = run.to_civil();
-    let (weekday, date, time) = (name_of(run.civil_weekday()), civil.date(), civil.time());
-    let ahead = Ahead {
-        seconds: ahead_of(shared, run),
+) -> Result<(), AllocError>
+    ensures { OnOk result ((said : List ℕ) × IsClockText (plain_zone shared.now.zone) run.now said
+        × (string_bytes text.new ≡ string_bytes text.old ++ said)) }
+{
+    let shown = ShownSecond {
+        weekday: weekday_text(run.civil_weekday()),
+        civil: run.to_civil(),
+        ahead: Ahead {
+            seconds: ahead_of(shared, run),
+        },
+        second: run.second(),
     };
-    let second = run.second();
-    write!(text, "{weekday} {date} {time} {ahead}  @{second}")
+    write!(text, "{shown}")
 }
 
-fn name_of(weekday: Weekday) -> &'static str {
+// What a zone's clock shows at a second, and the second.
+#[derive(Clone, Copy)]
+struct ShownSecond {
+    weekday: &'static str,
+    civil: CivilDateTime,
+    ahead: Ahead,
+    second: i64,
+}
+
+impl fmt::Display for ShownSecond {
+    ghost use Rattle.std.specs.Prelude.{Some};
+    ghost use Rattle.croncheck_command.specs.Shown.{clock_text};
+
+    ghost output = { λ s. Some (clock_text s.weekday.now s.civil s.ahead.seconds s.second) };
+
+    fn fmt<W: fmt::Write>(&self, f: &mut fmt::Formatter<W>) -> fmt::Result {
+        let (weekday, date, time) = (self.weekday, self.civil.date(), self.civil.time());
+        let (ahead, second) = (self.ahead, self.second);
+        write!(f, "{weekday} {date} {time} {ahead}  @{second}")
+    }
+}
+
+fn weekday_text(weekday: Weekday) -> &'static str
+    ensures { result.now ≡ weekday_text (weekday_index weekday) }
+{
     match weekday {
         Weekday::Sunday => "Sun",
         Weekday::Monday => "Mon",
@@ -637,25 +729,6 @@ pub(crate) fn ahead_of(shared: &Shared<'_>, run: &TableTime<'_>) -> i32
     match run.timestamp() {
         Ok(instant) => shared.zone.to_offset(instant).seconds(),
         Err(_) => 0,
-    }
-}
-
-// Seconds ahead of UTC as hours, minutes and, where there are some, seconds: `+02:00`.
-#[derive(Clone, Copy)]
-struct Ahead {
-    seconds: i32,
-}
-
-impl fmt::Display for Ahead {
-    fn fmt<W: fmt::Write>(&self, f: &mut fmt::Formatter<W>) -> fmt::Result {
-        let sign = if self.seconds < 0 { '-' } else { '+' };
-        let all = self.seconds.unsigned_abs();
-        let (hours, minutes, seconds) = (all / 3_600, all / 60 % 60, all % 60);
-        write!(f, "{sign}{hours:02}:{minutes:02}")?;
-        if seconds != 0 {
-            write!(f, ":{seconds:02}")?;
-        }
-        Ok(())
     }
 }
 

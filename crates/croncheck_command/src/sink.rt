@@ -3,14 +3,14 @@ ghost use Rattle.std.specs.Prelude.{◌≡◌, false, OnOk, IfSome};
 ghost use Rattle.croncheck_command.specs.Output.{IsFlushed};
 ghost use Rattle.croncheck_command.specs.Shown.{bytes_shown};
 ghost use Rattle.croncheck_command.specs.Sink.{State, StandsAtBegin, state_of, Ends, IsToldFile};
-ghost use Rattle.croncheck_command.specs.Stand.{stand_of};
+ghost use Rattle.croncheck_command.specs.Stand.{stand_of, end_of_file};
 
 use crate::escaped::shown;
 use crate::form::Form;
 use crate::output::Output;
 use crate::progress::{Line, Progress, Terms};
 use crontab::check::{Entries, check};
-use crontab::line::Entry;
+use crontab::line::{Dialect, Entry};
 use std::io;
 use std::io::{BufRead, Write};
 
@@ -72,7 +72,10 @@ impl<'s, 't, F: Form, W: Write> Sink<'s, 't, F, W> {
         let name = shown(terms.alloc, name.as_bytes())?;
         self.progress.begin(name);
         check(terms.alloc, terms.settings.dialect, reader, self)?;
-        self.form.end_file(&terms, &self.progress, &mut self.output)
+        self.form
+            .end_file(&terms, &self.progress, &mut self.output)?;
+        count_file(&mut self.progress, terms.settings.dialect);
+        Ok(())
     }
 
     /// Writes what stands behind all files, and passes on what was written.
@@ -87,6 +90,14 @@ impl<'s, 't, F: Form, W: Write> Sink<'s, 't, F, W> {
         self.form.end(&self.terms, &mut self.output)?;
         self.output.flush()
     }
+}
+
+// Counts the file whose end was told, if cron ignores it as a whole.
+fn count_file(progress: &mut Progress, dialect: Dialect)
+    ensures { stand_of progress.new ≡ end_of_file dialect (stand_of progress.old) }
+{
+    let is_ignored = progress.file.is_ignored(dialect, progress.lines);
+    progress.tally.end_file(is_ignored);
 }
 
 impl<'s, 't, F: Form, W: Write> Entries for Sink<'s, 't, F, W> {

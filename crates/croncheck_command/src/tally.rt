@@ -1,6 +1,6 @@
 //! What was told of lines so far, and the status of a call.
 ghost use Rattle.std.specs.Prelude.{◌≡◌};
-ghost use Rattle.croncheck_command.specs.Tally.{one_more, none_counted, counted, is_too_many, is_line_warned, one_more_if, added, status_of};
+ghost use Rattle.croncheck_command.specs.Tally.{one_more, none_counted, counted, is_too_many, is_line_warned, one_more_if, added, with_file, status_of};
 
 use crate::report::Report;
 use crate::warnings::is_first_too_many;
@@ -17,6 +17,8 @@ pub struct Tally {
     pub refused: u64,
     /// The lines that have a warning. A plan counts none.
     pub warned: u64,
+    /// The files that cron ignores as a whole.
+    pub ignored: u64,
 }
 
 impl Tally {
@@ -29,6 +31,7 @@ impl Tally {
             jobs: 0,
             refused: 0,
             warned: 0,
+            ignored: 0,
         }
     }
 
@@ -54,12 +57,19 @@ impl Tally {
         }
     }
 
-    /// The status of a call, if all could be read and written: 1 where a line is refused, or where one has a warning and the call is
-    /// strict, else 0.
+    /// Counts one more file that cron ignores as a whole, if it does. No count passes 2^64 - 1.
+    pub fn end_file(&mut self, is_ignored: bool)
+        ensures { self.new ≡ with_file is_ignored self.old }
+    {
+        self.ignored = one_more_if(is_ignored, self.ignored);
+    }
+
+    /// The status of a call, if all could be read and written: 1 where a line is refused, where cron ignores a whole file, or where a
+    /// line has a warning and the call is strict, else 0.
     pub fn status(&self, is_strict: bool) -> u8
         ensures { result ≡ status_of is_strict self.now }
     {
-        if self.refused != 0 || is_strict && self.warned != 0 {
+        if self.refused != 0 || self.ignored != 0 || is_strict && self.warned != 0 {
             1
         } else {
             0

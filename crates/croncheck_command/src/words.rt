@@ -1,19 +1,28 @@
 //! The words of a call.
 ghost use Rattle.std.specs.Prelude.{◌≡◌, ◌≤◌, IfOk};
 ghost use Rattle.croncheck_command.specs.Moment.{moment_text, IsNamed};
-ghost use Rattle.croncheck_command.specs.Words.{IsInRange};
+ghost use Rattle.croncheck_command.specs.Words.{IsInRange, TellsRuns};
+
+mod options;
 
 use crate::escaped::push_shown;
 use crate::moment::{Moment, read_moment};
+use crate::names::dialect_of_names;
 use crate::settings::Tongue;
+use clap::ArgMatches;
 use clap::error::ErrorKind;
-use clap::{Arg, ArgAction, ArgMatches, Command, value_parser};
 use croner::parser::{CronParser, Seconds, Year};
 use crontab::line::Dialect;
+use options::{program, verb_of};
 use std::alloc::{AllocError, Global};
 
 /// The last line of what is told where the words of a call are not of its form.
-pub const USAGE: &str = "usage: croncheck [OPTIONS] [FILE]... (croncheck --help lists the options)";
+pub const USAGE: &str =
+    "usage: croncheck [COMMAND] [OPTIONS] [FILE|PATTERN]... (croncheck --help lists the commands)";
+
+/// What `--version` tells behind the program's name: this project's version, the crate whose patterns it reads, and the licence.
+const VERSION: &str = "0.4.0, patterns of croner 4.0.3
+MIT licence, in the file LICENSE";
 
 /// How the options of moments are written.
 const FROM: &str = "--from <DATETIME|@SECONDS|now>";
@@ -23,54 +32,57 @@ const UNTIL: &str = "--until <DATETIME|@SECONDS>";
 /// The most runs of a line that are asked for.
 const MOST_RUNS: u32 = 1_000;
 
-/// What `--version` tells behind the program's name: this project's version, the crate whose patterns it reads, and the licence.
-const VERSION: &str = "0.4.0, patterns of croner 4.0.3
-MIT licence, in the file LICENSE";
+/// How many runs of a line are searched where none is told: the first, whose month is that of the days which `either-day` tells.
+const CHECKED_RUNS: u32 = 1;
+
+/// The zone of a call that has none: no text of it depends on a clock.
+const NO_ZONE: &str = "UTC0";
 
 /// How the word of a moment is written.
 const MOMENT_FORM: &str = "write 2024-10-27T00:00:00 or @1729980000";
 
-const NAME: &str = "croncheck";
-
-const ABOUT: &str =
-    "Says what each line of a crontab is to Debian's cron: what it means, when it runs, or why it is refused";
-
-const AFTER_HELP: &str =
-    "DATETIME is YYYY-MM-DDTHH:MM:SS on the zone's clock, SECONDS are since 1970-01-01T00:00:00 UTC.
-With no FILE, or where FILE is -, standard input is read.
-
-Status: 0 all jobs were read, 1 a line is refused (or has a warning, with --strict), 2 the words are not of this form, 3 a file, the zone or the output failed.";
+/// What is told where only some files are the system's by their names.
+const MIXED: &str =
+    "error: by their names some files are crontabs of the system and others are not: check them in a call for each kind, or write --system or --user\n";
 
 /// What the words of a call ask for.
 #[derive(Drop)]
 pub struct Call<'w> {
-    /// `local`, a POSIX rule, or the name of a zone.
+    pub verb: Verb,
+    /// `local`, a POSIX rule, or the name of a zone. UTC with [`Verb::Describe`].
     pub zone: &'w str,
     /// Where runs are listed from.
     pub from: Moment,
+    /// One run with [`Verb::Check`], and none with [`Verb::Describe`], which tell none.
     pub span: Span,
+    /// That of an option, and else of the names of the files: see [`dialect_of_names`].
     pub dialect: Dialect,
-    /// The parser of the lines of a file of patterns.
+    /// The parser of patterns.
     pub parser: CronParser,
     pub language: Tongue,
-    pub form: Form,
-    /// The status is 1 where a line has a warning, too. Never with [`Form::Plan`].
+    /// What is told is JSON. Only with [`Verb::Check`] and [`Verb::Show`].
+    pub is_json: bool,
+    /// The status is 1 where a line has a warning, too. Only with these two.
     pub is_strict: bool,
-    /// Each job is compared with those before it. Never with [`Form::Plan`].
+    /// Each job is compared with those before it. Only with these two.
     pub compares_jobs: bool,
-    /// The files, in order; none is standard input.
-    pub files: Vec<&'w str>,
+    /// The files, in order, of which none is standard input; with [`Verb::Next`] and [`Verb::Describe`] the patterns.
+    pub words: Vec<&'w str>,
 }
 
-/// What is written.
+/// What is asked.
 #[derive(Clone, Copy, Drop)]
-pub enum Form {
-    /// What each line is told, as text.
-    Report,
-    /// The runs of all jobs in one list, in order of time.
+pub enum Verb {
+    /// What is wrong in files, and what to beware of.
+    Check,
+    /// What each line of files is told.
+    Show,
+    /// The runs of all jobs of files in one list, in order of time.
     Plan,
-    /// An object for each line, as JSON.
-    Json,
+    /// When patterns run, which are words of the call.
+    Next,
+    /// What such patterns mean.
+    Describe,
 }
 
 /// Up to where runs are listed.
@@ -98,14 +110,51 @@ impl From<AllocError> for NoCall {
 }
 
 /// Reads the words of a call, the first of which is the program's name.
+///
+/// A call without a verb is one of [`Verb::Check`].
 pub fn read_call<'w>(alloc: Global, words: &'w [String]) -> Result<Call<'w>, NoCall>
     ensures span { IfOk result (λ call. IsInRange call.span) }
     ensures from { IfOk result (λ call. IsNamed call.from) }
+    ensures told { IfOk result (λ call. TellsRuns call.verb call.span) }
 {
-    let command = command(alloc)?;
-    match command.try_get_matches_from(words) {
-        Ok(matches) => call_of(alloc, &matches),
+    let program = program(alloc)?;
+    match program.try_get_matches_from(words) {
+        Ok(matches) => call_with_verb(alloc, &matches),
         Err(error) => Err(told(alloc, &error)?),
+    }
+}
+
+// What matches of the program ask for: those of a verb, or of `check`, which stands for none.
+fn call_with_verb<'w>(alloc: Global, matches: &ArgMatches<'w>) -> Result<Call<'w>, NoCall>
+    ensures span { IfOk result (λ call. IsInRange call.span) }
+    ensures from { IfOk result (λ call. IsNamed call.from) }
+    ensures told { IfOk result (λ call. TellsRuns call.verb call.span) }
+{
+    if let Some((name, behind)) = matches.subcommand() {
+        return call_of(alloc, verb_of(name).unwrap_or(Verb::Check), behind);
+    }
+    let call = call_of(alloc, Verb::Check, matches)?;
+    match first_verb(call.words.as_slice()) {
+        Some(name) => Err(misplaced(alloc, name)),
+        None => Ok(call),
+    }
+}
+
+// The first of some files, where it has the name of a verb, which stands behind an option then.
+fn first_verb<'w>(files: &[&'w str]) -> Option<&'w str> {
+    match files.first() {
+        Some(name) if verb_of(name).is_some() => Some(*name),
+        _ => None,
+    }
+}
+
+// What is told of a verb behind an option.
+fn misplaced(alloc: Global, name: &str) -> NoCall {
+    match format!(in alloc;
+        "error: the command '{name}' stands in front of the options; a file of that name is ./{name}\n"
+    ) {
+        Ok(text) => NoCall::Misused(text),
+        Err(_) => NoCall::OutOfMemory,
     }
 }
 
@@ -131,177 +180,52 @@ fn head(alloc: Global, message: &str) -> Result<String, AllocError> {
     Ok(text)
 }
 
-fn command<'w>(alloc: Global) -> Result<Command<'w>, AllocError> {
-    let command = Command::new(alloc, NAME)
-        .version(VERSION)
-        .about(ABOUT)
-        .after_help(AFTER_HELP);
-    let command = command.bin_name(NAME)?;
-    let command = with_times(alloc, command)?;
-    let command = with_output(alloc, command)?;
-    let command = with_forms(alloc, command)?;
-    let command = with_parser(alloc, command)?;
-    command.arg(
-        Arg::new(alloc, "file")
-            .value_name("FILE")
-            .num_args(0..)
-            .help("The files to check; - is standard input"),
-    )
-}
-
-// With one more argument. No other function lets a command go.
-fn add<'w>(
-    command: Command<'w>,
-    arg: Result<Arg<'w>, AllocError>,
-) -> Result<Command<'w>, AllocError> {
-    match arg {
-        Ok(arg) => command.arg(arg),
-        Err(error) => Err(error),
-    }
-}
-
-fn with_times<'w>(alloc: Global, command: Command<'w>) -> Result<Command<'w>, AllocError> {
-    let command = command
-        .arg(
-            value(alloc, "zone", "NAME|RULE|local")
-                .default_value("local")
-                .help("The zone: by its name, as a POSIX rule, or the machine's"),
-        )?
-        .arg(
-            value(alloc, "from", "DATETIME|@SECONDS|now")
-                .default_value("now")
-                .help("Lists runs from here on, this second left out"),
-        )?
-        .arg(
-            value(alloc, "runs", "N")
-                .value_parser(value_parser!(u32).range(0..=1000))
-                .default_value("3")
-                .help("How many runs of each line, 0 to 1000"),
-        )?;
-    add(
-        command,
-        value(alloc, "until", "DATETIME|@SECONDS")
-            .help("In place of --runs: all runs up to here")
-            .conflicts_with("runs"),
-    )
-}
-
-fn with_output<'w>(alloc: Global, command: Command<'w>) -> Result<Command<'w>, AllocError> {
-    let command = command.arg(flag(alloc, "plan").help(
-        "One list of the runs of all lines of all files, in order of time; --runs and --until count its moments",
-    ))?;
-    let command = add(
-        command,
-        flag(alloc, "json")
-            .help("One JSON object a line of input")
-            .conflicts_with("plan"),
-    )?;
-    let command = add(
-        command,
-        flag(alloc, "strict")
-            .help("A warning makes the status 1, as a refused line does")
-            .conflicts_with("plan"),
-    )?;
-    add(
-        command,
-        flag(alloc, "same-job")
-            .help(
-                "Warns of a job that is the same as an earlier one; takes memory in proportion to the jobs",
-            )
-            .conflicts_with("plan"),
-    )
-}
-
-fn with_forms<'w>(alloc: Global, command: Command<'w>) -> Result<Command<'w>, AllocError> {
-    let command = command.arg(flag(alloc, "system").help(
-        "A user stands before each command, as in /etc/crontab",
-    ))?;
-    let patterns = flag(alloc, "patterns")
-        .help("Each line is a pattern of five to seven fields, and no command")
-        .conflicts_with("system");
-    add(command, patterns)?.arg(
-        value(alloc, "language", "LANGUAGE")
-            .value_parser(["en", "sv"].as_slice())
-            .default_value("en")
-            .help("The language of descriptions"),
-    )
-}
-
-fn with_parser<'w>(alloc: Global, command: Command<'w>) -> Result<Command<'w>, AllocError> {
-    let weekdays = flag(alloc, "alternative-weekdays").help(
-        "With --patterns: weekdays are 1 to 7 from Sunday",
-    );
-    let command = add(command, setting(weekdays))?;
-    let days = flag(alloc, "dom-and-dow").help("With --patterns: both day fields must match");
-    let command = add(command, setting(days))?;
-    let ranges = flag(alloc, "sloppy-ranges").help(
-        "With --patterns: a step may follow a number, as 5/10",
-    );
-    let command = add(command, setting(ranges))?;
-    let seconds = field(
-        alloc,
-        "seconds",
-        "With --patterns: whether there is a field of seconds",
-    );
-    let command = add(command, seconds)?;
-    let year = field(
-        alloc,
-        "year",
-        "With --patterns: whether there is a field of years",
-    );
-    add(command, year)
-}
-
-fn value<'w>(alloc: Global, id: &'w str, name: &'w str) -> Arg<'w> {
-    Arg::new(alloc, id)
-        .long(id)
-        .value_name(name)
-        .action(ArgAction::Set)
-}
-
-fn flag<'w>(alloc: Global, id: &'w str) -> Arg<'w> {
-    Arg::new(alloc, id).long(id).action(ArgAction::SetTrue)
-}
-
-fn setting(arg: Arg<'_>) -> Result<Arg<'_>, AllocError> {
-    arg.requires_arg("patterns")
-}
-
-fn field<'w>(alloc: Global, id: &'w str, help: &'w str) -> Result<Arg<'w>, AllocError> {
-    let arg = value(alloc, id, "USE")
-        .value_parser(["optional", "required", "disallowed"].as_slice())
-        .default_value("optional")
-        .help(help);
-    setting(arg)
-}
-
-// What matches ask for.
-fn call_of<'w>(alloc: Global, matches: &ArgMatches<'w>) -> Result<Call<'w>, NoCall>
+// What the matches of a verb ask for.
+fn call_of<'w>(alloc: Global, verb: Verb, matches: &ArgMatches<'w>) -> Result<Call<'w>, NoCall>
     ensures span { IfOk result (λ call. IsInRange call.span) }
     ensures from { IfOk result (λ call. IsNamed call.from) }
+    ensures told { IfOk result (λ call. TellsRuns call.verb call.span) }
 {
     let from = moment(alloc, FROM, matches.get_str("from").unwrap_or("now"))?;
-    let span = read_span(alloc, matches)?;
+    let span = span_of(alloc, verb, matches)?;
+    let dialect = dialect(alloc, matches)?;
     Ok(Call {
-        zone: matches.get_str("zone").unwrap_or("local"),
+        verb,
+        zone: matches.get_str("zone").unwrap_or(NO_ZONE),
         from,
         span,
-        dialect: dialect(matches),
+        dialect,
         parser: parser(matches),
         language: language(matches),
-        form: output_form(matches),
+        is_json: matches.get_flag("json"),
         is_strict: matches.get_flag("strict"),
         compares_jobs: matches.get_flag("same-job"),
-        files: files(alloc, matches)?,
+        words: words(alloc, matches)?,
     })
 }
 
-fn files<'w>(alloc: Global, matches: &ArgMatches<'w>) -> Result<Vec<&'w str>, AllocError> {
-    let mut files = Vec::new(alloc);
+// The files or the patterns.
+fn words<'w>(alloc: Global, matches: &ArgMatches<'w>) -> Result<Vec<&'w str>, AllocError> {
+    let mut words = Vec::new(alloc);
     if let Some(given) = matches.get_strs("file") {
-        files.extend_from_slice(given)?;
+        words.extend_from_slice(given)?;
     }
-    Ok(files)
+    if let Some(given) = matches.get_strs("pattern") {
+        words.extend_from_slice(given)?;
+    }
+    Ok(words)
+}
+
+// Up to where the runs are listed that a verb tells or looks at.
+fn span_of(alloc: Global, verb: Verb, matches: &ArgMatches<'_>) -> Result<Span, NoCall>
+    ensures range { IfOk result IsInRange }
+    ensures told { IfOk result (TellsRuns verb) }
+{
+    match verb {
+        Verb::Check => Ok(Span::Count(CHECKED_RUNS)),
+        Verb::Describe => Ok(Span::Count(0)),
+        Verb::Show | Verb::Plan | Verb::Next => read_span(alloc, matches),
+    }
 }
 
 // Up to where runs are listed.
@@ -354,23 +278,36 @@ fn misuse(alloc: Global, option: &str, word: &str, form: &str) -> Result<String,
     Ok(text)
 }
 
-fn dialect(matches: &ArgMatches<'_>) -> Dialect {
+// The dialect that an option names, and else that of the names of the files.
+fn dialect(alloc: Global, matches: &ArgMatches<'_>) -> Result<Dialect, NoCall> {
     if matches.get_flag("system") {
-        Dialect::System
-    } else if matches.get_flag("patterns") {
-        Dialect::Patterns
-    } else {
-        Dialect::User
+        return Ok(Dialect::System);
+    }
+    if matches.get_flag("patterns") {
+        return Ok(Dialect::Patterns);
+    }
+    if matches.get_flag("user") {
+        return Ok(Dialect::User);
+    }
+    match matches.get_strs("file") {
+        Some(names) => named_dialect(alloc, names),
+        None => Ok(Dialect::User),
     }
 }
 
-fn output_form(matches: &ArgMatches<'_>) -> Form {
-    if matches.get_flag("plan") {
-        Form::Plan
-    } else if matches.get_flag("json") {
-        Form::Json
-    } else {
-        Form::Report
+// The dialect that the names of files say.
+fn named_dialect(alloc: Global, names: &[&str]) -> Result<Dialect, NoCall> {
+    match dialect_of_names(names) {
+        Some(dialect) => Ok(dialect),
+        None => Err(mixed(alloc)),
+    }
+}
+
+// What is told where only some files are the system's by their names.
+fn mixed(alloc: Global) -> NoCall {
+    match String::from_str(alloc, MIXED) {
+        Ok(text) => NoCall::Misused(text),
+        Err(_) => NoCall::OutOfMemory,
     }
 }
 

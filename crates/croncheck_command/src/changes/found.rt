@@ -1,6 +1,7 @@
 //! The changes of a clock behind a start.
-ghost use Rattle.std.specs.Prelude.{◌↔◌, IsTrue, IfOk};
-ghost use Rattle.croncheck_command.specs.Changes.{AreChangesFrom, IsWatched};
+ghost use Rattle.std.specs.Prelude.{◌≡◌, ◌↔◌, ◌++◌, ◌<ℤ◌, ◌≤ℤ◌, IsTrue, IfOk, OnOk};
+ghost use Rattle.croncheck_command.specs.Changes.{AreChangesFrom, IsWatched, first_watched, end_watched};
+ghost use Rattle.croncheck_command.specs.Private.Watched.{change_of, watched_at};
 
 use crate::changes::Change;
 use croner::time::table::TableTime;
@@ -25,16 +26,40 @@ pub fn changes_behind(alloc: Global, start: TableTime<'_>) -> Result<Vec<Change>
     let mut changes = Vec::new(alloc);
     for &change in listed {
         let (instant, next) = change;
-        if is_watched(start, instant) {
-            changes.push(Change {
-                instant,
-                before: instant + offset as i64,
-                after: instant + next as i64,
-            })?;
-        }
+        push_watched(&mut changes, start, offset, instant, next)?;
         offset = next;
     }
     Ok(changes)
+}
+
+// Puts a change behind the others, if it is told. Until its instant the clock is `offset` seconds ahead of UTC, and from it on `next`.
+#[tactic(auto, using(crate::proofs::ListedChanges::one_watched))]
+fn push_watched(
+    changes: &mut Vec<Change>,
+    start: TableTime<'_>,
+    offset: i32,
+    instant: i64,
+    next: i32,
+) -> Result<(), AllocError>
+    ensures { OnOk result (changes.new.items ≡ changes.old.items ++ watched_at start.entry.second offset instant next) }
+{
+    if is_watched(start, instant) {
+        changes.push(change_at(offset, instant, next))?;
+    }
+    Ok(())
+}
+
+// The change of a clock that is `offset` seconds ahead of UTC until an instant, and from it on `next`.
+fn change_at(offset: i32, instant: i64, next: i32) -> Change
+    requires from { first_watched ≤ℤ instant }
+    requires before { instant <ℤ end_watched }
+    ensures { result ≡ change_of offset instant next }
+{
+    Change {
+        instant,
+        before: instant + offset as i64,
+        after: instant + next as i64,
+    }
 }
 
 // Whether a change at an instant is told.

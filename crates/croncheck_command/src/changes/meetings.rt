@@ -3,6 +3,7 @@ ghost use Rattle.std.specs.Prelude.{◌≡◌, ◌↔◌, IsTrue, true, false, o
 ghost use Rattle.croner_base.specs.TableZone.{table_moment};
 ghost use Rattle.croner.specs.Views.{job_of};
 ghost use Rattle.croncheck_command.specs.Changes.{IsFateThere, IsOtherInCron, IsDueBeside, is_within_a_date, is_harmed, is_told, fate_by, is_harmful, is_warned, are_warned, TellsFirst, AreMeetings, none_met};
+ghost use Rattle.croncheck_command.specs.Private.Level.{TellsDueBeside};
 ghost use Rattle.croncheck_command.specs.Private.Met.{IsInYears};
 
 use crate::changes::{Change, Changes, Fate, Meeting, Range};
@@ -106,6 +107,7 @@ impl Changes<'_> {
     }
 
     // A meeting, compared with what cron(8) does.
+    #[tactic(auto, using(crate::proofs::LevelClock::due_as_told))]
     fn compare(&self, job: &Cron, meeting: Meeting, times: Option<&[u8]>) -> Compared
         requires { IsInYears meeting.change }
         ensures meeting { result.meeting ≡ meeting }
@@ -120,9 +122,10 @@ impl Changes<'_> {
     }
 
     // Whether a job is due beside the range of a change.
+    #[tactic(auto, using(crate::proofs::LevelClock::ranges_beside))]
     fn is_due_beside(&self, job: &Cron, range: Range, change: Change) -> bool
         requires { IsInYears change }
-        ensures { IsTrue result ↔ IsDueBeside (job_of job.now) range change }
+        ensures { TellsDueBeside (job_of job.now) range change result }
     {
         match range {
             Range::Gap => self.level.is_due_around(job, change.before, change.after),

@@ -13,6 +13,13 @@ returns-then-stop-start-clause-followed c =
     let stops : IsStopOf tz c.args.first c.in-Ok.stop = search rules in
     (refused_by tz c.args.start c.args.first c.in-Ok.stop c.refusal_by.result c.requires.first_is c.requires.window stops le c.refusal_by.ensures).1
 
+pub returns-then-stop-start-clause-err : goal.returns-then-stop-start-clause-err
+returns-then-stop-start-clause-err c =
+    let tz = plain_zone c.args.zone.now in
+    let le : c.in-Ok.stop.second ≤ℤ c.args.start = search rules in
+    let stops : IsStopOf tz c.args.first c.in-Ok.stop = search rules in
+    (refused_by tz c.args.start c.args.first c.in-Ok.stop c.refusal_by.result c.requires.first_is c.requires.window stops le c.refusal_by.ensures).0
+
 pub returns-in-Ok-of_zone-clause-clock : goal.returns-in-Ok-of_zone-clause-clock
 returns-in-Ok-of_zone-clause-clock c =
     let stop = c.in-Ok.stop.second in

@@ -1,21 +1,23 @@
-use Rattle.std.proofs.Common.{Ok, Some, sym, subst}
-use Rattle.croner.specs.Views.{job_of}
-use Rattle.croncheck_command.specs.declared.changes.meetings.Meetings.{Meetings}
-use Rattle.croncheck_command.specs.declared.told.Told.{Told}
-use Rattle.croncheck_command.specs.Report.{TellsChanges}
-use Rattle.croncheck_command.specs.Told.{TellsMeaning}
+use Rattle.std.proofs.Common.{Option, Some, refl, sym, subst}
+use Rattle.croner_pattern.specs.Meaning.{Meaning}
+use Rattle.crontab.specs.Entries.{job_seen}
+use Rattle.croncheck_command.specs.Report.{IsWarned, TellsChanges, DatesOf}
+use Rattle.croncheck_command.proofs.Outcomes.{meaning_is, tells_timing}
 use Rattle.croncheck_command.proofs.report.told_of_job.Goals as goal
 
-pub returns-clause-told : goal.returns-clause-told
-returns-clause-told c =
-    subst (λ (told : Told). TellsMeaning c.args.settings.now (Ok (job_of c.args.cron.now)) told) (sym c.in_ok-warned.ensures.times)
-    c.in_ok-told.ensures.told
-
-pub returns-clause-met : goal.returns-clause-met
-returns-clause-met c =
+pub returns-clause-report : goal.returns-clause-report
+returns-clause-report c = λ blanks read.
     let s = c.args.settings.now in
-    let text = Some c.args.job.now.schedule.now in
-    let m = Some (job_of c.args.cron.now) in
-    let warned = c.in_ok-warned.warned in
-    subst (λ (told : Told). TellsChanges s text m told warned.meetings) (sym c.in_ok-warned.ensures.times)
-    (subst (λ (met : Meetings). TellsChanges s text m c.in_ok-told.told met) (sym c.in_ok-warned.ensures.met) c.meetings_of-meetings.ensures)
+    let task = job_seen c.args.job in
+    let is = sym (meaning_is task.times c.args.cron.now read) in
+    record {
+      schedule_is = refl;
+      user_is = refl;
+      command_is = refl;
+      tells_times = tells_timing s task.times c.args.cron.now c.in_ok-times.times read c.in_ok-times.ensures.told;
+      warned = subst (λ (m : Option Meaning). IsWarned c.args.is_fed task.schedule task.user task.command m c.in_ok-times.times
+          c.in_ok-warnings.warnings.items) is c.in_ok-warnings.ensures.warnings;
+      met = subst (λ (m : Option Meaning). TellsChanges s (Some task.schedule) m c.in_ok-times.times c.meetings_of-meetings.result) is
+          c.meetings_of-meetings.ensures;
+      dated = subst (λ (m : Option Meaning). DatesOf m c.in_ok-times.times c.in_ok-dates.dates) is c.in_ok-dates.ensures.dates;
+    }

@@ -1,4 +1,5 @@
 use Rattle.std.proofs.Common.{ℕ, List, Vec, Global, string_bytes, subst}
+use Rattle.jiff.specs.ZoneView.{plain_zone}
 use Rattle.croner_base.specs.declared.time.table.TableTime.{TableTime}
 use Rattle.croncheck_command.specs.declared.planner.Planned.{Planned}
 use Rattle.crontab.specs.Checked.{TakesInTurn}
@@ -12,7 +13,7 @@ returns g c =
     let before = written_of g.W.Write.contents c.args.output.now in
     let between = written_of g.W.Write.contents c.write_moments.new.output in
     let Wrote : List Planned → List (TableTime × Vec ℕ Global) → Type 0 =
-    λ jobs items. TakesInTurn (WritesMoment (labels jobs)) before items between in
+    λ jobs items. TakesInTurn (WritesMoment (plain_zone c.args.terms.now.shared.now.zone) (labels jobs)) before items between in
     if_ok c.write_apart.result
     (λ writes. record {
       plan = c.in-Ok.plan;

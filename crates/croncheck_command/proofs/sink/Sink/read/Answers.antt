@@ -3,7 +3,7 @@ use Rattle.std.specs.Prelude.{string_bytes}
 use Rattle.croncheck_command.specs.Shown.{bytes_shown}
 use Rattle.croncheck_command.specs.Sink.{state_of}
 use Rattle.croncheck_command.specs.Stand.{begin_of_file, stand_of}
-use Rattle.croncheck_command.proofs.ToldFiles.{file_told, if_ok}
+use Rattle.croncheck_command.proofs.ToldFiles.{file_told}
 use Rattle.croncheck_command.proofs.sink.Sink.read.Goals as goal
 
 pub returns : goal.returns
@@ -12,8 +12,6 @@ returns g c =
     let before = state_of g.W.Write.contents self.form self.progress self.output in
     let is_shown : string_bytes c.in_ok-name.name ≡ bytes_shown c.args.name.now = c.in_ok-name.ensures.shown ∙ ap bytes_shown c.as_bytes.ensures.value in
     let begun = ap (λ stand. record before { stand = stand }) (c.begin.ensures ∙ ap (λ (name : List ℕ). begin_of_file name (stand_of self.progress)) is_shown) in
-    if_ok c.end_file.result
-    (λ ended. file_told (λ s. state_of g.W.Write.contents s.form s.progress s.output) (λ s. s.terms) g.F.Form.takes (g.F.Form.ends_file self.terms)
+    file_told (λ s. state_of g.W.Write.contents s.form s.progress s.output) (λ s. s.terms) g.F.Form.takes (g.F.Form.ends_file self.terms)
     self.terms.settings.now.dialect (bytes_shown c.args.name.now) (g.R.Read.remaining c.args.reader.now) self.terms before _ c.check.new.sink _ refl begun
-    c.in_ok-check.ensures (refl, refl, ended))
-    c.end_file.ensures
+    c.in_ok-check.ensures (refl, c.count_file.ensures, c.in_ok-end_file.ensures)

@@ -1,0 +1,80 @@
+-- Worked rows of what is shown of a clock and of the front of a text, and of what is said at the end of a file and of a plan.
+use Rattle.std.proofs.Common.{◌≡◌, true, false, pos, [], ◌∷◌, refl}
+use Rattle.std.specs.Fmt.{digits}
+use Rattle.std.specs.Prelude.{codes, neg_ℤ}
+use Rattle.crontab.specs.declared.line.Dialect.TheVariants as dialects
+use Rattle.croncheck_command.specs.declared.runs.Listing.TheVariants as listings
+use Rattle.croncheck_command.specs.FileSeen.{File, unread, ending_of}
+use Rattle.croncheck_command.specs.Planner.{over_text, more_text}
+use Rattle.croncheck_command.specs.Shown.{ahead_text, weekday_text, start_at, cut_at}
+
+-- ---- the clock
+
+two_hours_ahead : ahead_text (pos 7_200) ≡ codes "+02:00"
+unfolding digits
+two_hours_ahead = refl
+
+behind_by_half_an_hour_more : ahead_text (neg_ℤ (pos 12_600)) ≡ codes "-03:30"
+unfolding digits
+behind_by_half_an_hour_more = refl
+
+with_seconds : ahead_text (pos 20_708) ≡ codes "+05:45:08"
+unfolding digits
+with_seconds = refl
+
+first_day : weekday_text 0 ≡ codes "Sun"
+first_day = refl
+
+last_day : weekday_text 6 ≡ codes "Sat"
+last_day = refl
+
+-- ---- the front of a text
+
+-- a letter and a character of four bytes: up to its last byte, and behind it
+four_bytes : start_at 4 (97 ∷ 240 ∷ 159 ∷ 152 ∷ 128 ∷ []) ≡ 1
+four_bytes = refl
+
+all_of_them : cut_at 5 (97 ∷ 240 ∷ 159 ∷ 152 ∷ 128 ∷ []) ≡ 5
+all_of_them = refl
+
+-- bytes that begin no character are cut where they are
+no_character : start_at 4 (128 ∷ 128 ∷ 128 ∷ 128 ∷ 128 ∷ []) ≡ 4
+no_character = refl
+
+-- ---- the end of a file
+
+-- a file with a refused line, and one whose last line has no line feed
+abbrev refused : File
+refused = record (unread (codes "backup")) { has_refused = true }
+
+abbrev unfed : File
+unfed = record (unread (codes "backup")) { is_unfed = true }
+
+a_refused_line : ending_of dialects.User 3 refused ≡ codes "backup: cron ignores the whole file: a line is refused\n"
+a_refused_line = refl
+
+no_line_feed : ending_of dialects.System 3 unfed ≡ codes "backup: cron ignores the whole file: its last line has no line feed\n"
+no_line_feed = refl
+
+too_many_lines : ending_of dialects.User 10_001 (unread (codes "backup")) ≡ codes "backup: cron ignores the whole file: it has more than 10000 lines\n"
+too_many_lines = refl
+
+as_many_lines_as_cron_takes : ending_of dialects.User 10_000 (unread (codes "backup")) ≡ []
+as_many_lines_as_cron_takes = refl
+
+patterns_are_read_whole : ending_of dialects.Patterns 10_001 refused ≡ []
+patterns_are_read_whole = refl
+
+-- ---- the end of a plan
+
+no_job_runs : over_text true ≡ codes "no job runs: no run is left before year 5000\n"
+no_job_runs = refl
+
+no_run_is_left : over_text false ≡ codes "no more: no run is left before year 5000\n"
+no_run_is_left = refl
+
+none_up_to_a_second : more_text (listings.Until (pos 5)) true ≡ codes "no run up to then\n"
+none_up_to_a_second = refl
+
+none_asked : more_text (listings.Count 0) true ≡ []
+none_asked = refl

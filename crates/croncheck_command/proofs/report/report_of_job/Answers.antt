@@ -1,0 +1,14 @@
+use Rattle.std.proofs.Common.{subst}
+use Rattle.crontab.specs.Content.{IsOutcomeOfTimes}
+use Rattle.crontab.specs.Entries.{job_seen}
+use Rattle.croncheck_command.specs.Report.{blanks_of}
+use Rattle.croncheck_command.proofs.report.report_of_job.Goals as goal
+
+pub returns-in-Job-clause-report : goal.returns-in-Job-clause-report
+returns-in-Job-clause-report c = λ read.
+    c.told_of_job.ensures.report (blanks_of c.args.line.now) (subst (IsOutcomeOfTimes (job_seen c.args.job).times) c.in-Job.is read)
+
+pub returns-in-NoText-clause-report : goal.returns-in-NoText-clause-report
+returns-in-NoText-clause-report c = λ read.
+    c.told_of_no_text.ensures.report c.args.settings.now (blanks_of c.args.line.now)
+    (subst (IsOutcomeOfTimes (job_seen c.args.job).times) c.in-NoText.is read)

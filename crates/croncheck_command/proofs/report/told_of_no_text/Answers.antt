@@ -1,0 +1,22 @@
+use Rattle.std.proofs.Common.{Option, Some, None, refl, sym, subst}
+use Rattle.croner_pattern.specs.Meaning.{Meaning}
+use Rattle.crontab.specs.Entries.{job_seen}
+use Rattle.croncheck_command.specs.Report.{IsWarned, TellsChanges, DatesOf}
+use Rattle.croncheck_command.proofs.Outcomes.{no_meaning}
+use Rattle.croncheck_command.proofs.report.told_of_no_text.Goals as goal
+
+pub returns-clause-report : goal.returns-clause-report
+returns-clause-report c = λ s blanks read.
+    let task = job_seen c.args.job in
+    let times = c.times_of_no_text-times.result in
+    let is = sym (no_meaning task.times read) in
+    record {
+      schedule_is = refl;
+      user_is = refl;
+      command_is = refl;
+      tells_times = c.times_of_no_text-times.ensures s read;
+      warned = subst (λ (m : Option Meaning). IsWarned c.args.is_fed task.schedule task.user task.command m times c.in_ok-warnings.warnings.items) is
+          c.in_ok-warnings.ensures.warnings;
+      met = subst (λ (m : Option Meaning). TellsChanges s (Some task.schedule) m times c.none.result) is c.none.ensures;
+      dated = subst (λ (m : Option Meaning). DatesOf m times None) is refl;
+    }

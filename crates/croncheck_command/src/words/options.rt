@@ -1,0 +1,314 @@
+//! The verbs of a call and their options, as they are read and shown by `--help`.
+
+use super::{VERSION, Verb};
+use clap::{Arg, ArgAction, Command, value_parser};
+use std::alloc::{AllocError, Global};
+
+const NAME: &str = "croncheck";
+
+const ABOUT: &str =
+    "Checks crontabs as Debian's cron reads them, and says when their jobs and patterns run";
+
+const AFTER_HELP: &str =
+    "DATETIME is YYYY-MM-DDTHH:MM:SS on the zone's clock, SECONDS are since 1970-01-01T00:00:00 UTC.
+With no FILE, or where FILE is -, standard input is read. Without a command, check is meant; a command stands in front of its options, and each tells of them with --help. A FILE that has the name of a command is written with its folder, as ./show.
+
+Status: 0 all jobs were read, 1 a line is refused or cron ignores a whole file (or a line has a warning, with --strict), 2 the words are not of this form, 3 a file, the zone or the output failed.";
+
+const ABOUT_CHECK: &str =
+    "Tells of crontabs what cron refuses and what to beware of, and nothing of a good line";
+
+const ABOUT_SHOW: &str = "Tells of each line what it means to cron, and when it runs";
+
+const ABOUT_PLAN: &str = "Tells the runs of all lines of all files in one list, in order of time";
+
+const ABOUT_NEXT: &str = "Tells what patterns mean, and when they run";
+
+const ABOUT_DESCRIBE: &str = "Tells what patterns mean";
+
+const AFTER_PATTERNS: &str =
+    "PATTERN is one word of the shell: write it in quotes, as '30 9 * * MON-FRI'. It has five to seven fields: seconds if there are six or seven, minutes, hours, days of the month, months, weekdays, and years if there are seven.
+
+Status: 0 all patterns were read, 1 one is refused, 2 the words are not of this form, 3 the zone or the output failed.";
+
+/// The verb of a name, if it is one.
+pub(super) fn verb_of(name: &str) -> Option<Verb> {
+    match name {
+        "check" => Some(Verb::Check),
+        "show" => Some(Verb::Show),
+        "plan" => Some(Verb::Plan),
+        "next" => Some(Verb::Next),
+        "describe" => Some(Verb::Describe),
+        _ => None,
+    }
+}
+
+/// The program with its verbs. What stands without one is read as that of `check`.
+pub(super) fn program<'w>(alloc: Global) -> Result<Command<'w>, AllocError> {
+    let program = Command::new(alloc, NAME)
+        .version(VERSION)
+        .about(ABOUT)
+        .after_help(AFTER_HELP)
+        .args_conflicts_with_subcommands(true);
+    let program = program.bin_name(NAME)?;
+    let program = with_checking(alloc, program)?;
+    let program = with(program, check(alloc))?;
+    let program = with(program, show(alloc))?;
+    let program = with(program, plan(alloc))?;
+    let program = with(program, next(alloc))?;
+    with(program, describe(alloc))
+}
+
+// With one more verb. No other function lets a command go.
+fn with<'w>(
+    program: Command<'w>,
+    verb: Result<Command<'w>, AllocError>,
+) -> Result<Command<'w>, AllocError> {
+    match verb {
+        Ok(verb) => program.subcommand(verb),
+        Err(error) => Err(error),
+    }
+}
+
+// With one more argument. No other function lets a command go.
+fn add<'w>(
+    command: Command<'w>,
+    arg: Result<Arg<'w>, AllocError>,
+) -> Result<Command<'w>, AllocError> {
+    match arg {
+        Ok(arg) => command.arg(arg),
+        Err(error) => Err(error),
+    }
+}
+
+// ---- the verbs
+
+fn check<'w>(alloc: Global) -> Result<Command<'w>, AllocError> {
+    let command = Command::new(alloc, "check")
+        .about(ABOUT_CHECK)
+        .after_help(AFTER_HELP);
+    with_checking(alloc, command)
+}
+
+// With what `check` takes.
+fn with_checking<'w>(alloc: Global, command: Command<'w>) -> Result<Command<'w>, AllocError> {
+    let command = with_clock(alloc, command)?;
+    let command = with_output(
+        alloc,
+        command,
+        "One JSON object for each line with a finding",
+    )?;
+    let command = with_kinds(alloc, command)?;
+    let command = with_language(alloc, command)?;
+    let command = with_settings_of_files(alloc, command)?;
+    with_files(alloc, command)
+}
+
+fn show<'w>(alloc: Global) -> Result<Command<'w>, AllocError> {
+    let command = Command::new(alloc, "show")
+        .about(ABOUT_SHOW)
+        .after_help(AFTER_HELP);
+    let command = with_clock(alloc, command)?;
+    let command = with_span(alloc, command, "How many runs of each line, 0 to 1000")?;
+    let command = with_output(alloc, command, "One JSON object for each line")?;
+    let command = with_kinds(alloc, command)?;
+    let command = with_language(alloc, command)?;
+    let command = with_settings_of_files(alloc, command)?;
+    with_files(alloc, command)
+}
+
+fn plan<'w>(alloc: Global) -> Result<Command<'w>, AllocError> {
+    let command = Command::new(alloc, "plan")
+        .about(ABOUT_PLAN)
+        .after_help(AFTER_HELP);
+    let command = with_clock(alloc, command)?;
+    let command = with_span(
+        alloc,
+        command,
+        "How many seconds at which jobs run, 0 to 1000",
+    )?;
+    let command = with_kinds(alloc, command)?;
+    let command = with_settings_of_files(alloc, command)?;
+    with_files(alloc, command)
+}
+
+fn next<'w>(alloc: Global) -> Result<Command<'w>, AllocError> {
+    let command = Command::new(alloc, "next")
+        .about(ABOUT_NEXT)
+        .after_help(AFTER_PATTERNS);
+    let command = with_clock(alloc, command)?;
+    let command = with_span(alloc, command, "How many runs of each pattern, 0 to 1000")?;
+    let command = with_language(alloc, command)?;
+    let command = with_settings(alloc, command)?;
+    with_patterns(alloc, command)
+}
+
+fn describe<'w>(alloc: Global) -> Result<Command<'w>, AllocError> {
+    let command = Command::new(alloc, "describe")
+        .about(ABOUT_DESCRIBE)
+        .after_help(AFTER_PATTERNS);
+    let command = with_language(alloc, command)?;
+    let command = with_settings(alloc, command)?;
+    with_patterns(alloc, command)
+}
+
+// ---- their words
+
+fn with_files<'w>(alloc: Global, command: Command<'w>) -> Result<Command<'w>, AllocError> {
+    command.arg(
+        Arg::new(alloc, "file")
+            .value_name("FILE")
+            .num_args(0..)
+            .help("The files to read; - is standard input"),
+    )
+}
+
+fn with_patterns<'w>(alloc: Global, command: Command<'w>) -> Result<Command<'w>, AllocError> {
+    command.arg(
+        Arg::new(alloc, "pattern")
+            .value_name("PATTERN")
+            .num_args(1..)
+            .required(true)
+            .help("The patterns, each one word"),
+    )
+}
+
+fn with_clock<'w>(alloc: Global, command: Command<'w>) -> Result<Command<'w>, AllocError> {
+    command
+        .arg(
+            value(alloc, "zone", "NAME|RULE|local")
+                .default_value("local")
+                .help("The zone: by its name, as a POSIX rule, or the machine's"),
+        )?
+        .arg(
+            value(alloc, "from", "DATETIME|@SECONDS|now")
+                .default_value("now")
+                .help("Looks at runs from here on, this second left out"),
+        )
+}
+
+fn with_span<'w>(
+    alloc: Global,
+    command: Command<'w>,
+    runs: &'w str,
+) -> Result<Command<'w>, AllocError> {
+    let command = command.arg(
+        value(alloc, "runs", "N")
+            .value_parser(value_parser!(u32).range(0..=1000))
+            .default_value("3")
+            .help(runs),
+    )?;
+    add(
+        command,
+        value(alloc, "until", "DATETIME|@SECONDS")
+            .help("In place of --runs: all runs up to here")
+            .conflicts_with("runs"),
+    )
+}
+
+fn with_output<'w>(
+    alloc: Global,
+    command: Command<'w>,
+    json: &'w str,
+) -> Result<Command<'w>, AllocError> {
+    command
+        .arg(flag(alloc, "json").help(json))?
+        .arg(flag(alloc, "strict").help("A warning makes the status 1, as a refused line does"))?
+        .arg(flag(alloc, "same-job").help(
+            "Warns of a job that is the same as an earlier one; takes memory in proportion to the jobs",
+        ))
+}
+
+fn with_kinds<'w>(alloc: Global, command: Command<'w>) -> Result<Command<'w>, AllocError> {
+    let command = command.arg(flag(alloc, "system").help(
+        "A user stands before each command; so it is without this option where all files are /etc/crontab or in a folder cron.d",
+    ))?;
+    let user = flag(alloc, "user")
+        .help("No user stands before the commands, whatever the files are named")
+        .conflicts_with("system");
+    let command = add(command, user)?;
+    let patterns = flag(alloc, "patterns")
+        .help("Each line is a pattern of five to seven fields, and no command")
+        .conflicts_with("system");
+    add(command, not_beside(patterns, "user"))
+}
+
+// An argument that can't stand beside this one.
+fn not_beside<'w>(arg: Result<Arg<'w>, AllocError>, id: &'w str) -> Result<Arg<'w>, AllocError> {
+    match arg {
+        Ok(arg) => arg.conflicts_with(id),
+        Err(error) => Err(error),
+    }
+}
+
+fn with_language<'w>(alloc: Global, command: Command<'w>) -> Result<Command<'w>, AllocError> {
+    command.arg(
+        value(alloc, "language", "LANGUAGE")
+            .value_parser(["en", "sv"].as_slice())
+            .default_value("en")
+            .help("The language of descriptions"),
+    )
+}
+
+// ---- the settings of the parser of patterns
+
+// With the settings of patterns that are words of the call.
+fn with_settings<'w>(alloc: Global, command: Command<'w>) -> Result<Command<'w>, AllocError> {
+    command
+        .arg(flag(alloc, "alternative-weekdays").help("Weekdays are 1 to 7 from Sunday"))?
+        .arg(flag(alloc, "dom-and-dow").help("Both day fields must match"))?
+        .arg(flag(alloc, "sloppy-ranges").help("A step may follow a number, as 5/10"))?
+        .arg(use_of_field(alloc, "seconds", "Whether there is a field of seconds"))?
+        .arg(use_of_field(alloc, "year", "Whether there is a field of years"))
+}
+
+// With the same of files of patterns.
+fn with_settings_of_files<'w>(
+    alloc: Global,
+    command: Command<'w>,
+) -> Result<Command<'w>, AllocError> {
+    let weekdays = flag(alloc, "alternative-weekdays").help(
+        "With --patterns: weekdays are 1 to 7 from Sunday",
+    );
+    let command = add(command, setting(weekdays))?;
+    let days = flag(alloc, "dom-and-dow").help("With --patterns: both day fields must match");
+    let command = add(command, setting(days))?;
+    let ranges = flag(alloc, "sloppy-ranges").help(
+        "With --patterns: a step may follow a number, as 5/10",
+    );
+    let command = add(command, setting(ranges))?;
+    let seconds = use_of_field(
+        alloc,
+        "seconds",
+        "With --patterns: whether there is a field of seconds",
+    );
+    let command = add(command, setting(seconds))?;
+    let year = use_of_field(
+        alloc,
+        "year",
+        "With --patterns: whether there is a field of years",
+    );
+    add(command, setting(year))
+}
+
+fn value<'w>(alloc: Global, id: &'w str, name: &'w str) -> Arg<'w> {
+    Arg::new(alloc, id)
+        .long(id)
+        .value_name(name)
+        .action(ArgAction::Set)
+}
+
+fn flag<'w>(alloc: Global, id: &'w str) -> Arg<'w> {
+    Arg::new(alloc, id).long(id).action(ArgAction::SetTrue)
+}
+
+fn setting(arg: Arg<'_>) -> Result<Arg<'_>, AllocError> {
+    arg.requires_arg("patterns")
+}
+
+fn use_of_field<'w>(alloc: Global, id: &'w str, help: &'w str) -> Arg<'w> {
+    value(alloc, id, "USE")
+        .value_parser(["optional", "required", "disallowed"].as_slice())
+        .default_value("optional")
+        .help(help)
+}
