@@ -6,7 +6,8 @@ use crate::Cron;
 use croner_base::errors::CronError;
 use croner_base::time::{Clocked, Direction};
 
-/// Something that has runs in each zone. A [`Cron`] is one; an enum with arms of one's own is another.
+/// Something that has runs in each zone, and finds them on clocks of the type `T`. A [`Cron`] is one on each clock; an enum with arms of
+/// one's own is another, on the clocks on which all its arms are.
 ///
 /// An implementation states once which runs it has; its two searches are then held to it. In a calm zone
 /// ([`CronDateTime`](crate::CronDateTime) says when a zone is calm) and from a whole second an answer is the nearest
@@ -18,7 +19,7 @@ use croner_base::time::{Clocked, Direction};
 ///   may be left. Neither comes in a calm zone from a whole second where the years 0 to 5001 and two days around the
 ///   start are held.
 /// - `OutOfMemory`, only over a backend that can lack memory.
-pub trait Recurring {
+pub trait Recurring<T: Clocked> {
     ghost use Rattle.croner_base.specs.Zone.{Zone};
     ghost use Rattle.croner.specs.Recurring.{IsRunFound, IsRunRefused};
 
@@ -32,7 +33,7 @@ pub trait Recurring {
     /// let run = DateTime::new(2024, 7, 1, 9, 30, 0, 0)?;
     /// let next = job.next_after(&run)?; // 2024-07-02T09:30:00
     /// ```
-    fn next_after<T: Clocked>(&self, after: &T) -> Result<T, CronError>
+    fn next_after(&self, after: &T) -> Result<T, CronError>
         ensures found { IfOk result (λ t. IsRunFound Direction.Forward (runs self.now) (T.moment after.now) (T.moment t)) }
         ensures refused { IfErr result (IsRunRefused T.can_lack_memory Direction.Forward (runs self.now) (T.moment after.now)) };
 
@@ -43,22 +44,22 @@ pub trait Recurring {
     /// let run = DateTime::new(2024, 7, 1, 9, 30, 0, 0)?;
     /// let last = job.last_until(&run)?; // 2024-07-01T09:30:00
     /// ```
-    fn last_until<T: Clocked>(&self, until: &T) -> Result<T, CronError>
+    fn last_until(&self, until: &T) -> Result<T, CronError>
         ensures found { IfOk result (λ t. IsRunFound Direction.Backward (runs self.now) (T.moment until.now) (T.moment t)) }
         ensures refused { IfErr result (IsRunRefused T.can_lack_memory Direction.Backward (runs self.now) (T.moment until.now)) };
 }
 
-impl Recurring for Cron {
+impl<T: Clocked> Recurring<T> for Cron {
     ghost use Rattle.croner.specs.Recurring.{runs_of};
     ghost use Rattle.croner.specs.Views.{job_of};
 
     ghost runs = { λ cron. runs_of (job_of cron) };
 
-    fn next_after<T: Clocked>(&self, after: &T) -> Result<T, CronError> {
+    fn next_after(&self, after: &T) -> Result<T, CronError> {
         self.find_next_occurrence(after, false)
     }
 
-    fn last_until<T: Clocked>(&self, until: &T) -> Result<T, CronError> {
+    fn last_until(&self, until: &T) -> Result<T, CronError> {
         self.find_previous_occurrence(until, true)
     }
 }
