@@ -19,7 +19,7 @@ use Rattle.croner_scheduler.specs.declared.waiting.Next.{Next}
 use Rattle.croner_scheduler.specs.declared.waiting.Next.TheVariants.{Run, Over, Stopped}
 use Rattle.croner_scheduler.specs.declared.waiting.Waiting.{Waiting}
 use Rattle.croner_scheduler.specs.Standing.{Held}
-use Rattle.croner_scheduler.specs.Calls.{StandsAt, MovesTo, IsAdded, IsRemoved}
+use Rattle.croner_scheduler.specs.Calls.{StandsAt, TellsStop, MovesTo, IsAdded, IsRemoved}
 use Rattle.croner_scheduler.specs.Private.Turns.{is_turn, is_next_turn}
 use Rattle.croner_scheduler.specs.Kept.{standing_of, stop_of, StopsAt, FitsNext, Fits}
 use Rattle.croner_scheduler.specs.Private.Steps.{FitsAfter, jobs_with, job_after_run, position_after, is_next_at, is_awaited_at}
@@ -227,6 +227,16 @@ module _ {J T : Type 0} (runs : J → Zone → ℤ → Type 0) (moment : T → M
           stop = after (runs w.job) w.position w.next at behind;
         }
 
+    pub stepped_tells : (h' : Held J) → ((k : ℕ) → h'.jobs k ≡ option_map (standing_of moment) (jobs' k)) → TellsStop h' id (is_some (stop_of next))
+    stepped_tells h' is' =
+        subst (λ o. IsSomeAnd o (λ s. is_some (stop_of next) ≡ is_some s.stop)) (sym (is' id ∙ ap (option_map (standing_of moment)) stepped_own))
+        (own (jobs id) (sym (listed second id) ∙ at))
+      where
+        own : (o : Option (Waiting J T)) → is_awaited_at moment second o ≡ true
+            → IsSomeAnd (option_map (standing_of moment) (option_map (job_after_run next) o)) (λ s. is_some (stop_of next) ≡ is_some s.stop)
+        own None at = absurd (false≢true at)
+        own (Some w) at = refl
+
   -- a job is added under an id that has none
   module _ (w : Waiting J T) (fit : Fits runs moment w) (none : is_some (jobs id) ≡ false)
       (put : (k : ℕ) → jobs' k ≡ cond (is_at (nat_cmp id) k) (Some w) (jobs k)) where
@@ -276,6 +286,10 @@ module _ {J T : Type 0} (runs : J → Zone → ℤ → Type 0) (moment : T → M
         no_standing : (o : Option (Waiting J T)) → is_some o ≡ false → option_map (standing_of moment) o ≡ None
         no_standing None e = refl
         no_standing (Some w) e = absurd (false≢true (sym e))
+
+    pub added_tells : (h' : Held J) → ((k : ℕ) → h'.jobs k ≡ option_map (standing_of moment) (jobs' k)) → TellsStop h' id (is_some (stop_of w.next))
+    added_tells h' is' =
+        subst (λ o. IsSomeAnd o (λ s. is_some (stop_of w.next) ≡ is_some s.stop)) (sym (is' id ∙ ap (option_map (standing_of moment)) put_own)) refl
 
   -- no job is put in, and the turn is taken out again
   pub left_listed : (n : Next T) (has1 has2 : ℤ → ℕ → Bool) → is_some (jobs id) ≡ false → ((k : ℕ) → jobs' k ≡ jobs k)

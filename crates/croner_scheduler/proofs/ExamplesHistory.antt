@@ -1,5 +1,5 @@
 -- Worked rows of lists of calls: what they give of a job, and what they pass over.
-use Rattle.std.proofs.Common.{◌≡◌, refl, inl, inr, arith, ℕ, pos, List, [], ◌∷◌, None, Some}
+use Rattle.std.proofs.Common.{◌≡◌, refl, false, inl, inr, arith, ℕ, pos, List, [], ◌∷◌, None, Some}
 use Rattle.std.proofs.lemmas.Int.{ints}
 use Rattle.croner_scheduler.specs.declared.latest.Latest.TheVariants as latest
 use Rattle.croner_scheduler.specs.declared.skip.Skip.TheVariants.{Moved, AlreadyThere}
@@ -9,7 +9,7 @@ use Rattle.croner_scheduler.specs.History.{Call, TakeDue, TakeLatestDue, SkipTo,
 calls : List (Call ℕ)
 calls =
     TakeDue (pos 5) (Some (record { id = 0; second = pos 2 })) ∷ TakeDue (pos 5) (Some (record { id = 1; second = pos 3 })) ∷ TakeDue (pos 5) None
-    ∷ SkipTo 1 (pos 9) Moved ∷ SkipTo 1 (pos 4) AlreadyThere ∷ TakeLatestDue 1 (pos 20) (latest.Given (pos 18)) ∷ Remove 0 ∷ []
+    ∷ SkipTo 1 (pos 9) (Moved false) ∷ SkipTo 1 (pos 4) AlreadyThere ∷ TakeLatestDue 1 (pos 20) (latest.Given (pos 18) false) ∷ Remove 0 ∷ []
 
 given_of_one : given 1 calls ≡ pos 3 ∷ pos 18 ∷ []
 unfolding calls
@@ -19,7 +19,7 @@ given_of_the_other : given 0 calls ≡ pos 2 ∷ []
 unfolding calls
 given_of_the_other = refl
 
-place_after_a_skip : place_after {J = ℕ} 1 (pos 3) (SkipTo 1 (pos 9) Moved) ≡ pos 9
+place_after_a_skip : place_after {J = ℕ} 1 (pos 3) (SkipTo 1 (pos 9) (Moved false)) ≡ pos 9
 place_after_a_skip = refl
 
 -- it stands at the last of them then

@@ -253,7 +253,7 @@ module _ {J : Type 0} (runs : J → Zone → ℤ → Type 0) where
         ))
         (λ other j over. over)
         (λ other. makes.2.rest.others k other)
-    goes (TakeLatestDue id now (latest.Given i)) makes stay = by_id id (i ∷ []) i _
+    goes (TakeLatestDue id now (latest.Given i b)) makes stay = by_id id (i ∷ []) i _
         (λ same. let at = stood id i makes.1 same in
         let g = and_some _ (h.jobs k) s there (subst (λ n. IsSomeAnd (h.jobs n) (λ s. IsLastDue runs now i s × (s.position.zone.holds now ≡ true))) (sym same) makes.0) in (
           at.0,
@@ -267,7 +267,7 @@ module _ {J : Type 0} (runs : J → Zone → ℤ → Type 0) where
     goes (TakeLatestDue id now latest.NoJob) makes stay = rests (makes.1.jobs k)
     goes (TakeLatestDue id now latest.NotHeld) makes stay = rests (makes.1.jobs k)
     goes (TakeLatestDue id now (latest.Refused e)) makes stay = rests (makes.1.jobs k)
-    goes (SkipTo id now Moved) makes stay = by_id_none id now _
+    goes (SkipTo id now (Moved b)) makes stay = by_id_none id now _
         (λ same. let at = stood id now makes.1 same in
         let g = and_some _ (h.jobs k) s there (subst (λ n. IsSomeAnd (h.jobs n) (λ s. s.position.instant <ℤ now)) (sym same) (weaker _ _ (λ s g. g.0) (h.jobs id) makes.0)) in (
           at.0,
@@ -359,12 +359,12 @@ module _ {J : Type 0} (runs : J → Zone → ℤ → Type 0) where
   grows : (h h' : Held J) (call : Call J) → Makes runs call h h' → h.next_id ≤ h'.next_id
   grows h h' (TakeDue now None) makes = omega (arith, makes.1.next_id)
   grows h h' (TakeDue now (Some due)) makes = omega (arith, makes.2.rest.next_id)
-  grows h h' (TakeLatestDue id now (latest.Given i)) makes = omega (arith, makes.1.rest.next_id)
+  grows h h' (TakeLatestDue id now (latest.Given i b)) makes = omega (arith, makes.1.rest.next_id)
   grows h h' (TakeLatestDue id now latest.NothingDue) makes = omega (arith, makes.1.next_id)
   grows h h' (TakeLatestDue id now latest.NoJob) makes = omega (arith, makes.1.next_id)
   grows h h' (TakeLatestDue id now latest.NotHeld) makes = omega (arith, makes.1.next_id)
   grows h h' (TakeLatestDue id now (latest.Refused e)) makes = omega (arith, makes.1.next_id)
-  grows h h' (SkipTo id now Moved) makes = omega (arith, makes.1.rest.next_id)
+  grows h h' (SkipTo id now (Moved b)) makes = omega (arith, makes.1.rest.next_id)
   grows h h' (SkipTo id now AlreadyThere) makes = omega (arith, makes.1.next_id)
   grows h h' (SkipTo id now NoJob) makes = omega (arith, makes.1.next_id)
   grows h h' (SkipTo id now NotHeld) makes = omega (arith, makes.1.next_id)
@@ -407,14 +407,14 @@ module _ {J : Type 0} (runs : J → Zone → ℤ → Type 0) where
     gone_after (TakeDue now (Some due)) makes =
         let other = absent (IsGivable runs due.second) due.id makes.0.givable in
         (none_of due.id (due.second ∷ []) other, but due.id makes.2.rest other)
-    gone_after (TakeLatestDue id now (latest.Given i)) makes =
+    gone_after (TakeLatestDue id now (latest.Given i b)) makes =
         let other = absent (λ s. IsLastDue runs now i s × (s.position.zone.holds now ≡ true)) id makes.0 in
         (none_of id (i ∷ []) other, but id makes.1.rest other)
     gone_after (TakeLatestDue id now latest.NothingDue) makes = unchanged makes.1
     gone_after (TakeLatestDue id now latest.NoJob) makes = unchanged makes.1
     gone_after (TakeLatestDue id now latest.NotHeld) makes = unchanged makes.1
     gone_after (TakeLatestDue id now (latest.Refused e)) makes = unchanged makes.1
-    gone_after (SkipTo id now Moved) makes = (refl, but id makes.1.rest (absent _ id makes.0))
+    gone_after (SkipTo id now (Moved b)) makes = (refl, but id makes.1.rest (absent _ id makes.0))
     gone_after (SkipTo id now AlreadyThere) makes = unchanged makes.1
     gone_after (SkipTo id now NoJob) makes = unchanged makes.1
     gone_after (SkipTo id now NotHeld) makes = unchanged makes.1

@@ -143,17 +143,17 @@ module _ {J T : Type 0} (runs : J → Zone → ℤ → Type 0) (moment : T → M
 
       pub takes : (last : Last T) → FitsLast (runs w.job) moment t (at_instant (moment w.position).zone now) last
           → (answer : Latest) → IsLastGiven moment h id (moment t).instant last h' answer → TakesLatest runs id now h h' answer
-      takes (lasts.Later u) is (answers.Given i) given = (own _ (subst (λ i. IsLastDue runs now i (standing_of moment w)) (sym given.0) (later_last u is), held), given.1)
+      takes (lasts.Later u) is (answers.Given i b) given = (own _ (subst (λ i. IsLastDue runs now i (standing_of moment w)) (sym given.0) (later_last u is), held), given.1)
       takes (lasts.Later u) is answers.NothingDue given = absurd given
       takes (lasts.Later u) is answers.NoJob given = absurd given
       takes (lasts.Later u) is answers.NotHeld given = absurd given
       takes (lasts.Later u) is (answers.Refused e) given = absurd given
-      takes lasts.Known is (answers.Given i) given = (own _ (subst (λ i. IsLastDue runs now i (standing_of moment w)) (sym given.0) (known_last is), held), given.1)
+      takes lasts.Known is (answers.Given i b) given = (own _ (subst (λ i. IsLastDue runs now i (standing_of moment w)) (sym given.0) (known_last is), held), given.1)
       takes lasts.Known is answers.NothingDue given = absurd given
       takes lasts.Known is answers.NoJob given = absurd given
       takes lasts.Known is answers.NotHeld given = absurd given
       takes lasts.Known is (answers.Refused e) given = absurd given
-      takes (lasts.Refused e) is (answers.Given i) given = absurd given
+      takes (lasts.Refused e) is (answers.Given i b) given = absurd given
       takes (lasts.Refused e) is answers.NothingDue given = absurd given
       takes (lasts.Refused e) is answers.NoJob given = absurd given
       takes (lasts.Refused e) is answers.NotHeld given = absurd given

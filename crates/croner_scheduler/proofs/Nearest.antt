@@ -13,7 +13,7 @@ use Rattle.croner_base.specs.Calm.{IsCalm}
 use Rattle.croner_base.specs.Zone.{Zone, Moment}
 use Rattle.croner_base.specs.declared.time.Direction.TheVariants.{Forward}
 use Rattle.croner.specs.search.Limit.{InSpan}
-use Rattle.croner_scheduler.specs.declared.turns.Due.{Due}
+use Rattle.croner_scheduler.specs.declared.turns.Turn.{Turn}
 use Rattle.croner_scheduler.specs.declared.waiting.Next.{Next}
 use Rattle.croner_scheduler.specs.declared.waiting.Next.TheVariants.{Run, Over, Stopped}
 use Rattle.croner_scheduler.specs.declared.waiting.Waiting.{Waiting}
@@ -118,7 +118,7 @@ module _ {J T : Type 0} (runs : J → Zone → ℤ → Type 0) (moment : T → M
     (is : (id : ℕ) → h.jobs id ≡ option_map (standing_of moment) (jobs id))
     (listed : (second : ℤ) (id : ℕ) → has second id ≡ is_awaited_at moment second (jobs id))
     (fits : (id : ℕ) → ∥ IfSome (jobs id) (Fits runs moment) ∥₁) where
-  pub nearest : (first : Option Due) → IsFirstTurn has first → IsNearest runs h first
+  pub nearest : (first : Option Turn) → IsFirstTurn has first → IsNearest runs h first
   nearest (Some due) first = record {
     givable = subst (λ o. IsSomeAnd o (IsGivable runs due.second)) (sym (is due.id))
         (givable runs moment (jobs due.id) (fits due.id) due.second (sym (listed due.second due.id) ∙ first.0));
@@ -130,7 +130,7 @@ module _ {J T : Type 0} (runs : J → Zone → ℤ → Type 0) (moment : T → M
 
 -- where the nearest run comes later than now, none is due
 module _ {J : Type 0} (runs : J → Zone → ℤ → Type 0) (h : Held J) (now : ℤ) where
-  pub none_due : (due : Due) → IsFirst runs h due.id due.second → now <ℤ due.second → (l : ℕ) → IfSome (h.jobs l) (IsNotDue runs now)
+  pub none_due : (due : Turn) → IsFirst runs h due.id due.second → now <ℤ due.second → (l : ℕ) → IfSome (h.jobs l) (IsNotDue runs now)
   none_due due is later l = later_than (h.jobs l) (is.first l)
     where
       later_than : (o : Option (Standing J)) → IfSome o (ComesAfter runs due.id due.second l) → IfSome o (IsNotDue runs now)
@@ -142,7 +142,7 @@ module _ {J : Type 0} (runs : J → Zone → ℤ → Type 0) (h : Held J) (now :
 module _ {J T : Type 0} (moment : T → Moment) (h : Held J) (jobs : ℕ → Option (Waiting J T))
     (is : (id : ℕ) → h.jobs id ≡ option_map (standing_of moment) (jobs id)) where
   pub awaits_first : (has : ℤ → ℕ → Bool) → ((second : ℤ) (id : ℕ) → has second id ≡ is_awaited_at moment second (jobs id))
-      → (first : Option Due) → IsFirstTurn has first → AwaitsFirst h first
+      → (first : Option Turn) → IsFirstTurn has first → AwaitsFirst h first
   awaits_first has listed (Some due) first = (
     subst (λ o. IsSomeAnd o (λ s. s.next ≡ Some due.second)) (sym (is due.id)) (own (jobs due.id) (sym (listed due.second due.id) ∙ first.0)),
     λ l. subst (λ o. IfSome o (WaitsAfter due.id due.second l)) (sym (is l)) (after_all l (jobs l) (λ s at. first.1 s l (listed s l ∙ at))),
@@ -180,7 +180,7 @@ module _ {J T : Type 0} (moment : T → Moment) (h : Held J) (jobs : ℕ → Opt
 
 module _ {J : Type 0} (h : Held J) (now : ℤ) where
   -- where the first comes later than now, or there is none, each comes later
-  pub awaits_later : (due : Due) → AwaitsFirst h (Some due) → now <ℤ due.second → TakesAwaited h now None
+  pub awaits_later : (due : Turn) → AwaitsFirst h (Some due) → now <ℤ due.second → TakesAwaited h now None
   awaits_later due first later l = by (h.jobs l) (first.1 l)
     where
       by_run : (o : Option ℤ) → IfSome o (λ j. (due.second ≤ℤ j) × (j ≡ due.second → due.id ≤ l)) → IfSome o (λ j. now <ℤ j)
@@ -192,7 +192,7 @@ module _ {J : Type 0} (h : Held J) (now : ℤ) where
       by (Some s) h = by_run s.next h
 
   -- where the first comes no later, one is due
-  pub awaits_due : (due : Due) → AwaitsFirst h (Some due) → due.second ≤ℤ now → IsSomeDue h now
+  pub awaits_due : (due : Turn) → AwaitsFirst h (Some due) → due.second ≤ℤ now → IsSomeDue h now
   awaits_due due first le = (due.id, by (h.jobs due.id) first.0)
     where
       by : (o : Option (Standing J)) → IsSomeAnd o (λ s. s.next ≡ Some due.second) → IsSomeAnd o (λ s. IsSomeAnd s.next (λ j. j ≤ℤ now))

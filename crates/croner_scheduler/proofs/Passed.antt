@@ -106,13 +106,18 @@ module _ {J T : Type 0} (runs : J → Zone → ℤ → Type 0) (moment : T → M
           stop = goes_on (runs w.job) moment (moment position) (moment position).instant w.next can.later;
         }
 
-    pub passed_kept : IfSome (h.jobs id) (λ s. IsSomeAnd (h'.jobs id) (λ s'. s'.next ≡ s.next))
+    pub passed_kept : IfSome (h.jobs id) (λ s. IsSomeAnd (h'.jobs id) (λ s'. (s'.next ≡ s.next) × (s'.stop ≡ None)))
     passed_kept =
-        subst (λ o. IfSome o (λ s. IsSomeAnd (h'.jobs id) (λ s'. s'.next ≡ s.next))) (sym (is id))
-        (subst (λ o. IfSome (option_map (standing_of moment) (jobs id)) (λ s. IsSomeAnd o (λ s'. s'.next ≡ s.next)))
-        (sym (is' id ∙ ap (option_map (standing_of moment)) passed_own)) (own (jobs id)))
+        subst (λ o. IfSome o (λ s. IsSomeAnd (h'.jobs id) (λ s'. (s'.next ≡ s.next) × (s'.stop ≡ None)))) (sym (is id))
+        (subst (λ o. IfSome (option_map (standing_of moment) (jobs id)) (λ s. IsSomeAnd o (λ s'. (s'.next ≡ s.next) × (s'.stop ≡ None))))
+        (sym (is' id ∙ ap (option_map (standing_of moment)) passed_own)) (own (jobs id) can))
       where
-        own : (o : Option (Waiting J T)) → IfSome (option_map (standing_of moment) o)
-            (λ s. IsSomeAnd (option_map (standing_of moment) (option_map (job_standing_at position) o)) (λ s'. s'.next ≡ s.next))
-        own None = tt
-        own (Some w) = refl
+        goes : (i : ℤ) (n : Next T) → is_next_after moment i n ≡ true → stop_of n ≡ None
+        goes i (Run t) later = refl
+        goes i Over later = refl
+        goes i (Stopped stop) later = absurd (false≢true later)
+
+        own : (o : Option (Waiting J T)) → IfSome o (CanStand moment position) → IfSome (option_map (standing_of moment) o)
+            (λ s. IsSomeAnd (option_map (standing_of moment) (option_map (job_standing_at position) o)) (λ s'. (s'.next ≡ s.next) × (s'.stop ≡ None)))
+        own None can = tt
+        own (Some w) can = (refl, goes (moment position).instant w.next can.later)

@@ -17,10 +17,10 @@ use Rattle.croner_scheduler.proofs.Nearest.{same_second, is_itself}
 use Rattle.croner_scheduler.specs.declared.waiting.Next.{Next}
 use Rattle.croner_scheduler.specs.declared.waiting.Next.TheVariants.{Run, Over, Stopped}
 use Rattle.croner_scheduler.specs.declared.waiting.Waiting.{Waiting}
-use Rattle.croner_scheduler.specs.Calls.{StandsAt, IsSameBut, MovesTo, IsPut}
-use Rattle.croner_scheduler.specs.Kept.{standing_of, Fits}
+use Rattle.croner_scheduler.specs.Calls.{StandsAt, TellsStop, is_asked, AgainTellsStop, IsSameBut, MovesTo, IsPut}
+use Rattle.croner_scheduler.specs.Kept.{standing_of, stop_of, Fits}
 use Rattle.croner_scheduler.specs.Standing.{Standing, Held}
-use Rattle.croner_scheduler.specs.Private.Steps.{jobs_with, is_next_at, is_awaited_at}
+use Rattle.croner_scheduler.specs.Private.Steps.{jobs_with, is_next_at, is_awaited_at, again_of}
 use Rattle.croner_scheduler.specs.Private.Turns.{is_turn, is_next_turn, is_same_turn}
 
 turn_second : (a : ℤ) (x : ℕ) (b : ℤ) (y : ℕ) → is_turn a x b y ≡ true → a ≡ b
@@ -134,6 +134,10 @@ module _ {J T : Type 0} (runs : J → Zone → ℤ → Type 0) (moment : T → M
       rest = put_rest;
     }
 
+    pub put_tells : TellsStop h' id (is_some (stop_of other.next))
+    put_tells =
+        subst (λ o. IsSomeAnd o (λ s. is_some (stop_of other.next) ≡ is_some s.stop)) (sym (is' id ∙ ap (option_map (standing_of moment)) put_own)) refl
+
     pub put_moved : other.job ≡ w.job → (moment other.position).zone ≡ (moment w.position).zone → MovesTo h id (moment other.position).instant h'
     put_moved job zone = record {
       moved =
@@ -173,3 +177,12 @@ stands_whole runs moment o w fits there =
 pub of_standing : {J T : Type 0} (moment : T → Moment) (P : Standing J → Type 0) (o : Option (Waiting J T)) (w : Waiting J T) → o ≡ Some w
     → P (standing_of moment w) → IsSomeAnd (option_map (standing_of moment) o) P
 of_standing moment P o w there holds = subst (λ o. IsSomeAnd (option_map (standing_of moment) o) P) (sym there) holds
+
+-- a job that was searched again
+pub asked_by : (b : Bool) → is_asked (again_of b) ≡ true
+asked_by true = refl
+asked_by false = refl
+
+pub tells_by : {J : Type 0} (h : Held J) (k : ℕ) (b : Bool) → TellsStop h k b → AgainTellsStop k h (again_of b)
+tells_by h k true tells = tells
+tells_by h k false tells = tells

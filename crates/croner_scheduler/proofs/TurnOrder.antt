@@ -8,7 +8,7 @@ use Rattle.std.specs.List.{list_any}
 use Rattle.std.specs.Ordering.{MatchOrdering, nat_cmp, int_cmp, int_eq, is_gt, is_eq, ordering_then}
 use Rattle.std.specs.declared.cmp.Ordering.{Ordering}
 use Rattle.std.specs.declared.cmp.Ordering.TheVariants.{Less, Equal, Greater}
-use Rattle.croner_scheduler.specs.declared.turns.Due.{Due}
+use Rattle.croner_scheduler.specs.declared.turns.Turn.{Turn}
 use Rattle.croner_scheduler.specs.Private.Turns.{turn_cmp, has_turn, is_turn, IsFirstTurn}
 
 module _ (a b : ℤ) (x y : ℕ) where
@@ -42,7 +42,7 @@ module _ (a b : ℤ) (x y : ℕ) where
 
 -- the least key of the order is the first turn
 pub first_of : (turns : BTreeSet (ℤ × ℕ)) (turn : ℤ × ℕ) → IsLowerBound turn_cmp turns turn → IsTrue (contains turn_cmp turns turn)
-    → (due : Due) → due.second ≡ turn.0 → due.id ≡ turn.1 → IsFirstTurn (has_turn turns) (Some due)
+    → (due : Turn) → due.second ≡ turn.0 → due.id ≡ turn.1 → IsFirstTurn (has_turn turns) (Some due)
 first_of turns turn least member due second id =
     let there : contains turn_cmp turns turn ≡ true = search rules in (
       ap (λ z. contains turn_cmp turns (z, due.id)) second ∙ ap (λ n. contains turn_cmp turns (turn.0, n)) id ∙ there,

@@ -1,7 +1,7 @@
 -- Which of the next runs comes first, in every zone. Source: this crate's documentation.
 use Rattle.std.specs.Prelude.{◌≡◌, ◌≤◌, ℕ, ℤ, ◌<ℤ◌, ◌≤ℤ◌, Option, None, Some, IfSome}
 use Rattle.std.specs.Option.{IsSomeAnd}
-use Rattle.croner_scheduler.specs.declared.turns.Due.{Due}
+use Rattle.croner_scheduler.specs.declared.turns.Turn.{Turn}
 use Rattle.croner_scheduler.specs.Standing.{Standing, Held}
 
 -- the next run of the job of the id l, if it has one, doesn't come before i of k: it isn't earlier, and at the same instant l isn't lower
@@ -9,12 +9,12 @@ abbrev pub WaitsAfter : {J : Type 0} → ℕ → ℤ → ℕ → Standing J → 
 WaitsAfter k i l s = IfSome s.next (λ j. (i ≤ℤ j) × (j ≡ i → k ≤ l))
 
 -- it is the next run of its job, and no other job's comes before it; or no job has one
-abbrev pub AwaitsFirst : {J : Type 0} → Held J → Option Due → Type 0
+abbrev pub AwaitsFirst : {J : Type 0} → Held J → Option Turn → Type 0
 AwaitsFirst h (Some due) = IsSomeAnd (h.jobs due.id) (λ s. s.next ≡ Some due.second) × ((l : ℕ) → IfSome (h.jobs l) (WaitsAfter due.id due.second l))
 AwaitsFirst h None = (l : ℕ) → IfSome (h.jobs l) (λ s. s.next ≡ None)
 
 -- what is given is the first of the next runs; or each comes later than now
-abbrev pub TakesAwaited : {J : Type 0} → Held J → ℤ → Option Due → Type 0
+abbrev pub TakesAwaited : {J : Type 0} → Held J → ℤ → Option Turn → Type 0
 TakesAwaited h now (Some due) = AwaitsFirst h (Some due)
 TakesAwaited h now None = (l : ℕ) → IfSome (h.jobs l) (λ s. IfSome s.next (λ j. now <ℤ j))
 

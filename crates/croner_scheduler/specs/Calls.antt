@@ -1,5 +1,5 @@
 -- What each call of a scheduler answers, and what it holds after it. Source: this crate's documentation.
-use Rattle.std.specs.Prelude.{◌≡◌, ◌⊎◌, pos, neg_ℤ, ◌-ℤ◌, Bool, true, ◌+◌, ◌-◌, ◌^◌, ◌≤◌, ⊤, false, ℕ, ℤ, ◌<ℤ◌, ◌≤ℤ◌, Option, None, Some, IfSome, IsSome}
+use Rattle.std.specs.Prelude.{◌≡◌, ◌⊎◌, pos, neg_ℤ, ◌-ℤ◌, Bool, true, ◌+◌, ◌-◌, ◌^◌, ◌≤◌, ⊤, false, ℕ, ℤ, ◌<ℤ◌, ◌≤ℤ◌, Option, None, Some, IfSome, IsSome, is_some}
 use Rattle.std.specs.Option.{IsSomeAnd}
 use Rattle.croner_base.specs.Calm.{IsCalm}
 use Rattle.croner_base.specs.declared.time.Direction.TheVariants.{Backward}
@@ -7,11 +7,16 @@ use Rattle.croner_base.specs.Zone.{Zone, Moment, at_instant}
 use Rattle.croner.specs.search.Limit.{InSpan}
 use Rattle.croner_scheduler.specs.declared.add.AddError.{AddError}
 use Rattle.croner_scheduler.specs.declared.add.AddError.TheVariants.{OutOfMemory, NoIdLeft, PositionNotHeld, SecondBeforeNotHeld}
+use Rattle.croner_scheduler.specs.declared.add.AddError.TheVariants as errors
+use Rattle.croner_scheduler.specs.declared.add.NotAdded.{NotAdded}
+use Rattle.croner_scheduler.specs.declared.again.Again.{Again}
+use Rattle.croner_scheduler.specs.declared.again.Again.TheVariants.{GoesOn, StillStopped, NotStopped}
 use Rattle.croner_scheduler.specs.declared.latest.Latest.{Latest}
 use Rattle.croner_scheduler.specs.declared.latest.Latest.TheVariants as latest
 use Rattle.croner_scheduler.specs.declared.skip.Skip.{Skip}
 use Rattle.croner_scheduler.specs.declared.skip.Skip.TheVariants.{Moved, AlreadyThere, NoJob, NotHeld}
 use Rattle.croner_scheduler.specs.declared.turns.Due.{Due}
+use Rattle.croner_scheduler.specs.declared.turns.Turn.{Turn}
 use Rattle.croner_scheduler.specs.declared.waiting.Stop.TheVariants as stops
 use Rattle.croner_scheduler.specs.Standing.{Standing, Held, Left, Seen}
 use Rattle.croner_scheduler.specs.Kept.{StopsAt}
@@ -50,7 +55,7 @@ abbrev pub HasNoneSeen : {J : Type 0} → (J → Zone → ℤ → Type 0) → St
 HasNoneSeen runs s = s.stop ≡ None → IsCalm s.position.zone → (j : ℤ) → ¬ (Seen runs s j)
 
 -- the first run and whose it is; or none, and then no run of a job is seen
-abbrev pub IsNearest : {J : Type 0} → (J → Zone → ℤ → Type 0) → Held J → Option Due → Type 0
+abbrev pub IsNearest : {J : Type 0} → (J → Zone → ℤ → Type 0) → Held J → Option Turn → Type 0
 IsNearest runs h (Some due) = IsFirst runs h due.id due.second
 IsNearest runs h None = (l : ℕ) → IfSome (h.jobs l) (HasNoneSeen runs)
 
@@ -66,6 +71,10 @@ pub record StandsAt {J : Type 0} (job : J) (zone : Zone) (i : ℤ) (s : Standing
   pub instant : s.position.instant ≡ i
   pub whole : s.position.fraction ≡ 0
   pub stop : IfSome s.stop (StopsAt s.position)
+
+-- it is told of the job k whether it is stopped
+abbrev pub TellsStop : {J : Type 0} → Held J → ℕ → Bool → Type 0
+TellsStop h k is_stopped = IsSomeAnd (h.jobs k) (λ s. is_stopped ≡ is_some s.stop)
 
 -- nothing has changed but the job k
 pub record IsSameBut {J : Type 0} (k : ℕ) (h h' : Held J) : Type 0 where
@@ -85,24 +94,47 @@ KeepsLater k now h' s = IfSome s.next (λ i. now <ℤ i → IsSomeAnd (h'.jobs k
 -- the position of the job k moves on to now, a second that its zone holds; or it stands there already or later, there is no such job, or its
 -- zone doesn't hold that second
 abbrev pub SkipsTo : {J : Type 0} → ℕ → ℤ → Held J → Held J → Skip → Type 0
-SkipsTo k now h h' Moved =
+SkipsTo k now h h' (Moved b) =
     IsSomeAnd (h.jobs k) (λ s. (s.position.instant <ℤ now) × (s.position.zone.holds now ≡ true) × KeepsLater k now h' s) × MovesTo h k now h'
 SkipsTo k now h h' AlreadyThere = IsSomeAnd (h.jobs k) (λ s. now ≤ℤ s.position.instant) × IsSame h h'
 SkipsTo k now h h' NoJob = (h.jobs k ≡ None) × IsSame h h'
 SkipsTo k now h h' NotHeld =
     IsSomeAnd (h.jobs k) (λ s. (s.position.instant <ℤ now) × (s.position.zone.holds now ≡ false)) × IsSame h h'
 
+-- a skip that moved the job k tells whether it is stopped
+abbrev pub SkipTellsStop : {J : Type 0} → ℕ → Held J → Skip → Type 0
+SkipTellsStop k h (Moved is_stopped) = TellsStop h k is_stopped
+SkipTellsStop k h AlreadyThere = ⊤
+SkipTellsStop k h NoJob = ⊤
+SkipTellsStop k h NotHeld = ⊤
+
 -- a job that is to be moved on to now, in whose zone that second is held, without a next run that is later
 abbrev pub IsToMove : {J : Type 0} → ℤ → Standing J → Type 0
 IsToMove now s = (s.position.instant <ℤ now) × (s.position.zone.holds now ≡ true) × IfSome s.next (λ i. i ≤ℤ now)
+
+-- whether a job was searched again
+abbrev pub is_asked : Again → Bool
+is_asked GoesOn = true
+is_asked StillStopped = true
+is_asked NotStopped = false
+
+-- the answer tells whether the job k, if it was searched again, is still stopped
+abbrev pub AgainTellsStop : {J : Type 0} → ℕ → Held J → Again → Type 0
+AgainTellsStop k h GoesOn = TellsStop h k false
+AgainTellsStop k h StillStopped = TellsStop h k true
+AgainTellsStop k h NotStopped = ⊤
 
 -- the job k was stopped, and may from then on be stopped otherwise or go on, from where it stands; or there is no such job, or it isn't stopped
 abbrev pub AsksAgain : {J : Type 0} → ℕ → Held J → Held J → Bool → Type 0
 AsksAgain k h h' true = IsSomeAnd (h.jobs k) (λ s. IsSome s.stop × MovesTo h k s.position.instant h')
 AsksAgain k h h' false = IfSome (h.jobs k) (λ s. s.stop ≡ None) × IsSame h h'
 
+-- whose run is given, and when
+abbrev pub turn_of : Due → Turn
+turn_of due = record { id = due.id; second = due.second }
+
 -- the first run is given, no later than now, and its job stands there from then on; or nothing is due
-abbrev pub TakesDue : {J : Type 0} → (J → Zone → ℤ → Type 0) → ℤ → Held J → Held J → Option Due → Type 0
+abbrev pub TakesDue : {J : Type 0} → (J → Zone → ℤ → Type 0) → ℤ → Held J → Held J → Option Turn → Type 0
 TakesDue runs now h h' (Some due) = IsFirst runs h due.id due.second × (due.second ≤ℤ now) × MovesTo h due.id due.second h'
 TakesDue runs now h h' None = ((l : ℕ) → IfSome (h.jobs l) (IsNotDue runs now)) × IsSame h h'
 
@@ -128,12 +160,20 @@ IsToTake now s = HasDueRun now s × (s.position.zone.holds now ≡ true)
 -- the last run of the job k that is due is given, and it stands there from then on; or nothing of it is due, there is no such job, its zone doesn't
 -- hold now, or no search backward from there is promised and this one was refused
 abbrev pub TakesLatest : {J : Type 0} → (J → Zone → ℤ → Type 0) → ℕ → ℤ → Held J → Held J → Latest → Type 0
-TakesLatest runs k now h h' (latest.Given i) = IsSomeAnd (h.jobs k) (λ s. IsLastDue runs now i s × (s.position.zone.holds now ≡ true)) × MovesTo h k i h'
+TakesLatest runs k now h h' (latest.Given i b) = IsSomeAnd (h.jobs k) (λ s. IsLastDue runs now i s × (s.position.zone.holds now ≡ true)) × MovesTo h k i h'
 TakesLatest runs k now h h' latest.NothingDue = IsSomeAnd (h.jobs k) (λ s. IsNotDue runs now s × IfSome s.next (λ n. now <ℤ n)) × IsSame h h'
 TakesLatest runs k now h h' latest.NoJob = (h.jobs k ≡ None) × IsSame h h'
 TakesLatest runs k now h h' latest.NotHeld = IsSomeAnd (h.jobs k) (λ s. HasDueRun now s × (s.position.zone.holds now ≡ false)) × IsSame h h'
 TakesLatest runs k now h h' (latest.Refused e) =
     IsSomeAnd (h.jobs k) (λ s. IsToTake now s × StopsAt (at_instant s.position.zone now) (stops.Refused e)) × IsSame h h'
+
+-- a run that is given tells whether the job k is stopped
+abbrev pub LatestTellsStop : {J : Type 0} → ℕ → Held J → Latest → Type 0
+LatestTellsStop k h (latest.Given i is_stopped) = TellsStop h k is_stopped
+LatestTellsStop k h latest.NothingDue = ⊤
+LatestTellsStop k h latest.NoJob = ⊤
+LatestTellsStop k h latest.NotHeld = ⊤
+LatestTellsStop k h (latest.Refused e) = ⊤
 
 -- the job is new under the next id, and stands at the whole second of the position
 pub record IsAdded {J : Type 0} (job : J) (position : Moment) (h h' : Held J) (id : ℕ) : Type 0 where
@@ -144,6 +184,10 @@ pub record IsAdded {J : Type 0} (job : J) (position : Moment) (h h' : Held J) (i
   pub count : h'.count ≡ h.count + 1
   pub next_id : h'.next_id ≡ h.next_id + 1
 
+-- what was handed over is handed back
+abbrev pub IsHandedBack : {J T : Type 0} → J → T → NotAdded J T → Type 0
+IsHandedBack job position refused = (refused.job ≡ job) × (refused.position ≡ position)
+
 -- why a job isn't added: for want of memory, and then an id is left and the whole second of the position is held; since no id is left; or
 -- since that second isn't held
 abbrev pub IsAddRefused : {J : Type 0} → Moment → Held J → AddError → Type 0
@@ -151,6 +195,7 @@ IsAddRefused position h OutOfMemory = ¬ (h.next_id ≡ 2 ^ 64 - 1) × (position
 IsAddRefused position h NoIdLeft = h.next_id ≡ 2 ^ 64 - 1
 IsAddRefused position h PositionNotHeld = position.zone.holds position.instant ≡ false
 IsAddRefused position h SecondBeforeNotHeld = ⊥
+IsAddRefused position h errors.NoJob = ⊥
 
 -- the second before that of a moment
 abbrev pub second_before : Moment → Moment
@@ -167,6 +212,7 @@ IsAddFromRefused start h OutOfMemory = ¬ (h.next_id ≡ 2 ^ 64 - 1) × (start.z
 IsAddFromRefused start h NoIdLeft = h.next_id ≡ 2 ^ 64 - 1
 IsAddFromRefused start h PositionNotHeld = ⊥
 IsAddFromRefused start h SecondBeforeNotHeld = HasNoneBefore start
+IsAddFromRefused start h errors.NoJob = ⊥
 
 -- the job of a standing and its position are given back, if there was one
 abbrev pub IsGivenBack : {J T : Type 0} → (T → Moment) → Option (Standing J) → Option (J × T) → Type 0
@@ -179,18 +225,18 @@ pub record IsPut {J : Type 0} (job : J) (position : Moment) (h : Held J) (k : �
   pub put : IsSomeAnd (h'.jobs k) (StandsAt job position.zone position.instant)
   pub rest : IsSameBut k h h'
 
--- the job of the id is given back, and the other one is in its place; or there is none
-abbrev pub Replaces : {J T : Type 0} → (T → Moment) → ℕ → J → Moment → Held J → Held J → Option (J × T) → Type 0
-Replaces moment k job position h h' (Some given) = IsGivenBack moment (h.jobs k) (Some given) × IsPut job position h k h'
-Replaces moment k job position h h' None = (h.jobs k ≡ None) × IsSame h h'
+-- the job of the id is given back, and the other one is in its place
+abbrev pub Replaces : {J T : Type 0} → (T → Moment) → ℕ → J → Moment → Held J → Held J → J × T → Type 0
+Replaces moment k job position h h' given = IsGivenBack moment (h.jobs k) (Some given) × IsPut job position h k h'
 
--- why no job is put in the place of the one of the id k, if there is one: for want of memory, and then the whole second of the position is
--- held; or since that second isn't held
+-- why no job is put in the place of the one of the id k: since there is none; or there is one, and it is for want of memory, and then the whole
+-- second of the position is held, or since that second isn't held
 abbrev pub IsPutRefused : {J : Type 0} → ℕ → Moment → Held J → AddError → Type 0
 IsPutRefused k position h OutOfMemory = IsSome (h.jobs k) × (position.zone.holds position.instant ≡ true)
 IsPutRefused k position h NoIdLeft = ⊥
 IsPutRefused k position h PositionNotHeld = IsSome (h.jobs k) × (position.zone.holds position.instant ≡ false)
 IsPutRefused k position h SecondBeforeNotHeld = ⊥
+IsPutRefused k position h errors.NoJob = h.jobs k ≡ None
 
 -- the job of the id is gone, if there was one, and the others stay
 pub record IsRemoved {J : Type 0} (id : ℕ) (h h' : Held J) : Type 0 where

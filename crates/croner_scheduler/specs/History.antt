@@ -8,15 +8,14 @@ use Rattle.croner_scheduler.specs.declared.latest.Latest.{Latest}
 use Rattle.croner_scheduler.specs.declared.latest.Latest.TheVariants as latest
 use Rattle.croner_scheduler.specs.declared.skip.Skip.{Skip}
 use Rattle.croner_scheduler.specs.declared.skip.Skip.TheVariants.{Moved}
-use Rattle.croner_scheduler.specs.declared.turns.Due.{Due}
+use Rattle.croner_scheduler.specs.declared.turns.Turn.{Turn}
 use Rattle.croner_scheduler.specs.Calls.{IsSame, IsWakeUp, TakesDue, TakesLatest, SkipsTo, IsAdded, IsPut, IsRemoved, AsksAgain}
 use Rattle.croner_scheduler.specs.Kept.{StopsAt}
 use Rattle.croner_scheduler.specs.Standing.{Standing, Held, Left, Seen}
 
--- a call, what it was told and what it answered; an add or a replace that was refused, any call that lacked memory, and a replace that found no
--- job change nothing
+-- a call, what it was told and what it answered; an add or a replace that was refused, and any call that lacked memory, change nothing
 pub data Call (J : Type 0) : Type 0 where
-  TakeDue : ℤ → Option Due → Call J
+  TakeDue : ℤ → Option Turn → Call J
   TakeLatestDue : ℕ → ℤ → Latest → Call J
   SkipTo : ℕ → ℤ → Skip → Call J
   Add : J → Moment → ℕ → Call J
@@ -52,7 +51,7 @@ Stays k call = ⊤
 -- the instant that a call gave of it, if it gave one
 abbrev pub given_by : {J : Type 0} → ℕ → Call J → List ℤ
 given_by k (TakeDue now (Some due)) = cond (nat_eq k due.id) (due.second ∷ []) []
-given_by k (TakeLatestDue id now (latest.Given i)) = cond (nat_eq k id) (i ∷ []) []
+given_by k (TakeLatestDue id now (latest.Given i b)) = cond (nat_eq k id) (i ∷ []) []
 given_by k call = []
 
 -- those of a list of calls, in order
@@ -63,8 +62,8 @@ given k (call ∷ calls) = given_by k call ++ given k calls
 -- where it stands after a call, if it stood at p
 abbrev pub place_after : {J : Type 0} → ℕ → ℤ → Call J → ℤ
 place_after k p (TakeDue now (Some due)) = cond (nat_eq k due.id) due.second p
-place_after k p (TakeLatestDue id now (latest.Given i)) = cond (nat_eq k id) i p
-place_after k p (SkipTo id now Moved) = cond (nat_eq k id) now p
+place_after k p (TakeLatestDue id now (latest.Given i b)) = cond (nat_eq k id) i p
+place_after k p (SkipTo id now (Moved b)) = cond (nat_eq k id) now p
 place_after k p call = p
 
 -- and after a list of calls
@@ -75,8 +74,8 @@ place_after_all k p (call ∷ calls) = place_after_all k (place_after k p call) 
 -- the call passes over j, where it stood at p: j lies after p, and before the last due run that it gives, or no later than the second to which it
 -- skips
 abbrev pub PassesOver : {J : Type 0} → ℕ → ℤ → Call J → ℤ → Type 0
-PassesOver k p (TakeLatestDue id now (latest.Given i)) j = (id ≡ k) × (p <ℤ j) × (j <ℤ i)
-PassesOver k p (SkipTo id now Moved) j = (id ≡ k) × (p <ℤ j) × (j ≤ℤ now)
+PassesOver k p (TakeLatestDue id now (latest.Given i b)) j = (id ≡ k) × (p <ℤ j) × (j <ℤ i)
+PassesOver k p (SkipTo id now (Moved b)) j = (id ≡ k) × (p <ℤ j) × (j ≤ℤ now)
 PassesOver k p call j = ⊥
 
 -- some call of a list does
@@ -117,7 +116,7 @@ AreDoneWith runs k s calls P = (i : ℤ) → Seen runs s i → P i → Contains 
 -- instant by their ids, all before the wake-up, and all where there is no wake-up
 pub record KeepsNoneBack {J : Type 0} (runs : J → Zone → ℤ → Type 0) (k : ℕ) (s : Standing J) (calls : List (Call J)) (h' : Held J) : Type 0 where
   pub due : (now : ℤ) (after : Held J) → TakesDue runs now h' after None → AreDoneWith runs k s calls (λ i. i ≤ℤ now)
-  pub first : (now : ℤ) (d : Due) (after : Held J) → TakesDue runs now h' after (Some d)
+  pub first : (now : ℤ) (d : Turn) (after : Held J) → TakesDue runs now h' after (Some d)
       → AreDoneWith runs k s calls (λ i. (i <ℤ d.second) ⊎ ((i ≡ d.second) × (k < d.id)))
   pub wake_up : (second : ℤ) → IsWakeUp runs h' (Some second) → AreDoneWith runs k s calls (λ i. i <ℤ second)
   pub over : IsWakeUp runs h' None → AreDoneWith runs k s calls (λ i. ⊤)

@@ -1,6 +1,11 @@
-//! Why a job isn't added, or put in another's place.
+//! What becomes of a job that is to be added, or put in another's place.
 
-use std::alloc::AllocError;
+ghost use Rattle.std.specs.Prelude.{◌≡◌};
+ghost use Rattle.croner_scheduler.specs.Calls.{IsHandedBack};
+ghost use Rattle.croner_scheduler.specs.declared.add.AddError.TheVariants.{OutOfMemory};
+
+use crate::waiting::Waiting;
+use croner::Clocked;
 use std::error::Error;
 use std::fmt;
 
@@ -15,6 +20,39 @@ pub enum AddError {
     PositionNotHeld,
     /// The second before the start isn't held ([`Scheduler::add_from`](crate::Scheduler::add_from) alone).
     SecondBeforeNotHeld,
+    /// No job has the id ([`Scheduler::replace`](crate::Scheduler::replace) alone).
+    NoJob,
+}
+
+/// A job that was added.
+#[derive(Debug, Clone, Copy, PartialEq, Eq)]
+pub struct Added {
+    /// Its id.
+    pub id: u64,
+    /// Whether it is stopped.
+    pub is_stopped: bool,
+}
+
+/// What stood in the place of a job that was put there.
+#[derive(Drop)]
+pub struct Replaced<J, T> {
+    /// The job that stood there.
+    pub job: J,
+    /// Its position.
+    pub position: T,
+    /// Whether the job that was put in its place is stopped.
+    pub is_stopped: bool,
+}
+
+/// A job that wasn't added or put in another's place, as it was handed over.
+#[derive(Drop)]
+pub struct NotAdded<J, T> {
+    /// The job.
+    pub job: J,
+    /// The position that was handed over with it.
+    pub position: T,
+    /// Why it wasn't.
+    pub error: AddError,
 }
 
 /// A sentence for a person.
@@ -30,20 +68,62 @@ impl fmt::Display for AddError {
             AddError::NoIdLeft => write!(f, "No id is left for another job."),
             AddError::PositionNotHeld => write!(f, "The second of the position isn't held."),
             AddError::SecondBeforeNotHeld => write!(f, "The second before the start isn't held."),
+            AddError::NoJob => write!(f, "No job has the id."),
         }
     }
 }
 
 impl Error for AddError {}
 
-/// Want of memory.
-impl From<AllocError> for AddError {
+// A job that isn't added or put in another's place.
+pub(crate) fn refused<J, T>(job: J, position: T, error: AddError) -> NotAdded<J, T>
+    ensures handed_back { IsHandedBack job position result }
+    ensures error { result.error ≡ error }
+{
+    NotAdded {
+        job,
+        position,
+        error,
+    }
+}
+
+// A job that isn't for want of memory, with the position that was handed over with it.
+pub(crate) fn lacking<J, T: Drop>(waiting: Waiting<J, T>, position: T) -> NotAdded<J, T>
+    ensures handed_back { IsHandedBack waiting.job position result }
+    ensures error { result.error ≡ OutOfMemory }
+{
+    let (job, _) = waiting.into_parts();
+    refused(job, position, AddError::OutOfMemory)
+}
+
+/// The sentence of its error.
+impl<J, T> fmt::Display for NotAdded<J, T> {
+    ghost use Rattle.std.specs.Prelude.{Some};
+    ghost use Rattle.croner_scheduler.specs.Messages.{text_of};
+
+    ghost output = { λ e. Some (text_of e.error) };
+
+    fn fmt<W: fmt::Write>(&self, f: &mut fmt::Formatter<W>) -> fmt::Result {
+        write!(f, "{}", self.error)
+    }
+}
+
+/// That of its error.
+impl<J, T> fmt::Debug for NotAdded<J, T> {
+    fn fmt<W: fmt::Write>(&self, f: &mut fmt::Formatter<W>) -> fmt::Result {
+        write!(f, "{:?}", self.error)
+    }
+}
+
+impl<J: Drop, T: Clocked> Error for NotAdded<J, T> {}
+
+/// Why it wasn't added.
+impl<J: Drop, T: Clocked> From<NotAdded<J, T>> for AddError {
     ghost use Rattle.std.specs.Prelude.{◌≡◌};
-    ghost use Rattle.croner_scheduler.specs.declared.add.AddError.TheVariants.{OutOfMemory};
 
-    ghost from_gives = { λ _ e. e ≡ OutOfMemory };
+    ghost from_gives = { λ refused e. e ≡ refused.error };
 
-    fn from(_e: AllocError) -> AddError {
-        AddError::OutOfMemory
+    fn from(refused: NotAdded<J, T>) -> AddError {
+        refused.error
     }
 }

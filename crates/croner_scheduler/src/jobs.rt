@@ -1,5 +1,5 @@
 //! The jobs by their ids.
-ghost use Rattle.std.specs.Prelude.{◌≡◌, ℕ, IfOk, IfSome};
+ghost use Rattle.std.specs.Prelude.{◌≡◌, ℕ, IfOk, IfErr, IfSome, None};
 ghost use Rattle.std.specs.BTreeMap.{get, btree_map_len};
 ghost use Rattle.std.specs.Ordering.{nat_cmp};
 ghost use Rattle.croner_scheduler.specs.Private.Steps.{FitsAfter, jobs_with, job_after_run, job_at_position, job_standing_at, job_with_next, ArePartsOf};
@@ -11,7 +11,7 @@ use std::collections::BTreeMap;
 use std::mem;
 
 // What comes next after the next run of a job.
-pub(crate) fn next_but_one<J: Recurring, T: Clocked>(
+pub(crate) fn next_but_one<J: Recurring<T>, T: Clocked>(
     jobs: &BTreeMap<u64, Waiting<J, T>>,
     id: u64,
 ) -> Result<Next<T>, AllocError>
@@ -72,18 +72,19 @@ pub(crate) fn renew<J, T: Drop>(jobs: &mut BTreeMap<u64, Waiting<J, T>>, id: u64
     }
 }
 
-// Another job has the place of one, of which it gives the job and the position.
-pub(crate) fn exchange<J: Drop, T: Drop>(
+// Another job has the place of one, of which it gives the job and the position; or that other one, where none stands there.
+pub(crate) fn exchange<J, T: Drop>(
     jobs: &mut BTreeMap<u64, Waiting<J, T>>,
     id: u64,
     other: Waiting<J, T>,
-) -> Option<(J, T)>
-    ensures parts { ArePartsOf (get nat_cmp jobs.old id) result }
+) -> Result<(J, T), Waiting<J, T>>
+    ensures parts { IfOk result (ArePartsOf (get nat_cmp jobs.old id)) }
+    ensures returned { IfErr result (λ returned. (returned ≡ other) × (get nat_cmp jobs.old id ≡ None)) }
     ensures jobs { (at : ℕ) → get nat_cmp jobs.new at ≡ jobs_with id (λ _. other) at (get nat_cmp jobs.old at) }
     ensures count { btree_map_len jobs.new ≡ btree_map_len jobs.old }
 {
     match jobs.get_mut(&id) {
-        Some(place) => Some(mem::replace(place, other).into_parts()),
-        None => None,
+        Some(place) => Ok(mem::replace(place, other).into_parts()),
+        None => Err(other),
     }
 }

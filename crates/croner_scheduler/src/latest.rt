@@ -9,8 +9,13 @@ use std::alloc::AllocError;
 /// What became of a call for the last due run of a job ([`Scheduler::take_latest_due`](crate::Scheduler::take_latest_due)).
 #[derive(Debug, Drop)]
 pub enum Latest {
-    /// The second of the last run that was due. The job stands there from now on.
-    Given(i64),
+    /// The last run that was due. The job stands there from now on.
+    Given {
+        /// Its whole second.
+        second: i64,
+        /// Whether its job is stopped.
+        is_stopped: bool,
+    },
     /// No run of it is due.
     NothingDue,
     /// No job has the id.
@@ -34,7 +39,7 @@ pub(crate) enum Last<T> {
 
 // The last run of a job up to a moment, where its next run lies no later.
 #[tactic(auto, using(crate::proofs::LastRuns::last_refused))]
-pub(crate) fn last_of<J: Recurring, T: Clocked>(
+pub(crate) fn last_of<J: Recurring<T>, T: Clocked>(
     job: &J,
     next: &T,
     until: &T,

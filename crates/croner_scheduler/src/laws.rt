@@ -25,7 +25,7 @@ use croner::{Clocked, Recurring};
 /// In a calm zone, from the `add` or the `replace` that brings a job up to the call that takes it away, its runs up to its position are
 /// given once each, in order, but for those that were passed over. Before its `add` nothing is given of its id, and nothing from its
 /// removal on. Over a `replace` what was given of the first job comes before what is given of the other.
-pub fn gives_in_turn<J: Recurring, T: Clocked>(scheduler: &Scheduler<J, T>)
+pub fn gives_in_turn<J: Recurring<T>, T: Clocked>(scheduler: &Scheduler<J, T>)
     ensures given { GivesInTurn J.runs (held_of T.moment scheduler.now) }
     ensures gone { StaysGone J.runs (held_of T.moment scheduler.now) }
     ensures across { GivesAcross J.runs (held_of T.moment scheduler.now) }

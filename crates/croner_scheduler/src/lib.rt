@@ -2,6 +2,7 @@
 #![tactic(auto)]
 
 mod add;
+mod again;
 mod jobs;
 mod latest;
 pub mod laws;
@@ -10,7 +11,8 @@ mod skip;
 mod turns;
 mod waiting;
 
-pub use add::AddError;
+pub use add::{AddError, Added, NotAdded, Replaced};
+pub use again::Again;
 pub use latest::Latest;
 pub use scheduler::Scheduler;
 pub use skip::Skip;

@@ -7,11 +7,14 @@ ghost use Rattle.croner_scheduler.specs.Kept.{Fits};
 ghost use Rattle.croner_scheduler.specs.Private.Latest.{CanGive, IsLastGiven};
 ghost use Rattle.croner_scheduler.specs.Private.Steps.{is_awaited_at, CanStand};
 
+use crate::add::{lacking, refused};
 use crate::jobs::{exchange, move_before_next, move_to, next_but_one, renew, step};
 use crate::latest::{Last, last_of};
-use crate::turns::{Due, await_next, change_turn, first_turn, take_out_next, take_out_turn};
+use crate::turns::{
+    Due, Turn, await_next, change_turn, due_of, first_turn, take_out_next, take_out_turn,
+};
 use crate::waiting::{Waiting, next_of, second_before};
-use crate::{AddError, Latest, Skip};
+use crate::{AddError, Added, Again, Latest, NotAdded, Replaced, Skip};
 use croner::{Clocked, Recurring};
 use std::alloc::{AllocError, Global};
 use std::collections::{BTreeMap, BTreeSet, btree_map};
@@ -28,20 +31,21 @@ use std::collections::{BTreeMap, BTreeSet, btree_map};
 /// [`take_latest_due`](Scheduler::take_latest_due) passes over, up to the end of the years that are searched; after
 /// [`replace`](Scheduler::replace) they are those of the other job after its position (`laws` says it of every list of calls). In another
 /// zone a run is given that its search found, later than the position. One job in such a zone takes nothing from the others. A job whose
-/// search is refused by its backend, or finds a run that isn't later than the position, is *stopped* ([`Waiting::stop`]). One that has no run
-/// left in the searched years stays and is silent.
+/// search is refused by its backend, or finds a run that isn't later than the position, is *stopped* ([`Waiting::stop`]): the call at which
+/// that comes tells it, and [`ask_again`](Scheduler::ask_again) searches again. One that has no run left in the searched years stays and is
+/// silent.
 ///
 /// Seconds are those of [`Clocked::second`]: since 1970-01-01T00:00:00 UTC, and in civil time since that date and time.
 ///
 /// ```
 /// let mut scheduler = Scheduler::new(alloc);
 /// let start = DateTime::new(2024, 7, 1, 9, 0, 0, 0)?;
-/// let id = scheduler.add(Cron::from_str(alloc, "30 9 * * *")?, start)?; // 0
+/// let id = scheduler.add(Cron::from_str(alloc, "30 9 * * *")?, start)?.id; // 0
 /// let wake_up = scheduler.next_wake_up(); // Some(1719826200): 09:30
 /// let due = scheduler.take_due(1_719_826_200)?; // Some: the job 0, at that second
 /// let none = scheduler.take_due(1_719_826_200)?; // None
 /// ```
-pub struct Scheduler<J: Recurring, T: Clocked> {
+pub struct Scheduler<J: Recurring<T>, T: Clocked> {
     jobs: BTreeMap<u64, Waiting<J, T>>,
     turns: BTreeSet<(i64, u64)>,
     next_id: u64,
@@ -51,7 +55,7 @@ pub struct Scheduler<J: Recurring, T: Clocked> {
 }
 
 // By hand, so that a function that lets one go calls this one: its proof doesn't go through the fields at each exit.
-impl<J: Recurring + Drop, T: Clocked> Drop for Scheduler<J, T> {
+impl<J: Recurring<T> + Drop, T: Clocked> Drop for Scheduler<J, T> {
     fn drop(self) {
         let Scheduler {
             jobs: _,
@@ -61,7 +65,7 @@ impl<J: Recurring + Drop, T: Clocked> Drop for Scheduler<J, T> {
     }
 }
 
-impl<J: Recurring, T: Clocked> Scheduler<J, T> {
+impl<J: Recurring<T>, T: Clocked> Scheduler<J, T> {
     ghost use Rattle.std.specs.Prelude.{length, ◌<◌, ◌+◌, ◌-◌, ◌^◌, ◌↔◌, IsTrue, IsFalse, IsSome, IfOk, IfErr, OnOk, OnErr, true, option_map, if◌then◌else◌};
     ghost use Rattle.std.specs.Option.{IsSomeAnd};
     ghost use Rattle.std.specs.BTreeMap.{is_at};
@@ -70,7 +74,8 @@ impl<J: Recurring, T: Clocked> Scheduler<J, T> {
     ghost use Rattle.croner_scheduler.specs.Views.{held_of};
     ghost use Rattle.croner_scheduler.specs.Awaited.{AwaitsFirst, TakesAwaited, WakesFirst, IsSomeDue};
     ghost use Rattle.croner_scheduler.specs.Kept.{standing_of};
-    ghost use Rattle.croner_scheduler.specs.Calls.{IsSame, IsNearest, IsWakeUp, MovesTo, TakesDue, TakesLatest, IsToTake, SkipsTo, IsToMove, AsksAgain, IsAdded, IsAddRefused, IsAddFromRefused, second_before, IsGivenBack, IsPutRefused, Replaces, IsRemoved};
+    ghost use Rattle.croner_scheduler.specs.declared.add.AddError.TheVariants.{OutOfMemory};
+    ghost use Rattle.croner_scheduler.specs.Calls.{IsSame, IsNearest, IsWakeUp, MovesTo, turn_of, TakesDue, TakesLatest, LatestTellsStop, IsToTake, SkipsTo, SkipTellsStop, IsToMove, AsksAgain, is_asked, AgainTellsStop, TellsStop, IsAdded, IsHandedBack, IsAddRefused, IsAddFromRefused, second_before, IsGivenBack, IsPutRefused, Replaces, IsRemoved};
 
     /// No job yet. The first id is 0.
     pub fn new(alloc: Global) -> Scheduler<J, T>
@@ -132,7 +137,7 @@ impl<J: Recurring, T: Clocked> Scheduler<J, T> {
         ensures awaited { WakesFirst (held_of T.moment self.now) result }
     {
         match self.nearest() {
-            Some(due) => Some(due.second),
+            Some(turn) => Some(turn.second),
             None => None,
         }
     }
@@ -142,16 +147,16 @@ impl<J: Recurring, T: Clocked> Scheduler<J, T> {
     ///
     /// The run after it is searched first. Where that search, or the place of what it finds, lacks memory, the call is refused and nothing
     /// has changed: the run is still due. Where the backend refuses that search, or it finds a run that isn't later, the run is given and
-    /// its job is stopped. A stop is told to nobody, and the calls after it answer as ever: look at [`Waiting::stop`] of the job of the id
-    /// that was given, by [`get`](Scheduler::get).
+    /// its job is stopped: [`Due::is_stopped`] tells it, this once, and the calls after it answer as ever.
     pub fn take_due(&mut self, now: i64) -> Result<Option<Due>, AllocError>
-        ensures taken { IfOk result (TakesDue J.runs now (held_of T.moment self.old) (held_of T.moment self.new)) }
-        ensures awaited { IfOk result (TakesAwaited (held_of T.moment self.old) now) }
+        ensures taken { IfOk result (λ due. TakesDue J.runs now (held_of T.moment self.old) (held_of T.moment self.new) (option_map turn_of due)) }
+        ensures awaited { IfOk result (λ due. TakesAwaited (held_of T.moment self.old) now (option_map turn_of due)) }
+        ensures told { IfOk result (λ due. IfSome due (λ d. TellsStop (held_of T.moment self.new) d.id d.is_stopped)) }
         ensures refused { OnErr result (IsSame (held_of T.moment self.old) (held_of T.moment self.new)) }
         ensures due { OnErr result (IsSomeDue (held_of T.moment self.old) now) }
     {
         match self.nearest() {
-            Some(due) => self.give_by(due, now),
+            Some(turn) => self.give_by(turn, now),
             None => Ok(None),
         }
     }
@@ -159,74 +164,76 @@ impl<J: Recurring, T: Clocked> Scheduler<J, T> {
     /// Adds a job under the next id, which is given and isn't used again; the id 18446744073709551615 (2^64 - 1) never is. The runs after
     /// its position are left, and none up to it. A fraction of a second is dropped.
     ///
-    /// A job whose search is refused by its backend is added, and stopped. That is no error and nothing else tells it: look at
-    /// [`Waiting::stop`] of the id that was given, by [`get`](Scheduler::get). An error changes nothing, and drops the job that was handed
-    /// over; `SecondBeforeNotHeld` doesn't come.
-    pub fn add(&mut self, job: J, position: T) -> Result<u64, AddError>
+    /// A job whose search is refused by its backend is added, and stopped: [`Added::is_stopped`] tells it. An error changes nothing, and
+    /// hands the job and the position back as they were handed over; `SecondBeforeNotHeld` and `NoJob` don't come.
+    pub fn add(&mut self, job: J, position: T) -> Result<Added, NotAdded<J, T>>
     where
         J: Drop,
-        ensures added { IfOk result (IsAdded job (T.moment position) (held_of T.moment self.old) (held_of T.moment self.new)) }
+        ensures added { IfOk result (λ added. IsAdded job (T.moment position) (held_of T.moment self.old) (held_of T.moment self.new) added.id) }
+        ensures told { IfOk result (λ added. TellsStop (held_of T.moment self.new) added.id added.is_stopped) }
         ensures held { OnOk result ((T.moment position).zone.holds (T.moment position).instant ≡ true) }
-        ensures refused { IfErr result (IsAddRefused (T.moment position) (held_of T.moment self.old)) }
+        ensures refused { IfErr result (λ e. IsAddRefused (T.moment position) (held_of T.moment self.old) e.error) }
+        ensures handed_back { IfErr result (IsHandedBack job position) }
         ensures same { OnErr result (IsSame (held_of T.moment self.old) (held_of T.moment self.new)) }
     {
         if self.has_no_id_left() {
-            return Err(AddError::NoIdLeft);
+            return Err(refused(job, position, AddError::NoIdLeft));
         }
         match position.at_second(position.second()) {
-            Some(whole) => {
-                let waiting = Waiting::new(job, whole)?;
-                Ok(self.keep(waiting)?)
-            }
-            None => Err(AddError::PositionNotHeld),
+            Some(whole) => self.add_at(job, position, whole),
+            None => Err(refused(job, position, AddError::PositionNotHeld)),
         }
     }
 
     /// Adds a job as [`add`](Scheduler::add) does, but its runs from the start's whole second on are left: each at that second counts, also
     /// one that a gap of the clock carries there. So its position is the second before. A fraction of a second is dropped.
     ///
-    /// An error changes nothing, and drops the job that was handed over; `PositionNotHeld` doesn't come.
-    pub fn add_from(&mut self, job: J, start: T) -> Result<u64, AddError>
+    /// An error changes nothing, and hands the job and the start back; `PositionNotHeld` and `NoJob` don't come.
+    pub fn add_from(&mut self, job: J, start: T) -> Result<Added, NotAdded<J, T>>
     where
         J: Drop,
-        ensures added { IfOk result (IsAdded job (second_before (T.moment start)) (held_of T.moment self.old) (held_of T.moment self.new)) }
+        ensures added { IfOk result (λ added. IsAdded job (second_before (T.moment start)) (held_of T.moment self.old) (held_of T.moment self.new) added.id) }
+        ensures told { IfOk result (λ added. TellsStop (held_of T.moment self.new) added.id added.is_stopped) }
         ensures held { OnOk result ((T.moment start).zone.holds (second_before (T.moment start)).instant ≡ true) }
-        ensures refused { IfErr result (IsAddFromRefused (T.moment start) (held_of T.moment self.old)) }
+        ensures refused { IfErr result (λ e. IsAddFromRefused (T.moment start) (held_of T.moment self.old) e.error) }
+        ensures handed_back { IfErr result (IsHandedBack job start) }
         ensures same { OnErr result (IsSame (held_of T.moment self.old) (held_of T.moment self.new)) }
     {
         if self.has_no_id_left() {
-            return Err(AddError::NoIdLeft);
+            return Err(refused(job, start, AddError::NoIdLeft));
         }
         match second_before(&start) {
-            Some(position) => {
-                let waiting = Waiting::new(job, position)?;
-                Ok(self.keep(waiting)?)
-            }
-            None => Err(AddError::SecondBeforeNotHeld),
+            Some(position) => self.add_at(job, start, position),
+            None => Err(refused(job, start, AddError::SecondBeforeNotHeld)),
         }
     }
 
     /// Puts another job in the place of one, under its id and with a position of its own, and gives the job that stood there with its
-    /// position; `None` where no job has the id. The runs after the position are left, and none up to it. Its position may lie before that of
-    /// the other job: then seconds that were given of this id may come again. An error changes nothing, and drops the job
-    /// that was handed over, as `None` does; `NoIdLeft` and `SecondBeforeNotHeld` don't come.
-    pub fn replace(&mut self, id: u64, job: J, position: T) -> Result<Option<(J, T)>, AddError>
+    /// position. The runs after the position are left, and none up to it. Its position may lie before that of the other job: then seconds
+    /// that were given of this id may come again. A job whose search is refused by its backend is put there, and stopped
+    /// ([`Replaced::is_stopped`]). An error changes nothing, and hands the job and the position back as they were handed over; `NoIdLeft` and
+    /// `SecondBeforeNotHeld` don't come.
+    pub fn replace(
+        &mut self,
+        id: u64,
+        job: J,
+        position: T,
+    ) -> Result<Replaced<J, T>, NotAdded<J, T>>
     where
         J: Drop,
-        ensures replaced { IfOk result (Replaces T.moment id job (T.moment position) (held_of T.moment self.old) (held_of T.moment self.new)) }
-        ensures held { IfOk result (λ given. IsSome given → (T.moment position).zone.holds (T.moment position).instant ≡ true) }
-        ensures refused { IfErr result (IsPutRefused id (T.moment position) (held_of T.moment self.old)) }
+        ensures replaced { IfOk result (λ out. Replaces T.moment id job (T.moment position) (held_of T.moment self.old) (held_of T.moment self.new) (out.job, out.position)) }
+        ensures told { IfOk result (λ out. TellsStop (held_of T.moment self.new) id out.is_stopped) }
+        ensures held { OnOk result ((T.moment position).zone.holds (T.moment position).instant ≡ true) }
+        ensures refused { IfErr result (λ e. IsPutRefused id (T.moment position) (held_of T.moment self.old) e.error) }
+        ensures handed_back { IfErr result (IsHandedBack job position) }
         ensures same { OnErr result (IsSame (held_of T.moment self.old) (held_of T.moment self.new)) }
     {
         if self.get(id).is_none() {
-            return Ok(None);
+            return Err(refused(job, position, AddError::NoJob));
         }
         match position.at_second(position.second()) {
-            Some(whole) => {
-                let waiting = Waiting::new(job, whole)?;
-                Ok(self.put(id, waiting)?)
-            }
-            None => Err(AddError::PositionNotHeld),
+            Some(whole) => self.replace_at(id, job, position, whole),
+            None => Err(refused(job, position, AddError::PositionNotHeld)),
         }
     }
 
@@ -236,10 +243,11 @@ impl<J: Recurring, T: Clocked> Scheduler<J, T> {
     ///
     /// A job that is stopped, or has no run left, has none due. Where the search backward comes to the end of the searched years, or in a
     /// zone that isn't calm finds nothing between the next run and `now`, the next run is given. Where the search for the run after it is
-    /// refused, the job is stopped, as by [`take_due`](Scheduler::take_due). Each answer but `Given` leaves all as it was, and so does want
-    /// of memory: what was due still is.
+    /// refused, the job is stopped, as by [`take_due`](Scheduler::take_due), and the answer tells it. Each answer but `Given` leaves all as it
+    /// was, and so does want of memory: what was due still is.
     pub fn take_latest_due(&mut self, id: u64, now: i64) -> Result<Latest, AllocError>
         ensures taken { IfOk result (TakesLatest J.runs id now (held_of T.moment self.old) (held_of T.moment self.new)) }
+        ensures told { IfOk result (LatestTellsStop id (held_of T.moment self.new)) }
         ensures refused { OnErr result (IsSomeAnd ((held_of T.moment self.old).jobs id) (IsToTake now)) }
         ensures same { OnErr result (IsSame (held_of T.moment self.old) (held_of T.moment self.new)) }
     {
@@ -259,9 +267,11 @@ impl<J: Recurring, T: Clocked> Scheduler<J, T> {
 
     /// Moves the position of a job on to `now`: its runs up to then are done with, and none of them is given, as after a time for which
     /// the program didn't run. A position is never moved back. A next run that is later is kept; else the job is searched again from
-    /// there, and where that search is refused it is stopped. Each answer but `Moved` leaves all as it was, and so does want of memory.
+    /// there, and where that search is refused it is stopped, which the answer tells. Each answer but `Moved` leaves all as it was, and so
+    /// does want of memory.
     pub fn skip_to(&mut self, id: u64, now: i64) -> Result<Skip, AllocError>
         ensures skipped { IfOk result (SkipsTo id now (held_of T.moment self.old) (held_of T.moment self.new)) }
+        ensures told { IfOk result (SkipTellsStop id (held_of T.moment self.new)) }
         ensures refused { OnErr result (IsSomeAnd ((held_of T.moment self.old).jobs id) (IsToMove now)) }
         ensures same { OnErr result (IsSame (held_of T.moment self.old) (held_of T.moment self.new)) }
     {
@@ -273,34 +283,36 @@ impl<J: Recurring, T: Clocked> Scheduler<J, T> {
         }
         match waiting.position.at_second(now) {
             Some(position) => {
-                if waiting.runs_after(now) {
+                let is_stopped = if waiting.runs_after(now) {
                     self.move_before_next(id, position);
+                    false
                 } else {
-                    self.move_to(id, position)?;
-                }
-                Ok(Skip::Moved)
+                    self.move_to(id, position)?
+                };
+                Ok(Skip::Moved { is_stopped })
             }
             None => Ok(Skip::NotHeld),
         }
     }
 
-    /// Searches again after the position of a job that is stopped; whether there is such a job. It may be stopped again
-    /// ([`Waiting::stop`]). Want of memory changes nothing.
-    pub fn ask_again(&mut self, id: u64) -> Result<bool, AllocError>
-        ensures asked { IfOk result (AsksAgain id (held_of T.moment self.old) (held_of T.moment self.new)) }
+    /// Searches again after the position of a job that is stopped, and says what became of it. Want of memory changes nothing.
+    pub fn ask_again(&mut self, id: u64) -> Result<Again, AllocError>
+        ensures asked { IfOk result (λ again. AsksAgain id (held_of T.moment self.old) (held_of T.moment self.new) (is_asked again)) }
+        ensures told { IfOk result (AgainTellsStop id (held_of T.moment self.new)) }
         ensures refused { OnErr result (IsSomeAnd ((held_of T.moment self.old).jobs id) (λ s. IsSome s.stop)) }
         ensures same { OnErr result (IsSame (held_of T.moment self.old) (held_of T.moment self.new)) }
     {
         let Some(waiting) = self.jobs.get(&id) else {
-            return Ok(false);
+            return Ok(Again::NotStopped);
         };
         if !waiting.is_stopped() {
-            return Ok(false);
+            return Ok(Again::NotStopped);
         }
         let next = next_of(&waiting.job, &waiting.position)?;
         change_turn(&mut self.turns, &waiting.next, &next, id)?;
+        let again = next.again();
         renew(&mut self.jobs, id, next);
-        Ok(true)
+        Ok(again)
     }
 
     /// The jobs with their ids, in the order of the ids. Takes no memory; the iterator borrows the scheduler.
@@ -337,42 +349,45 @@ impl<J: Recurring, T: Clocked> Scheduler<J, T> {
     }
 
     // The nearest run that is left.
-    fn nearest(&self) -> Option<Due>
+    fn nearest(&self) -> Option<Turn>
         ensures nearest { IsNearest J.runs (held_of T.moment self.now) result }
-        ensures turn { IfSome result (λ due. has_turn self.now.turns due.second due.id ≡ true) }
+        ensures turn { IfSome result (λ turn. has_turn self.now.turns turn.second turn.id ≡ true) }
         ensures awaited { AwaitsFirst (held_of T.moment self.now) result }
     {
         first_turn(&self.turns)
     }
 
     // Gives the nearest run, if it is no later than now.
-    fn give_by(&mut self, due: Due, now: i64) -> Result<Option<Due>, AllocError>
-        requires nearest { IsNearest J.runs (held_of T.moment self.old) (Some due) }
-        requires turn { has_turn self.old.turns due.second due.id ≡ true }
-        requires awaited { AwaitsFirst (held_of T.moment self.old) (Some due) }
-        ensures taken { IfOk result (TakesDue J.runs now (held_of T.moment self.old) (held_of T.moment self.new)) }
-        ensures awaited { IfOk result (TakesAwaited (held_of T.moment self.old) now) }
+    fn give_by(&mut self, turn: Turn, now: i64) -> Result<Option<Due>, AllocError>
+        requires nearest { IsNearest J.runs (held_of T.moment self.old) (Some turn) }
+        requires turn { has_turn self.old.turns turn.second turn.id ≡ true }
+        requires awaited { AwaitsFirst (held_of T.moment self.old) (Some turn) }
+        ensures taken { IfOk result (λ due. TakesDue J.runs now (held_of T.moment self.old) (held_of T.moment self.new) (option_map turn_of due)) }
+        ensures awaited { IfOk result (λ due. TakesAwaited (held_of T.moment self.old) now (option_map turn_of due)) }
+        ensures told { IfOk result (λ due. IfSome due (λ d. TellsStop (held_of T.moment self.new) d.id d.is_stopped)) }
         ensures refused { OnErr result (IsSame (held_of T.moment self.old) (held_of T.moment self.new)) }
         ensures due { OnErr result (IsSomeDue (held_of T.moment self.old) now) }
     {
-        if due.second > now {
+        if turn.second > now {
             return Ok(None);
         }
-        self.give(due)?;
-        Ok(Some(due))
+        let is_stopped = self.give(turn)?;
+        Ok(Some(due_of(turn, is_stopped)))
     }
 
-    // Gives the run of a turn: its job stands there from then on.
-    fn give(&mut self, due: Due) -> Result<(), AllocError>
-        requires { has_turn self.old.turns due.second due.id ≡ true }
-        ensures given { OnOk result (MovesTo (held_of T.moment self.old) due.id due.second (held_of T.moment self.new)) }
+    // Gives the run of a turn: its job stands there from then on. Gives whether it is stopped.
+    fn give(&mut self, turn: Turn) -> Result<bool, AllocError>
+        requires { has_turn self.old.turns turn.second turn.id ≡ true }
+        ensures given { OnOk result (MovesTo (held_of T.moment self.old) turn.id turn.second (held_of T.moment self.new)) }
+        ensures told { IfOk result (TellsStop (held_of T.moment self.new) turn.id) }
         ensures refused { OnErr result (IsSame (held_of T.moment self.old) (held_of T.moment self.new)) }
     {
-        let next = next_but_one(&self.jobs, due.id)?;
-        await_next(&mut self.turns, &next, due.id)?;
-        take_out_turn(&mut self.turns, due.second, due.id);
-        step(&mut self.jobs, due.id, next);
-        Ok(())
+        let next = next_but_one(&self.jobs, turn.id)?;
+        await_next(&mut self.turns, &next, turn.id)?;
+        take_out_turn(&mut self.turns, turn.second, turn.id);
+        let is_stopped = next.is_stopped();
+        step(&mut self.jobs, turn.id, next);
+        Ok(is_stopped)
     }
 
     // Gives the last due run of a job: the one that its search found, or its next run.
@@ -380,35 +395,79 @@ impl<J: Recurring, T: Clocked> Scheduler<J, T> {
         requires turn { has_turn self.old.turns known id ≡ true }
         requires can { IsSomeAnd ((held_of T.moment self.old).jobs id) (CanGive T.moment last) }
         ensures given { IfOk result (IsLastGiven T.moment (held_of T.moment self.old) id known last (held_of T.moment self.new)) }
+        ensures told { IfOk result (LatestTellsStop id (held_of T.moment self.new)) }
         ensures same { OnErr result (IsSame (held_of T.moment self.old) (held_of T.moment self.new)) }
     {
         match last {
             Last::Later(run) => {
                 let second = run.second();
-                self.move_to(id, run)?;
-                Ok(Latest::Given(second))
+                let is_stopped = self.move_to(id, run)?;
+                Ok(Latest::Given { second, is_stopped })
             }
             Last::Known => {
-                self.give(Due { id, second: known })?;
-                Ok(Latest::Given(known))
+                let is_stopped = self.give(Turn { id, second: known })?;
+                Ok(Latest::Given {
+                    second: known,
+                    is_stopped,
+                })
             }
             Last::Refused(refusal) => Ok(Latest::Refused(refusal)),
         }
     }
 
-    // Puts another job in the place of one.
-    fn put(&mut self, id: u64, other: Waiting<J, T>) -> Result<Option<(J, T)>, AllocError>
+    // Puts another job in the place of one, at a position; it was handed over with another one.
+    fn replace_at(
+        &mut self,
+        id: u64,
+        job: J,
+        given: T,
+        position: T,
+    ) -> Result<Replaced<J, T>, NotAdded<J, T>>
     where
         J: Drop,
-        requires { Fits J.runs T.moment other }
-        ensures replaced { IfOk result (Replaces T.moment id other.job (T.moment other.position) (held_of T.moment self.old) (held_of T.moment self.new)) }
+        requires there { IsSome ((held_of T.moment self.old).jobs id) }
+        requires whole { (T.moment position).fraction ≡ 0 }
+        ensures replaced { IfOk result (λ out. Replaces T.moment id job (T.moment position) (held_of T.moment self.old) (held_of T.moment self.new) (out.job, out.position)) }
+        ensures told { IfOk result (λ out. TellsStop (held_of T.moment self.new) id out.is_stopped) }
+        ensures refused { IfErr result (λ e. e.error ≡ OutOfMemory) }
+        ensures handed_back { IfErr result (IsHandedBack job given) }
+        ensures same { OnErr result (IsSame (held_of T.moment self.old) (held_of T.moment self.new)) }
+    {
+        match Waiting::new(job, position) {
+            Ok(waiting) => match self.put(id, waiting) {
+                Ok(replaced) => Ok(replaced),
+                Err(waiting) => Err(lacking(waiting, given)),
+            },
+            Err(job) => Err(refused(job, given, AddError::OutOfMemory)),
+        }
+    }
+
+    // Puts another job in the place of one, or gives it back for want of memory.
+    fn put(&mut self, id: u64, other: Waiting<J, T>) -> Result<Replaced<J, T>, Waiting<J, T>>
+    where
+        J: Drop,
+        requires there { IsSome ((held_of T.moment self.old).jobs id) }
+        requires fits { Fits J.runs T.moment other }
+        ensures replaced { IfOk result (λ out. Replaces T.moment id other.job (T.moment other.position) (held_of T.moment self.old) (held_of T.moment self.new) (out.job, out.position)) }
+        ensures told { IfOk result (λ out. TellsStop (held_of T.moment self.new) id out.is_stopped) }
+        ensures returned { IfErr result (λ returned. returned ≡ other) }
         ensures same { OnErr result (IsSame (held_of T.moment self.old) (held_of T.moment self.new)) }
     {
         let Some(waiting) = self.jobs.get(&id) else {
-            return Ok(None);
+            return Err(other);
         };
-        change_turn(&mut self.turns, &waiting.next, &other.next, id)?;
-        Ok(exchange(&mut self.jobs, id, other))
+        let Ok(()) = change_turn(&mut self.turns, &waiting.next, &other.next, id) else {
+            return Err(other);
+        };
+        let is_stopped = other.is_stopped();
+        match exchange(&mut self.jobs, id, other) {
+            Ok((job, position)) => Ok(Replaced {
+                job,
+                position,
+                is_stopped,
+            }),
+            Err(other) => Err(other),
+        }
     }
 
     // Moves a job to another position before its next run.
@@ -417,47 +476,75 @@ impl<J: Recurring, T: Clocked> Scheduler<J, T> {
         requires can { IfSome (get nat_cmp self.old.jobs id) (CanStand T.moment position) }
         ensures moved { MovesTo (held_of T.moment self.old) id (T.moment position).instant (held_of T.moment self.new) }
         ensures kept { IfSome ((held_of T.moment self.old).jobs id) (λ s.
-            IsSomeAnd ((held_of T.moment self.new).jobs id) (λ s'. s'.next ≡ s.next)) }
+            IsSomeAnd ((held_of T.moment self.new).jobs id) (λ s'. (s'.next ≡ s.next) × (s'.stop ≡ None))) }
     {
         move_before_next(&mut self.jobs, id, position);
     }
 
-    // Moves a job to another position.
-    fn move_to(&mut self, id: u64, position: T) -> Result<(), AllocError>
+    // Moves a job to another position. Gives whether it is stopped.
+    fn move_to(&mut self, id: u64, position: T) -> Result<bool, AllocError>
         requires { (T.moment position).fraction ≡ 0 }
+        ensures told { IfOk result (λ is_stopped. IfSome ((held_of T.moment self.old).jobs id) (λ _. TellsStop (held_of T.moment self.new) id is_stopped)) }
         ensures moved { OnOk result (IfSome ((held_of T.moment self.old).jobs id) (λ s. (T.moment position).zone ≡ s.position.zone
             → MovesTo (held_of T.moment self.old) id (T.moment position).instant (held_of T.moment self.new))) }
         ensures same { OnErr result (IsSame (held_of T.moment self.old) (held_of T.moment self.new)) }
     {
         let Some(waiting) = self.jobs.get(&id) else {
-            return Ok(());
+            return Ok(false);
         };
         let next = next_of(&waiting.job, &position)?;
         change_turn(&mut self.turns, &waiting.next, &next, id)?;
+        let is_stopped = next.is_stopped();
         move_to(&mut self.jobs, id, position, next);
-        Ok(())
+        Ok(is_stopped)
     }
 
-    // Keeps a job under the next id.
-    fn keep(&mut self, waiting: Waiting<J, T>) -> Result<u64, AllocError>
+    // Adds a job at a position; it was handed over with another one.
+    fn add_at(&mut self, job: J, given: T, position: T) -> Result<Added, NotAdded<J, T>>
+    where
+        J: Drop,
+        requires room { (held_of T.moment self.old).next_id < 2 ^ 64 - 1 }
+        requires whole { (T.moment position).fraction ≡ 0 }
+        ensures added { IfOk result (λ added. IsAdded job (T.moment position) (held_of T.moment self.old) (held_of T.moment self.new) added.id) }
+        ensures told { IfOk result (λ added. TellsStop (held_of T.moment self.new) added.id added.is_stopped) }
+        ensures refused { IfErr result (λ e. e.error ≡ OutOfMemory) }
+        ensures handed_back { IfErr result (IsHandedBack job given) }
+        ensures same { OnErr result (IsSame (held_of T.moment self.old) (held_of T.moment self.new)) }
+    {
+        match Waiting::new(job, position) {
+            Ok(waiting) => match self.keep(waiting) {
+                Ok(added) => Ok(added),
+                Err(waiting) => Err(lacking(waiting, given)),
+            },
+            Err(job) => Err(refused(job, given, AddError::OutOfMemory)),
+        }
+    }
+
+    // Keeps a job under the next id, or gives it back for want of memory.
+    fn keep(&mut self, waiting: Waiting<J, T>) -> Result<Added, Waiting<J, T>>
     where
         J: Drop,
         requires fits { Fits J.runs T.moment waiting }
         requires room { self.old.next_id < 2 ^ 64 - 1 }
-        ensures added { IfOk result (IsAdded waiting.job (T.moment waiting.position) (held_of T.moment self.old) (held_of T.moment self.new)) }
+        ensures added { IfOk result (λ added. IsAdded waiting.job (T.moment waiting.position) (held_of T.moment self.old) (held_of T.moment self.new) added.id) }
+        ensures told { IfOk result (λ added. TellsStop (held_of T.moment self.new) added.id added.is_stopped) }
+        ensures returned { IfErr result (λ returned. returned ≡ waiting) }
         ensures same { OnErr result (IsSame (held_of T.moment self.old) (held_of T.moment self.new)) }
     {
         let id = self.next_id;
-        await_next(&mut self.turns, &waiting.next, id)?;
+        let Ok(()) = await_next(&mut self.turns, &waiting.next, id) else {
+            return Err(waiting);
+        };
+        let is_stopped = waiting.is_stopped();
         match self.jobs.insert(id, waiting) {
             Ok(_) => {
                 self.next_id = id + 1;
-                Ok(id)
+                Ok(Added { id, is_stopped })
             }
             Err(refused) => {
                 let (_, returned) = refused.value;
                 take_out_next(&mut self.turns, &returned.next, id);
-                Err(AllocError)
+                Err(returned)
             }
         }
     }

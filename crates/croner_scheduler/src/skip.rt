@@ -4,7 +4,10 @@
 #[derive(Debug, Clone, Copy, PartialEq, Eq)]
 pub enum Skip {
     /// The job stands there from now on.
-    Moved,
+    Moved {
+        /// Whether it is stopped.
+        is_stopped: bool,
+    },
     /// It stands there already, or later.
     AlreadyThere,
     /// No job has the id.

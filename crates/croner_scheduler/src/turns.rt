@@ -1,5 +1,6 @@
 //! The turns of the next runs: by their seconds, and at one second by the ids of their jobs.
 ghost use Rattle.std.specs.Prelude.{◌≡◌, ℕ, ℤ, true, false, cond, OnOk, OnErr};
+ghost use Rattle.croner_scheduler.specs.Calls.{turn_of};
 ghost use Rattle.croner_scheduler.specs.Private.Turns.{has_turn, is_turn, is_next_turn, IsFirstTurn, is_same_turn};
 
 use crate::waiting::Next;
@@ -7,31 +8,52 @@ use croner::Clocked;
 use std::alloc::AllocError;
 use std::collections::BTreeSet;
 
-/// A run that is due: whose it is, and when.
+/// A run that is given: whose it is, when, and whether its job is stopped.
 #[derive(Debug, Clone, Copy, PartialEq, Eq)]
 pub struct Due {
     /// The id of its job.
     pub id: u64,
     /// Its whole second, in seconds since 1970-01-01T00:00:00 UTC; in civil time, since that date and time.
     pub second: i64,
+    /// Whether its job is stopped from then on ([`Waiting::stop`](crate::Waiting::stop) says why).
+    pub is_stopped: bool,
+}
+
+/// A next run: whose it is, and when.
+#[derive(Clone, Copy)]
+pub(crate) struct Turn {
+    pub(crate) id: u64,
+    pub(crate) second: i64,
+}
+
+// The run of a turn, of a job that is stopped or not.
+pub(crate) fn due_of(turn: Turn, is_stopped: bool) -> Due
+    ensures turn { turn_of result ≡ turn }
+    ensures is_stopped { result.is_stopped ≡ is_stopped }
+{
+    Due {
+        id: turn.id,
+        second: turn.second,
+        is_stopped,
+    }
 }
 
 // The first turn.
-pub(crate) fn first_turn(turns: &BTreeSet<(i64, u64)>) -> Option<Due>
+pub(crate) fn first_turn(turns: &BTreeSet<(i64, u64)>) -> Option<Turn>
     ensures { IsFirstTurn (has_turn turns.now) result }
 {
     match turns.first() {
-        Some(turn) => Some(due_of(turn)),
+        Some(turn) => Some(turn_at(turn)),
         None => None,
     }
 }
 
-fn due_of(turn: &(i64, u64)) -> Due
+fn turn_at(turn: &(i64, u64)) -> Turn
     ensures second { result.second ≡ turn.now.0 }
     ensures id { result.id ≡ turn.now.1 }
 {
     let (second, id) = *turn;
-    Due { id, second }
+    Turn { id, second }
 }
 
 // Puts in the turn of what comes next of a job.

@@ -1,9 +1,10 @@
 //! A job with its position, and what comes next of it.
-ghost use Rattle.std.specs.Prelude.{◌≡◌, is_some, option_map, IfOk};
+ghost use Rattle.std.specs.Prelude.{◌≡◌, is_some, option_map, IfOk, IfErr};
 ghost use Rattle.croner_scheduler.specs.Kept.{standing_of, stop_of, run_of, FitsNext, Fits};
 ghost use Rattle.croner_scheduler.specs.Private.Latest.{due_run};
-ghost use Rattle.croner_scheduler.specs.Private.Steps.{next_of_run, next_of_refusal, IsSecondBefore, FitsAfter, job_after_run, job_at_position, job_standing_at, is_next_after, job_with_next};
+ghost use Rattle.croner_scheduler.specs.Private.Steps.{next_of_run, next_of_refusal, IsSecondBefore, FitsAfter, job_after_run, job_at_position, job_standing_at, is_next_after, job_with_next, again_of};
 
+use crate::Again;
 use croner::errors::CronError;
 use croner::{Clocked, Recurring};
 use std::alloc::AllocError;
@@ -27,6 +28,29 @@ pub(crate) enum Next<T> {
     Over,
     // Nothing, since no run could be found.
     Stopped(Stop),
+}
+
+impl<T> Next<T> {
+    // Whether the job is stopped.
+    pub(crate) fn is_stopped(&self) -> bool
+        ensures { result ≡ is_some (stop_of self.now) }
+    {
+        match self {
+            Next::Stopped(_) => true,
+            Next::Run(_) | Next::Over => false,
+        }
+    }
+
+    // What became of a job that has this next from now on, and was stopped.
+    pub(crate) fn again(&self) -> Again
+        ensures { result ≡ again_of (is_some (stop_of self.now)) }
+    {
+        if self.is_stopped() {
+            Again::StillStopped
+        } else {
+            Again::GoesOn
+        }
+    }
 }
 
 /// A job in a scheduler, and where it stands.
@@ -117,7 +141,7 @@ impl<J, T> Waiting<J, T> {
     pub(crate) fn is_stopped(&self) -> bool
         ensures { result ≡ is_some (stop_of self.now.next) }
     {
-        self.stop().is_some()
+        self.next.is_stopped()
     }
 
     // The job and its position.
@@ -136,22 +160,23 @@ impl<J, T> Waiting<J, T> {
     }
 }
 
-impl<J: Recurring, T: Clocked> Waiting<J, T> {
-    // A job that stands at a whole second.
-    pub(crate) fn new(job: J, position: T) -> Result<Waiting<J, T>, AllocError>
-    where
-        J: Drop,
+impl<J: Recurring<T>, T: Clocked> Waiting<J, T> {
+    // A job that stands at a whole second; or for want of memory the job.
+    pub(crate) fn new(job: J, position: T) -> Result<Waiting<J, T>, J>
         requires { (T.moment position).fraction ≡ 0 }
         ensures job { IfOk result (λ w. w.job ≡ job) }
         ensures position { IfOk result (λ w. w.position ≡ position) }
         ensures fits { IfOk result (Fits J.runs T.moment) }
+        ensures returned { IfErr result (λ returned. returned ≡ job) }
     {
-        let next = next_of(&job, &position)?;
-        Ok(Waiting {
-            job,
-            position,
-            next,
-        })
+        match next_of(&job, &position) {
+            Ok(next) => Ok(Waiting {
+                job,
+                position,
+                next,
+            }),
+            Err(_) => Err(job),
+        }
     }
 
     // Whether its next run is later than a second.
@@ -198,7 +223,7 @@ pub(crate) fn second_before<T: Clocked>(time: &T) -> Option<T>
 
 // What comes next of a job from a position.
 #[tactic(auto, using(crate::proofs::NextRuns::fits_found, crate::proofs::NextRuns::fits_refused))]
-pub(crate) fn next_of<J: Recurring, T: Clocked>(
+pub(crate) fn next_of<J: Recurring<T>, T: Clocked>(
     job: &J,
     position: &T,
 ) -> Result<Next<T>, AllocError>

@@ -53,7 +53,7 @@ CanGive moment (Refused e) s = ⊤
 
 -- the later run is given, or the one that is known to be the next; or the search was refused
 abbrev pub IsLastGiven : {J T : Type 0} → (T → Moment) → Held J → ℕ → ℤ → Last T → Held J → Latest → Type 0
-IsLastGiven moment h id known (Later t) h' (answers.Given i) = (i ≡ (moment t).instant) × MovesTo h id i h'
-IsLastGiven moment h id known Known h' (answers.Given i) = (i ≡ known) × MovesTo h id i h'
+IsLastGiven moment h id known (Later t) h' (answers.Given i b) = (i ≡ (moment t).instant) × MovesTo h id i h'
+IsLastGiven moment h id known Known h' (answers.Given i b) = (i ≡ known) × MovesTo h id i h'
 IsLastGiven moment h id known (Refused e) h' (answers.Refused refusal) = (refusal ≡ e) × IsSame h h'
 IsLastGiven moment h id known last h' answer = ⊥

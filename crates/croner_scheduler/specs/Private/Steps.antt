@@ -6,6 +6,8 @@ use Rattle.std.specs.declared.alloc.AllocError.{AllocError}
 use Rattle.croner_base.specs.declared.errors.CronError.{CronError}
 use Rattle.croner_base.specs.declared.errors.CronError.TheVariants.{TimeSearchLimitExceeded, OutOfMemory}
 use Rattle.croner_base.specs.Zone.{Zone, Moment}
+use Rattle.croner_scheduler.specs.declared.again.Again.{Again}
+use Rattle.croner_scheduler.specs.declared.again.Again.TheVariants.{GoesOn, StillStopped}
 use Rattle.croner_scheduler.specs.declared.waiting.Next.{Next}
 use Rattle.croner_scheduler.specs.declared.waiting.Next.TheVariants.{Run, Over, Stopped}
 use Rattle.croner_scheduler.specs.declared.waiting.Stop.TheVariants.{Refused, NotLater}
@@ -77,8 +79,12 @@ pub record CanStand {J T : Type 0} (moment : T → Moment) (position : T) (w : W
 abbrev pub job_with_next : {J T : Type 0} → Next T → Waiting J T → Waiting J T
 job_with_next next w = record { job = w.job; position = w.position; next = next }
 
--- the job and the position are those of what stood there, if something did
-abbrev pub ArePartsOf : {J T : Type 0} → Option (Waiting J T) → Option (J × T) → Type 0
-ArePartsOf (Some w) (Some parts) = (parts.0 ≡ w.job) × (parts.1 ≡ w.position)
-ArePartsOf None None = ⊤
-ArePartsOf stood parts = ⊥
+-- the job and the position are those of what stood there
+abbrev pub ArePartsOf : {J T : Type 0} → Option (Waiting J T) → J × T → Type 0
+ArePartsOf (Some w) parts = (parts.0 ≡ w.job) × (parts.1 ≡ w.position)
+ArePartsOf None parts = ⊥
+
+-- what became of a job that was searched again, by whether it is stopped
+abbrev pub again_of : Bool → Again
+again_of true = StillStopped
+again_of false = GoesOn

@@ -6,7 +6,7 @@ use Rattle.std.specs.BTreeSet.{BTreeSet, contains}
 use Rattle.std.specs.Ordering.{nat_cmp, int_cmp, int_eq, ordering_then}
 use Rattle.std.specs.declared.cmp.Ordering.{Ordering}
 use Rattle.croner_base.specs.Zone.{Moment}
-use Rattle.croner_scheduler.specs.declared.turns.Due.{Due}
+use Rattle.croner_scheduler.specs.declared.turns.Turn.{Turn}
 use Rattle.croner_scheduler.specs.declared.waiting.Next.{Next}
 use Rattle.croner_scheduler.specs.declared.waiting.Next.TheVariants.{Run}
 
@@ -28,7 +28,7 @@ is_next_turn moment (Run t) id second other = is_turn (moment t).instant id seco
 is_next_turn moment next id second other = false
 
 -- the first of the turns; none where there is no turn
-abbrev pub IsFirstTurn : (ℤ → ℕ → Bool) → Option Due → Type 0
+abbrev pub IsFirstTurn : (ℤ → ℕ → Bool) → Option Turn → Type 0
 IsFirstTurn has (Some due) = (has due.second due.id ≡ true)
     × ((second : ℤ) (id : ℕ) → has second id ≡ true → (due.second ≤ℤ second) × (second ≡ due.second → due.id ≤ id))
 IsFirstTurn has None = (second : ℤ) (id : ℕ) → has second id ≡ false

@@ -6,9 +6,9 @@ use Rattle.croner_scheduler.proofs.scheduler.Scheduler.next_wake_up.Goals as goa
 
 pub returns-in-Some-clause-awaited : goal.returns-in-Some-clause-awaited
 returns-in-Some-clause-awaited g c =
-    let due = c.in-Some.due in
-    let fits : SFits w64 due.second = search rules in (
-      due.id,
-      subst (λ (z : ℤ). AwaitsFirst (held_of g.T.CronDateTime.moment c.args.self.now) (Some (record { id = due.id; second = z })))
-          (sym (to_z-of_z w64 due.second fits)) c.in-Some.ensures.awaited,
+    let turn = c.in-Some.turn in
+    let fits : SFits w64 turn.second = search rules in (
+      turn.id,
+      subst (λ (z : ℤ). AwaitsFirst (held_of g.T.CronDateTime.moment c.args.self.now) (Some (record { id = turn.id; second = z })))
+          (sym (to_z-of_z w64 turn.second fits)) c.in-Some.ensures.awaited,
     )

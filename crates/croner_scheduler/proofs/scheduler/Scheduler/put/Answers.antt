@@ -12,11 +12,11 @@ invariant_of-self-2 g c =
     let w = c.in-Some.waiting.now in
     let there : get nat_cmp self.jobs c.args.id ≡ Some w = search rules in
     let other = c.args.other in
-    let fit : Fits g.J.Recurring.runs g.T.CronDateTime.moment other = c.requires in
+    let fit : Fits g.J.Recurring.runs g.T.CronDateTime.moment other = c.requires.fits in
     let puts = c.exchange.ensures.jobs in
     record {
       listed = put_listed g.J.Recurring.runs g.T.CronDateTime.moment c.args.id (λ k. get nat_cmp self.jobs k) (λ k. get nat_cmp c.exchange.new.jobs k) (has_turn self.turns)
-          self.listed self.fits w there other fit puts (has_turn c.change_turn.new.turns) c.in_ok-change_turn.ensures.changed;
+          self.listed self.fits w there other fit puts (has_turn c.change_turn.new.turns) c.in-Ok.ensures.changed;
       unused = put_unused g.J.Recurring.runs g.T.CronDateTime.moment c.args.id (λ k. get nat_cmp self.jobs k) (λ k. get nat_cmp c.exchange.new.jobs k) (has_turn self.turns)
           self.listed self.fits w there other fit puts self.next_id self.unused;
       fits = put_fits g.J.Recurring.runs g.T.CronDateTime.moment c.args.id (λ k. get nat_cmp self.jobs k) (λ k. get nat_cmp c.exchange.new.jobs k) (has_turn self.turns)
