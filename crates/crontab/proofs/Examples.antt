@@ -5,6 +5,7 @@ use Rattle.std.specs.Fmt.{digits}
 use Rattle.crontab.specs.declared.line.Dialect.TheVariants as dialects
 use Rattle.crontab.specs.declared.line.Fault.TheVariants as faults
 use Rattle.crontab.specs.Line.{Line, reboot, never, named, blank, comment, setting, job, pattern, refused, entry_of}
+use Rattle.crontab.specs.Setting.{is_not_expanded}
 
 -- a job of a user whose command is x
 abbrev x_at : List ℕ → List ℕ → Bool → Line
@@ -245,3 +246,40 @@ no_setting_among_patterns = refl
 a_comment_among_patterns : entry_of dialects.Patterns (codes " # 5") ≡ comment
 unfolding digits
 a_comment_among_patterns = refl
+
+-- what a shell would expand
+a_variable_in_a_value : is_not_expanded (codes "PATH=$HOME/bin") ≡ true
+a_variable_in_a_value = refl
+
+a_variable_in_single_quotes : is_not_expanded (codes "A='$B'") ≡ true
+a_variable_in_single_quotes = refl
+
+a_home_at_the_head : is_not_expanded (codes "A=~/bin") ≡ true
+a_home_at_the_head = refl
+
+a_home_behind_a_colon : is_not_expanded (codes "PATH=/bin:~/bin") ≡ true
+a_home_behind_a_colon = refl
+
+a_home_in_quotes : is_not_expanded (codes "A=" ++ (34 ∷ (codes "~/bin" ++ (34 ∷ [])))) ≡ true
+a_home_in_quotes = refl
+
+a_tilde_within : is_not_expanded (codes "A=x~/bin") ≡ false
+a_tilde_within = refl
+
+a_tilde_alone : is_not_expanded (codes "A=~") ≡ false
+a_tilde_alone = refl
+
+a_comment_behind_a_value : is_not_expanded (codes "A=b # c") ≡ true
+a_comment_behind_a_value = refl
+
+a_sign_within_a_word : is_not_expanded (codes "A=b#c") ≡ false
+a_sign_within_a_word = refl
+
+a_colour : is_not_expanded (codes "A=#fff") ≡ false
+a_colour = refl
+
+a_sign_in_quotes_behind_a_blank : is_not_expanded (codes "A='b #c'") ≡ false
+a_sign_in_quotes_behind_a_blank = refl
+
+a_value_as_it_stands : is_not_expanded (codes "PATH=/usr/bin:/bin") ≡ false
+a_value_as_it_stands = refl

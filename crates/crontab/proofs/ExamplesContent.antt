@@ -14,19 +14,19 @@ use Rattle.crontab.specs.Line.{reboot, never, entry_of}
 abbrev noted : Dialect → List ℕ → List Note
 noted dialect line = notes_in (entry_of dialect line) line
 
-a_job_with_a_range_down : noted dialects.User (codes "5-1 * * * * x") ≡ notes.RangeDown ∷ []
+a_job_with_a_star_among_parts : noted dialects.User (codes "*,5 * * * * x") ≡ notes.StarAmongParts ∷ []
 unfolding digits
-a_job_with_a_range_down = refl
+a_job_with_a_star_among_parts = refl
 
-the_same_as_a_pattern : noted dialects.Patterns (codes "5-1 * * * *") ≡ []
+the_same_as_a_pattern : noted dialects.Patterns (codes "*,5 * * * *") ≡ []
 unfolding digits
 the_same_as_a_pattern = refl
 
-the_same_as_a_comment : noted dialects.User (codes "#5-1 * * * * x") ≡ []
+the_same_as_a_comment : noted dialects.User (codes "#*,5 * * * * x") ≡ []
 unfolding digits
 the_same_as_a_comment = refl
 
-the_same_as_a_value : noted dialects.User (codes "A=5-1 * * * * x") ≡ []
+the_same_as_a_value : noted dialects.User (codes "A=*,5 * * * * x") ≡ []
 unfolding digits
 the_same_as_a_value = refl
 

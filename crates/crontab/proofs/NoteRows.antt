@@ -4,7 +4,8 @@ use Rattle.std.proofs.Common.{◌≡◌, true, false, Some, None, refl}
 use Rattle.std.specs.Prelude.{codes}
 use Rattle.crontab.specs.declared.line.Fault.TheVariants as faults
 use Rattle.crontab.specs.declared.notes.Note.TheVariants as notes
-use Rattle.crontab.specs.Notes.{is_noted}
+use Rattle.crontab.specs.Line.{minute_place, hour_place, month_place, weekday_place}
+use Rattle.crontab.specs.Notes.{is_noted, has_passed_over, has_large_number, looks_like_weekdays, has_other_name}
 
 -- a day field that begins with a star
 a_step_in_days_and_a_weekday : is_noted notes.StarDay None (codes "0 0 */2 * 1 x") ≡ true
@@ -19,30 +20,20 @@ either_day = refl
 a_star_day_behind_a_nickname : is_noted notes.StarDay None (codes "@daily a */2 b c") ≡ false
 a_star_day_behind_a_nickname = refl
 
--- a range that goes down
-minutes_that_go_down : is_noted notes.RangeDown None (codes "10-5 * * * * x") ≡ true
-minutes_that_go_down = refl
-
-weekdays_that_go_down : is_noted notes.RangeDown None (codes "0 0 * * FRI-SUN x") ≡ true
-weekdays_that_go_down = refl
-
-weekdays_that_go_up : is_noted notes.RangeDown None (codes "0 0 * * FRI-7 x") ≡ false
-weekdays_that_go_up = refl
-
-one_value_as_a_range : is_noted notes.RangeDown None (codes "5-5 * * * * x") ≡ false
-one_value_as_a_range = refl
-
-a_range_down_that_is_passed_over : is_noted notes.RangeDown None (codes "*x,10-5 * * * * x") ≡ false
-a_range_down_that_is_passed_over = refl
-
--- bytes that are passed over
-a_sign_of_an_nth_weekday : is_noted notes.PassedOver None (codes "0 0 * * 1#2 x") ≡ true
+-- bytes of a field that are passed over
+a_sign_of_an_nth_weekday : has_passed_over weekday_place (codes "1#2") ≡ true
 a_sign_of_an_nth_weekday = refl
 
-two_steps : is_noted notes.PassedOver None (codes "*/2/3 * * * * x") ≡ true
+two_steps : has_passed_over minute_place (codes "*/2/3") ≡ true
 two_steps = refl
 
-parts_alone : is_noted notes.PassedOver None (codes "*/2 1-5,9 * * mon x") ≡ false
+a_star_and_a_number : has_passed_over minute_place (codes "*5") ≡ true
+a_star_and_a_number = refl
+
+a_part_of_three : has_passed_over minute_place (codes "1,2-4~,5") ≡ true
+a_part_of_three = refl
+
+parts_alone : has_passed_over hour_place (codes "1-5,9,*/2") ≡ false
 parts_alone = refl
 
 -- a star among parts
@@ -61,15 +52,63 @@ a_star_with_a_step_among_parts = refl
 a_star_that_is_passed_over : is_noted notes.StarAmongParts None (codes "5#2,* * * * * x") ≡ false
 a_star_that_is_passed_over = refl
 
+-- steps that are shorter in the end
+each_second_day : is_noted notes.UnevenStep None (codes "0 0 */2 * * x") ≡ true
+each_second_day = refl
+
+each_fifth_month : is_noted notes.UnevenStep None (codes "0 0 1 */5 * x") ≡ true
+each_fifth_month = refl
+
+each_fourth_month : is_noted notes.UnevenStep None (codes "0 0 1 */4 * x") ≡ false
+each_fourth_month = refl
+
+each_second_weekday : is_noted notes.UnevenStep None (codes "0 0 * * */2 x") ≡ true
+each_second_weekday = refl
+
+each_day : is_noted notes.UnevenStep None (codes "0 0 */1 * * x") ≡ false
+each_day = refl
+
+a_range_of_days : is_noted notes.UnevenStep None (codes "0 0 1-31/2 * * x") ≡ false
+a_range_of_days = refl
+
+-- words that may be weekdays
+weekdays_by_name : looks_like_weekdays (codes "MON-FRI") ≡ true
+weekdays_by_name = refl
+
+the_second_friday : looks_like_weekdays (codes "5#2") ≡ true
+the_second_friday = refl
+
+the_last_one : looks_like_weekdays (codes "friL") ≡ true
+the_last_one = refl
+
+no_weekday_in_particular : looks_like_weekdays (codes "?") ≡ true
+no_weekday_in_particular = refl
+
+a_weekday_spelled_out : looks_like_weekdays (codes "monday") ≡ false
+a_weekday_spelled_out = refl
+
+a_path : looks_like_weekdays (codes "/bin/x") ≡ false
+a_path = refl
+
+-- names of another field
+a_weekday_for_a_month : has_other_name month_place (codes "MON") ≡ true
+a_weekday_for_a_month = refl
+
+a_month_for_a_month : has_other_name month_place (codes "JAN-mar") ≡ false
+a_month_for_a_month = refl
+
 -- numbers of 2^32 or more
-a_number_of_33_bits : is_noted notes.LargeNumber None (codes "4294967297 * * * * x") ≡ true
+a_number_of_33_bits : has_large_number minute_place (codes "4294967297") ≡ true
 a_number_of_33_bits = refl
 
-a_step_of_33_bits : is_noted notes.LargeNumber None (codes "*/4294967311 * * * * x") ≡ true
+a_step_of_33_bits : has_large_number minute_place (codes "*/4294967311") ≡ true
 a_step_of_33_bits = refl
 
-the_longest_step : is_noted notes.LargeNumber None (codes "*/2147483647 * * * * x") ≡ false
+the_longest_step : has_large_number minute_place (codes "*/2147483647") ≡ false
 the_longest_step = refl
+
+a_number_that_is_passed_over : has_large_number minute_place (codes "5#4294967297") ≡ false
+a_number_that_is_passed_over = refl
 
 -- empty parts
 nothing_between_commas : is_noted notes.EmptyPart (Some faults.Minutes) (codes "5,,10 * * * * x") ≡ true
@@ -147,6 +186,15 @@ seconds_before_a_star = refl
 
 seconds_before_the_first_of_january : is_noted notes.Seconds (Some faults.Days) (codes "0 0 0 1 1 * x") ≡ true
 seconds_before_the_first_of_january = refl
+
+seconds_before_no_day_in_particular : is_noted notes.Seconds (Some faults.Months) (codes "0 0 9 ? * MON-FRI x") ≡ true
+seconds_before_no_day_in_particular = refl
+
+seconds_before_a_last_day : is_noted notes.Seconds (Some faults.Months) (codes "0 0 12 L * ? x") ≡ true
+seconds_before_a_last_day = refl
+
+no_day_in_particular : is_noted notes.Seconds (Some faults.Days) (codes "0 9 ? * MON-FRI x") ≡ false
+no_day_in_particular = refl
 
 a_star_for_a_command : is_noted notes.Seconds (Some faults.Command) (codes "@daily *") ≡ false
 a_star_for_a_command = refl

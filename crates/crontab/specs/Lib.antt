@@ -10,3 +10,4 @@ pub mod Notes
 pub mod Parsed
 pub mod Place
 pub mod Setting
+pub mod Star

@@ -1,5 +1,5 @@
 -- The list of parts of a field, and the text of a field that says the same to croner's parser.
-use Rattle.std.specs.Prelude.{ℕ, Bool, ◌&&◌, ◌==◌, nat_lt, List, [], ◌∷◌, ◌++◌, length, fold, codes, Option, Some, None, option_map, if◌then◌else◌}
+use Rattle.std.specs.Prelude.{ℕ, ◌%◌, Bool, false, not, ◌&&◌, ◌==◌, nat_lt, List, [], ◌∷◌, ◌++◌, length, fold, codes, Option, Some, None, option_map, if◌then◌else◌}
 use Rattle.std.specs.Fmt.{decimal}
 use Rattle.std.specs.List.{slice_split}
 use Rattle.crontab.specs.declared.field.Place.{Place}
@@ -25,6 +25,17 @@ parts_of_pieces place (piece ∷ pieces) = joined (part_of place piece) (parts_o
 -- the parts of a field, where cron takes it
 abbrev pub parts_of : Place → List ℕ → Option (List Part)
 parts_of place field = parts_of_pieces place (slice_split (λ b. b == 44) field)
+
+-- one part, which is a star with a step below this number that doesn't divide it
+abbrev pub is_uneven : ℕ → List Part → Bool
+is_uneven turn [] = false
+is_uneven turn (part ∷ []) = part.is_star && (nat_lt 0 part.step && (nat_lt part.step turn && not (turn % part.step == 0)))
+is_uneven turn (part ∷ other ∷ more) = false
+
+-- the same of a field that cron takes
+abbrev pub are_uneven : ℕ → Option (List Part) → Bool
+are_uneven turn None = false
+are_uneven turn (Some parts) = is_uneven turn parts
 
 -- ---- the text
 

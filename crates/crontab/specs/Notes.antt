@@ -16,9 +16,9 @@ use Rattle.crontab.specs.declared.notes.Note.{Note}
 use Rattle.crontab.specs.declared.notes.Note.TheVariants as notes
 use Rattle.crontab.specs.declared.notes.Sign.{Sign}
 use Rattle.crontab.specs.declared.notes.Sign.TheVariants as signs
-use Rattle.crontab.specs.Bytes.{is_of, is_digit, front, behind, begins_with, rest_of}
+use Rattle.crontab.specs.Bytes.{is_of, is_digit, is_alphanumeric, front, behind, begins_with, rest_of}
 use Rattle.crontab.specs.Field.{with_digit, name_of, part_of}
-use Rattle.crontab.specs.List.{parts_of, names_nothing}
+use Rattle.crontab.specs.List.{parts_of, are_uneven}
 use Rattle.crontab.specs.Line.{Five, minute_place, hour_place, day_place, month_place, weekday_place, next, words_of, are_both, nickname_of}
 use Rattle.crontab.specs.Setting.{has}
 
@@ -27,10 +27,8 @@ use Rattle.crontab.specs.Setting.{has}
 -- the name by which a note is known
 abbrev pub note_name : Note → List ℕ
 note_name notes.StarDay = codes "star-day"
-note_name notes.RangeDown = codes "range-down"
-note_name notes.PassedOver = codes "passed-over"
 note_name notes.StarAmongParts = codes "star-among-parts"
-note_name notes.LargeNumber = codes "large-number"
+note_name notes.UnevenStep = codes "uneven-step"
 note_name notes.EmptyPart = codes "empty-part"
 note_name notes.OtherName = codes "other-name"
 note_name notes.Modifier = codes "modifier"
@@ -64,6 +62,14 @@ is_numbered letters word = nat_lt 0 (prefix_len is_digit word) && reads letters 
 abbrev pub is_named_last : List ℕ → Bool
 is_named_last word = reads (codes "l") (drop 3 word) && is_some (name_of names.Weekdays (take 3 word))
 
+-- a modifier of a field of weekdays
+abbrev pub is_last_weekday : List ℕ → Bool
+is_last_weekday word = reads (codes "l") word || (is_numbered (codes "l") word || is_named_last word)
+
+-- digits, or none; a name of the field; or such a modifier
+abbrev pub is_weekday_word : Place → List ℕ → Bool
+is_weekday_word place word = list_all is_digit word || (is_some (name_of place.names word) || is_last_weekday word)
+
 abbrev pub passes : Sign → Place → List ℕ → Bool
 passes signs.Followed place piece = is_followed (part_of place piece)
 passes signs.Large place word = is_large word
@@ -71,11 +77,36 @@ passes signs.Empty place piece = length piece == 0
 passes signs.OtherName place word = is_named word && is_none (name_of place.names word)
 passes signs.NamedStep place piece = is_named (front kinds.Alphanumeric (rest_of (behind (kinds.But 47) piece)))
 passes signs.DayModifier place word = reads (codes "l") word || (reads (codes "lw") word || is_numbered (codes "w") word)
-passes signs.WeekdayModifier place word = reads (codes "l") word || (is_numbered (codes "l") word || is_named_last word)
+passes signs.NoWeekday place word = not (is_weekday_word place word)
+passes signs.WeekdayModifier place word = is_last_weekday word
 
 -- one of the runs of bytes of a kind passes
 abbrev pub any_run : Sign → Place → Kind → List ℕ → Bool
 any_run sign place kind text = list_any (passes sign place) (slice_split (λ b. not (is_of kind b)) text)
+
+-- ---- what cron takes of a field, and leaves out of it
+
+-- cron passes over bytes of the field behind a part, which are no comma
+abbrev pub has_passed_over : Place → List ℕ → Bool
+has_passed_over place field = any_run signs.Followed place (kinds.But 44) field
+
+-- a word of the field is a number that 32 bits don't hold. Where bytes are passed over, only that is told
+abbrev pub has_large_number : Place → List ℕ → Bool
+has_large_number place field = not (has_passed_over place field) && any_run signs.Large place kinds.Alphanumeric field
+
+-- ---- what a word may have been meant as
+
+-- letters and digits, and the signs of a field of weekdays
+abbrev pub is_weekday_byte : ℕ → Bool
+is_weekday_byte b = is_alphanumeric b || (b == 42 || (b == 44 || (b == 45 || (b == 47 || (b == 63 || (b == 35 || b == 43))))))
+
+-- a word that may be a field of weekdays: such bytes alone, and of letters and digits only numbers, weekdays and modifiers
+abbrev pub looks_like_weekdays : List ℕ → Bool
+looks_like_weekdays word = list_all is_weekday_byte word && not (any_run signs.NoWeekday weekday_place kinds.Alphanumeric word)
+
+-- a word of the field is a name, and none of this field
+abbrev pub has_other_name : Place → List ℕ → Bool
+has_other_name place field = any_run signs.OtherName place kinds.Alphanumeric field
 
 -- ---- what cron takes and reads otherwise
 
@@ -83,26 +114,26 @@ any_run sign place kind text = list_any (passes sign place) (slice_split (λ b. 
 abbrev pub is_whole_star : Part → Bool
 is_whole_star part = part.is_star && part.step == 1
 
-abbrev pub has_range_down : Option (List Part) → Bool
-has_range_down None = false
-has_range_down (Some parts) = list_any names_nothing parts
-
 abbrev pub has_star_among : Option (List Part) → Bool
 has_star_among None = false
 has_star_among (Some parts) = nat_lt 1 (length parts) && list_any is_whole_star parts
 
--- a note of a field that cron takes. Where bytes are passed over, only that is told of numbers
-abbrev pub is_field_noted : Note → Place → List ℕ → Bool
-is_field_noted notes.RangeDown place field = has_range_down (parts_of place field)
-is_field_noted notes.StarAmongParts place field = has_star_among (parts_of place field)
-is_field_noted notes.PassedOver place field = any_run signs.Followed place (kinds.But 44) field
-is_field_noted notes.LargeNumber place field =
-    not (any_run signs.Followed place (kinds.But 44) field) && any_run signs.Large place kinds.Alphanumeric field
-is_field_noted other place field = false
+-- a field that cron takes has a star that names all values beside other parts
+abbrev pub is_star_among : Place → List ℕ → Bool
+is_star_among place field = has_star_among (parts_of place field)
 
-abbrev pub any_field : (Place → List ℕ → Bool) → Five → Bool
-any_field test w =
-    test minute_place w.minutes || (test hour_place w.hours || (test day_place w.days || (test month_place w.months || test weekday_place w.weekdays)))
+abbrev pub any_star_among : Five → Bool
+any_star_among w =
+    is_star_among minute_place w.minutes || (is_star_among hour_place w.hours || (is_star_among day_place w.days
+    || (is_star_among month_place w.months || is_star_among weekday_place w.weekdays)))
+
+-- a step in days, months or weekdays is shorter from the last value to the next first one
+abbrev pub has_uneven_step : ℕ → Place → List ℕ → Bool
+has_uneven_step turn place field = are_uneven turn (parts_of place field)
+
+abbrev pub any_uneven_step : Five → Bool
+any_uneven_step w =
+    has_uneven_step 31 day_place w.days || (has_uneven_step 12 month_place w.months || has_uneven_step 7 weekday_place w.weekdays)
 
 -- a day field begins with a star, and neither is a star alone: both must match
 abbrev pub is_star_day : Five → Bool
@@ -111,7 +142,9 @@ is_star_day w = are_both w && not (bytes_eq w.days (codes "*") || bytes_eq w.wee
 -- a note of the five words of a job
 abbrev pub are_words_noted : Note → Five → Bool
 are_words_noted notes.StarDay w = is_star_day w
-are_words_noted note w = any_field (is_field_noted note) w
+are_words_noted notes.StarAmongParts w = any_star_among w
+are_words_noted notes.UnevenStep w = any_uneven_step w
+are_words_noted other w = false
 
 -- a note of a job, by its bytes from the first that is no blank on, and by their words
 abbrev pub is_job_noted : Note → List ℕ → Five → Bool
@@ -138,7 +171,7 @@ has_modifier other place field = false
 abbrev pub is_fault_noted : Note → Fault → Place → List ℕ → Bool
 is_fault_noted notes.EmptyPart fault place field = nat_lt 0 (length field) && any_run signs.Empty place (kinds.But 44) field
 is_fault_noted notes.OtherName fault place field =
-    any_run signs.OtherName place kinds.Alphanumeric field || any_run signs.NamedStep place (kinds.But 44) field
+    has_other_name place field || any_run signs.NamedStep place (kinds.But 44) field
 is_fault_noted notes.Modifier fault place field = has_modifier fault place field
 is_fault_noted other fault place field = false
 
@@ -150,11 +183,16 @@ abbrev pub is_refused_field_noted : Note → Fault → Option (Place × List ℕ
 is_refused_field_noted note fault None = false
 is_refused_field_noted note fault (Some at) = not (takes at.0 at.1) && is_fault_noted note fault at.0 at.1
 
+-- cron takes a day field, or it has a modifier
+abbrev pub takes_day : Fault → Place → List ℕ → Bool
+takes_day fault place field = takes place field || has_modifier fault place field
+
 abbrev pub takes_all : Five → Bool
 takes_all w =
-    takes minute_place w.minutes && (takes hour_place w.hours && (takes day_place w.days && (takes month_place w.months && takes weekday_place w.weekdays)))
+    takes minute_place w.minutes && (takes hour_place w.hours && (takes_day faults.Days day_place w.days
+    && (takes month_place w.months && takes_day faults.Weekdays weekday_place w.weekdays)))
 
--- a field of seconds stands before five that cron takes
+-- a field of seconds stands before five that cron takes, but for modifiers
 abbrev pub has_seconds : List ℕ → Bool
 has_seconds text = takes minute_place (front kinds.Word text) && takes_all (words_of (next text))
 
@@ -197,8 +235,7 @@ is_noted note fault line = is_text_noted note fault (behind kinds.Blank line) (w
 -- all notes, in the order in which they are given
 abbrev pub all_notes : List Note
 all_notes =
-    notes.StarDay ∷ notes.RangeDown ∷ notes.PassedOver ∷ notes.StarAmongParts ∷ notes.LargeNumber
-    ∷ notes.EmptyPart ∷ notes.OtherName ∷ notes.Modifier ∷ notes.CapitalNickname ∷ notes.Seconds ∷ []
+    notes.StarDay ∷ notes.StarAmongParts ∷ notes.UnevenStep ∷ notes.EmptyPart ∷ notes.OtherName ∷ notes.Modifier ∷ notes.CapitalNickname ∷ notes.Seconds ∷ []
 
 -- the notes of a line of a crontab, which is a job or is refused for this fault
 abbrev pub notes_of : Option Fault → List ℕ → List Note

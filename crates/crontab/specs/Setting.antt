@@ -1,8 +1,9 @@
 -- Which lines set a variable: `NAME = value`, as cron(8) reads them. Each side may stand in quotes. It looks at the first 998 bytes.
 use Rattle.std.specs.Prelude.{ℕ, Bool, true, false, not, ◌&&◌, ◌==◌, nat_lt, List, [], ◌∷◌, take, length, codes, ◌||◌, Option, Some, None, if◌then◌else◌}
+use Rattle.std.specs.List.{list_any, slice_split}
 use Rattle.std.specs.Str.{bytes_eq}
 use Rattle.crontab.specs.declared.bytes.Kind.TheVariants as kinds
-use Rattle.crontab.specs.Bytes.{is_quote, front, behind, begins_with, rest_of}
+use Rattle.crontab.specs.Bytes.{is_blank, is_quote, front, behind, begins_with, rest_of}
 
 -- how many bytes of a line are looked at
 abbrev pub setting_length : ℕ
@@ -47,3 +48,41 @@ name_of (c ∷ cs) = if is_quote c then front (kinds.But c) cs else front kinds.
 abbrev pub sets_zone : List ℕ → Bool
 sets_zone text =
     let name = name_of (take setting_length text) in bytes_eq name (codes "CRON_TZ") || bytes_eq name (codes "TZ")
+
+-- ---- what a shell would expand, or leave out
+
+-- what stands behind the name, `=` and the spaces round it
+abbrev pub value_behind : Option (List ℕ) → List ℕ
+value_behind None = []
+value_behind (Some text) = behind kinds.Space (rest_of (behind kinds.Space text))
+
+-- a setting's value, with its quotes
+abbrev pub value_of : List ℕ → List ℕ
+value_of text = value_behind (behind_name (take setting_length text))
+
+abbrev pub is_quoted : List ℕ → Bool
+is_quoted [] = false
+is_quoted (c ∷ cs) = is_quote c
+
+-- without the quote in front
+abbrev pub unquoted : List ℕ → List ℕ
+unquoted text = if is_quoted text then rest_of text else text
+
+abbrev pub begins_home : List ℕ → Bool
+begins_home text = begins_with 126 text && begins_with 47 (rest_of text)
+
+-- `~/` stands at the head, or behind a colon
+abbrev pub has_home : List ℕ → Bool
+has_home text = list_any begins_home (slice_split (λ b. b == 58) text)
+
+-- `#` stands behind a blank
+abbrev pub has_comment : List ℕ → Bool
+has_comment text = list_any (begins_with 35) (slice_split is_blank (behind kinds.Word text))
+
+-- a value has a `$`, a `~/` that is the head of a path, or outside quotes a comment
+abbrev pub is_to_expand : List ℕ → Bool
+is_to_expand value = has 36 value || (has_home (unquoted value) || (not (is_quoted value) && has_comment value))
+
+-- the setting's value has what cron takes as it stands, and a shell doesn't
+abbrev pub is_not_expanded : List ℕ → Bool
+is_not_expanded text = is_to_expand (value_of text)

@@ -20,7 +20,7 @@ pub enum Kind {
     But(u8),
 }
 
-fn is_blank(byte: u8) -> bool
+pub(crate) fn is_blank(byte: u8) -> bool
     ensures { result ≡ is_blank byte }
 {
     byte == b' ' || byte == b'\t'

@@ -14,3 +14,4 @@ pub mod notes;
 pub mod parsed;
 mod place;
 pub mod setting;
+pub mod star;

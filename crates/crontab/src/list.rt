@@ -1,6 +1,6 @@
 //! The list of parts of a field, and the text that says the same to croner's parser.
 ghost use Rattle.std.specs.Prelude.{◌≡◌, fold, option_map, string_bytes, IfOk, OnOk};
-ghost use Rattle.crontab.specs.List.{parts_of, names_nothing, step_text, range_text, added, first_text, text_of, field_text};
+ghost use Rattle.crontab.specs.List.{parts_of, names_nothing, is_uneven, step_text, range_text, added, first_text, text_of, field_text};
 
 use crate::bytes::begins_with;
 use crate::field::{Part, Place, part_of};
@@ -35,11 +35,21 @@ pub fn parts_of(alloc: Global, place: Place, field: &[u8]) -> Result<Option<Vec<
     Ok(Some(parts))
 }
 
-// Whether a part names no value.
-pub(crate) fn names_nothing(part: &Part) -> bool
+/// Whether a part names no value: its range runs down.
+pub fn names_nothing(part: &Part) -> bool
     ensures { result ≡ names_nothing part.now }
 {
     part.last < part.first
+}
+
+/// Whether a field is one part, which is a star with a step below a number that doesn't divide it.
+pub fn is_uneven(turn: u64, parts: &[Part]) -> bool
+    ensures { result ≡ is_uneven turn parts.now }
+{
+    match parts {
+        [part] => part.is_star && 0 < part.step && part.step < turn && turn % part.step != 0,
+        _ => false,
+    }
 }
 
 // The step of a part behind its range.

@@ -2,25 +2,32 @@
 //! that parser takes.
 ghost use Rattle.std.specs.Prelude.{◌≡◌, ◌≤◌, ◌||◌, not, length, option_map, take, filter, IfOk};
 ghost use Rattle.std.specs.Option.{is_some, is_none};
-ghost use Rattle.std.specs.List.{list_any, prefix_len};
+ghost use Rattle.std.specs.List.{list_all, list_any, prefix_len};
 ghost use Rattle.crontab.specs.declared.bytes.Kind.TheVariants as kinds;
 ghost use Rattle.crontab.specs.Bytes.{is_digit, front, behind, rest_of};
 ghost use Rattle.crontab.specs.Entries.{words_seen};
 ghost use Rattle.crontab.specs.Field.{name_of, part_of};
 ghost use Rattle.crontab.specs.Line.{nickname_of};
 ghost use Rattle.crontab.specs.Line.{words_of as words_in};
-ghost use Rattle.crontab.specs.List.{names_nothing, parts_of};
-ghost use Rattle.crontab.specs.Notes.{is_followed, is_large, is_named, reads, is_numbered, is_named_last, passes, any_run, is_whole_star, has_range_down, has_star_among, is_field_noted, any_field, is_star_day, are_words_noted, is_job_noted, field_at, has_modifier, is_fault_noted, takes, is_refused_field_noted, takes_all, has_seconds, lowered, is_of_fields, is_of_nickname, is_refusal_noted, is_text_noted, note_name, notes_of};
+ghost use Rattle.crontab.specs.List.{parts_of};
+ghost use Rattle.crontab.specs.Notes.{is_followed, is_large, is_named, reads, is_numbered, is_named_last, is_last_weekday, is_weekday_word, passes, any_run, is_weekday_byte, looks_like_weekdays, has_other_name, has_passed_over, has_large_number, is_whole_star, is_star_among, any_star_among, has_uneven_step, any_uneven_step, is_star_day, are_words_noted, is_job_noted, field_at, has_modifier, is_fault_noted, takes, is_refused_field_noted, takes_day, takes_all, has_seconds, lowered, is_of_fields, is_of_nickname, is_refusal_noted, is_text_noted, note_name, notes_of};
 
 use crate::bytes::{Kind, begins_with, cut, is_digit, is_of, rest_of};
 use crate::field::{Names, Part, Place, all_digits, digits, is_name, name_of, part_of};
 use crate::line::{DAYS, Fault, HOURS, MINUTES, MONTHS, WEEKDAYS, Words, are_both, word, words_of};
-use crate::list::{names_nothing, parts_of};
+use crate::list::{is_uneven, parts_of};
 use crate::setting::has;
 use std::alloc::{AllocError, Global};
 
 /// How many numbers 32 bits hold.
 const NUMBERS: u64 = 4_294_967_296;
+
+/// How many days the longest month has, months a year, and days a week.
+const DAYS_OF_MONTH: u64 = 31;
+
+const MONTHS_OF_YEAR: u64 = 12;
+
+const DAYS_OF_WEEK: u64 = 7;
 
 /// How many letters the name of a weekday has.
 const NAME_LENGTH: usize = 3;
@@ -30,14 +37,10 @@ const NAME_LENGTH: usize = 3;
 pub enum Note {
     /// A day field begins with `*`, and neither day field is `*` alone: both must match.
     StarDay,
-    /// A range that goes down, which names nothing.
-    RangeDown,
-    /// Bytes behind a part are passed over, with the rest of the field.
-    PassedOver,
     /// A `*` stands beside other parts.
     StarAmongParts,
-    /// A number of 2^32 or more, of which the rest after division by 2^32 counts.
-    LargeNumber,
+    /// A step of days, months or weekdays that is shorter from the last value to the next first one.
+    UnevenStep,
     /// A part between commas is empty.
     EmptyPart,
     /// The name of a month or of a weekday where the field has no such names.
@@ -52,12 +55,10 @@ pub enum Note {
 
 impl Note {
     /// All of them, in the order in which they are told.
-    pub const ALL: [Note; 10] = [
+    pub const ALL: [Note; 8] = [
         Note::StarDay,
-        Note::RangeDown,
-        Note::PassedOver,
         Note::StarAmongParts,
-        Note::LargeNumber,
+        Note::UnevenStep,
         Note::EmptyPart,
         Note::OtherName,
         Note::Modifier,
@@ -71,10 +72,8 @@ impl Note {
     {
         match self {
             Note::StarDay => "star-day",
-            Note::RangeDown => "range-down",
-            Note::PassedOver => "passed-over",
             Note::StarAmongParts => "star-among-parts",
-            Note::LargeNumber => "large-number",
+            Note::UnevenStep => "uneven-step",
             Note::EmptyPart => "empty-part",
             Note::OtherName => "other-name",
             Note::Modifier => "modifier",
@@ -101,6 +100,8 @@ enum Sign {
     DayModifier,
     // A word that is a modifier in a field of weekdays.
     WeekdayModifier,
+    // A word that is neither a number, nor a name of the field, nor such a modifier.
+    NoWeekday,
 }
 
 // ---- signs
@@ -161,6 +162,20 @@ fn is_named_step(piece: &[u8]) -> bool
     is_named(step)
 }
 
+// Whether a word is a modifier of a field of weekdays.
+fn is_last_weekday(word: &[u8]) -> bool
+    ensures { result ≡ is_last_weekday word.now }
+{
+    is_name(word, "l") || is_numbered(word, "l") || is_named_last(word)
+}
+
+// Whether a word is digits, or a name of the field, or such a modifier.
+fn is_weekday_word(place: Place, word: &[u8]) -> bool
+    ensures { result ≡ is_weekday_word place word.now }
+{
+    all_digits(word) || name_of(place.names, word).is_some() || is_last_weekday(word)
+}
+
 fn passes(sign: Sign, place: Place, run: &[u8]) -> bool
     ensures { result ≡ passes sign place run.now }
 {
@@ -171,7 +186,8 @@ fn passes(sign: Sign, place: Place, run: &[u8]) -> bool
         Sign::OtherName => is_named(run) && name_of(place.names, run).is_none(),
         Sign::NamedStep => is_named_step(run),
         Sign::DayModifier => is_name(run, "l") || is_name(run, "lw") || is_numbered(run, "w"),
-        Sign::WeekdayModifier => is_name(run, "l") || is_numbered(run, "l") || is_named_last(run),
+        Sign::WeekdayModifier => is_last_weekday(run),
+        Sign::NoWeekday => !is_weekday_word(place, run),
     }
 }
 
@@ -183,6 +199,59 @@ fn any_run(sign: Sign, place: Place, kind: Kind, text: &[u8]) -> bool
         .any(|run| passes(sign, place, run))
 }
 
+// ---- what cron takes of a field, and leaves out of it
+
+/// Whether cron passes over bytes of a field behind a part, which are no comma.
+pub fn has_passed_over(place: Place, field: &[u8]) -> bool
+    ensures { result ≡ has_passed_over place field.now }
+{
+    any_run(Sign::Followed, place, Kind::But(b','), field)
+}
+
+/// Whether a word of a field is a number of 2^32 or more, of which cron keeps what is left after division by 2^32, and no
+/// bytes of the field are passed over.
+pub fn has_large_number(place: Place, field: &[u8]) -> bool
+    ensures { result ≡ has_large_number place field.now }
+{
+    !has_passed_over(place, field) && any_run(Sign::Large, place, Kind::Alphanumeric, field)
+}
+
+// ---- what a word may have been meant as
+
+fn is_weekday_byte(byte: u8) -> bool
+    ensures { result ≡ is_weekday_byte byte }
+{
+    is_of(Kind::Alphanumeric, byte)
+        || byte == b'*'
+        || byte == b','
+        || byte == b'-'
+        || byte == b'/'
+        || byte == b'?'
+        || byte == b'#'
+        || byte == b'+'
+}
+
+fn all_weekday_bytes(word: &[u8]) -> bool
+    ensures { result ≡ list_all is_weekday_byte word.now }
+{
+    word.iter().all(|byte| is_weekday_byte(*byte))
+}
+
+/// Whether a word may be a field of weekdays: letters, digits and the signs of such a field alone, and of letters and digits
+/// only numbers, names of weekdays and modifiers.
+pub fn looks_like_weekdays(word: &[u8]) -> bool
+    ensures { result ≡ looks_like_weekdays word.now }
+{
+    all_weekday_bytes(word) && !any_run(Sign::NoWeekday, WEEKDAYS, Kind::Alphanumeric, word)
+}
+
+/// Whether a word of a field is the name of a month or of a weekday, and none of this field.
+pub fn has_other_name(place: Place, field: &[u8]) -> bool
+    ensures { result ≡ has_other_name place field.now }
+{
+    any_run(Sign::OtherName, place, Kind::Alphanumeric, field)
+}
+
 // ---- what cron takes and reads otherwise
 
 fn is_whole_star(part: &Part) -> bool
@@ -191,29 +260,14 @@ fn is_whole_star(part: &Part) -> bool
     part.is_star && part.step == 1
 }
 
-fn any_down(parts: &[Part]) -> bool
-    ensures { result ≡ list_any names_nothing parts.now }
-{
-    parts.iter().any(|part| names_nothing(part))
-}
-
 fn any_whole_star(parts: &[Part]) -> bool
     ensures { result ≡ list_any is_whole_star parts.now }
 {
     parts.iter().any(|part| is_whole_star(part))
 }
 
-fn has_range_down(alloc: Global, place: Place, field: &[u8]) -> Result<bool, AllocError>
-    ensures { IfOk result (λ b. b ≡ has_range_down (parts_of place field.now)) }
-{
-    match parts_of(alloc, place, field)? {
-        Some(parts) => Ok(any_down(parts.as_slice())),
-        None => Ok(false),
-    }
-}
-
-fn has_star_among(alloc: Global, place: Place, field: &[u8]) -> Result<bool, AllocError>
-    ensures { IfOk result (λ b. b ≡ has_star_among (parts_of place field.now)) }
+fn is_star_among(alloc: Global, place: Place, field: &[u8]) -> Result<bool, AllocError>
+    ensures { IfOk result (λ b. b ≡ is_star_among place field.now) }
 {
     match parts_of(alloc, place, field)? {
         Some(parts) => Ok(1 < parts.len() && any_whole_star(parts.as_slice())),
@@ -221,30 +275,33 @@ fn has_star_among(alloc: Global, place: Place, field: &[u8]) -> Result<bool, All
     }
 }
 
-fn is_field_noted(alloc: Global, note: Note, place: Place, field: &[u8]) -> Result<bool, AllocError>
-    ensures { IfOk result (λ b. b ≡ is_field_noted note place field.now) }
+fn any_star_among(alloc: Global, words: Words<'_>) -> Result<bool, AllocError>
+    ensures { IfOk result (λ b. b ≡ any_star_among (words_seen words.entry)) }
 {
-    match note {
-        Note::RangeDown => has_range_down(alloc, place, field),
-        Note::StarAmongParts => has_star_among(alloc, place, field),
-        Note::PassedOver => Ok(any_run(Sign::Followed, place, Kind::But(b','), field)),
-        Note::LargeNumber => Ok(
-            !any_run(Sign::Followed, place, Kind::But(b','), field)
-                && any_run(Sign::Large, place, Kind::Alphanumeric, field),
-        ),
-        _ => Ok(false),
+    let minutes = is_star_among(alloc, MINUTES, words.minutes)?;
+    let hours = is_star_among(alloc, HOURS, words.hours)?;
+    let days = is_star_among(alloc, DAYS, words.days)?;
+    let months = is_star_among(alloc, MONTHS, words.months)?;
+    let weekdays = is_star_among(alloc, WEEKDAYS, words.weekdays)?;
+    Ok(minutes || hours || days || months || weekdays)
+}
+
+fn has_uneven_step(alloc: Global, turn: u64, place: Place, field: &[u8]) -> Result<bool, AllocError>
+    ensures { IfOk result (λ b. b ≡ has_uneven_step turn place field.now) }
+{
+    match parts_of(alloc, place, field)? {
+        Some(parts) => Ok(is_uneven(turn, parts.as_slice())),
+        None => Ok(false),
     }
 }
 
-fn any_field(alloc: Global, note: Note, words: Words<'_>) -> Result<bool, AllocError>
-    ensures { IfOk result (λ b. b ≡ any_field (is_field_noted note) (words_seen words.entry)) }
+fn any_uneven_step(alloc: Global, words: Words<'_>) -> Result<bool, AllocError>
+    ensures { IfOk result (λ b. b ≡ any_uneven_step (words_seen words.entry)) }
 {
-    let minutes = is_field_noted(alloc, note, MINUTES, words.minutes)?;
-    let hours = is_field_noted(alloc, note, HOURS, words.hours)?;
-    let days = is_field_noted(alloc, note, DAYS, words.days)?;
-    let months = is_field_noted(alloc, note, MONTHS, words.months)?;
-    let weekdays = is_field_noted(alloc, note, WEEKDAYS, words.weekdays)?;
-    Ok(minutes || hours || days || months || weekdays)
+    let days = has_uneven_step(alloc, DAYS_OF_MONTH, DAYS, words.days)?;
+    let months = has_uneven_step(alloc, MONTHS_OF_YEAR, MONTHS, words.months)?;
+    let weekdays = has_uneven_step(alloc, DAYS_OF_WEEK, WEEKDAYS, words.weekdays)?;
+    Ok(days || months || weekdays)
 }
 
 fn is_star_day(words: Words<'_>) -> bool
@@ -258,7 +315,9 @@ fn are_words_noted(alloc: Global, note: Note, words: Words<'_>) -> Result<bool, 
 {
     match note {
         Note::StarDay => Ok(is_star_day(words)),
-        _ => any_field(alloc, note, words),
+        Note::StarAmongParts => any_star_among(alloc, words),
+        Note::UnevenStep => any_uneven_step(alloc, words),
+        _ => Ok(false),
     }
 }
 
@@ -310,7 +369,7 @@ fn is_fault_noted(note: Note, fault: Fault, place: Place, field: &[u8]) -> bool
 {
     match note {
         Note::EmptyPart => !field.is_empty() && any_run(Sign::Empty, place, Kind::But(b','), field),
-        Note::OtherName => any_run(Sign::OtherName, place, Kind::Alphanumeric, field)
+        Note::OtherName => has_other_name(place, field)
             || any_run(Sign::NamedStep, place, Kind::But(b','), field),
         Note::Modifier => has_modifier(fault, place, field),
         _ => false,
@@ -346,14 +405,22 @@ fn is_refused_field_noted(
     }
 }
 
+// Whether cron takes a day field, or it has a modifier.
+fn takes_day(alloc: Global, fault: Fault, place: Place, field: &[u8]) -> Result<bool, AllocError>
+    ensures { IfOk result (λ b. b ≡ takes_day fault place field.now) }
+{
+    let is_taken = takes(alloc, place, field)?;
+    Ok(is_taken || has_modifier(fault, place, field))
+}
+
 fn takes_all(alloc: Global, words: Words<'_>) -> Result<bool, AllocError>
     ensures { IfOk result (λ b. b ≡ takes_all (words_seen words.entry)) }
 {
     let minutes = takes(alloc, MINUTES, words.minutes)?;
     let hours = takes(alloc, HOURS, words.hours)?;
-    let days = takes(alloc, DAYS, words.days)?;
+    let days = takes_day(alloc, Fault::Days, DAYS, words.days)?;
     let months = takes(alloc, MONTHS, words.months)?;
-    let weekdays = takes(alloc, WEEKDAYS, words.weekdays)?;
+    let weekdays = takes_day(alloc, Fault::Weekdays, WEEKDAYS, words.weekdays)?;
     Ok(minutes && hours && days && months && weekdays)
 }
 
@@ -468,14 +535,10 @@ pub fn text(note: Note) -> &'static str {
     match note {
         Note::StarDay =>
             "both day fields must match, since one begins with *; where either may, write that one as a range, as 1-31/2 for */2",
-        Note::RangeDown =>
-            "a range that goes down names nothing to cron: write 22-23,0-4 for 22-4, and fri-7 for fri-sun",
-        Note::PassedOver =>
-            "cron passes over what stands behind a number, a name or a star and is no comma, with the rest of the field: 1#2 is 1, 0~5 is 0; write only what counts",
         Note::StarAmongParts =>
             "a * among other parts names each value, so that they add nothing: write * alone, or leave it out",
-        Note::LargeNumber =>
-            "cron keeps of a number what is left after division by 4294967296: write that number",
+        Note::UnevenStep =>
+            "the step is counted anew from each month's, year's or week's first value, so that the last one is shorter: */2 in days is the 31st, and then the 1st",
         Note::EmptyPart =>
             "cron takes no empty part: write one comma between two parts, and no blank beside it",
         Note::OtherName =>
@@ -484,6 +547,6 @@ pub fn text(note: Note) -> &'static str {
             "cron has no L, W, ? and +: write * for ?, leave + out, and let the command test for a last or a nearest day",
         Note::CapitalNickname => "cron knows a nickname in small letters alone: write it so",
         Note::Seconds =>
-            "cron has no field of seconds: leave out the first field, since cron takes the five behind it",
+            "cron has no field of seconds: leave out the first field, and what cron doesn't take of the five behind it, as * for ?",
     }
 }

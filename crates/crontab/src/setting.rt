@@ -1,8 +1,10 @@
 //! Lines that set a variable.
-ghost use Rattle.std.specs.Prelude.{◌≡◌, ◌≤◌, length, take, option_map};
-ghost use Rattle.crontab.specs.Setting.{setting_length, has, behind_quoted, behind_name, is_value, is_assigned, is_setting, name_of, sets_zone};
+ghost use Rattle.std.specs.Prelude.{◌≡◌, ◌==◌, ◌≤◌, length, take, option_map};
+ghost use Rattle.std.specs.List.{list_any, slice_split};
+ghost use Rattle.crontab.specs.Bytes.{is_blank, begins_with};
+ghost use Rattle.crontab.specs.Setting.{setting_length, has, behind_quoted, behind_name, is_value, is_assigned, is_setting, name_of, sets_zone, value_behind, value_of, is_quoted, unquoted, begins_home, has_home, has_comment, is_to_expand, is_not_expanded};
 
-use crate::bytes::{Kind, begins_with, cut, is_quote, rest_of};
+use crate::bytes::{Kind, begins_with, cut, is_blank, is_quote, rest_of};
 
 /// How many bytes of a line cron looks at.
 const SETTING_LENGTH: usize = 998;
@@ -116,4 +118,89 @@ fn is_assigned(behind: Option<&[u8]>) -> bool
             begins_with(sign, b'=') && is_value(value)
         }
     }
+}
+
+// What stands behind the name, `=` and the spaces round it.
+fn value_behind(behind: Option<&[u8]>) -> &[u8]
+    ensures { result.now ≡ value_behind (option_map (λ t. t.now) behind.entry) }
+{
+    match behind {
+        None => "".as_bytes(),
+        Some(text) => {
+            let (_, sign) = cut(text, Kind::Space);
+            let (_, value) = cut(rest_of(sign), Kind::Space);
+            value
+        }
+    }
+}
+
+// A setting's value, with its quotes.
+fn value_of(text: &[u8]) -> &[u8]
+    ensures { result.now ≡ value_of text.now }
+{
+    value_behind(behind_name(start_of(text)))
+}
+
+fn is_quoted(value: &[u8]) -> bool
+    ensures { result ≡ is_quoted value.now }
+{
+    match value {
+        [] => false,
+        [first, ..] => is_quote(*first),
+    }
+}
+
+// A value without the quote in front of it.
+fn unquoted(value: &[u8]) -> &[u8]
+    ensures { result.now ≡ unquoted value.now }
+{
+    if is_quoted(value) {
+        rest_of(value)
+    } else {
+        value
+    }
+}
+
+fn begins_home(text: &[u8]) -> bool
+    ensures { result ≡ begins_home text.now }
+{
+    begins_with(text, b'~') && begins_with(rest_of(text), b'/')
+}
+
+// Whether `~/` stands at the head of a text, or behind a colon.
+fn has_home(text: &[u8]) -> bool
+    ensures { result ≡ has_home text.now }
+{
+    text.split(|byte| *byte == b':')
+        .any(|piece| begins_home(piece))
+}
+
+// Whether a word of a text begins with `#`.
+fn any_hash(text: &[u8]) -> bool
+    ensures { result ≡ list_any (begins_with 35) (slice_split is_blank text.now) }
+{
+    text.split(|byte| is_blank(*byte))
+        .any(|piece| begins_with(piece, b'#'))
+}
+
+// Whether `#` stands behind a blank of a text.
+fn has_comment(text: &[u8]) -> bool
+    ensures { result ≡ has_comment text.now }
+{
+    let (_, rest) = cut(text, Kind::Word);
+    any_hash(rest)
+}
+
+fn is_to_expand(value: &[u8]) -> bool
+    ensures { result ≡ is_to_expand value.now }
+{
+    has(value, b'$') || has_home(unquoted(value)) || !is_quoted(value) && has_comment(value)
+}
+
+/// Whether a setting's value has a `$`, a `~/` at its head or behind a colon, or outside quotes a blank and `#`: cron
+/// expands nothing, and takes a comment for a part of the value.
+pub fn is_not_expanded(text: &[u8]) -> bool
+    ensures { result ≡ is_not_expanded text.now }
+{
+    is_to_expand(value_of(text))
 }
