@@ -9,6 +9,11 @@ pub mod StretchStarts
 pub mod InsideStarts
 pub mod BeginStarts
 pub mod PartStarts
+pub mod KnownMinutes
+pub mod OnwardStretches
 pub mod SearchSteps
+pub mod StartBounds
 pub mod SearchLoops
 pub mod NoneDue
+pub mod Recurs
+pub mod StartLists

@@ -1,13 +1,13 @@
--- One search shows that no minute is named.
-use Rattle.std.proofs.Common.{◌≡◌, arith, refl, ℤ, pos, ◌+ℤ◌, ◌*ℤ◌, ◌≤ℤ◌, ◌<ℤ◌, []}
+-- What is known of a job's minutes shows that none of some is named.
+use Rattle.std.proofs.Common.{◌≡◌, subst, arith, refl, ℤ, pos, ◌+ℤ◌, ◌≤ℤ◌, ◌<ℤ◌, []}
 use Rattle.std.proofs.lemmas.Int.{ints}
 use Rattle.std.proofs.lemmas.List.Elements.{All-nil}
-use Rattle.croner_base.specs.declared.time.Direction.TheVariants.{Forward}
+use Rattle.croner_base.specs.declared.time.Direction.{Direction}
+use Rattle.croner_base.specs.declared.time.Direction.TheVariants.{Forward, Backward}
 use Rattle.croner_pattern.specs.Meaning.{Meaning}
-use Rattle.croner.specs.search.Limit.{IsWithin}
 use Rattle.crontab_runs.specs.Starts.{NamesMinute}
 use Rattle.crontab_runs.specs.Private.Due.{IsNamedCount}
-use Rattle.crontab_runs.specs.Private.Nearest.{NoneNamed, IsNearestNamed}
+use Rattle.crontab_runs.specs.Private.Known.{AreAllFrom}
 
 none_count : (m : Meaning) (after upto : ℤ) → ((k : ℤ) → after <ℤ k → k ≤ℤ upto → NamesMinute m k → ⊥) → IsNamedCount (NamesMinute m) after upto 0
 none_count m after upto none = (
@@ -20,8 +20,14 @@ none_count m after upto none = (
   refl,
 )
 
-pub none_before : (m : Meaning) (after upto from n : ℤ) → from ≡ after +ℤ pos 1 → IsNearestNamed Forward m from n → upto <ℤ n → IsNamedCount (NamesMinute m) after upto 0
-none_before m after upto from n e near past = none_count m after upto (λ k low high is. omega (arith, ints, near.nearest k (omega (arith, ints, low, e), is), high, past))
+-- forward from behind the first of them, and backward from the last
+pub none_ahead : (m : Meaning) (direction : Direction) (after upto from first : ℤ) → direction ≡ Forward → from ≡ after +ℤ pos 1 → AreAllFrom direction m from first → upto <ℤ first
+    → IsNamedCount (NamesMinute m) after upto 0
+none_ahead m direction after upto from first e is all past =
+    let here : AreAllFrom Forward m from first = subst (λ (d : Direction). AreAllFrom d m from first) e all in
+    none_count m after upto (λ k low high named. omega (arith, ints, here k (omega (arith, ints, low, is)) named, high, past))
 
-pub none_at_all : (m : Meaning) (after upto from : ℤ) → from ≡ after +ℤ pos 1 → NoneNamed Forward m from → IsWithin Forward (upto *ℤ pos 60) → IsNamedCount (NamesMinute m) after upto 0
-none_at_all m after upto from e none within = none_count m after upto (λ k low high is. none k (omega (arith, ints, low, e)) (omega (arith, ints, high, within)) is)
+pub none_back : (m : Meaning) (direction : Direction) (after upto first : ℤ) → direction ≡ Backward → AreAllFrom direction m upto first → first ≤ℤ after → IsNamedCount (NamesMinute m) after upto 0
+none_back m direction after upto first e all past =
+    let here : AreAllFrom Backward m upto first = subst (λ (d : Direction). AreAllFrom d m upto first) e all in
+    none_count m after upto (λ k low high named. omega (arith, ints, here k (omega (arith, ints, high)) named, low, past))

@@ -1,5 +1,5 @@
 -- The search in a stretch, as the code has it.
-use Rattle.std.proofs.Common.{◌≡◌, ◌↔◌, ◌⊎◌, inl, inr, ◌∙◌, sym, subst, ap, refl, arith, Bool, true, false, ◌<◌, ℕ, ℤ, pos, neg_ℤ, ◌+ℤ◌, ◌-ℤ◌, ◌*ℤ◌, ◌≤ℤ◌, ◌<ℤ◌, Option, Some, None, MatchOption, w64, to_z, of_z, FitsSigned}
+use Rattle.std.proofs.Common.{◌≡◌, ◌↔◌, ◌⊎◌, inl, inr, ◌∙◌, sym, subst, ap, refl, arith, Bool, true, false, ◌<◌, ℕ, ℤ, pos, neg_ℤ, ◌+ℤ◌, ◌-ℤ◌, ◌*ℤ◌, ◌≤ℤ◌, ◌<ℤ◌, Option, Some, None, MatchOption, w64, to_z, of_z, FitsSigned, lit<}
 use Rattle.std.proofs.lemmas.Int.{ints, to_z-of_z, int_max_is, by_lt_z}
 use Rattle.std.specs.Int.{int_max}
 use Rattle.croner_base.specs.declared.time.Direction.{Direction}
@@ -119,7 +119,8 @@ module _ (p : Part) (k : ℤ) (near : IsNearestFrom p k) where
 
   pub found_behind : least_in p ≤ℤ k → (k *ℤ pos 60 -ℤ p.stretch.offset) <ℤ p.stretch.end → IsFoundOf p (Behind p) (record { second = k *ℤ pos 60 -ℤ p.stretch.offset; count = 1 })
   found_behind above high =
-      nearest_inside (zone_in p) p.stretch.begin p.stretch.end p.stretch.offset p.stretch.before p.stretch.fits (job_of p.job.now.cron) p.job.now.is_starred p.direction p.from k near above high
+      let found = nearest_inside (zone_in p) p.stretch.begin p.stretch.end p.stretch.offset p.stretch.before p.stretch.fits (job_of p.job.now.cron) p.job.now.is_starred p.direction p.from k near above high in
+      (found.0, record { some = lit< tt; times = found.1 })
 
 -- where no minute is named
 pub none_behind : (p : Part) → NoneNamed p.direction (job_of p.job.now.cron) (minute_from p.direction (p.from +ℤ p.stretch.offset) (least_in p)) → NoneOf p (Behind p)
@@ -171,13 +172,13 @@ module _ (p : Part) where
             | inr same ↦ subst (Reaches p.direction p.stretch.begin) (sym same) (reaches-same p.direction p.stretch.begin)
           ];
         }),
-        subst (λ (i : ℤ). StartsTimes (job_in p) (zone_in p) i s.count) (sym found.at) found.times,
+        record { some = found.some; times = subst (λ (i : ℤ). StartsTimes (job_in p) (zone_in p) i s.count) (sym found.at) found.times },
       )
 
   -- another second is
   pub found_later : (s : Start) → (Starts (job_in p) (zone_in p) p.stretch.begin → Reaches p.direction p.from p.stretch.begin → Reaches p.direction s.second p.stretch.begin)
       → IsFoundOf p (Behind p) s → IsFoundOf p (Within p) s
-  found_later s first (near, times) = (
+  found_later s first (near, is) = (
     record {
       counts = (behind_in s.second near.counts.0, near.counts.1);
       nearest = λ j (within, starts). elim (in_or_at j within) [
@@ -185,7 +186,7 @@ module _ (p : Part) where
         | inr same ↦ subst (Reaches p.direction s.second) (sym same) (first (subst (Starts (job_in p) (zone_in p)) same starts) (subst (Reaches p.direction p.from) same within.2))
       ];
     },
-    times,
+    is,
   )
 
   -- nothing is

@@ -9,7 +9,8 @@ use Rattle.croner.proofs.zone.Ahead.{reaches-same}
 use Rattle.crontab_runs.specs.declared.job.Start.{Start}
 use Rattle.crontab_runs.specs.declared.part.Part.{Part}
 use Rattle.crontab_runs.specs.declared.stretch.Stretch.{Stretch}
-use Rattle.crontab_runs.specs.Starts.{StartsTimes, Starts}
+use Rattle.crontab_runs.specs.Searches.{IsStartOf}
+use Rattle.crontab_runs.specs.Starts.{Starts}
 use Rattle.crontab_runs.specs.Private.Found.{job_in, zone_in, Within, NoneOf, IsFoundOf}
 use Rattle.crontab_runs.specs.Private.Parts.{IsNearestStart}
 use Rattle.crontab_runs.specs.Private.Steps.{ComesTo, SameFrom, far_wall, InStretch, FromStretch, GoesOn}
@@ -62,13 +63,13 @@ module _ (p : Part) (from : ℤ) (same : SameFrom p.direction p.stretch from p.f
   within_in i (low, high, on) = (low, high, (same i low high).0 on)
 
   pub step_found : (s : Start) → IsFoundOf p (Within p) s
-      → IsNearestStart p.direction (job_in p) (zone_in p) (InStretch p.direction p.stretch from) s.second × StartsTimes (job_in p) (zone_in p) s.second s.count
-  step_found s (near, times) = (
+      → IsNearestStart p.direction (job_in p) (zone_in p) (InStretch p.direction p.stretch from) s.second × IsStartOf (job_in p) (zone_in p) s
+  step_found s (near, is) = (
     record {
       counts = (within_in s.second near.counts.0, near.counts.1);
       nearest = λ j (inside, starts). near.nearest j (in_within j inside, starts);
     },
-    times,
+    is,
   )
 
   -- all instants of the stretch show less than its last in the direction

@@ -1,5 +1,5 @@
 -- Between two changes the clock of a calm table goes straight on.
-use Rattle.std.proofs.Common.{◌≡◌, ◌⊎◌, inl, inr, ◌∙◌, subst, ap, refl, rules, arith, true, false, nat_lt, ◌-◌, ◌<◌, ◌≤◌, ℕ, zero, suc, ℤ, pos, neg_ℤ, ◌+ℤ◌, ◌-ℤ◌, ◌<ℤ◌, ◌≤ℤ◌, int_le, List, [], ◌∷◌, length, get_or}
+use Rattle.std.proofs.Common.{◌≡◌, ◌⊎◌, inl, inr, ◌∙◌, sym, subst, ap, refl, add-one, ◌+◌, rules, arith, true, false, nat_lt, ◌-◌, ◌<◌, ◌≤◌, ℕ, zero, suc, ℤ, pos, neg_ℤ, ◌+ℤ◌, ◌-ℤ◌, ◌<ℤ◌, ◌≤ℤ◌, int_le, List, [], ◌∷◌, length, get_or}
 use Rattle.std.proofs.lemmas.Int.{ints, by_lt_z}
 use Rattle.croner_base.specs.declared.time.table.ClockTable.{ClockTable}
 use Rattle.croner_base.specs.Limits.{apart_limit, fold_limit}
@@ -12,7 +12,7 @@ use Rattle.croner_base.proofs.tables.TableReadings.{at_or_before_first, count_un
 use Rattle.croner_base.proofs.tables.TableOffsets.{IsOffset, calm_offset}
 use Rattle.croner_base.proofs.tables.TableTests.{not_true, le_of, le_test, lt_of, instant_bounds, step_parts, step_moves}
 use Rattle.croner.specs.Private.search.Halves.{Break}
-use Rattle.croner.proofs.zone.ZoneOrder.{Calm, calm_of, below_before}
+use Rattle.croner.proofs.zone.ZoneOrder.{Calm, calm_of, below_before, above_after}
 use Rattle.crontab_runs.specs.Private.Stretches.{far, begin_of, end_of, offset_before, IsStretch}
 
 abbrev nothing : ℤ × ℤ
@@ -139,6 +139,24 @@ module _ (o : ℤ) (cs : List (ℤ × ℤ)) (calm : is_calm_table o cs ≡ true)
       let low = below_before (clock_reads o cs) (table_calm o cs calm) (begin_of cs (suc k) -ℤ pos 1) j (breaks_at k (omega arith)) (omega (arith, ints)) in
       omega (arith, ints, low, reads_before (suc k) le)
 
+  end_low : (n : ℕ) → first_instant ≤ℤ end_of cs n
+  end_low n = elim (nat_cases n (length cs)) [
+    | inl lt ↦ omega (arith, ints, end_at cs n lt, each_instant o cs n (calm_parts o cs calm).changes lt)
+    | inr le ↦ omega (arith, ints, end_last cs n le)
+  ]
+
+  -- and no less than at its first second from there on
+  reads_above : (n : ℕ) (j : ℤ) → n ≤ length cs → begin_of cs n ≤ℤ j → (begin_of cs n +ℤ offset_past o cs n) ≤ℤ clock_reads o cs j
+  reads_above zero j le low = by_lt_z j (end_of cs 0)
+      (λ inside. omega (arith, ints, low, reads_in 0 j le low inside))
+      (λ beyond. omega (arith, ints, beyond, end_low 0, offset_bound 0 le, calm_offset o cs j calm))
+  reads_above (suc k) j le low =
+      let p : ℤ = begin_of cs (suc k) -ℤ pos 1 in
+      let above = above_after (clock_reads o cs) (table_calm o cs calm) p j (breaks_at k (omega arith)) (omega (arith, ints, low)) in
+      let here : clock_reads o cs (p +ℤ pos 1) ≡ begin_of cs (suc k) +ℤ offset_past o cs (suc k) =
+      ap (clock_reads o cs) (omega (arith, ints)) ∙ reads_in (suc k) (begin_of cs (suc k)) (omega arith) (omega (arith, ints)) (ordered (suc k) (omega arith)) in
+      omega (arith, ints, above, here)
+
   goes_back : (n : ℕ) → n ≤ length cs → (offset_before o cs n) ≤ℤ (offset_past o cs n +ℤ pos fold_limit)
   goes_back zero le = omega (arith, ints)
   goes_back (suc k) le = omega (arith, ints, step_parts (offset_past o cs k) (get_or cs k nothing).1 (each_step o cs k (calm_parts o cs calm).changes (omega arith)))
@@ -154,6 +172,7 @@ module _ (o : ℤ) (cs : List (ℤ × ℤ)) (calm : is_calm_table o cs ≡ true)
         steady = λ i low high. reads_in n i le low high;
         last = reads_before n le;
         past = λ j lt. reads_past n j le lt;
+        above = λ j low. reads_above n j le low;
         back = omega (arith, ints, goes_back n le);
         order = ordered n le;
         begin_low = b.0;
@@ -173,6 +192,25 @@ pub table_stretch : (t : ClockTable) (n : ℕ) → n ≤ length t.changes.items
     → IsStretch (table_zone t) (begin_of t.changes.items n) (end_of t.changes.items n) (offset_past t.first_offset t.changes.items n)
     (begin_of t.changes.items n -ℤ pos 1 +ℤ offset_before t.first_offset t.changes.items n)
 table_stretch t n le = stretch_is t.first_offset t.changes.items t.calm n le
+
+-- a stretch begins where the one before it ends
+pub begin_next : (cs : List (ℤ × ℤ)) (n : ℕ) → n < length cs → begin_of cs (n + 1) ≡ end_of cs n
+begin_next cs n lt = ap (begin_of cs) (add-one n) ∙ sym (end_at cs n lt)
+
+-- and so they follow one another
+begins_rise : (t : ClockTable) (n d : ℕ) → n + d ≤ length t.changes.items → begin_of t.changes.items n ≤ℤ begin_of t.changes.items (n + d)
+begins_rise t n zero le = let same : n + 0 ≡ n = omega arith in omega (arith, ints, ap (begin_of t.changes.items) same)
+begins_rise t n (suc d) le =
+    let same : n + suc d ≡ n + d + 1 = omega arith in
+    let before = begins_rise t n d (omega (arith, le)) in
+    let next = begin_next t.changes.items (n + d) (omega (arith, le)) in
+    let order = (table_stretch t (n + d) (omega (arith, le))).order in
+    omega (arith, ints, ap (begin_of t.changes.items) same, before, next, order)
+
+pub begins_in_order : (t : ClockTable) (a b : ℕ) → a ≤ b → b ≤ length t.changes.items → begin_of t.changes.items a ≤ℤ begin_of t.changes.items b
+begins_in_order t a b le within =
+    let same : a + (b - a) ≡ b = omega (arith, le) in
+    subst (λ (n : ℕ). begin_of t.changes.items a ≤ℤ begin_of t.changes.items n) same (begins_rise t a (b - a) (omega (arith, le, within)))
 
 -- the stretch of an instant, by the changes at or before it
 pub begin_by_count : (cs : List (ℤ × ℤ)) (n : ℕ) (i : ℤ) → neg_ℤ (pos far) ≤ℤ i → ((k : ℕ) (d : ℤ × ℤ) → 0 ≤ k → k < n → int_le (get_or cs k d).0 i ≡ true) → begin_of cs n ≤ℤ i

@@ -1,4 +1,6 @@
 pub mod Starts
 pub mod Views
+pub mod Lines
 pub mod Searches
+pub mod Listing
 pub mod Private

@@ -6,10 +6,11 @@ ghost use Rattle.croner.specs.search.Limit.{IsWithin};
 ghost use Rattle.crontab_runs.specs.Starts.{NamesMinute, due_after as first_due, most_changed};
 ghost use Rattle.crontab_runs.specs.Views.{cron_job_of};
 ghost use Rattle.crontab_runs.specs.Private.Due.{IsNamedCount, AreStarts};
+ghost use Rattle.crontab_runs.specs.Private.Known.{IsKnown};
 ghost use Rattle.crontab_runs.specs.Private.Stretches.{far};
 
 use crate::job::CrontabJob;
-use crate::minutes::{SECONDS_PER_MINUTE, is_within, minute_of, nearest_named};
+use crate::minutes::{NearestMinute, minute_of, nearest_named};
 use crate::stretch::Stretch;
 use croner::Direction;
 
@@ -17,7 +18,7 @@ use croner::Direction;
 const MOST_LATE: i64 = 5;
 
 /// So many minutes the clock is put forward, or by less is it put back, where cron takes it for a change of the clock that it makes up for.
-const MOST_CHANGED: i64 = 180;
+pub(crate) const MOST_CHANGED: i64 = 180;
 
 // The direction from a minute to the year 1970.
 fn towards_1970(minute: i64) -> Direction
@@ -65,28 +66,30 @@ impl CrontabJob {
         minute - 1
     }
 
-    // Whether one search shows that the job names no minute after one and up to another.
-    fn names_none(&self, after: i64, upto: i64) -> bool
+    // Whether what is known, or one search, shows that the job names no minute after one and up to another.
+    fn names_none(&self, known: &NearestMinute, after: i64, upto: i64) -> bool
+        requires known { IsKnown (job_of self.now.cron) known.now }
         requires low { neg_ℤ (pos far) ≤ℤ after }
         requires order { after ≤ℤ upto }
         requires high { upto ≤ℤ pos far }
         ensures { IsTrue result → IsNamedCount (NamesMinute (job_of self.now.cron)) after upto 0 }
     {
-        match nearest_named(&self.cron, after + 1, Direction::Forward) {
-            Some(nearest) => nearest > upto,
-            None => is_within(upto * SECONDS_PER_MINUTE, Direction::Forward),
+        match known.direction {
+            Direction::Forward => known.onward(&self.cron, after + 1).first(&self.cron) > upto,
+            Direction::Backward => known.onward(&self.cron, upto).first(&self.cron) <= after,
         }
     }
 
     // How many minutes the job names, after one and up to another.
-    fn named_count(&self, after: i64, upto: i64) -> u32
+    fn named_count(&self, known: &NearestMinute, after: i64, upto: i64) -> u32
+        requires known { IsKnown (job_of self.now.cron) known.now }
         requires low { neg_ℤ (pos far) ≤ℤ after }
         requires order { after ≤ℤ upto }
         requires near { upto ≤ℤ (after +ℤ pos most_changed) }
         requires high { upto ≤ℤ pos far }
         ensures { IsNamedCount (NamesMinute (job_of self.now.cron)) after upto result }
     {
-        if self.names_none(after, upto) {
+        if self.names_none(known, after, upto) {
             return 0;
         }
         let mut count = 0;
@@ -99,7 +102,8 @@ impl CrontabJob {
     }
 
     /// How many times the job is started at the first second of a stretch.
-    pub(crate) fn count_at_begin(&self, stretch: &Stretch<'_>) -> u32
+    pub(crate) fn count_at_begin(&self, known: &NearestMinute, stretch: &Stretch<'_>) -> u32
+        requires { IsKnown (job_of self.now.cron) known.now }
         ensures { AreStarts (cron_job_of self.now) (table_zone stretch.now.table.now) stretch.now.begin result }
     {
         let shown = minute_of(stretch.before);
@@ -107,6 +111,6 @@ impl CrontabJob {
         if minute == shown {
             return 0;
         }
-        self.named_count(self.due_after(shown, minute), minute)
+        self.named_count(known, self.due_after(shown, minute), minute)
     }
 }

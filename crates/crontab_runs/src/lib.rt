@@ -11,9 +11,14 @@
 
 mod due;
 mod job;
+mod line;
+mod listing;
 mod minutes;
+mod onward;
 mod part;
+mod recurring;
 mod search;
 mod stretch;
 
 pub use job::{CrontabJob, Start};
+pub use listing::{StartIterator, StartsEnd, next_starts_until};

@@ -1,11 +1,14 @@
 //! The minutes that a pattern names. Minutes are counted from 1970-01-01T00:00 on the wall clock.
-ghost use Rattle.std.specs.Prelude.{◌≡◌, ◌↔◌, IsTrue, ◌+ℤ◌, ◌*ℤ◌, ◌<ℤ◌, ◌≤ℤ◌, pos, MatchOption};
+ghost use Rattle.std.specs.Prelude.{◌≡◌, ◌↔◌, IsTrue, ◌+ℤ◌, ◌*ℤ◌, ◌<ℤ◌, ◌≤ℤ◌, pos, neg_ℤ, MatchOption};
+ghost use Rattle.croner_pattern.specs.Directions.{Reaches};
+ghost use Rattle.croner_pattern.specs.Meaning.{Meaning};
 ghost use Rattle.croner_base.specs.Calm.{IsSearched};
 ghost use Rattle.croner_base.specs.Civil.{wall_second};
 ghost use Rattle.croner.specs.Views.{job_of};
 ghost use Rattle.croner.specs.search.Limit.{IsWithin};
 ghost use Rattle.crontab_runs.specs.Starts.{minute_of as minute_at};
 ghost use Rattle.crontab_runs.specs.Private.Nearest.{IsBeyond, IsSearchStart, NoneNamed, IsNearestNamed};
+ghost use Rattle.crontab_runs.specs.Private.Nearest.{first_past};
 
 use croner::{CivilDateTime, Cron, Direction};
 use croner_base::limits::{FIRST_SEARCHED_SECOND, LAST_SEARCHED_SECOND, SECONDS_PER_DAY};
@@ -91,5 +94,110 @@ pub(crate) fn nearest_named(cron: &Cron, from: i64, direction: Direction) -> Opt
     match next_scheduled(&cron.pattern, civil_of(second), direction) {
         Some(found) => Some(minute_of(found.wall_second())),
         None => None,
+    }
+}
+
+/// So many minutes from 1970 no pattern names one.
+const FAR_MINUTES: i64 = 2_000_000_000;
+
+// Whether a minute is another one, or lies behind that in a direction.
+fn reaches(direction: Direction, from: i64, minute: i64) -> bool
+    ensures { IsTrue result ↔ Reaches direction from minute }
+{
+    match direction {
+        Direction::Forward => from <= minute,
+        Direction::Backward => minute <= from,
+    }
+}
+
+// The first minute past the searched years.
+fn first_past(direction: Direction) -> i64
+    ensures { result ≡ first_past direction }
+{
+    match direction {
+        Direction::Forward => FIRST_BEYOND / SECONDS_PER_MINUTE,
+        Direction::Backward => FIRST_WITHIN / SECONDS_PER_MINUTE - 1,
+    }
+}
+
+/// What a search knows of a job's minutes: the nearest one that it names, from a minute on, itself included. `None` where none is left before
+/// year 5000 forward, or after year 1 backward.
+#[derive(Clone, Copy)]
+pub(crate) struct NearestMinute {
+    pub(crate) direction: Direction,
+    pub(crate) from: i64,
+    pub(crate) nearest: Option<i64>,
+}
+
+impl NearestMinute {
+    ghost use Rattle.crontab_runs.specs.Private.Known.{IsKnown, Serves, AreAllFrom, far_minutes};
+
+    /// Before all searches: no job names a minute behind all years.
+    pub(crate) fn behind_all(direction: Direction) -> NearestMinute
+        ensures direction { result.direction ≡ direction }
+        ensures known { (m : Meaning) → IsKnown m result }
+    {
+        let from = match direction {
+            Direction::Forward => FAR_MINUTES,
+            Direction::Backward => -FAR_MINUTES,
+        };
+        NearestMinute {
+            direction,
+            from,
+            nearest: None,
+        }
+    }
+
+    // Whether what is known is so from another minute on, too.
+    fn serves(&self, from: i64) -> bool
+        ensures { IsTrue result → Serves self.now from }
+    {
+        if !reaches(self.direction, self.from, from) {
+            return false;
+        }
+        match self.nearest {
+            Some(minute) => reaches(self.direction, from, minute),
+            None => true,
+        }
+    }
+
+    /// The nearest minute from another one on. It is sought where it isn't known.
+    pub(crate) fn nearest_from(&self, cron: &Cron, from: i64) -> Option<i64>
+        requires { IsKnown (job_of cron.now) self.now }
+        ensures { MatchOption result (NoneNamed self.now.direction (job_of cron.now) from) (IsNearestNamed self.now.direction (job_of cron.now) from) }
+    {
+        if self.serves(from) {
+            self.nearest
+        } else {
+            nearest_named(cron, from, self.direction)
+        }
+    }
+
+    /// What is known from another minute on.
+    pub(crate) fn onward(&self, cron: &Cron, from: i64) -> NearestMinute
+        requires { IsKnown (job_of cron.now) self.now }
+        ensures direction { result.direction ≡ self.now.direction }
+        ensures from { result.from ≡ from }
+        ensures known { IsKnown (job_of cron.now) result }
+    {
+        NearestMinute {
+            direction: self.direction,
+            from,
+            nearest: self.nearest_from(cron, from),
+        }
+    }
+
+    /// The first minute that the job may name, from the known one on: it names none before it. That is the nearest one, or the first past the
+    /// searched years.
+    pub(crate) fn first(&self, cron: &Cron) -> i64
+        requires { IsKnown (job_of cron.now) self.now }
+        ensures all { AreAllFrom self.now.direction (job_of cron.now) self.now.from result }
+        ensures low { neg_ℤ (pos far_minutes) ≤ℤ result }
+        ensures high { result ≤ℤ pos far_minutes }
+    {
+        match self.nearest {
+            Some(minute) => minute,
+            None => first_past(self.direction),
+        }
     }
 }

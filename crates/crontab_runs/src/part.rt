@@ -5,7 +5,7 @@ ghost use Rattle.croner.specs.search.Limit.{IsWithin};
 ghost use Rattle.crontab_runs.specs.Private.Stretches.{far};
 
 use crate::job::{CrontabJob, Start};
-use crate::minutes::{SECONDS_PER_MINUTE, SECONDS_TO_LAST, is_within, minute_of, nearest_named};
+use crate::minutes::{NearestMinute, SECONDS_PER_MINUTE, SECONDS_TO_LAST, is_within, minute_of};
 use crate::stretch::Stretch;
 use croner::Direction;
 
@@ -21,7 +21,7 @@ pub(crate) struct Part<'p, 't> {
 }
 
 impl<'p, 't> Part<'p, 't> {
-    ghost use Rattle.crontab_runs.specs.Private.Found.{least_in, Behind, Within, NoneOf, IsFoundOf, NoneAtBegin, IsFoundAtBegin, NoneAtBeginWithin, IsFoundAtBeginWithin, IsNearestFrom};
+    ghost use Rattle.crontab_runs.specs.Private.Found.{least_in, Behind, Within, NoneOf, IsFoundOf, NoneAtBegin, IsFoundAtBegin, NoneAtBeginWithin, IsFoundAtBeginWithin, IsNearestFrom, KnowsOf};
     ghost use Rattle.crontab_runs.specs.Private.Parts.{least_minute, minute_from as first_minute};
 
     // The least minute that begins behind the first second of the stretch, and that the job may be started for.
@@ -47,11 +47,26 @@ impl<'p, 't> Part<'p, 't> {
         }
     }
 
+    /// The minute from which a search in the stretch goes: forward, from its first second on, the least that something can be started for.
+    pub(crate) fn first_minute(&self) -> i64 {
+        match self.direction {
+            Direction::Forward => {
+                if self.reaches_begin() {
+                    self.stretch.least_behind()
+                } else {
+                    self.minute_from()
+                }
+            }
+            Direction::Backward => self.minute_from(),
+        }
+    }
+
     // The nearest start behind the first second of the stretch: there cron starts a job for one minute at a time.
-    fn behind_begin(&self) -> Option<Start>
+    fn behind_begin(&self, known: &NearestMinute) -> Option<Start>
+        requires { KnowsOf self.now known.now }
         ensures { MatchOption result (NoneOf self.now (Behind self.now)) (IsFoundOf self.now (Behind self.now)) }
     {
-        match nearest_named(&self.job.cron, self.minute_from(), self.direction) {
+        match known.nearest_from(&self.job.cron, self.minute_from()) {
             Some(minute) => self.start_for(minute),
             None => None,
         }
@@ -83,13 +98,14 @@ impl<'p, 't> Part<'p, 't> {
     }
 
     // The start at the first second of the stretch.
-    fn at_begin(&self) -> Option<Start>
+    fn at_begin(&self, known: &NearestMinute) -> Option<Start>
+        requires { KnowsOf self.now known.now }
         ensures { MatchOption result (NoneAtBegin self.now) (IsFoundAtBegin self.now) }
     {
         if !self.reaches_begin() {
             return None;
         }
-        let count = self.job.count_at_begin(&self.stretch);
+        let count = self.job.count_at_begin(known, &self.stretch);
         if count == 0 {
             return None;
         }
@@ -100,28 +116,30 @@ impl<'p, 't> Part<'p, 't> {
     }
 
     // The same where it lies in the searched years.
-    fn at_begin_within(&self) -> Option<Start>
+    fn at_begin_within(&self, known: &NearestMinute) -> Option<Start>
+        requires { KnowsOf self.now known.now }
         ensures { MatchOption result (NoneAtBeginWithin self.now) (IsFoundAtBeginWithin self.now) }
     {
         if is_within(self.stretch.begin + self.stretch.offset, self.direction) {
-            self.at_begin()
+            self.at_begin(known)
         } else {
             None
         }
     }
 
     /// The nearest start in the stretch. `None` where none is left before year 5000 forward, after year 1 backward.
-    pub(crate) fn nearest(&self) -> Option<Start>
+    pub(crate) fn nearest(&self, known: &NearestMinute) -> Option<Start>
+        requires { KnowsOf self.now known.now }
         ensures { MatchOption result (NoneOf self.now (Within self.now)) (IsFoundOf self.now (Within self.now)) }
     {
         match self.direction {
-            Direction::Forward => match self.at_begin() {
+            Direction::Forward => match self.at_begin(known) {
                 Some(start) => Some(start),
-                None => self.behind_begin(),
+                None => self.behind_begin(known),
             },
-            Direction::Backward => match self.behind_begin() {
+            Direction::Backward => match self.behind_begin(known) {
                 Some(start) => Some(start),
-                None => self.at_begin_within(),
+                None => self.at_begin_within(known),
             },
         }
     }

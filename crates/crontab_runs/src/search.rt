@@ -5,29 +5,15 @@ ghost use Rattle.crontab_runs.specs.Searches.{IsStartFound, NoStartLeft};
 ghost use Rattle.crontab_runs.specs.Views.{cron_job_of};
 ghost use Rattle.croner.specs.search.Limit.{IsWithin};
 ghost use Rattle.crontab_runs.specs.Private.Steps.{ComesTo, far_wall, SameFrom, StepsTo};
-ghost use Rattle.crontab_runs.specs.Private.Stretches.{begin_of, end_of, far};
+ghost use Rattle.croner.specs.Views.{job_of};
+ghost use Rattle.crontab_runs.specs.Private.Known.{IsKnown};
 
 use crate::job::{CrontabJob, Start};
-use crate::minutes::is_within;
+use crate::minutes::{NearestMinute, is_within};
 use crate::part::Part;
-use crate::stretch::Stretch;
+use crate::stretch::{Stretch, changes_until};
 use croner::Direction;
-use croner::time::table::{ClockTable, TableTime};
-
-// How many changes of a clock lie at or before a second.
-fn changes_until(table: &ClockTable, second: i64) -> usize
-    requires low { neg_ℤ (pos far) ≤ℤ second }
-    requires high { second <ℤ pos far }
-    ensures bound { result ≤ length table.now.changes.items }
-    ensures begin { begin_of table.now.changes.items result ≤ℤ second }
-    ensures end { second <ℤ end_of table.now.changes.items result }
-{
-    table.changes().partition_point(
-        |change: &(i64, i32)| -> bool
-            ensures { result ≡ int_le change.now.0 second }
-        { change.0 <= second },
-    )
-}
+use croner::time::table::TableTime;
 
 /// What a step of a search comes to.
 #[derive(Clone, Copy)]
@@ -36,8 +22,8 @@ pub(crate) enum Step {
     Found(Start),
     /// None is left in the searched years.
     Over,
-    /// None in this stretch.
-    GoOn,
+    /// None in this stretch; and what is known of the job's minutes.
+    GoOn(NearestMinute),
 }
 
 // The second of a stretch from which a search goes that comes to it from another second.
@@ -65,9 +51,17 @@ fn goes_on(stretch: &Stretch<'_>, direction: Direction) -> bool
 
 impl CrontabJob {
     // The search in a stretch, from a second on.
-    fn step(&self, stretch: Stretch<'_>, from: i64, direction: Direction) -> Step
-        requires { ComesTo direction stretch from }
-        ensures { StepsTo direction (cron_job_of self.now) stretch.entry from result }
+    fn step(
+        &self,
+        stretch: Stretch<'_>,
+        from: i64,
+        direction: Direction,
+        known: &NearestMinute,
+    ) -> Step
+        requires comes { ComesTo direction stretch from }
+        requires known { IsKnown (job_of self.now.cron) known.now }
+        requires same { known.now.direction ≡ direction }
+        ensures { StepsTo direction (cron_job_of self.now) (job_of self.now.cron) stretch.entry from result }
     {
         let part = Part {
             job: self,
@@ -75,11 +69,12 @@ impl CrontabJob {
             from: first_in(&stretch, from, direction),
             direction,
         };
-        match part.nearest() {
+        let minutes = known.onward(&self.cron, part.first_minute());
+        match part.nearest(&minutes) {
             Some(start) => Step::Found(start),
             None => {
                 if goes_on(&stretch, direction) {
-                    Step::GoOn
+                    Step::GoOn(minutes)
                 } else {
                     Step::Over
                 }
@@ -106,12 +101,22 @@ impl CrontabJob {
     {
         let table = after.table();
         let from = after.second() + 1;
+        let mut changes = changes_until(table, from);
+        let mut known = NearestMinute::behind_all(Direction::Forward);
         let end = table.changes().len() + 1;
-        for changes in changes_until(table, from)..end {
-            match self.step(Stretch::behind(table, changes), from, Direction::Forward) {
+        for _step in 0..end {
+            match self.step(
+                Stretch::behind(table, changes),
+                from,
+                Direction::Forward,
+                &known,
+            ) {
                 Step::Found(start) => return Some(start),
                 Step::Over => return None,
-                Step::GoOn => {}
+                Step::GoOn(on) => {
+                    changes = self.next_stretch(table, changes + 1, &on);
+                    known = on;
+                }
             }
         }
         None
@@ -134,15 +139,21 @@ impl CrontabJob {
         let table = until.table();
         let from = until.second();
         let count = changes_until(table, from);
-        for passed in 0..count + 1 {
+        let mut changes = count;
+        let mut known = NearestMinute::behind_all(Direction::Backward);
+        for _step in 0..count + 1 {
             match self.step(
-                Stretch::behind(table, count - passed),
+                Stretch::behind(table, changes),
                 from,
                 Direction::Backward,
+                &known,
             ) {
                 Step::Found(start) => return Some(start),
                 Step::Over => return None,
-                Step::GoOn => {}
+                Step::GoOn(on) => {
+                    changes = self.stretch_before(table, changes, &on);
+                    known = on;
+                }
             }
         }
         None

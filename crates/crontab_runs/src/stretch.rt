@@ -1,9 +1,11 @@
 //! The stretches of the clock of a table in which it doesn't change.
-ghost use Rattle.std.specs.Prelude.{◌≡◌, ◌≤◌, length};
+ghost use Rattle.std.specs.Prelude.{◌≡◌, ◌≤◌, ◌≤ℤ◌, ◌<ℤ◌, pos, neg_ℤ, length, int_le};
 ghost use Rattle.croner_base.specs.TableZone.{table_zone};
 ghost use Rattle.croner_base.specs.Private.TableSteps.{offset_past};
-ghost use Rattle.crontab_runs.specs.Private.Stretches.{begin_of as first_second, end_of as second_behind, offset_before as earlier_offset, IsStretch};
+ghost use Rattle.crontab_runs.specs.Private.Stretches.{far, begin_of as first_second, end_of as second_behind, offset_before as earlier_offset, IsStretch};
+ghost use Rattle.crontab_runs.specs.Private.Parts.{least_behind};
 
+use crate::minutes::minute_of;
 use croner::time::table::ClockTable;
 
 /// So many seconds from 1970 no table has an instant.
@@ -43,6 +45,13 @@ impl<'t> Stretch<'t> {
             before,
         }
     }
+
+    /// The least minute that something can be started for from its first second on.
+    pub(crate) fn least_behind(&self) -> i64
+        ensures { result ≡ least_behind self.now.begin self.now.offset self.now.before }
+    {
+        minute_of(self.begin + self.offset).min(minute_of(self.before) + 1)
+    }
 }
 
 // The first second of the stretch behind so many changes.
@@ -80,4 +89,19 @@ fn offset_of(table: &ClockTable, changes: usize) -> i64
     } else {
         table.changes()[changes - 1].1 as i64
     }
+}
+
+/// How many changes of a clock lie at or before a second.
+pub(crate) fn changes_until(table: &ClockTable, second: i64) -> usize
+    requires low { neg_ℤ (pos far) ≤ℤ second }
+    requires high { second <ℤ pos far }
+    ensures bound { result ≤ length table.now.changes.items }
+    ensures begin { first_second table.now.changes.items result ≤ℤ second }
+    ensures end { second <ℤ second_behind table.now.changes.items result }
+{
+    table.changes().partition_point(
+        |change: &(i64, i32)| -> bool
+            ensures { result ≡ int_le change.now.0 second }
+        { change.0 <= second },
+    )
 }

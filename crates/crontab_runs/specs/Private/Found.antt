@@ -8,7 +8,10 @@ use Rattle.croner.specs.search.Limit.{IsWithin}
 use Rattle.croner.specs.Views.{job_of}
 use Rattle.crontab_runs.specs.Private.Nearest.{IsNearestNamed}
 use Rattle.crontab_runs.specs.declared.job.Start.{Start}
+use Rattle.crontab_runs.specs.declared.minutes.NearestMinute.{NearestMinute}
 use Rattle.crontab_runs.specs.declared.part.Part.{Part}
+use Rattle.crontab_runs.specs.Private.Known.{IsKnown}
+use Rattle.crontab_runs.specs.Searches.{IsStartOf}
 use Rattle.crontab_runs.specs.Starts.{CronJob, StartsTimes, Starts}
 use Rattle.crontab_runs.specs.Views.{cron_job_of}
 use Rattle.crontab_runs.specs.Private.Parts.{least_minute, minute_from, IsBehind, IsIn, NoStart, IsNearestStart}
@@ -34,9 +37,9 @@ Within p = IsIn p.direction p.stretch.begin p.stretch.end p.from
 abbrev pub NoneOf : Part → (ℤ → Type 0) → Type 0
 NoneOf p among = NoStart p.direction (job_in p) (zone_in p) among
 
--- the nearest start of some instants, and its count
+-- the nearest start of some instants
 abbrev pub IsFoundOf : Part → (ℤ → Type 0) → Start → Type 0
-IsFoundOf p among s = IsNearestStart p.direction (job_in p) (zone_in p) among s.second × StartsTimes (job_in p) (zone_in p) s.second s.count
+IsFoundOf p among s = IsNearestStart p.direction (job_in p) (zone_in p) among s.second × IsStartOf (job_in p) (zone_in p) s
 
 -- at the first second of the stretch, if it isn't behind
 abbrev pub NoneAtBegin : Part → Type 0
@@ -54,6 +57,10 @@ NoneAtBeginWithin p = IsWithin p.direction (p.stretch.begin +ℤ p.stretch.offse
 
 abbrev pub IsFoundAtBeginWithin : Part → Start → Type 0
 IsFoundAtBeginWithin p s = IsWithin p.direction (p.stretch.begin +ℤ p.stretch.offset) × IsFoundAtBegin p s
+
+-- what is known is so of the job, in the direction of the search
+abbrev pub KnowsOf : Part → NearestMinute → Type 0
+KnowsOf p known = IsKnown (job_of p.job.now.cron) known × (known.direction ≡ p.direction)
 
 -- the nearest minute that the job names, from the one from which it is sought
 abbrev pub IsNearestFrom : Part → ℤ → Type 0

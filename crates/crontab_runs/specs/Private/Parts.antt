@@ -1,7 +1,7 @@
 -- The starts in a stretch of a clock: at its first second, and at the whole minutes behind it.
 -- Private contracts alone cite these definitions.
 use Rattle.std.specs.Prelude.{◌≡◌, ◌⊎◌, Bool, true, if◌then◌else◌, ℤ, pos, ◌+ℤ◌, ◌*ℤ◌, ◌<ℤ◌, ◌≤ℤ◌}
-use Rattle.std.specs.Int.{int_max}
+use Rattle.std.specs.Int.{int_max, int_min}
 use Rattle.croner_base.specs.declared.time.Direction.{Direction}
 use Rattle.croner_base.specs.declared.time.Direction.TheVariants.{Forward, Backward}
 use Rattle.croner_base.specs.Zone.{Zone}
@@ -14,6 +14,10 @@ use Rattle.crontab_runs.specs.Starts.{minute_of, CronJob, Starts}
 abbrev pub least_minute : Bool → ℤ → ℤ → ℤ → ℤ
 least_minute starred begin offset before =
     if starred then minute_of (begin +ℤ offset) +ℤ pos 1 else int_max (minute_of (begin +ℤ offset) +ℤ pos 1) (minute_of before +ℤ pos 1)
+
+-- the least minute that something can be started for from the first second on: the one that is shown there, or the one behind the greatest before
+abbrev pub least_behind : ℤ → ℤ → ℤ → ℤ
+least_behind begin offset before = int_min (minute_of (begin +ℤ offset)) (minute_of before +ℤ pos 1)
 
 -- the minute from which one is sought, from a wall second on: forward the first that begins there or later, and no lesser one than the least
 abbrev pub minute_from : Direction → ℤ → ℤ → ℤ

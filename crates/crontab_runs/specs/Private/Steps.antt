@@ -1,15 +1,18 @@
 -- One step of a search over the stretches of a clock.
 -- Private contracts alone cite these definitions.
-use Rattle.std.specs.Prelude.{◌↔◌, ℤ, pos, ◌+ℤ◌, ◌-ℤ◌, ◌<ℤ◌, ◌≤ℤ◌}
+use Rattle.std.specs.Prelude.{◌≡◌, ◌↔◌, ℤ, pos, ◌+ℤ◌, ◌-ℤ◌, ◌<ℤ◌, ◌≤ℤ◌}
 use Rattle.croner_base.specs.declared.time.Direction.{Direction}
 use Rattle.croner_base.specs.declared.time.Direction.TheVariants.{Forward, Backward}
 use Rattle.croner_base.specs.TableZone.{table_zone}
 use Rattle.croner_pattern.specs.Directions.{Reaches}
+use Rattle.croner_pattern.specs.Meaning.{Meaning}
 use Rattle.croner.specs.search.Limit.{IsWithin, InSpan}
 use Rattle.crontab_runs.specs.declared.search.Step.{Step}
 use Rattle.crontab_runs.specs.declared.search.Step.TheVariants.{Found, Over, GoOn}
 use Rattle.crontab_runs.specs.declared.stretch.Stretch.{Stretch}
-use Rattle.crontab_runs.specs.Starts.{CronJob, StartsTimes, Starts}
+use Rattle.crontab_runs.specs.Searches.{IsStartOf}
+use Rattle.crontab_runs.specs.Starts.{CronJob, Starts}
+use Rattle.crontab_runs.specs.Private.Known.{IsKnown}
 use Rattle.crontab_runs.specs.Private.Parts.{IsIn, IsNearestStart}
 
 -- a second from which a search comes to the stretch
@@ -40,9 +43,9 @@ pub record GoesOn (direction : Direction) (job : CronJob) (s : Stretch) (from : 
   pub none : (i : ℤ) → InStretch direction s from i → ¬ (Starts job (table_zone s.table.now) i)
   pub within : IsWithin direction (far_wall direction s)
 
--- what a step comes to: the nearest start in the stretch; that none is left in the searched years; or to go on
-abbrev pub StepsTo : Direction → CronJob → Stretch → ℤ → Step → Type 0
-StepsTo direction job s from (Found start) =
-    IsNearestStart direction job (table_zone s.table.now) (InStretch direction s from) start.second × StartsTimes job (table_zone s.table.now) start.second start.count
-StepsTo direction job s from Over = (i : ℤ) → FromStretch direction s from i → InSpan direction (table_zone s.table.now).reads i → ¬ (Starts job (table_zone s.table.now) i)
-StepsTo direction job s from GoOn = GoesOn direction job s from
+-- what a step comes to: the nearest start in the stretch; that none is left in the searched years; or to go on, with what is known
+abbrev pub StepsTo : Direction → CronJob → Meaning → Stretch → ℤ → Step → Type 0
+StepsTo direction job m s from (Found start) =
+    IsNearestStart direction job (table_zone s.table.now) (InStretch direction s from) start.second × IsStartOf job (table_zone s.table.now) start
+StepsTo direction job m s from Over = (i : ℤ) → FromStretch direction s from i → InSpan direction (table_zone s.table.now).reads i → ¬ (Starts job (table_zone s.table.now) i)
+StepsTo direction job m s from (GoOn known) = GoesOn direction job s from × IsKnown m known × (known.direction ≡ direction)

@@ -30,6 +30,8 @@ pub record IsStretch (z : Zone) (begin end offset before : ℤ) : Type 0 where
   -- what the clock shows at the second before it, and no more at an earlier one
   pub last : z.reads (begin -ℤ pos 1) ≡ before
   pub past : (j : ℤ) → j <ℤ begin → z.reads j ≤ℤ before
+  -- what it shows at its first second, and no less at a later one
+  pub above : (j : ℤ) → begin ≤ℤ j → (begin +ℤ offset) ≤ℤ z.reads j
   -- the clock isn't put back far there
   pub back : (before +ℤ pos 1) ≤ℤ (begin +ℤ offset +ℤ pos fold_limit)
   pub order : begin <ℤ end

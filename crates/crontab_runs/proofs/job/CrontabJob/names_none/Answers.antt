@@ -1,30 +1,32 @@
-use Rattle.std.proofs.Common.{◌↔◌, IsTrue, rules, refl, arith, pos, ◌+ℤ◌, ◌*ℤ◌, w64, FitsSigned}
+use Rattle.std.proofs.Common.{◌≡◌, arith, pos, ◌+ℤ◌, ◌∙◌, subst, ℤ, w64, FitsSigned}
 use Rattle.std.proofs.lemmas.Int.{ints, to_z-of_z}
-use Rattle.croner_base.specs.declared.time.Direction.TheVariants.{Forward}
-use Rattle.croner_base.proofs.tables.TableTests.{lt_of}
 use Rattle.croner.specs.Views.{job_of}
-use Rattle.croner.specs.search.Limit.{IsWithin}
-use Rattle.crontab_runs.specs.Private.Nearest.{NoneNamed, IsNearestNamed}
-use Rattle.crontab_runs.proofs.NoneDue.{none_before, none_at_all}
+use Rattle.crontab_runs.specs.Private.Known.{AreAllFrom}
+use Rattle.croner_base.proofs.tables.TableTests.{le_of, lt_of}
+use Rattle.crontab_runs.proofs.NoneDue.{none_ahead, none_back}
 use Rattle.crontab_runs.proofs.job.CrontabJob.names_none.Goals as goal
 
-pub returns-in-Some : goal.returns-in-Some
-returns-in-Some c =
+pub returns-in-Forward : goal.returns-in-Forward
+returns-in-Forward c =
     let after : FitsSigned w64 c.args.after = c.ranges.after in
     let upto : FitsSigned w64 c.args.upto = c.ranges.upto in
     let next : FitsSigned w64 (c.args.after +ℤ pos 1) = omega (arith, ints, c.requires.low, c.requires.order, c.requires.high) in
-    let nearest : FitsSigned w64 c.in-Some.nearest = search rules in
-    let near : IsNearestNamed Forward (job_of c.args.self.now.cron) (c.args.after +ℤ pos 1) c.in-Some.nearest = simp to_z-of_z at c.in-Some.ensures in
+    let first : FitsSigned w64 c.first.result = omega (arith, ints, c.first.ensures.low, c.first.ensures.high) in
+    let from : c.onward.result.from ≡ c.args.after +ℤ pos 1 = simp to_z-of_z at c.onward.ensures.from in
     λ test.
     let t = simp to_z-of_z at test in
-    none_before (job_of c.args.self.now.cron) c.args.after c.args.upto (c.args.after +ℤ pos 1) c.in-Some.nearest refl near (lt_of c.args.upto c.in-Some.nearest t)
+    none_ahead (job_of c.args.self.now.cron) c.onward.result.direction c.args.after c.args.upto c.onward.result.from c.first.result (c.onward.ensures.direction ∙ c.in-Forward.is) from
+    c.first.ensures.all (lt_of c.args.upto c.first.result t)
 
-pub returns-in-None : goal.returns-in-None
-returns-in-None c =
+pub returns-in-Backward : goal.returns-in-Backward
+returns-in-Backward c =
+    let m = job_of c.args.self.now.cron in
+    let k = c.onward-in-Backward.result in
     let after : FitsSigned w64 c.args.after = c.ranges.after in
     let upto : FitsSigned w64 c.args.upto = c.ranges.upto in
-    let next : FitsSigned w64 (c.args.after +ℤ pos 1) = omega (arith, ints, c.requires.low, c.requires.order, c.requires.high) in
-    let product : FitsSigned w64 (c.args.upto *ℤ pos 60) = omega (arith, ints, c.requires.low, c.requires.order, c.requires.high) in
-    let none : NoneNamed Forward (job_of c.args.self.now.cron) (c.args.after +ℤ pos 1) = simp to_z-of_z at c.in-None.ensures in
-    let within : IsTrue c.is_within.result ↔ IsWithin Forward (c.args.upto *ℤ pos 60) = simp to_z-of_z at c.is_within.ensures in
-    λ test. none_at_all (job_of c.args.self.now.cron) c.args.after c.args.upto (c.args.after +ℤ pos 1) refl none (within.0 test)
+    let first : FitsSigned w64 c.first-in-Backward.result = omega (arith, ints, c.first-in-Backward.ensures.low, c.first-in-Backward.ensures.high) in
+    let from : k.from ≡ c.args.upto = simp to_z-of_z at c.onward-in-Backward.ensures.from in
+    let all = subst (λ (x : ℤ). AreAllFrom k.direction m x c.first-in-Backward.result) from c.first-in-Backward.ensures.all in
+    λ test.
+    let t = simp to_z-of_z at test in
+    none_back m k.direction c.args.after c.args.upto c.first-in-Backward.result (c.onward-in-Backward.ensures.direction ∙ c.in-Backward.is) all (le_of c.first-in-Backward.result c.args.after t)

@@ -4,7 +4,7 @@ use Rattle.croner_base.specs.Table.{is_calm_table}
 use Rattle.croner_base.proofs.tables.TableReadings.{at_or_before_first}
 use Rattle.crontab_runs.specs.Private.Stretches.{begin_of, end_of}
 use Rattle.crontab_runs.proofs.TableStretches.{begin_by_count, end_by_count}
-use Rattle.crontab_runs.proofs.search.changes_until.Goals as goal
+use Rattle.crontab_runs.proofs.stretch.changes_until.Goals as goal
 
 pub returns-clause-begin : goal.returns-clause-begin
 returns-clause-begin c =
