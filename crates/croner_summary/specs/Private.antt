@@ -1,0 +1,4 @@
+-- Definitions that private contracts alone cite.
+pub mod Exact
+pub mod ExactDays
+pub mod Appended

@@ -1,0 +1,192 @@
+//! The words that are found for some values. What they name is tested where they are used: nothing here is relied on.
+
+ghost use Rattle.std.specs.Prelude.{◌≡◌, ◌≤◌, ◌<◌, ◌+◌, length, IfErr, OnErr};
+
+use crate::exact::is_stepwise;
+use crate::phrase::Piece;
+use croner_base::errors::CronError;
+use std::alloc::Global;
+
+/// So many values in a row are a range.
+const RANGE_VALUES: usize = 3;
+
+/// So many values at the same distance are told by their step.
+const STEPPED_VALUES: usize = 5;
+
+/// So many values may be told beside each nth of the field.
+const VALUES_BESIDE: usize = 3;
+
+/// Beside other values a step is told where the field has so many steps.
+const STEPS_WITH_OTHERS: u16 = 4;
+
+/// The distance of the first two values; 0 where there is none.
+fn first_step(values: &[u16]) -> u16 {
+    if values.len() < 2 {
+        return 0;
+    }
+    values[1].saturating_sub(values[0])
+}
+
+/// Whether each value lies a step behind the one before it.
+fn is_even(values: &[u16], step: u16) -> bool {
+    for i in 1..values.len() {
+        if values[i].saturating_sub(values[i - 1]) != step {
+            return false;
+        }
+    }
+    true
+}
+
+/// How many steps the values from the least to the greatest have; 0 where the step doesn't divide them.
+fn steps_of(least: u16, greatest: u16, step: u16) -> u16
+    requires { greatest < 65535 }
+{
+    let values = (greatest + 1).saturating_sub(least);
+    if is_stepwise(step, values) {
+        values / step
+    } else {
+        0
+    }
+}
+
+/// One piece for values that lie a step apart.
+fn stepped_piece(least: u16, greatest: u16, values: &[u16], step: u16) -> Option<Piece>
+    requires some { 0 < length values.now }
+    requires room { greatest < 65535 }
+{
+    let (first, last) = (values[0], values[values.len() - 1]);
+    let is_whole = first == least && values.len() == usize::from(steps_of(least, greatest, step));
+    match step {
+        1 if is_whole => Some(Piece::Every),
+        1 if values.len() >= RANGE_VALUES => Some(Piece::Range(first, last)),
+        1 => None,
+        _ if is_whole => Some(Piece::EveryNth(step)),
+        _ if values.len() >= STEPPED_VALUES => Some(Piece::RangeNth(first, last, step)),
+        _ => None,
+    }
+}
+
+/// One piece for all values, if there is one that is told by it.
+fn one_piece(least: u16, greatest: u16, values: &[u16]) -> Option<Piece>
+    requires { greatest < 65535 }
+{
+    if values.len() == 1 {
+        return Some(Piece::One(values[0]));
+    }
+    let step = first_step(values);
+    if values.is_empty() || step == 0 || !is_even(values, step) {
+        return None;
+    }
+    stepped_piece(least, greatest, values, step)
+}
+
+/// The index of the last value in a row from one on.
+fn streak_end(values: &[u16], start: usize) -> usize
+    requires { start < length values.now }
+    ensures from { start ≤ result }
+    ensures within { result < length values.now }
+{
+    for i in start + 1..values.len() {
+        if values[i].saturating_sub(values[i - 1]) != 1 {
+            return i - 1;
+        }
+    }
+    values.len() - 1
+}
+
+/// Puts a piece behind others.
+fn push_piece(pieces: &mut Vec<Piece>, piece: Piece) -> Result<(), CronError>
+    ensures { IfErr result (λ e. e ≡ CronError.OutOfMemory) }
+{
+    Ok(pieces.push(piece)?)
+}
+
+/// Puts values in a row behind others: three or more as a range.
+fn push_streak(pieces: &mut Vec<Piece>, streak: &[u16]) -> Result<(), CronError>
+    requires { 0 < length streak.now }
+    ensures { IfErr result (λ e. e ≡ CronError.OutOfMemory) }
+{
+    if streak.len() >= RANGE_VALUES {
+        return push_piece(pieces, Piece::Range(streak[0], streak[streak.len() - 1]));
+    }
+    for value in streak {
+        push_piece(pieces, Piece::One(*value))?;
+    }
+    Ok(())
+}
+
+/// Puts values behind others, those in a row as ranges.
+fn push_streaks(pieces: &mut Vec<Piece>, values: &[u16]) -> Result<(), CronError>
+    ensures { IfErr result (λ e. e ≡ CronError.OutOfMemory) }
+{
+    let mut start = 0;
+    while start < values.len() {
+        let end = streak_end(values, start);
+        push_streak(pieces, &values[start..end + 1])?;
+        start = end + 1;
+    }
+    Ok(())
+}
+
+/// How many of the values are a whole number of steps from the least.
+fn on_step(least: u16, values: &[u16], step: u16) -> usize {
+    values
+        .iter()
+        .filter(|value| is_stepwise(step, value.saturating_sub(least)))
+        .count()
+}
+
+/// The least step of which each value of the field is there, with few others beside; 0 where there is none.
+fn step_with_few(least: u16, greatest: u16, values: &[u16]) -> u16
+    requires { greatest < 65535 }
+{
+    let most = (greatest + 1).saturating_sub(least) / STEPS_WITH_OTHERS;
+    for step in 2..most + 1 {
+        let steps = usize::from(steps_of(least, greatest, step));
+        let beside = values.len().saturating_sub(steps);
+        if steps > 0 && on_step(least, values, step) == steps && beside <= VALUES_BESIDE {
+            return step;
+        }
+    }
+    0
+}
+
+/// The values that are no whole number of steps from the least.
+fn off_step(alloc: Global, least: u16, values: &[u16], step: u16) -> Result<Vec<u16>, CronError>
+    ensures { IfErr result (λ e. e ≡ CronError.OutOfMemory) }
+{
+    let mut beside = Vec::new(alloc);
+    for value in values {
+        if !is_stepwise(step, value.saturating_sub(least)) {
+            beside.push(*value)?;
+        }
+    }
+    Ok(beside)
+}
+
+/// The pieces of ascending values of a field: one piece where there is one; else each nth of the field with a few values beside, or
+/// ranges and values.
+pub(crate) fn pieces_of(
+    alloc: Global,
+    least: u16,
+    greatest: u16,
+    values: &[u16],
+) -> Result<Vec<Piece>, CronError>
+    requires { greatest < 65535 }
+    ensures { IfErr result (λ e. e ≡ CronError.OutOfMemory) }
+{
+    let mut pieces = Vec::new(alloc);
+    if let Some(piece) = one_piece(least, greatest, values) {
+        push_piece(&mut pieces, piece)?;
+        return Ok(pieces);
+    }
+    let step = step_with_few(least, greatest, values);
+    if step == 0 {
+        push_streaks(&mut pieces, values)?;
+        return Ok(pieces);
+    }
+    push_piece(&mut pieces, Piece::EveryNth(step))?;
+    let beside = off_step(alloc, least, values, step)?;
+    push_streaks(&mut pieces, &beside)?;
+    Ok(pieces)
+}
