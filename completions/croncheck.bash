@@ -8,15 +8,15 @@ _croncheck_zones() {
 
 # The options of a command; without one those of check.
 _croncheck_options() {
-    local clock='--zone --from' span='--runs --until' output='--json --strict --same-job' kinds='--system --user --patterns'
+    local clock='--zone --from' span='--runs --until' output='--json --strict --same-job' kinds='--system --user --patterns --stdin-name'
     local settings='--alternative-weekdays --dom-and-dow --sloppy-ranges --seconds --year'
     case $1 in
-        check) printf '%s\n' "$clock $output $kinds --language $settings -h --help" ;;
+        check) printf '%s\n' "$clock -f --format $output $kinds --language $settings -h --help" ;;
         show) printf '%s\n' "$clock $span $output $kinds --language $settings -h --help" ;;
         plan) printf '%s\n' "$clock $span $kinds $settings -h --help" ;;
         next) printf '%s\n' "$clock $span --language $settings -h --help" ;;
         describe) printf '%s\n' "--language $settings -h --help" ;;
-        *) printf '%s\n' "$clock $output $kinds --language $settings -h --help -V --version" ;;
+        *) printf '%s\n' "$clock -f --format $output $kinds --language $settings -h --help -V --version" ;;
     esac
 }
 
@@ -32,8 +32,9 @@ _croncheck() {
     case $option in
         --zone) words="local UTC $(_croncheck_zones)" ;;
         --from) words=now ;;
-        --runs | --until) ;;
+        --runs | --until | --stdin-name) ;;
         --language) words='en sv' ;;
+        -f | --format) words='text gcc github json' ;;
         --seconds | --year) words='optional required disallowed' ;;
         help) words='check show plan next describe' ;;
         *)

@@ -110,11 +110,11 @@ class Part:
 
 
 class Field:
-    """What a field names, how it was written, and its parts."""
+    """What a field names, how it was written, its parts, and what stands behind them."""
 
-    def __init__(self, at, text, parts):
+    def __init__(self, at, text, parts, passed_over):
         self.least, self.most = FIELDS[at][1:3]
-        self.text, self.parts = text, parts
+        self.text, self.parts, self.passed_over = text, parts, passed_over
         self.begins_with_star = text.startswith(b"*")
         self.values = {value for part in parts for value in part.values()}
         if at == 4 and 7 in self.values:
@@ -186,11 +186,13 @@ def field_at(line, at):
         parts.append(part_at(line, least, most, names))
     if line.now() == END:
         raise Refused
-    text = line.text[begin:line.at] + line.take_until(BLANKS_AND_END)
+    end = line.at
+    passed_over = line.take_until(BLANKS_AND_END)
+    text = line.text[begin:end] + passed_over
     line.skip(BLANKS)
     if line.now() == END:
         raise Refused
-    return Field(at, text, parts)
+    return Field(at, text, parts, passed_over)
 
 
 def fields_at(line):
@@ -617,16 +619,14 @@ def starts_of(job, spans, start, until):
 # ---- warnings
 
 ORDER = [
-    "either-day", "uneven-step", "step-beyond", "whole-hour", "short-months", "gone", "never", "looks-like-field", "percent",
-    "no-newline", "no-zone", "carriage-return", "empty-item",
+    "either-day", "uneven-step", "step-beyond", "range-down", "passed-over", "large-number", "whole-hour", "short-months", "gone", "never", "no-command", "looks-like-field", "user", "percent",
+    "continued", "control-byte", "no-newline", "no-zone", "not-expanded", "carriage-return", "empty-item", "other-name",
 ]
 # These stand behind the others: what is told of a gap, and then what of a repeated range.
-CHANGES = ["gap", "twice", "cron-change"]
-# Of these nothing is lost where cron runs the job: they are notes, and no warnings.
-HARMLESS = ["cron-change moved", "cron-change once"]
+CHANGES = ["gap", "twice"]
 FIELD_NAMES = ["seconds", "minutes", "hours", "days of the month", "months", "weekdays", "years"]
 MOST_LINES = 10_000
-SMALL_CHANGE, HALF_DAY, BESIDE = 3 * 3600, DAY // 2, 3 * 3600
+HALF_DAY, BESIDE = DAY // 2, 3 * 3600
 
 
 class Times:
@@ -648,6 +648,14 @@ class Times:
             return False
         days = self.days and self.weekdays if self.job.needs_both else self.days or self.weekdays
         return not (self.minutes and self.hours and self.months and days)
+
+    def is_whole_hour(self):
+        """All minutes, but not all hours of all dates; nothing where several hours are one range."""
+        parts = parts_of_word(self.written["hours"], "hours")[0] if "hours" in self.written else []
+        if len(parts) == 1 and not parts[0].is_star and parts[0].step == 1 and parts[0].first < parts[0].last:
+            return False
+        is_each_date = len(self.days) == 31 and len(self.weekdays) == 7 and len(self.months) == 12
+        return len(self.minutes) == 60 and not (len(self.hours) == 24 and is_each_date)
 
     def is_either_day(self):
         """Either day field alone decides, and they aren't both of each day. A field that names nothing decides nothing."""
@@ -702,9 +710,23 @@ def warnings_of_steps(written):
         turn = {"seconds": 60, "minutes": 60, "hours": 24}.get(name)
         if turn and len(parts) == 1 and parts[0].is_star and parts[0].step < turn and turn % parts[0].step:
             uneven.append(f"uneven-step {name}")
-        if any(part.step > most for part in parts):
+        if any(1 < part.step and part.first <= part.last < part.first + part.step for part in parts):
             beyond.append(f"step-beyond {name}")
     return uneven + beyond
+
+
+def warnings_of_fields(job):
+    """Of the fields of a crontab's job: ranges that run down, what cron passes over, and numbers that it doesn't keep whole."""
+    down, over, large = [], [], []
+    for name, field in zip(FIELD_NAMES[1:], job.fields):
+        if any(part.last < part.first for part in field.parts):
+            down.append(f"range-down {name}")
+        if field.passed_over:
+            over.append(f"passed-over {name}")
+        elif any(int(word) >= 2**32 for word in re.findall(rb"[0-9A-Za-z]+", field.text) if word.isdigit()):
+            large.append(f"large-number {name}")
+    is_command_within = not job.command and job.user is None
+    return down + [said for said in over if not (is_command_within and said == "passed-over weekdays")] + large
 
 
 def has_run(times, zone, start):
@@ -751,8 +773,7 @@ def is_carried_to(times, before, after):
 
 def warnings_of_changes(times, zone, start):
     """What is told of the first change behind the start that puts the clock forward over a scheduled second, and of the first that
-    repeats one: that cron(8) does otherwise, or that a run is left out, or made twice, of a job that isn't due beside it. Nothing of a
-    change of half a day or more."""
+    repeats one: that a run is left out, or made twice, of a job that isn't due beside it. Nothing of a change of half a day or more."""
     found = {}
     if len(times.hours) == 24:
         return []
@@ -760,24 +781,22 @@ def warnings_of_changes(times, zone, start):
         name = "gap" if before < after else "twice"
         if name in found or not start < instant <= start + WATCHED:
             continue
-        if times.second_in(min(before, after), max(before, after)) is None:
-            continue
-        found[name] = warnings_of_change(times, name, before, after)
+        second = times.second_in(min(before, after), max(before, after))
+        if second is not None:
+            found[name] = warnings_of_change(times, name, instant, before, after, second)
     return found.get("gap", []) + found.get("twice", [])
 
 
-def warnings_of_change(times, name, before, after):
-    """The same of one change that meets a job."""
-    if name == "gap":
-        here = "moved" if is_carried_to(times, before, after) else "left out"
-    else:
-        here = "once" if times.is_fixed() else "twice"
-    there = here if times.is_pattern else fate_by_cron(times.job, name, abs(after - before))
-    if abs(after - before) >= HALF_DAY:
+def warnings_of_change(times, name, instant, before, after, second):
+    """The same of one change that meets a job, first at this second."""
+    if abs(after - before) >= HALF_DAY or is_due_beside(times, min(before, after), max(before, after)):
         return []
-    if there != here:
-        return [f"cron-change {there}"]
-    return [name] if here in ("left out", "twice") and not is_due_beside(times, min(before, after), max(before, after)) else []
+    if times.is_pattern:
+        harmed = not is_carried_to(times, before, after) if name == "gap" else not times.is_fixed()
+    else:
+        made = made_by_cron(times.job, instant, before, after, second)
+        harmed = made == 0 if name == "gap" else made > 1
+    return [name] if harmed else []
 
 
 def is_due_beside(times, first, end):
@@ -785,11 +804,20 @@ def is_due_beside(times, first, end):
     return times.second_in(first - BESIDE, first) is not None or times.second_in(end, end + BESIDE) is not None
 
 
-def fate_by_cron(job, name, size):
-    """cron(8): changes of less than three hours, and jobs whose minutes and hours are no wildcards."""
-    if size < SMALL_CHANGE and not job.is_repeated_by_cron:
-        return "moved" if name == "gap" else "once"
-    return "left out" if name == "gap" else "twice"
+class OneMinute:
+    """A job that names one minute of one date, and is starred as another."""
+
+    def __init__(self, job, second):
+        self.second, self.is_repeated_by_cron = second // 60 * 60, job.is_repeated_by_cron
+
+    def is_scheduled(self, second):
+        return second == self.second
+
+
+def made_by_cron(job, instant, before, after, second):
+    """How many times cron starts a job for the minute of a second, around one change of the clock."""
+    spans = [(instant - DAY, before - instant), (instant, after - instant)]
+    return sum(count for _, count in Cron(OneMinute(job, second), spans).starts(instant + DAY))
 
 
 def warnings_of_times(times, zone, start):
@@ -797,7 +825,7 @@ def warnings_of_times(times, zone, start):
     if times.names_nothing():
         return found + ["never"]
     found += ["either-day"] if times.is_either_day() else []
-    found += ["whole-hour"] if len(times.minutes) == 60 and len(times.hours) == 1 else []
+    found += ["whole-hour"] if times.is_whole_hour() else []
     if times.is_pattern:
         year = model.year_of(Clock(zone, start, start).reads(start))
         if all(named < year for named in times.years):
@@ -822,11 +850,41 @@ def has_open_percent(command):
 
 
 def warnings_of_command(user, command):
-    """A sixth field is taken for the user where the crontab is the system's, and else for the front of the command."""
-    word = re.split(rb"[ \t]", command)[0] if user is None else user
-    found = ["looks-like-field"] if re.fullmatch(rb"[0-9*,/-]+", word) else []
+    """Nothing is left for a shell, or a comment."""
+    is_comment = (user or b"").startswith(b"#") or command.lstrip(b" \t").startswith(b"#")
+    found = ["no-command"] if is_comment or not command.strip(SPACES) else []
     found += ["percent"] if has_open_percent(command) else []
+    found += ["continued"] if re.search(rb"(?<!\\)\\(\\\\)*\Z", command) else []
     return found + (["carriage-return"] if command.endswith(b"\r") else [])
+
+
+def hides(data):
+    """Whether some bytes have a control byte but the tab, or a character that nobody sees, or that turns the order of what is shown."""
+    text = data.decode("utf-8", "surrogateescape")
+    return any(re.match("[\\x01-\\x08\\x0a-\\x1f\\x7f\\u200b\\u202a-\\u202e\\u2066-\\u2069]", each) for each in text)
+
+
+def value_in(text):
+    """The value of a setting, with its quotes."""
+    text = text.lstrip(b" \t")[:SETTING_BYTES]
+    behind = text[quoted_or_bare(text, b"=" + SPACES, True):].lstrip(SPACES)
+    return behind[1:].lstrip(SPACES)
+
+
+def is_not_expanded(value):
+    """A dollar, a home directory at the head of a path, or a comment outside quotes."""
+    is_quoted = value[:1] in (b'"', b"'")
+    paths = value[1:].split(b":") if is_quoted else value.split(b":")
+    return b"$" in value or any(path.startswith(b"~/") for path in paths) or (not is_quoted and re.search(rb"[ \t]#", value) is not None)
+
+
+def is_sixth_field(user, command):
+    """A sixth field is taken for the user where the crontab is the system's, and else for the front of the command."""
+    word = (re.split(rb"[ \t]", command)[0] if user is None else user).decode("latin-1").lower()
+    if not re.fullmatch(r"[0-9a-z*,/?+-][0-9a-z*,/?#+-]*", word):
+        return False
+    names = "|".join(WEEKDAYS)
+    return all(re.fullmatch(rf"\d+|\d*l|({names})l?", run) for run in re.findall(r"[0-9a-z]+", word))
 
 
 def variable_of(text):
@@ -845,13 +903,25 @@ def warnings_of_line(text, is_fed, is_system, zone, start):
     """What is to be said of a line of a crontab."""
     kind, job = line_of(text, is_system)
     found = ["no-newline"] if kind in ("setting", "job") and not is_fed else []
-    if kind == "setting" and variable_of(text) in (b"CRON_TZ", b"TZ"):
-        found.append("no-zone")
+    if kind == "setting":
+        found += ["no-zone"] if variable_of(text) in (b"CRON_TZ", b"TZ") else []
+        found += ["not-expanded"] if is_not_expanded(value_in(text)) else []
+        found += ["control-byte"] if hides(text) else []
     if kind == "job":
+        words = [job.schedule] if job.schedule.startswith(b"@") else re.split(rb"[ \t]+", job.schedule)
+        ends = [re.sub(rb"\r\Z", b"", word) for word in words + [job.command]]
+        found += ["control-byte"] if any(hides(word) for word in ends + [job.user or b""]) else []
         found += warnings_of_command(job.user, job.command)
+        if job.user is None and re.match(rb"root[ \t]", job.command):
+            found.append("user")
         if job.fields is not None:
             words = [] if job.schedule.startswith(b"@") else re.split(rb"[ \t]+", job.schedule)
+            found += warnings_of_fields(job)
+            if words and is_sixth_field(job.user, job.command):
+                found.append("looks-like-field")
             found += warnings_of_times(Times(job, dict(zip(FIELD_NAMES[1:], words)), False), zone, start)
+        if "looks-like-field" not in found and re.search(rb"[/=$*,]", job.user or b""):
+            found.append("user")
     return in_order(found)
 
 
@@ -876,6 +946,9 @@ def warnings_of_pattern(text, zone, start):
         return []
     job, written = pattern_of(text)
     found = ["empty-item"] if any(b"" in word.split(b",") for word in written.values()) else []
+    for name, word in written.items():
+        others = set(MONTHS + WEEKDAYS) - set({"months": MONTHS, "weekdays": WEEKDAYS}.get(name, []))
+        found += [f"other-name {name}"] if others & set(re.findall("[0-9a-z]+", word.decode("ascii").lower())) else []
     return in_order(found + warnings_of_times(Times(job, written, True), zone, start))
 
 
@@ -891,18 +964,17 @@ def warnings_of_file(data, is_system, is_pattern, zone, start):
 
 
 def told_of_row(row):
-    """What is told of the lines of a row of crontab_warnings.txt: the warnings, and the notes of harmless changes of the clock."""
+    """The warnings of the lines of a row of crontab_warnings.txt."""
     data = row["text"].encode("latin-1") * row.get("times", 1)
     lines, file = warnings_of_file(data, row.get("system", False), row.get("patterns", False), row["zone"], row["from"])
-    told = [said for found in lines for said in found] + file
-    return [said for said in told if said not in HARMLESS], [said for said in told if said in HARMLESS]
+    return [said for found in lines for said in found] + file
 
 
 def counts_of_row(row):
     """How many lines of a row are refused, and how many are warned of. A file's own warning stands at the first line too many."""
     data, is_system, is_pattern = row["text"].encode("latin-1") * row.get("times", 1), row.get("system", False), row.get("patterns", False)
     lines, file = warnings_of_file(data, is_system, is_pattern, row["zone"], row["from"])
-    warned = {at for at, found in enumerate(lines) if set(found) - set(HARMLESS)}
+    warned = {at for at, found in enumerate(lines) if found}
     refused = sum(not is_pattern and line_of(text, is_system)[0] == "refused" for text, _ in lines_of(data))
     return refused, len(warned | ({MOST_LINES} if file else set()))
 

@@ -1,6 +1,7 @@
 //! `croncheck`: what each line of a crontab is to cron, what it means, and when it runs.
 #![tactic(auto)]
 
+use croncheck_command::annotator::{Annotator, Style};
 use croncheck_command::changes::Changes;
 use croncheck_command::checker::Checker;
 use croncheck_command::clock::Clock;
@@ -9,25 +10,27 @@ use croncheck_command::form::Form;
 use croncheck_command::json_checker::JsonChecker;
 use croncheck_command::json_reporter::JsonReporter;
 use croncheck_command::moment::second_of;
+use croncheck_command::names::STANDARD_INPUT;
 use croncheck_command::output::Output;
 use croncheck_command::patterns::{Answer, tell_patterns};
 use croncheck_command::planner::Planner;
 use croncheck_command::problem::Problem;
-use croncheck_command::progress::Terms;
+use croncheck_command::progress::{Terms, TermsByKind};
 use croncheck_command::reporter::Reporter;
 use croncheck_command::runs::Listing;
-use croncheck_command::settings::Settings;
+use croncheck_command::settings::{Settings, SettingsByKind};
 use croncheck_command::shown::Shared;
 use croncheck_command::sink::Sink;
-use croncheck_command::words::{Call, NoCall, Span, USAGE, Verb, read_call};
+use croncheck_command::words::{Call, Format, NoCall, Span, USAGE, Verb, read_call};
 use croncheck_command::zone::{note_of, refusal_of};
+use crontab::line::Dialect;
 use either::{Either, Left, Right};
 use jiff::Timestamp;
 use jiff::tz::{SystemTimeZone, TimeZone, TimeZoneDatabase};
 use std::fs::File;
 use std::io::{BufReader, BufWriter, ErrorKind, IsTerminal, Stdin};
 use std::process::ExitCode;
-use std::{env, io};
+use std::{env, fs, io};
 
 const MISUSED: u8 = 2;
 
@@ -130,18 +133,18 @@ fn check(rt: &HostRuntime, call: &Call<'_>, zone: TimeZone<'_>) -> Result<u8, Pr
     let Ok(changes) = Changes::of(rt.alloc(), &clock, start) else {
         return Err(Problem::OutOfMemory);
     };
-    let settings = Settings {
-        dialect: call.dialect,
+    let settings = SettingsByKind::new(Settings {
+        dialect: Dialect::User,
         parser: call.parser,
         language: call.language,
         changes: &changes,
         listing,
         is_strict: call.is_strict,
         compares_jobs: call.compares_jobs,
-    };
-    let shared = Shared::of(zone, &settings);
-    let terms = Terms::new(rt.alloc(), &settings, &shared);
-    tell(rt, call, terms).map_err(Problem::Unwritten)
+    });
+    let shared = Shared::of(zone, settings.of(Dialect::User));
+    let kinds = TermsByKind::new(rt.alloc(), &settings, &shared);
+    tell(rt, call, &kinds).map_err(Problem::Unwritten)
 }
 
 // The files of the machine, and its standard input.
@@ -155,8 +158,12 @@ impl Sources for Machine<'_> {
 
     ghost holds = { λ machine name remaining. Unit {0} };
 
+    ghost says_folder = { λ machine name answer. Unit {0} };
+
+    ghost lists = { λ machine name names. Unit {0} };
+
     fn open(&self, name: &str) -> io::Result<Either<BufReader<Stdin>, BufReader<File>>> {
-        if name == "-" {
+        if name == STANDARD_INPUT {
             announce_typing(self.rt);
             let reader = BufReader::new(self.rt.alloc(), self.rt.stdin())?;
             return Ok(Left(reader));
@@ -164,6 +171,22 @@ impl Sources for Machine<'_> {
         let opened = File::open(self.rt, name)?;
         let reader = BufReader::new(self.rt.alloc(), opened)?;
         Ok(Right(reader))
+    }
+
+    fn is_folder(&self, name: &str) -> bool {
+        match fs::metadata(self.rt, name) {
+            Ok(found) => name != STANDARD_INPUT && found.is_dir(),
+            Err(_) => false,
+        }
+    }
+
+    fn names(&self, name: &str) -> io::Result<Vec<String>> {
+        let mut names = Vec::new(self.rt.alloc());
+        for entry in fs::read_dir(self.rt, name)? {
+            let entry = entry?;
+            names.push(String::from_str(self.rt.alloc(), entry.file_name())?)?;
+        }
+        Ok(names)
     }
 }
 
@@ -177,15 +200,46 @@ fn announce_typing(rt: &HostRuntime) {
 }
 
 // Tells of the files or the patterns in the form that the call asks for.
-fn tell(rt: &HostRuntime, call: &Call<'_>, terms: Terms<'_, '_>) -> io::Result<u8> {
+fn tell(rt: &HostRuntime, call: &Call<'_>, kinds: &TermsByKind<'_, '_>) -> io::Result<u8> {
     match call.verb {
-        Verb::Check if call.is_json => tell_in(rt, call, terms, JsonChecker),
-        Verb::Check => tell_in(rt, call, terms, Checker),
-        Verb::Show if call.is_json => tell_in(rt, call, terms, JsonReporter),
-        Verb::Show => tell_in(rt, call, terms, Reporter),
-        Verb::Plan => tell_in(rt, call, terms, Planner::new(rt.alloc())),
-        Verb::Next => answer(rt, call, terms, Answer::Runs),
-        Verb::Describe => answer(rt, call, terms, Answer::Description),
+        Verb::Check => check_in_format(rt, call, kinds),
+        Verb::Show => show_in_format(rt, call, kinds),
+        Verb::Plan => tell_in(rt, call, kinds, Planner::new(rt.alloc())),
+        Verb::Next => answer(rt, call, kinds.of(Dialect::Patterns), Answer::Runs),
+        Verb::Describe => answer(rt, call, kinds.of(Dialect::Patterns), Answer::Description),
+    }
+}
+
+// Tells what is found in the files.
+fn check_in_format(
+    rt: &HostRuntime,
+    call: &Call<'_>,
+    kinds: &TermsByKind<'_, '_>,
+) -> io::Result<u8> {
+    match call.format {
+        Format::Text => tell_in(rt, call, kinds, Checker),
+        Format::Gcc => tell_in(rt, call, kinds, Annotator { style: Style::Gcc }),
+        Format::Github => tell_in(
+            rt,
+            call,
+            kinds,
+            Annotator {
+                style: Style::Github,
+            },
+        ),
+        Format::Json => tell_in(rt, call, kinds, JsonChecker),
+    }
+}
+
+// Tells of each line of the files: as texts, unless JSON is asked for.
+fn show_in_format(
+    rt: &HostRuntime,
+    call: &Call<'_>,
+    kinds: &TermsByKind<'_, '_>,
+) -> io::Result<u8> {
+    match call.format {
+        Format::Json => tell_in(rt, call, kinds, JsonReporter),
+        Format::Text | Format::Gcc | Format::Github => tell_in(rt, call, kinds, Reporter),
     }
 }
 
@@ -193,15 +247,16 @@ fn tell(rt: &HostRuntime, call: &Call<'_>, terms: Terms<'_, '_>) -> io::Result<u
 fn tell_in<F: Form + Drop>(
     rt: &HostRuntime,
     call: &Call<'_>,
-    terms: Terms<'_, '_>,
+    kinds: &TermsByKind<'_, '_>,
     form: F,
 ) -> io::Result<u8> {
     let out = BufWriter::new(rt.alloc(), rt.stdout())?;
     let mut notes = rt.stderr();
-    let mut sink = Sink::new(terms, form, out);
+    let mut sink = Sink::new(kinds.of(Dialect::User), form, out);
     tell_files(
         &Machine { rt },
-        call.words.as_slice(),
+        kinds,
+        call.files.as_slice(),
         &mut sink,
         &mut notes,
     )
@@ -215,5 +270,5 @@ fn answer(
     answer: Answer,
 ) -> io::Result<u8> {
     let mut output = Output::new(BufWriter::new(rt.alloc(), rt.stdout())?);
-    tell_patterns(&terms, call.words.as_slice(), answer, &mut output)
+    tell_patterns(&terms, call.patterns.as_slice(), answer, &mut output)
 }

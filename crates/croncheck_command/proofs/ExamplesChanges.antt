@@ -1,23 +1,27 @@
 -- Worked values of the definitions of changes of a clock.
-use Rattle.std.proofs.Common.{◌≡◌, ◌<◌, ℕ, Option, Some, None, pos, ◌+ℤ◌, true, false, refl, arith}
+use Rattle.std.proofs.Common.{◌≡◌, ℕ, ◌*◌, Bool, pos, ◌+ℤ◌, true, false, refl}
 use Rattle.std.specs.Prelude.{codes}
 use Rattle.croncheck_command.specs.declared.changes.Change.{Change}
 use Rattle.croncheck_command.specs.declared.changes.Fate.{Fate}
 use Rattle.croncheck_command.specs.declared.changes.Fate.TheVariants as fates
 use Rattle.croncheck_command.specs.declared.changes.Meeting.{Meeting}
 use Rattle.croncheck_command.specs.declared.changes.Range.TheVariants as ranges
-use Rattle.croncheck_command.specs.declared.changes.meetings.Compared.{Compared}
-use Rattle.croncheck_command.specs.Changes.{has_clock_star, IsOtherInCron, is_told}
+use Rattle.croncheck_command.specs.declared.changes.meetings.Met.{Met}
+use Rattle.croncheck_command.specs.Changes.{fate_in_cron, is_warned}
+use Rattle.croncheck_command.specs.Starred.{is_starred}
 
--- */15 1-3 * * *: the minutes begin with a star; 0 */2 * * *: the hours do
-starred_minutes : has_clock_star (codes "*/15 1-3 * * *") ≡ true
+-- */15 1-3 * * *: the minutes begin with a star; 0 */2 * * *: the hours do; of the nicknames @hourly has a star there
+starred_minutes : is_starred (codes "*/15 1-3 * * *") ≡ true
 starred_minutes = refl
 
-starred_hours : has_clock_star (codes "0 */2 * * *") ≡ true
+starred_hours : is_starred (codes "0 */2 * * *") ≡ true
 starred_hours = refl
 
+starred_nickname : (is_starred (codes "@hourly") ≡ true) × (is_starred (codes "@daily") ≡ false)
+starred_nickname = (refl, refl)
+
 -- 0,30 2 * * *: the days alone begin with one
-starred_days : has_clock_star (codes "0,30 2 * * *") ≡ false
+starred_days : is_starred (codes "0,30 2 * * *") ≡ false
 starred_days = refl
 
 -- ---- what is told
@@ -36,56 +40,47 @@ in_spring seconds fate = record { change = forward_by seconds; range = ranges.Ga
 abbrev in_autumn : Fate → Meeting
 in_autumn fate = record { change = back; range = ranges.Repeated; second = pos 1_761_444_000; fate = fate }
 
-abbrev compared : Meeting → Option Fate → Compared
-compared meeting in_cron = record { meeting = meeting; in_cron = in_cron; is_due_beside = false }
+abbrev alone : Meeting → Met
+alone meeting = record { meeting = meeting; is_due_beside = false }
 
-abbrev around : Meeting → Option Fate → Compared
-around meeting in_cron = record { meeting = meeting; in_cron = in_cron; is_due_beside = true }
+abbrev around : Meeting → Met
+around meeting = record { meeting = meeting; is_due_beside = true }
 
-a_run_left_out : is_told (compared (in_spring 3_600 fates.LeftOut) None) ≡ true
+a_run_left_out : is_warned (alone (in_spring 3_600 fates.LeftOut)) ≡ true
 a_run_left_out = refl
 
-a_run_moved : is_told (compared (in_spring 3_600 fates.Moved) None) ≡ false
+a_run_moved : is_warned (alone (in_spring 3_600 fates.Moved)) ≡ false
 a_run_moved = refl
 
-a_run_left_out_by_cron : is_told (compared (in_spring 3_600 fates.Moved) (Some fates.LeftOut)) ≡ true
-a_run_left_out_by_cron = refl
-
-a_run_made_twice : is_told (compared (in_autumn fates.Twice) None) ≡ true
+a_run_made_twice : is_warned (alone (in_autumn fates.Twice)) ≡ true
 a_run_made_twice = refl
 
-a_run_made_once : is_told (compared (in_autumn fates.Once) None) ≡ false
+a_run_made_once : is_warned (alone (in_autumn fates.Once)) ≡ false
 a_run_made_once = refl
 
-a_run_made_once_by_cron : is_told (compared (in_autumn fates.Twice) (Some fates.Once)) ≡ true
-a_run_made_once_by_cron = refl
-
 -- the same of a job that is due beside the range
-a_run_left_out_of_many : is_told (around (in_spring 3_600 fates.LeftOut) None) ≡ false
+a_run_left_out_of_many : is_warned (around (in_spring 3_600 fates.LeftOut)) ≡ false
 a_run_left_out_of_many = refl
 
-a_run_made_twice_of_many : is_told (around (in_autumn fates.Twice) None) ≡ false
+a_run_made_twice_of_many : is_warned (around (in_autumn fates.Twice)) ≡ false
 a_run_made_twice_of_many = refl
 
-many_made_up_by_cron : is_told (around (in_spring 3_600 fates.LeftOut) (Some fates.Moved)) ≡ true
-many_made_up_by_cron = refl
-
-less_than_half_a_day : is_told (compared (in_spring 43_199 fates.LeftOut) None) ≡ true
+less_than_half_a_day : is_warned (alone (in_spring 43_199 fates.LeftOut)) ≡ true
 less_than_half_a_day = refl
 
-half_a_day : is_told (compared (in_spring 43_200 fates.LeftOut) (Some fates.Moved)) ≡ false
+half_a_day : is_warned (alone (in_spring 43_200 fates.LeftOut)) ≡ false
 half_a_day = refl
 
-an_hour : 3_600 < 10_800
-an_hour = omega (arith)
+-- ---- in cron
 
--- 0,30 2 * * *: cron(8) makes up for an hour, and so moves the run that is left out here; the minutes of */30 2 * * * begin with a star
-moved_by_cron : IsOtherInCron (Some (codes "0,30 2 * * *")) (in_spring 3_600 fates.LeftOut) (Some fates.Moved)
-moved_by_cron = ((refl, an_hour), λ same. absurd (cc))
+-- what becomes of 02:00 where the clock goes on by so many minutes; that of a starred job is left out, but of a gap of four minutes or less
+abbrev gap_of : Bool → ℕ → Fate
+gap_of starred minutes = fate_in_cron starred ranges.Gap (forward_by (60 * minutes)) (pos 1_743_300_000)
 
-not_moved_by_cron : IsOtherInCron (Some (codes "*/30 2 * * *")) (in_spring 3_600 fates.LeftOut) None
-not_moved_by_cron = λ makes_up. absurd (cc)
+gaps : (gap_of false 60 ≡ fates.Moved) × (gap_of true 60 ≡ fates.LeftOut) × (gap_of true 4 ≡ fates.Moved) × (gap_of true 5 ≡ fates.LeftOut)
+    × (gap_of false 179 ≡ fates.Moved) × (gap_of false 180 ≡ fates.LeftOut)
+gaps = (refl, refl, refl, refl, refl, refl)
 
--- a pattern isn't compared
-not_compared : IsOtherInCron None (in_spring 3_600 fates.LeftOut) None
-not_compared = refl
+-- what becomes of 02:00 that is shown twice
+repeated : (fate_in_cron false ranges.Repeated back (pos 1_761_444_000) ≡ fates.Once) × (fate_in_cron true ranges.Repeated back (pos 1_761_444_000) ≡ fates.Twice)
+repeated = (refl, refl)

@@ -8,50 +8,51 @@ use Rattle.serde_json.specs.Written.{compact_text}
 use Rattle.jiff_core.specs.declared.Offset.{Offset}
 use Rattle.jiff_tz.specs.declared.timezone.TimeZone.TheVariants as zones
 use Rattle.jiff_tz.specs.Zone.{offset_at}
-use Rattle.croner.specs.declared.parser.fault.PatternField.TheVariants as fields
-use Rattle.croner_base.specs.declared.time.table.TableTime.{TableTime}
-use Rattle.crontab.specs.declared.line.Fault.TheVariants as faults
+use Rattle.croncheck_command.specs.declared.findings.Severity.TheVariants as severities
 use Rattle.croncheck_command.specs.declared.report.Report.TheVariants as reports
 use Rattle.croncheck_command.specs.declared.told.Told.TheVariants as tolds
-use Rattle.croncheck_command.specs.declared.report.Why.TheVariants as whys
+use Rattle.croncheck_command.specs.declared.report.Why.{Why}
 use Rattle.croncheck_command.specs.declared.runs.End.TheVariants as ends
+use Rattle.croncheck_command.specs.declared.runs.Run.{Run}
 use Rattle.croncheck_command.specs.declared.runs.Runs.{Runs}
 use Rattle.croncheck_command.specs.declared.warnings.Warning.{Warning}
-use Rattle.croncheck_command.specs.declared.warnings.Warning.TheVariants as warnings
 use Rattle.croncheck_command.specs.Changes.{none_met}
-use Rattle.croncheck_command.specs.Json.{Origin, Sentences, object_of}
-use Rattle.croncheck_command.specs.Shown.{bytes_shown}
+use Rattle.croncheck_command.specs.Json.{Origin, object_of}
+use Rattle.croncheck_command.specs.Shown.{exact}
 
--- a line of the file `f`, of these bytes, in UTC
-abbrev line_of : List ℕ → List ℕ → ℕ → Origin
-line_of kind text line = record { zone = zones.UTC; kind = kind; text = text; file = codes "f"; line = line; is_too_many = false }
+-- a line of the file `f` in UTC
+abbrev line_of : List ℕ → ℕ → Origin
+line_of kind line = record { zone = zones.UTC; kind = kind; file = codes "f"; line = line }
 
--- sentences of one letter
-abbrev letters : Sentences
-letters = record { message = codes "m"; warnings = codes "v" ∷ codes "w" ∷ []; notes = codes "n" ∷ [] }
-
-a_blank_line : compact_text (object_of (line_of (codes "blank") [] 1) reports.Silent letters)
-    ≡ codes "{\"file\":\"f\",\"job\":null,\"kind\":\"blank\",\"line\":1,\"notes\":[],\"refusal\":null,\"version\":1,\"warnings\":[]}"
+a_blank_line : compact_text (object_of (line_of (codes "blank") 1) reports.Silent [])
+    ≡ codes "{\"file\":\"f\",\"findings\":[],\"job\":null,\"kind\":\"blank\",\"line\":1,\"version\":2}"
 unfolding serde_json_on_literals digits
 a_blank_line = refl
 
--- a setting of `CRON_TZ` without a line feed
-a_setting : compact_text (object_of (line_of (codes "setting") (codes "CRON_TZ=UTC") 7) (reports.Setting true false) letters)
-    ≡ codes "{\"file\":\"f\",\"job\":null,\"kind\":\"setting\",\"line\":7,\"notes\":[],\"refusal\":null,\"version\":1,\"warnings\":[{\"field\":null,\"name\":\"no-newline\",\"text\":\"v\"},{\"field\":null,\"name\":\"no-zone\",\"text\":\"w\"}]}"
-unfolding serde_json_on_literals digits
-a_setting = refl
+-- a refusal, which is called `m` and says `s`
+a_refused_line : (m : Bor (List ℕ)) (s : String Global) (why : Why) → m.now ≡ codes "m" → string_bytes s ≡ codes "s"
+    → object_of (line_of (codes "job") 12) (reports.Refused 1 6 why)
+    (record { severity = severities.Error; name = m; field = None; extent = record { start = 1; end = 6 }; text = s } ∷ [])
+    ≡ object
+    (member (codes "file") (string (codes "f"))
+    (member (codes "findings") (array (item (object
+    (member (codes "end") (number (unsigned 6))
+    (member (codes "field") null
+    (member (codes "name") (string (codes "m"))
+    (member (codes "severity") (string (codes "error"))
+    (member (codes "start") (number (unsigned 1))
+    (member (codes "text") (string (codes "s")) no_members))))))) no_items))
+    (member (codes "job") null
+    (member (codes "kind") (string (codes "refused"))
+    (member (codes "line") (number (unsigned 12))
+    (member (codes "version") (number (unsigned 2)) no_members))))))
+a_refused_line m s why m_is s_is = rw (m_is, s_is) refl
 
--- minutes with an empty part, behind a blank
-a_refused_line : compact_text (object_of (line_of (codes "refused") (codes " 5,,10 * * * * x") 12) (reports.Refused 1 6 (whys.Cron faults.Minutes)) letters)
-    ≡ codes "{\"file\":\"f\",\"job\":null,\"kind\":\"refused\",\"line\":12,\"notes\":[{\"field\":null,\"name\":\"empty-part\",\"text\":\"n\"}],\"refusal\":{\"end\":6,\"kind\":\"minutes\",\"message\":\"m\",\"start\":1},\"version\":1,\"warnings\":[]}"
-unfolding serde_json_on_literals digits
-a_refused_line = refl
-
--- a job in a zone an hour ahead of UTC, with two runs, a warning, and a note
-a_job : (hour : Offset) (schedule command : Bor (List ℕ)) (found : Vec Warning Global) (text : String Global) (runs : Runs) (first second : TableTime)
-    → hour.seconds ≡ pos 3_600 → found.items ≡ warnings.UnevenStep fields.Minutes ∷ [] → runs.items.items ≡ first ∷ second ∷ [] → runs.end ≡ ends.More
-    → first.second ≡ pos 1_731_279_600 → second.second ≡ pos 1_732_489_200
-    → object_of (record (line_of (codes "job") (codes "*/45 0 */2 * 1 x") 8) { zone = zones.Fixed hour }) (reports.Job (record {
+-- a job in a zone an hour ahead of UTC, with two runs
+a_job : (hour : Offset) (schedule command : Bor (List ℕ)) (found : Vec Warning Global) (text : String Global) (runs : Runs) (first second : Run)
+    → hour.seconds ≡ pos 3_600 → runs.items.items ≡ first ∷ second ∷ [] → runs.end ≡ ends.More
+    → first.time.second ≡ pos 1_731_279_600 → first.count ≡ 1 → second.time.second ≡ pos 1_732_489_200 → second.count ≡ 2
+    → object_of (record (line_of (codes "job") 8) { zone = zones.Fixed hour }) (reports.Job (record {
       schedule = schedule;
       user = None;
       command = Some command;
@@ -60,30 +61,26 @@ a_job : (hour : Offset) (schedule command : Bor (List ℕ)) (found : Vec Warning
       warnings = found;
       meetings = none_met;
       dates = None;
-    })) letters
+    })) []
     ≡ object
     (member (codes "file") (string (codes "f"))
+    (member (codes "findings") (array no_items)
     (member (codes "job") (object
-    (member (codes "command") (string (bytes_shown command.now))
-    (member (codes "schedule") (string (bytes_shown schedule.now))
+    (member (codes "changes") (array no_items)
+    (member (codes "command") (string (exact command.now))
+    (member (codes "schedule") (string (exact schedule.now))
     (member (codes "times") (object
     (member (codes "description") (string (string_bytes text))
     (member (codes "end") (string (codes "more"))
     (member (codes "runs") (array
-    (item (object (member (codes "offset") (number (unsigned 3_600)) (member (codes "second") (number (unsigned 1_731_279_600)) no_members)))
-    (item (object (member (codes "offset") (number (unsigned 3_600)) (member (codes "second") (number (unsigned 1_732_489_200)) no_members)))
+    (item (object (member (codes "offset") (number (unsigned 3_600)) (member (codes "second") (number (unsigned 1_731_279_600)) (member (codes "starts") (number (unsigned 1)) no_members))))
+    (item (object (member (codes "offset") (number (unsigned 3_600)) (member (codes "second") (number (unsigned 1_732_489_200)) (member (codes "starts") (number (unsigned 2)) no_members))))
     no_items)))
     (member (codes "when") (string (codes "named")) no_members)))))
-    (member (codes "user") null no_members)))))
+    (member (codes "user") null no_members))))))
     (member (codes "kind") (string (codes "job"))
     (member (codes "line") (number (unsigned 8))
-    (member (codes "notes") (array (item (object
-    (member (codes "field") null (member (codes "name") (string (codes "star-day")) (member (codes "text") (string (codes "n")) no_members)))) no_items))
-    (member (codes "refusal") null
-    (member (codes "version") (number (unsigned 1))
-    (member (codes "warnings") (array (item (object
-    (member (codes "field") (string (codes "minutes")) (member (codes "name") (string (codes "uneven-step")) (member (codes "text") (string (codes "v")) no_members)))) no_items))
-    no_members))))))))
+    (member (codes "version") (number (unsigned 2)) no_members))))))
 unfolding offset_at digits
-a_job hour schedule command found text runs first second hour_is found_is runs_are more first_is second_is =
-    rw (found_is, runs_are, more, first_is, second_is, hour_is) refl
+a_job hour schedule command found text runs first second hour_is runs_are more first_is once second_is twice =
+    rw (runs_are, more, first_is, once, second_is, twice, hour_is) refl

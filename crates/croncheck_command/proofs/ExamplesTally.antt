@@ -6,6 +6,7 @@ use Rattle.crontab.specs.declared.line.Dialect.{Dialect}
 use Rattle.crontab.specs.declared.line.Dialect.TheVariants as dialects
 use Rattle.croncheck_command.specs.declared.report.Report.{Report}
 use Rattle.croncheck_command.specs.declared.report.Report.TheVariants as reports
+use Rattle.croncheck_command.specs.declared.report.SettingReport.{SettingReport}
 use Rattle.croncheck_command.specs.declared.tally.Tally.{Tally}
 use Rattle.croncheck_command.specs.FileSeen.{File, is_ignored}
 use Rattle.croncheck_command.specs.Files.{summary_of}
@@ -15,22 +16,32 @@ use Rattle.croncheck_command.specs.Tally.{none_counted, counted, added, with_fil
 abbrev tally : ℕ → ℕ → Tally
 tally refused warned = record { lines = 20_000; jobs = 2; refused = refused; warned = warned; ignored = 0 }
 
+-- a setting of which nothing is found but that it says a zone elsewhere, if it does
+abbrev zone_found : Bool → SettingReport
+zone_found is_zone = record { is_zone = is_zone; is_not_expanded = false; is_hiding = false }
+
 -- how many lines have a warning with the one behind so many of a file
 abbrev warned_with : Dialect → ℕ → Report → ℕ
 warned_with dialect lines report = (added dialect lines (tally 0 0) report).warned
 
 -- ---- lines
 
-a_zone : added dialects.User 0 none_counted (reports.Setting true true) ≡ record { lines = 1; jobs = 0; refused = 0; warned = 1; ignored = 0 }
+a_zone : added dialects.User 0 none_counted (reports.Setting (zone_found true) true) ≡ record { lines = 1; jobs = 0; refused = 0; warned = 1; ignored = 0 }
 a_zone = refl
 
-a_setting_without_its_line_feed : warned_with dialects.System 0 (reports.Setting false false) ≡ 1
+a_setting_without_its_line_feed : warned_with dialects.System 0 (reports.Setting (zone_found false) false) ≡ 1
 a_setting_without_its_line_feed = refl
 
-both_count_once : warned_with dialects.User 0 (reports.Setting true false) ≡ 1
+both_count_once : warned_with dialects.User 0 (reports.Setting (zone_found true) false) ≡ 1
 both_count_once = refl
 
-a_setting : warned_with dialects.User 0 (reports.Setting false true) ≡ 0
+a_value_that_is_not_expanded : warned_with dialects.User 0 (reports.Setting (record (zone_found false) { is_not_expanded = true }) true) ≡ 1
+a_value_that_is_not_expanded = refl
+
+a_control_byte_of_a_setting : warned_with dialects.User 0 (reports.Setting (record (zone_found false) { is_hiding = true }) true) ≡ 1
+a_control_byte_of_a_setting = refl
+
+a_setting : warned_with dialects.User 0 (reports.Setting (zone_found false) true) ≡ 0
 a_setting = refl
 
 line_10000 : warned_with dialects.User 9_999 reports.Silent ≡ 0
@@ -42,7 +53,7 @@ line_10001 = refl
 line_10001_of_the_system : warned_with dialects.System 10_000 reports.Silent ≡ 1
 line_10001_of_the_system = refl
 
-line_10001_counts_once : warned_with dialects.User 10_000 (reports.Setting true true) ≡ 1
+line_10001_counts_once : warned_with dialects.User 10_000 (reports.Setting (zone_found true) true) ≡ 1
 line_10001_counts_once = refl
 
 line_10002 : warned_with dialects.User 10_001 reports.Silent ≡ 0
@@ -51,7 +62,7 @@ line_10002 = refl
 line_10001_of_patterns : warned_with dialects.Patterns 10_000 reports.Silent ≡ 0
 line_10001_of_patterns = refl
 
-a_plan_counts_none : (counted (tally 0 0) (reports.Setting true false)).warned ≡ 0
+a_plan_counts_none : (counted (tally 0 0) (reports.Setting (zone_found true) false)).warned ≡ 0
 a_plan_counts_none = refl
 
 -- ---- the status
@@ -72,15 +83,21 @@ strictly_refused : status_of true (tally 1 0) ≡ 1
 strictly_refused = refl
 
 -- cron ignores a whole file, as one without its last line feed: a finding of any call
-ignored : status_of false (with_file true (tally 0 0)) ≡ 1
+ignored : status_of false (with_file true false (tally 0 0)) ≡ 1
 ignored = refl
 
-not_ignored : status_of false (with_file false (tally 0 0)) ≡ 0
+not_ignored : status_of false (with_file false false (tally 0 0)) ≡ 0
 not_ignored = refl
+
+passed_over : status_of false (with_file false true (tally 0 0)) ≡ 0
+passed_over = refl
+
+strictly_passed_over : status_of true (with_file false true (tally 0 0)) ≡ 1
+strictly_passed_over = refl
 
 -- a crontab of so many lines, of which none is refused, and whose last line has its line feed or hasn't
 abbrev file_of : Bool → File
-file_of is_unfed = record { name = codes "tab"; has_refused = false; is_unfed = is_unfed }
+file_of is_unfed = record { name = codes "tab"; has_refused = false; is_unfed = is_unfed; is_passed_over = false }
 
 without_its_line_feed : is_ignored dialects.User 3 (file_of true) ≡ true
 without_its_line_feed = refl

@@ -10,7 +10,9 @@ use Rattle.croner_pattern.specs.Meaning.{Meaning}
 use Rattle.crontab.specs.Line.{words_of}
 use Rattle.crontab.specs.Parsed.{crontab_settings}
 use Rattle.croncheck_command.specs.declared.warnings.Warning.TheVariants as warnings
-use Rattle.croncheck_command.specs.Warnings.{Subject, holds, texts_of_five, has_uneven_step, has_step_beyond, has_empty_item, is_either_day, is_whole_hour, are_late, is_leap_day, looks_like_field, has_percent, has_carriage_return, are_many_lines}
+use Rattle.croncheck_command.specs.Warnings.{Subject, holds, texts_of_five, has_uneven_step, has_step_beyond, has_hours_in_range, has_range_down, has_passed_over, has_large_number, has_empty_item, is_either_day, is_whole_hour, are_late, is_leap_day, has_no_command, looks_like_field, has_percent, is_continued, has_carriage_return, are_many_lines}
+use Rattle.croncheck_command.specs.Hidden.{has_hidden, has_hidden_within}
+use Rattle.croncheck_command.specs.Report.{setting_found}
 
 abbrev texts : List ℕ → Texts
 texts schedule = texts_of_five (words_of schedule)
@@ -75,13 +77,89 @@ beyond_hours : beyond fields.Hours (codes "0 1-5/24 * * *") ≡ true
 unfolding digits
 beyond_hours = refl
 
-up_to_the_last_hour : beyond fields.Hours (codes "0 1-5/23 * * *") ≡ false
+past_the_end_of_the_range : beyond fields.Minutes (codes "10-20/11 * * * *") ≡ true
 unfolding digits
-up_to_the_last_hour = refl
+past_the_end_of_the_range = refl
+
+at_the_end_of_the_range : beyond fields.Minutes (codes "10-20/10 * * * *") ≡ false
+unfolding digits
+at_the_end_of_the_range = refl
+
+the_31st_behind_the_first : beyond fields.DayOfMonth (codes "0 0 */31 * *") ≡ true
+unfolding digits
+the_31st_behind_the_first = refl
+
+a_step_down : beyond fields.Minutes (codes "20-10/30 * * * *") ≡ false
+unfolding digits
+a_step_down = refl
+
+one_value : beyond fields.Minutes (codes "5 * * * *") ≡ false
+unfolding digits
+one_value = refl
 
 beyond_months : beyond fields.Month (codes "0 0 1 2,*/13 *") ≡ true
 unfolding digits
 beyond_months = refl
+
+-- ---- what cron leaves out of a field
+
+abbrev down : PatternField → List ℕ → Bool
+down field schedule = has_range_down field (texts schedule)
+
+a_night_that_goes_down : down fields.Hours (codes "0 8,22-6 * * *") ≡ true
+unfolding digits
+a_night_that_goes_down = refl
+
+weekdays_that_go_down : down fields.Weekday (codes "0 0 * * FRI-SUN") ≡ true
+unfolding digits
+weekdays_that_go_down = refl
+
+weekdays_that_go_up : down fields.Weekday (codes "0 0 * * FRI-7") ≡ false
+unfolding digits
+weekdays_that_go_up = refl
+
+one_value_as_a_range : down fields.Minutes (codes "5-5 * * * *") ≡ false
+unfolding digits
+one_value_as_a_range = refl
+
+a_range_down_that_is_passed_over : down fields.Minutes (codes "*x,10-5 * * * *") ≡ false
+unfolding digits
+a_range_down_that_is_passed_over = refl
+
+a_star_and_a_number : has_passed_over fields.Minutes (texts (codes "*5 * * * *")) ≡ true
+a_star_and_a_number = refl
+
+an_nth_weekday : has_passed_over fields.Weekday (texts (codes "0 0 * * 1#2")) ≡ true
+an_nth_weekday = refl
+
+two_weekdays : has_passed_over fields.Weekday (texts (codes "0 0 * * 1,2")) ≡ false
+two_weekdays = refl
+
+a_number_of_33_bits : has_large_number fields.Minutes (texts (codes "4294967297 * * * *")) ≡ true
+a_number_of_33_bits = refl
+
+a_step_of_31_bits : has_large_number fields.Minutes (texts (codes "*/2147483647 * * * *")) ≡ false
+a_step_of_31_bits = refl
+
+-- names of another field, as a pattern has them
+abbrev pattern_of : List ℕ → Subject
+pattern_of schedule = record {
+  fields = Some (texts schedule);
+  meaning = None;
+  user = None;
+  command = None;
+  is_crontab = false;
+  is_fed = true;
+  is_past = false;
+  is_never = false;
+  is_at_window_end = false;
+}
+
+a_weekday_among_months : holds (pattern_of (codes "0 0 * MON *")) (warnings.OtherName fields.Month) ≡ true
+a_weekday_among_months = refl
+
+a_month_among_months : holds (pattern_of (codes "0 0 * MAR *")) (warnings.OtherName fields.Month) ≡ false
+a_month_among_months = refl
 
 -- ---- items
 
@@ -120,9 +198,33 @@ a_whole_hour : is_whole_hour (means true (codes "* 5 * * *")) ≡ true
 unfolding trim_start trim_end chars lib.Utf8.encode
 a_whole_hour = refl
 
-two_whole_hours : is_whole_hour (means true (codes "* 5,6 * * *")) ≡ false
+two_whole_hours : is_whole_hour (means true (codes "* 5,6 * * *")) ≡ true
 unfolding trim_start trim_end chars lib.Utf8.encode
 two_whole_hours = refl
+
+each_minute_of_workdays : is_whole_hour (means true (codes "* * * * 1-5")) ≡ true
+unfolding trim_start trim_end chars lib.Utf8.encode
+each_minute_of_workdays = refl
+
+each_minute : is_whole_hour (means true (codes "* * * * *")) ≡ false
+unfolding trim_start trim_end chars lib.Utf8.encode
+each_minute = refl
+
+hours_as_one_range : has_hours_in_range (texts (codes "* 5-6 * * *")) ≡ true
+unfolding digits
+hours_as_one_range = refl
+
+one_hour_as_a_range : has_hours_in_range (texts (codes "* 5-5 * * *")) ≡ false
+unfolding digits
+one_hour_as_a_range = refl
+
+hours_in_a_list : has_hours_in_range (texts (codes "* 5,6 * * *")) ≡ false
+unfolding digits
+hours_in_a_list = refl
+
+each_second_hour_in_a_range : has_hours_in_range (texts (codes "* 9-17/2 * * *")) ≡ false
+unfolding digits
+each_second_hour_in_a_range = refl
 
 -- named days, in these years and months
 the_31st_in_april : are_late (31 ∷ []) (2023 ∷ []) (4 ∷ []) ≡ true
@@ -175,17 +277,91 @@ job_by user command = record {
 no_months_at_the_window_end : (m : Meaning) → holds (record (job_by None (codes "x")) { meaning = Some m; is_at_window_end = true }) warnings.ShortMonths ≡ false
 no_months_at_the_window_end m = refl
 
-a_field_for_a_user : holds (job_by (Some (codes "*")) (codes "root x")) warnings.LooksLikeField ≡ true
+weekdays_by_name : looks_like_field (codes "MON-FRI x") ≡ true
+weekdays_by_name = refl
+
+a_comment_is_no_field : looks_like_field (codes "#5 x") ≡ false
+a_comment_is_no_field = refl
+
+-- the same behind five fields
+abbrev fielded_by : Option (List ℕ) → List ℕ → Subject
+fielded_by user command = record (job_by user command) { fields = Some (texts (codes "0 0 * * *")) }
+
+a_field_for_a_user : holds (fielded_by (Some (codes "*")) (codes "root x")) warnings.LooksLikeField ≡ true
 a_field_for_a_user = refl
 
-a_field_behind_a_user : holds (job_by (Some (codes "root")) (codes "5 x")) warnings.LooksLikeField ≡ false
+a_field_behind_a_user : holds (fielded_by (Some (codes "root")) (codes "5 x")) warnings.LooksLikeField ≡ false
 a_field_behind_a_user = refl
 
-a_field_for_a_command : holds (job_by None (codes "5 x")) warnings.LooksLikeField ≡ true
+a_field_for_a_command : holds (fielded_by None (codes "5 x")) warnings.LooksLikeField ≡ true
 a_field_for_a_command = refl
 
-no_command : looks_like_field [] ≡ false
+a_number_behind_a_nickname : holds (job_by None (codes "5 x")) warnings.LooksLikeField ≡ false
+a_number_behind_a_nickname = refl
+
+an_empty_command_is_no_field : looks_like_field [] ≡ false
+an_empty_command_is_no_field = refl
+
+no_command : has_no_command [] ≡ true
 no_command = refl
+
+blanks_for_a_command : has_no_command (codes "  ") ≡ true
+blanks_for_a_command = refl
+
+a_comment_for_a_command : has_no_command (codes " # x") ≡ true
+a_comment_for_a_command = refl
+
+a_command_before_a_comment : has_no_command (codes "x # y") ≡ false
+a_command_before_a_comment = refl
+
+a_carriage_return_for_a_command : has_no_command (13 ∷ []) ≡ true
+a_carriage_return_for_a_command = refl
+
+a_comment_for_a_user : holds (job_by (Some (codes "#root")) (codes "x")) warnings.NoCommand ≡ true
+a_comment_for_a_user = refl
+
+a_user_and_a_command : holds (job_by (Some (codes "root")) (codes "x")) warnings.NoCommand ≡ false
+a_user_and_a_command = refl
+
+no_command_behind_a_user : holds (job_by (Some (codes "root")) []) warnings.NoCommand ≡ true
+no_command_behind_a_user = refl
+
+-- these times, and this command behind them
+abbrev timed_job : List ℕ → List ℕ → Subject
+timed_job schedule command = record (job_by None command) { fields = Some (texts schedule) }
+
+a_command_in_the_weekdays : holds (timed_job (codes "* * * * *x") []) (warnings.PassedOver fields.Weekday) ≡ false
+a_command_in_the_weekdays = refl
+
+more_behind_the_weekdays : holds (timed_job (codes "* * * * *x") (codes "y")) (warnings.PassedOver fields.Weekday) ≡ true
+more_behind_the_weekdays = refl
+
+hours_before_a_command_in_the_weekdays : holds (timed_job (codes "* *y * * *x") []) (warnings.PassedOver fields.Hours) ≡ true
+hours_before_a_command_in_the_weekdays = refl
+
+a_pattern_passes_over_nothing : holds (record (timed_job (codes "* * * * *x") (codes "y")) { is_crontab = false }) (warnings.PassedOver fields.Weekday) ≡ false
+a_pattern_passes_over_nothing = refl
+
+a_path_for_a_user : holds (job_by (Some (codes "/bin/x")) (codes "-q")) warnings.User ≡ true
+a_path_for_a_user = refl
+
+a_user_with_a_dash : holds (job_by (Some (codes "www-data")) (codes "x")) warnings.User ≡ false
+a_user_with_a_dash = refl
+
+a_setting_for_a_user : holds (job_by (Some (codes "A=b")) (codes "x")) warnings.User ≡ true
+a_setting_for_a_user = refl
+
+a_field_is_told_alone : holds (fielded_by (Some (codes "*/2")) (codes "root x")) warnings.User ≡ false
+a_field_is_told_alone = refl
+
+a_user_in_a_users_crontab : holds (job_by None (codes "root /bin/x")) warnings.User ≡ true
+a_user_in_a_users_crontab = refl
+
+a_command_named_root : holds (job_by None (codes "root")) warnings.User ≡ false
+a_command_named_root = refl
+
+root_runs_a_command_named_root : holds (job_by (Some (codes "root")) (codes "root x")) warnings.User ≡ false
+root_runs_a_command_named_root = refl
 
 a_percent_sign : has_percent (codes "date +%F") ≡ true
 a_percent_sign = refl
@@ -196,11 +372,67 @@ behind_a_backslash = refl
 behind_two_backslashes : has_percent (92 ∷ 92 ∷ codes "%F") ≡ true
 behind_two_backslashes = refl
 
+a_backslash_at_the_end : is_continued (codes "x " ++ (92 ∷ [])) ≡ true
+a_backslash_at_the_end = refl
+
+two_backslashes_at_the_end : is_continued (codes "x " ++ (92 ∷ 92 ∷ [])) ≡ false
+two_backslashes_at_the_end = refl
+
+a_backslash_and_a_blank : is_continued (codes "x " ++ (92 ∷ 32 ∷ [])) ≡ false
+a_backslash_and_a_blank = refl
+
+an_escape_byte : has_hidden (codes "x" ++ (27 ∷ codes "[2K")) ≡ true
+an_escape_byte = refl
+
+a_tab : has_hidden (codes "x" ++ (9 ∷ codes "y")) ≡ false
+a_tab = refl
+
+a_byte_127 : has_hidden (127 ∷ []) ≡ true
+a_byte_127 = refl
+
+a_space_of_no_width : has_hidden (120 ∷ 226 ∷ 128 ∷ 139 ∷ []) ≡ true
+a_space_of_no_width = refl
+
+a_joiner_of_no_width : has_hidden (120 ∷ 226 ∷ 128 ∷ 140 ∷ []) ≡ false
+a_joiner_of_no_width = refl
+
+text_from_right_to_left : has_hidden (226 ∷ 128 ∷ 174 ∷ []) ≡ true
+text_from_right_to_left = refl
+
+an_isolate : has_hidden (226 ∷ 129 ∷ 166 ∷ []) ≡ true
+an_isolate = refl
+
+an_invisible_separator : has_hidden (226 ∷ 129 ∷ 165 ∷ []) ≡ false
+an_invisible_separator = refl
+
+letters_of_more_bytes : has_hidden (195 ∷ 164 ∷ 226 ∷ 130 ∷ 172 ∷ []) ≡ false
+letters_of_more_bytes = refl
+
+a_return_at_the_end_hides_nothing : has_hidden_within (codes "x" ++ (13 ∷ [])) ≡ false
+a_return_at_the_end_hides_nothing = refl
+
+a_return_within_hides : has_hidden_within (codes "x" ++ (13 ∷ codes "#y")) ≡ true
+a_return_within_hides = refl
+
+a_control_byte_of_a_user : holds (job_by (Some (8 ∷ codes "root")) (codes "x")) warnings.ControlByte ≡ true
+a_control_byte_of_a_user = refl
+
 a_carriage_return : has_carriage_return (codes "x" ++ (13 ∷ [])) ≡ true
 a_carriage_return = refl
 
 a_carriage_return_within : has_carriage_return (codes "x" ++ (13 ∷ codes "y")) ≡ false
 a_carriage_return_within = refl
+
+-- ---- a setting
+
+a_setting_with_a_variable : setting_found false (codes " PATH=$HOME/bin") ≡ record { is_zone = false; is_not_expanded = true; is_hiding = false }
+a_setting_with_a_variable = refl
+
+a_setting_that_ends_with_a_return : setting_found false (codes "A=b" ++ (13 ∷ [])) ≡ record { is_zone = false; is_not_expanded = false; is_hiding = true }
+a_setting_that_ends_with_a_return = refl
+
+a_plain_setting : setting_found true (codes "TZ=UTC") ≡ record { is_zone = true; is_not_expanded = false; is_hiding = false }
+a_plain_setting = refl
 
 -- ---- the file
 

@@ -1,9 +1,13 @@
+mod Annotated
+mod AskedFiles
 mod CalmFronts
 mod ClockTexts
-mod Comparisons
 mod Endings
+mod ExamplesAnnotations
 mod ExamplesChanges
 mod ExamplesClock
+mod ExamplesFindings
+mod ExamplesFolder
 mod ExamplesJson
 mod ExamplesNames
 mod ExamplesShown
@@ -11,6 +15,7 @@ mod ExamplesTally
 mod ExamplesWarnings
 mod ExamplesWritten
 mod ExamplesZone
+mod Found
 mod HarmlessBytes
 mod Items
 mod Kept
@@ -19,7 +24,6 @@ mod ListedChanges
 mod Listings
 mod Meetings
 mod Moments
-mod NamedFiles
 mod Objects
 mod Outcomes
 mod Outputs

@@ -1,23 +1,26 @@
 -- Listings up to a bound on the clock of a table, and what their ends say, whatever is listed.
-use Rattle.std.proofs.Common.{◌≡◌, ◌≤◌, ◌==◌, ◌∙◌, ◌∷◌, ◌++◌, [], ℕ, ℤ, Bool, true, false, List, Option, Some, None, length, refl, sym, ap, subst, inl, inr, if◌then◌else◌, arith}
+use Rattle.std.proofs.Common.{◌≡◌, ◌≤◌, ◌==◌, ◌∙◌, ◌∷◌, ◌++◌, [], ℕ, ℤ, Bool, true, false, List, Option, Some, None, length, map, get_or, refl, sym, ap, subst, inl, inr, if◌then◌else◌, arith}
 use Rattle.std.proofs.lemmas.Bool.{false≢true}
 use Rattle.std.proofs.lemmas.Bool.Decides.{nat_tests}
 use Rattle.std.proofs.lemmas.Int.{ints}
-use Rattle.std.proofs.lemmas.List.{length-map}
-use Rattle.std.proofs.lemmas.List.Elements.{All-contains, Contains-push, Contains-push_cases}
+use Rattle.std.proofs.lemmas.List.{length-map, get_or-map}
+use Rattle.std.proofs.lemmas.List.Elements.{All-map, All-contains, Contains-push, Contains-push_cases}
 use Rattle.std.specs.List.{All, Contains}
 use Rattle.std.specs.Prelude.{◌⊎◌, ◌↔◌, int_le, int_lt, IsTrue, ◌≤ℤ◌, ◌<ℤ◌}
 use Rattle.croner_base.specs.declared.errors.CronError.{CronError}
 use Rattle.croner_base.specs.declared.errors.CronError.TheVariants.{OutOfMemory}
 use Rattle.croner_base.specs.declared.time.Direction.TheVariants.{Forward}
+use Rattle.croner_base.specs.declared.time.table.ClockTable.{ClockTable}
 use Rattle.croner_base.specs.declared.time.table.TableTime.{TableTime}
 use Rattle.croner_base.specs.Calm.{IsStart}
-use Rattle.croner_base.specs.TableZone.{table_moment}
+use Rattle.croner_base.specs.Table.{is_table_second}
+use Rattle.croner_base.specs.TableZone.{table_moment, table_zone}
 use Rattle.croner_base.specs.Zone.{reading}
 use Rattle.croner_base.proofs.tables.TableCalm.{clock_calm, table_holds}
 use Rattle.croner_base.proofs.tables.TableTests.{le_of}
 use Rattle.croner_pattern.specs.Meaning.{Meaning}
-use Rattle.croner.specs.iterator.Listing.{Standing, IsLeft, job_at}
+use Rattle.croner.specs.iterator.Listing.{Standing, IsLeft, BeginsWhere, instants, job_at}
+use Rattle.croner.specs.laws.Neighbours.{IsWholeIn}
 use Rattle.croner.specs.laws.Until.{ComesBy, ListsUntil}
 use Rattle.croner.specs.search.Premises.{StartsCalm, IsSearchable}
 use Rattle.croner.specs.search.Runs.{Precedes}
@@ -27,9 +30,18 @@ use Rattle.croncheck_command.specs.declared.runs.End.{End}
 use Rattle.croncheck_command.specs.declared.runs.End.TheVariants as ends
 use Rattle.croncheck_command.specs.declared.runs.Listing.{Listing}
 use Rattle.croncheck_command.specs.declared.runs.Listing.TheVariants as listings
+use Rattle.croncheck_command.specs.declared.runs.Run.{Run}
 use Rattle.croncheck_command.specs.declared.runs.Runs.{Runs}
-use Rattle.croncheck_command.specs.Private.Ends.{bound, limit, earlier, full_end, end_before, end_of_years, EndsBy}
-use Rattle.croncheck_command.specs.Runs.{starts, seconds_of, Rest, runs_behind, GaveUntil, GaveYears, IsInWindow, LeavesOne, StartsWell, IsMore, IsEnd, IsAsked, IsListed}
+use Rattle.crontab_runs.specs.declared.job.Start.{Start}
+use Rattle.crontab_runs.specs.declared.listing.StartsEnd.{StartsEnd}
+use Rattle.crontab_runs.specs.declared.listing.StartsEnd.TheVariants as starts_ends
+use Rattle.crontab_runs.specs.Listing.{ListsStarts}
+use Rattle.crontab_runs.specs.Searches.{IsStartOf}
+use Rattle.crontab_runs.specs.Starts.{CronJob, cron_job}
+use Rattle.crontab_runs.proofs.StartBounds.{start_held}
+use Rattle.croncheck_command.specs.Private.Ends.{bound, limit, earlier, full_end, end_before, end_of_years, end_of_starts, EndsBy}
+use Rattle.croncheck_command.specs.Private.Listed.{once, Seen, run_seen, seen_on}
+use Rattle.croncheck_command.specs.Runs.{starts, seconds_of, Rest, runs_behind, runs_listed, starts_behind, starts_listed, GaveUntil, GaveYears, IsInWindow, LeavesOne, StartsWell, IsMore, IsEnd, IsAsked, IsListed}
 use Rattle.croncheck_command.proofs.OwnRuns.{counts_after}
 
 -- the clock of a table is calm
@@ -199,6 +211,28 @@ module _ (rest : Rest) (start : ℤ) (behind : (i : ℤ) → rest.left i → sta
   end_is last listing items (Some fault) endings.Refused end s is =
       subst (λ (e : End). IsEnd rest last listing items e) (sym is.1.1) (λ well. is.0 (ap (or_else fault) (s.stops well)))
 
+-- ---- runs that are times or starts
+
+-- what holds of what each is made into
+all_of_map : {X Y : Type 0} (P : X → Type 0) (f : Y → X) (ys : List Y) → All P (map f ys) → All (λ y. P (f y)) ys
+all_of_map P f ys all = λ k d inside. subst P (get_or-map f ys k d (f d) inside) (all k (f d) (omega (arith, length-map ys f, inside)))
+
+once_seconds : (times : List TableTime) → seconds_of (map once times) ≡ instants table_moment times
+once_seconds [] = refl
+once_seconds (t ∷ times) = ap (λ (is : List ℤ). t.second ∷ is) (once_seconds times)
+
+-- the seconds of starts
+abbrev start_seconds : List Start → List ℤ
+start_seconds starts = map (λ s. s.second) starts
+
+run_seconds : (runs : List Run) → map (λ v. v.start.second) (map run_seen runs) ≡ seconds_of runs
+run_seconds [] = refl
+run_seconds (run ∷ runs) = ap (λ (is : List ℤ). run.time.second ∷ is) (run_seconds runs)
+
+on_seconds : (table : ClockTable) (starts : List Start) → map (λ v. v.start.second) (map (seen_on table) starts) ≡ start_seconds starts
+on_seconds table [] = refl
+on_seconds table (s ∷ starts) = ap (λ (is : List ℤ). s.second ∷ is) (on_seconds table starts)
+
 -- ---- of one pattern
 
 module _ (m : Meaning) (start : TableTime) where
@@ -206,40 +240,132 @@ module _ (m : Meaning) (start : TableTime) where
   left_behind i left = counts_after (job_at (starts m start)) start.second i left
 
   stops_is : (new : Standing) (until : Option ℤ) (most : ℕ) (items : List TableTime) (fault : Option CronError) (ending : ListingEnd)
-      → ListsUntil (starts m start) new until most items ending → Stops (runs_behind m start) until most (seconds_of items) fault ending
+      → ListsUntil (starts m start) new until most items ending → Stops (runs_behind m start) until most (instants table_moment items) fault ending
   stops_is new until most items fault endings.Full l = l.ended
   stops_is new until most items fault (endings.Past i) l =
-      let next = next_past (IsLeft (starts m start)) (IsLeft new) (seconds_of items) i l.rest.counts l.rest.either l.rest.behind in
+      let next = next_past (IsLeft (starts m start)) (IsLeft new) (instants table_moment items) i l.rest.counts l.rest.either l.rest.behind in
       (next.0, l.ended, next.1)
   stops_is new until most items fault endings.Over l = l.ended.0
   stops_is new until most items fault endings.Refused l = λ well. absurd (l.ended.0 (searchable start well))
 
-  is_listed : (new : Standing) (last : Option ℤ) (listing : Listing) (r : Runs) (fault : Option CronError) (ending : ListingEnd)
-      → ListsUntil (starts m start) new (bound start.second last listing) (limit listing) r.items.items ending
-      → EndsBy listing last ending fault r.end → IsListed m start last listing r
-  is_listed new last listing r fault ending l is =
+  is_listed : (new : Standing) (last : Option ℤ) (listing : Listing) (times : List TableTime) (r : Runs) (fault : Option CronError) (ending : ListingEnd)
+      → r.items.items ≡ map once times → ListsUntil (starts m start) new (bound start.second last listing) (limit listing) times ending
+      → EndsBy listing last ending fault r.end → IsListed (runs_listed m start) last listing r
+  is_listed new last listing times r fault ending made l is =
       let rest = runs_behind m start in
-      let items = seconds_of r.items.items in
-      let within : length items ≤ limit listing = omega (arith, length-map r.items.items (λ (t : TableTime). (table_moment t).instant), l.most) in
+      let items = instants table_moment times in
+      let same : items ≡ seconds_of r.items.items = sym (ap seconds_of made ∙ once_seconds times) in
+      let within : length items ≤ limit listing = omega (arith, length-map times (λ (t : TableTime). (table_moment t).instant), l.most) in
       record {
-        begins = l.begins;
-        asked = is_asked rest start.second left_behind last listing items l.begins.counts l.by within;
-        on_clock = l.whole;
-        in_window = all_in_window rest start.second left_behind last listing items l.begins.counts l.by;
-        end = end_is rest start.second left_behind last listing items fault ending r.end (record {
-          counts = l.begins.counts;
-          by = l.by;
-          within = within;
-          stops = stops_is new (bound start.second last listing) (limit listing) r.items.items fault ending l;
-        }) is;
+        begins = subst (λ (is : List ℤ). BeginsWhere Forward rest.left is) same l.begins;
+        times = subst (λ (runs : List Run). All (λ run. run.count ≡ 1) runs) (sym made) (All-map (λ (run : Run). run.count ≡ 1) once times (λ k d inside. refl));
+        asked = subst (λ (is : List ℤ). IsAsked listing is) same (is_asked rest start.second left_behind last listing items l.begins.counts l.by within);
+        on_clock = subst (λ (runs : List Run). All (λ run. IsWholeIn (table_moment start).zone (table_moment run.time)) runs) (sym made)
+            (All-map (λ (run : Run). IsWholeIn (table_moment start).zone (table_moment run.time)) once times l.whole);
+        in_window = subst (λ (is : List ℤ). All (IsInWindow last) is) same (all_in_window rest start.second left_behind last listing items l.begins.counts l.by);
+        end = subst (λ (is : List ℤ). IsEnd rest last listing is r.end) same
+            (end_is rest start.second left_behind last listing items fault ending r.end (record {
+              counts = l.begins.counts;
+              by = l.by;
+              within = within;
+              stops = stops_is new (bound start.second last listing) (limit listing) times fault ending l;
+            }) is);
       }
 
 -- of an iterator that is new at the start, searched up to the bound
-pub listed_by : (m : Meaning) (start : TableTime) (at new : Standing) (until : Option ℤ) (most : ℕ) (last : Option ℤ) (listing : Listing) (r : Runs)
-    (fault : Option CronError) (ending : ListingEnd) → at ≡ starts m start → until ≡ bound start.second last listing → most ≡ limit listing
-    → ListsUntil at new until most r.items.items ending → EndsBy listing last ending fault r.end → IsListed m start last listing r
-listed_by m start at new until most last listing r fault ending begins up_to at_most l is =
-    is_listed m start new last listing r fault ending
-    (subst (λ (s : Standing). ListsUntil s new (bound start.second last listing) (limit listing) r.items.items ending) begins
-    (subst (λ (u : Option ℤ). ListsUntil at new u (limit listing) r.items.items ending) up_to
-    (subst (λ (n : ℕ). ListsUntil at new until n r.items.items ending) at_most l))) is
+pub listed_by : (m : Meaning) (start : TableTime) (at new : Standing) (until : Option ℤ) (most : ℕ) (last : Option ℤ) (listing : Listing) (times : List TableTime)
+    (r : Runs) (fault : Option CronError) (ending : ListingEnd) → at ≡ starts m start → until ≡ bound start.second last listing → most ≡ limit listing
+    → r.items.items ≡ map once times → ListsUntil at new until most times ending → EndsBy listing last ending fault r.end
+    → IsListed (runs_listed m start) last listing r
+listed_by m start at new until most last listing times r fault ending begins up_to at_most made l is =
+    is_listed m start new last listing times r fault ending made
+    (subst (λ (s : Standing). ListsUntil s new (bound start.second last listing) (limit listing) times ending) begins
+    (subst (λ (u : Option ℤ). ListsUntil at new u (limit listing) times ending) up_to
+    (subst (λ (n : ℕ). ListsUntil at new until n times ending) at_most l))) is
+
+-- ---- of a job of a crontab
+
+-- how a listing of starts ended, in the words of one of runs
+abbrev ending_of : StartsEnd → ListingEnd
+ending_of starts_ends.Full = endings.Full
+ending_of (starts_ends.Past next) = endings.Past next.second
+ending_of starts_ends.Over = endings.Over
+
+ends_by : (listing : Listing) (last : Option ℤ) (ending : StartsEnd) (end : End) → end ≡ end_of_starts listing last ending → EndsBy listing last (ending_of ending) None end
+ends_by listing last starts_ends.Full end is = is
+ends_by listing last (starts_ends.Past next) end is = is
+ends_by listing last starts_ends.Over end is = is
+
+module _ (job : CronJob) (start : TableTime) where
+  abbrev left : ℤ → Type 0
+  left = (starts_behind job start).left
+
+  start_left : (starts : List ℤ) (i : ℤ) → BeginsWhere Forward left (starts ++ i ∷ []) → left i × ((j : ℤ) → left j → j <ℤ i → Contains starts j)
+  start_left starts i begins = (
+    All-contains left (starts ++ i ∷ []) i begins.counts (Contains-push starts i),
+    λ j is before.
+        elim (Contains-push_cases starts i j (begins.complete j i is (Contains-push starts i) (omega (arith, ints, before)))) [
+          | inl earlier ↦ earlier
+          | inr same ↦ absurd (omega (arith, ints, same, before))
+        ],
+  )
+
+  starts_stop : (until : Option ℤ) (most : ℕ) (starts : List Start) (ending : StartsEnd) → ListsStarts job (table_moment start) until most starts ending
+      → Stops (starts_behind job start) until most (start_seconds starts) None (ending_of ending)
+  starts_stop until most starts starts_ends.Full l = length-map starts (λ (s : Start). s.second) ∙ l.ended
+  starts_stop until most starts (starts_ends.Past next) l =
+      let is = start_left (start_seconds starts) next.second l.ended.2 in
+      (is.0, l.ended.1, is.1)
+  starts_stop until most starts starts_ends.Over l = l.ended
+
+  -- a start on the clock, as it is seen of a run
+  abbrev IsStartHere : Seen → Type 0
+  IsStartHere v = IsStartOf job (table_moment start).zone v.start × (v.table ≡ start.table.now)
+
+  starts_listed_is : (last : Option ℤ) (listing : Listing) (starts : List Start) (r : Runs) (ending : StartsEnd)
+      → map run_seen r.items.items ≡ map (seen_on start.table.now) starts
+      → ListsStarts job (table_moment start) (bound start.second last listing) (limit listing) starts ending
+      → r.end ≡ end_of_starts listing last ending → IsListed (starts_listed job start) last listing r
+  starts_listed_is last listing starts r ending made l is =
+      let rest = starts_behind job start in
+      let items = start_seconds starts in
+      let same : items ≡ seconds_of r.items.items =
+      sym (sym (run_seconds r.items.items) ∙ ap (map (λ (v : Seen). v.start.second)) made ∙ on_seconds start.table.now starts) in
+      let within : length items ≤ limit listing = omega (arith, length-map starts (λ (s : Start). s.second), l.most) in
+      let by : All (ComesBy Forward (bound start.second last listing)) items =
+      All-map (ComesBy Forward (bound start.second last listing)) (λ (s : Start). s.second) starts l.by in
+      let behind : (i : ℤ) → rest.left i → start.second <ℤ i = λ i is_left. is_left.0 in
+      let here : All IsStartHere (map run_seen r.items.items) =
+      subst (λ (vs : List Seen). All IsStartHere vs) (sym made) (All-map IsStartHere (seen_on start.table.now) starts (λ k d inside. (l.each k d inside, refl))) in
+      let each : All (λ (run : Run). IsStartHere (run_seen run)) r.items.items = all_of_map IsStartHere run_seen r.items.items here in
+      record {
+        begins = subst (λ (is : List ℤ). BeginsWhere Forward rest.left is) same l.begins;
+        times = λ k d inside. (each k d inside).0;
+        asked = subst (λ (is : List ℤ). IsAsked listing is) same (is_asked rest start.second behind last listing items l.begins.counts by within);
+        on_clock = λ k d inside. record { zone = ap table_zone (each k d inside).1; whole = refl };
+        in_window = subst (λ (is : List ℤ). All (IsInWindow last) is) same (all_in_window rest start.second behind last listing items l.begins.counts by);
+        end = subst (λ (is : List ℤ). IsEnd rest last listing is r.end) same
+            (end_is rest start.second behind last listing items None (ending_of ending) r.end (record {
+              counts = l.begins.counts;
+              by = by;
+              within = within;
+              stops = starts_stop (bound start.second last listing) (limit listing) starts ending l;
+            }) (ends_by listing last ending r.end is));
+      }
+
+-- searched up to the bound
+pub starts_listed_by : (job : CronJob) (start : TableTime) (until : Option ℤ) (most : ℕ) (last : Option ℤ) (listing : Listing) (starts : List Start) (r : Runs)
+    (ending : StartsEnd) → until ≡ bound start.second last listing → most ≡ limit listing → map run_seen r.items.items ≡ map (seen_on start.table.now) starts
+    → ListsStarts job (table_moment start) until most starts ending → r.end ≡ end_of_starts listing last ending → IsListed (starts_listed job start) last listing r
+starts_listed_by job start until most last listing starts r ending up_to at_most made l is =
+    starts_listed_is job start last listing starts r ending made
+    (subst (λ (u : Option ℤ). ListsStarts job (table_moment start) u (limit listing) starts ending) up_to
+    (subst (λ (n : ℕ). ListsStarts job (table_moment start) until n starts ending) at_most l)) is
+
+-- each start is held by its clock's table
+pub starts_held : (m : Meaning) (is_starred : Bool) (t : TableTime) (starts : List Start) → All (IsStartOf (cron_job m is_starred) (table_moment t).zone) starts
+    → All (λ s. is_table_second s.second ≡ true) starts
+starts_held m is_starred t starts each = λ k d inside.
+    let s = get_or starts k d in
+    let is = each k d inside in
+    start_held m is_starred t.table.now s.second (s.count, is.some, is.times)

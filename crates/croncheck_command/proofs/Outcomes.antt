@@ -15,7 +15,7 @@ use Rattle.crontab.specs.Line.{Timing, reboot, never, named}
 use Rattle.croncheck_command.specs.declared.settings.Settings.{Settings}
 use Rattle.croncheck_command.specs.declared.told.Told.{Told}
 use Rattle.croncheck_command.specs.Report.{meaning_of_timing, meaning_read, IsFaultBehind}
-use Rattle.croncheck_command.specs.Told.{TellsMeaning, TellsTiming}
+use Rattle.croncheck_command.specs.Told.{cron_of, TellsMeaning, TellsTiming}
 
 abbrev is_no_text : Outcome → Bool
 is_no_text outcomes.NoText = true
@@ -33,11 +33,11 @@ meaning_is reboot c read = has_text (outcomes.Job c) refl read
 meaning_is never c read = has_text (outcomes.Job c) refl read
 meaning_is (named text both) c read = ap meaning_read read
 
-pub tells_timing : (s : Settings) (t : Timing) (c : Cron) (told : Told) → IsOutcomeOfTimes t (outcomes.Job c) → TellsMeaning s (Ok (job_of c)) told
-    → TellsTiming s t told
-tells_timing s reboot c told read tells = has_text (outcomes.Job c) refl read
-tells_timing s never c told read tells = has_text (outcomes.Job c) refl read
-tells_timing s (named text both) c told read tells = subst (λ (r : Result Meaning Refusal). TellsMeaning s r told) (sym read) tells
+pub tells_timing : (s : Settings) (schedule : List ℕ) (t : Timing) (c : Cron) (told : Told) → IsOutcomeOfTimes t (outcomes.Job c)
+    → TellsMeaning s (cron_of schedule) (Ok (job_of c)) told → TellsTiming s schedule t told
+tells_timing s schedule reboot c told read tells = has_text (outcomes.Job c) refl read
+tells_timing s schedule never c told read tells = has_text (outcomes.Job c) refl read
+tells_timing s schedule (named text both) c told read tells = subst (λ (r : Result Meaning Refusal). TellsMeaning s (cron_of schedule) r told) (sym read) tells
 
 -- times without a text have no meaning
 pub no_meaning : (t : Timing) → IsOutcomeOfTimes t outcomes.NoText → meaning_of_timing t ≡ None

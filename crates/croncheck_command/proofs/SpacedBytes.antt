@@ -1,4 +1,4 @@
--- Bytes as they are shown with spaces in place of tabs, piece by piece.
+-- Bytes as they are shown with a text in place of each byte of one value, piece by piece.
 use Rattle.std.proofs.Common.{◌≡◌, ◌∙◌, ℕ, suc, ◌+◌, Bool, true, false, refl, sym, ap, List, [], ◌∷◌, ◌++◌, append_assoc, length, take, drop, nat_lt, arith}
 use Rattle.std.proofs.lemmas.Bool.{false≢true}
 use Rattle.std.proofs.lemmas.Bool.Decides.{nat_tests}
@@ -8,12 +8,12 @@ use Rattle.std.specs.Prelude.{◌==◌}
 use Rattle.crontab.specs.declared.bytes.Kind.TheVariants as kinds
 use Rattle.crontab.specs.Bytes.{is_of, front, behind, rest_of}
 use Rattle.crontab.specs.Setting.{has}
-use Rattle.croncheck_command.specs.Shown.{bytes_shown, spaced_behind, spaced}
+use Rattle.croncheck_command.specs.Shown.{bytes_shown, replaced_behind, replaced}
 
 some_left : (n : ℕ) → nat_lt 0 (suc n) ≡ true
 some_left n = grind (arith, nat_tests)
 
--- ---- a byte that is no tab
+-- ---- another byte
 
 take_one : (n b : ℕ) (bs : List ℕ) → take (1 + n) (b ∷ bs) ≡ b ∷ take n bs
 take_one n b bs = let one : 1 + n ≡ suc n = omega arith in rw one refl
@@ -21,66 +21,67 @@ take_one n b bs = let one : 1 + n ≡ suc n = omega arith in rw one refl
 drop_one : (n b : ℕ) (bs : List ℕ) → drop (1 + n) (b ∷ bs) ≡ drop n bs
 drop_one n b bs = let one : 1 + n ≡ suc n = omega arith in rw one refl
 
-front_more : (b : ℕ) (bs : List ℕ) → (b == 9) ≡ false → front (kinds.But 9) (b ∷ bs) ≡ b ∷ front (kinds.But 9) bs
-front_more b bs is = rw is (take_one (prefix_len (is_of (kinds.But 9)) bs) b bs)
+front_more : (c b : ℕ) (bs : List ℕ) → (b == c) ≡ false → front (kinds.But c) (b ∷ bs) ≡ b ∷ front (kinds.But c) bs
+front_more c b bs is = rw is (take_one (prefix_len (is_of (kinds.But c)) bs) b bs)
 
-behind_more : (b : ℕ) (bs : List ℕ) → (b == 9) ≡ false → behind (kinds.But 9) (b ∷ bs) ≡ behind (kinds.But 9) bs
-behind_more b bs is = rw is (drop_one (prefix_len (is_of (kinds.But 9)) bs) b bs)
+behind_more : (c b : ℕ) (bs : List ℕ) → (b == c) ≡ false → behind (kinds.But c) (b ∷ bs) ≡ behind (kinds.But c) bs
+behind_more c b bs is = rw is (drop_one (prefix_len (is_of (kinds.But c)) bs) b bs)
 
-has_more : (b : ℕ) (bs : List ℕ) → (b == 9) ≡ false → has 9 (b ∷ bs) ≡ has 9 bs
-has_more b bs is = ap (λ (l : List ℕ). nat_lt 0 (length l)) (behind_more b bs is)
+has_more : (c b : ℕ) (bs : List ℕ) → (b == c) ≡ false → has c (b ∷ bs) ≡ has c bs
+has_more c b bs is = ap (λ (l : List ℕ). nat_lt 0 (length l)) (behind_more c b bs is)
 
--- ---- what stands before a tab and behind it
+-- ---- what stands before such a byte and behind it
 
-abbrev UpToTab : List ℕ → List ℕ → Type 0
-UpToTab bytes before =
-    spaced_behind before bytes ≡ bytes_shown (before ++ front (kinds.But 9) bytes) ++ 32 ∷ spaced_behind [] (rest_of (behind (kinds.But 9) bytes))
+abbrev UpToSign : ℕ → List ℕ → List ℕ → List ℕ → Type 0
+UpToSign c text bytes before =
+    replaced_behind c text before bytes ≡ bytes_shown (before ++ front (kinds.But c) bytes) ++ (text ++ replaced_behind c text [] (rest_of (behind (kinds.But c) bytes)))
 
-tab_next : (b : ℕ) (bs before : List ℕ) (is_tab : Bool) → (b == 9) ≡ is_tab → ((more : List ℕ) → has 9 bs ≡ true → UpToTab bs more)
-    → has 9 (b ∷ bs) ≡ true → UpToTab (b ∷ bs) before
-tab_next b bs before true is later h = rw (is, append-nil before) refl
-tab_next b bs before false is later h =
-    let f = front_more b bs is in
-    let g = behind_more b bs is in
-    let more : has 9 bs ≡ true = sym (has_more b bs is) ∙ h in
-    let step : spaced_behind before (b ∷ bs) ≡ spaced_behind (before ++ b ∷ []) bs = rw is refl in
+sign_next : (c : ℕ) (text : List ℕ) (b : ℕ) (bs before : List ℕ) (is_sign : Bool) → (b == c) ≡ is_sign
+    → ((more : List ℕ) → has c bs ≡ true → UpToSign c text bs more) → has c (b ∷ bs) ≡ true → UpToSign c text (b ∷ bs) before
+sign_next c text b bs before true is later h = rw (is, append-nil before) refl
+sign_next c text b bs before false is later h =
+    let f = front_more c b bs is in
+    let g = behind_more c b bs is in
+    let more : has c bs ≡ true = sym (has_more c b bs is) ∙ h in
+    let step : replaced_behind c text before (b ∷ bs) ≡ replaced_behind c text (before ++ b ∷ []) bs = rw is refl in
     step ∙ later (before ++ b ∷ []) more
-    ∙ ap (λ (l : List ℕ). bytes_shown l ++ 32 ∷ spaced_behind [] (rest_of (behind (kinds.But 9) bs))) (append_assoc before (b ∷ []) (front (kinds.But 9) bs))
-    ∙ sym (ap (λ (l : List ℕ). bytes_shown (before ++ l) ++ 32 ∷ spaced_behind [] (rest_of (behind (kinds.But 9) bs))) f)
-    ∙ sym (ap (λ (l : List ℕ). bytes_shown (before ++ front (kinds.But 9) (b ∷ bs)) ++ 32 ∷ spaced_behind [] (rest_of l)) g)
+    ∙ ap (λ (l : List ℕ). bytes_shown l ++ (text ++ replaced_behind c text [] (rest_of (behind (kinds.But c) bs)))) (append_assoc before (b ∷ []) (front (kinds.But c) bs))
+    ∙ sym (ap (λ (l : List ℕ). bytes_shown (before ++ l) ++ (text ++ replaced_behind c text [] (rest_of (behind (kinds.But c) bs)))) f)
+    ∙ sym (ap (λ (l : List ℕ). bytes_shown (before ++ front (kinds.But c) (b ∷ bs)) ++ (text ++ replaced_behind c text [] (rest_of l))) g)
 
-up_to_tab : (bytes before : List ℕ) → has 9 bytes ≡ true → UpToTab bytes before
-up_to_tab [] before h = absurd (false≢true h)
-up_to_tab (b ∷ bs) before h = tab_next b bs before (b == 9) refl (λ more is. up_to_tab bs more is) h
+up_to_sign : (c : ℕ) (text bytes before : List ℕ) → has c bytes ≡ true → UpToSign c text bytes before
+up_to_sign c text [] before h = absurd (false≢true h)
+up_to_sign c text (b ∷ bs) before h = sign_next c text b bs before (b == c) refl (λ more is. up_to_sign c text bs more is) h
 
 -- ---- up to the end
 
-end_next : (b : ℕ) (bs before : List ℕ) (is_tab : Bool) → (b == 9) ≡ is_tab
-    → ((more : List ℕ) → has 9 bs ≡ false → spaced_behind more bs ≡ bytes_shown (more ++ bs)) → has 9 (b ∷ bs) ≡ false
-    → spaced_behind before (b ∷ bs) ≡ bytes_shown (before ++ b ∷ bs)
-end_next b bs before true is later h =
-    let some : has 9 (b ∷ bs) ≡ true = rw is (some_left (length bs)) in
+end_next : (c : ℕ) (text : List ℕ) (b : ℕ) (bs before : List ℕ) (is_sign : Bool) → (b == c) ≡ is_sign
+    → ((more : List ℕ) → has c bs ≡ false → replaced_behind c text more bs ≡ bytes_shown (more ++ bs)) → has c (b ∷ bs) ≡ false
+    → replaced_behind c text before (b ∷ bs) ≡ bytes_shown (before ++ b ∷ bs)
+end_next c text b bs before true is later h =
+    let some : has c (b ∷ bs) ≡ true = rw is (some_left (length bs)) in
     absurd (false≢true (sym h ∙ some))
-end_next b bs before false is later h =
-    let none : has 9 bs ≡ false = sym (has_more b bs is) ∙ h in
+end_next c text b bs before false is later h =
+    let none : has c bs ≡ false = sym (has_more c b bs is) ∙ h in
     let next = later (before ++ b ∷ []) none in
     rw (is, next, append_assoc before (b ∷ []) bs) refl
 
-up_to_end : (bytes before : List ℕ) → has 9 bytes ≡ false → spaced_behind before bytes ≡ bytes_shown (before ++ bytes)
-up_to_end [] before h = rw (append-nil before) refl
-up_to_end (b ∷ bs) before h = end_next b bs before (b == 9) refl (λ more is. up_to_end bs more is) h
+up_to_end : (c : ℕ) (text bytes before : List ℕ) → has c bytes ≡ false → replaced_behind c text before bytes ≡ bytes_shown (before ++ bytes)
+up_to_end c text [] before h = rw (append-nil before) refl
+up_to_end c text (b ∷ bs) before h = end_next c text b bs before (b == c) refl (λ more is. up_to_end c text bs more is) h
 
 -- ---- the loop
 
 -- one piece more was put behind a text
-pub one_piece : (old mid new piece tail rest bytes : List ℕ) → has 9 bytes ≡ true → piece ≡ front (kinds.But 9) bytes → tail ≡ behind (kinds.But 9) bytes
-    → mid ≡ old ++ bytes_shown piece → new ≡ mid ++ 32 ∷ [] → rest ≡ rest_of tail → new ++ spaced rest ≡ old ++ spaced bytes
-one_piece old mid new piece tail rest bytes h piece_is tail_is mid_is new_is rest_is =
-    rw (rest_is, tail_is, new_is, mid_is, piece_is, up_to_tab bytes [] h)
-    (append_assoc (old ++ bytes_shown (front (kinds.But 9) bytes)) (32 ∷ []) (spaced (rest_of (behind (kinds.But 9) bytes)))
-    ∙ append_assoc old (bytes_shown (front (kinds.But 9) bytes)) (32 ∷ spaced (rest_of (behind (kinds.But 9) bytes))))
+pub one_piece : (c : ℕ) (text old mid new piece tail rest bytes : List ℕ) → has c bytes ≡ true → piece ≡ front (kinds.But c) bytes
+    → tail ≡ behind (kinds.But c) bytes → mid ≡ old ++ bytes_shown piece → new ≡ mid ++ text → rest ≡ rest_of tail
+    → new ++ replaced c text rest ≡ old ++ replaced c text bytes
+one_piece c text old mid new piece tail rest bytes h piece_is tail_is mid_is new_is rest_is =
+    rw (rest_is, tail_is, new_is, mid_is, piece_is, up_to_sign c text bytes [] h)
+    (append_assoc (old ++ bytes_shown (front (kinds.But c) bytes)) text (replaced c text (rest_of (behind (kinds.But c) bytes)))
+    ∙ append_assoc old (bytes_shown (front (kinds.But c) bytes)) (text ++ replaced c text (rest_of (behind (kinds.But c) bytes))))
 
 -- the last piece was
-pub last_piece : (initial old new rest bytes : List ℕ) → has 9 rest ≡ false → new ≡ old ++ bytes_shown rest → old ++ spaced rest ≡ initial ++ spaced bytes
-    → new ≡ initial ++ spaced bytes
-last_piece initial old new rest bytes h new_is so_far = new_is ∙ ap (λ l. old ++ l) (sym (up_to_end rest [] h)) ∙ so_far
+pub last_piece : (c : ℕ) (text initial old new rest bytes : List ℕ) → has c rest ≡ false → new ≡ old ++ bytes_shown rest
+    → old ++ replaced c text rest ≡ initial ++ replaced c text bytes → new ≡ initial ++ replaced c text bytes
+last_piece c text initial old new rest bytes h new_is so_far = new_is ∙ ap (λ l. old ++ l) (sym (up_to_end c text rest [] h)) ∙ so_far

@@ -1,16 +1,23 @@
 -- Lines and files that are told one behind the other.
 use Rattle.std.proofs.Common.{◌≡◌, ◌<◌, ◌≤◌, ◌+◌, ℕ, suc, List, [], ◌∷◌, ◌++◌, Bool, true, false, Option, Some, None, Result, Ok, Err, inl, inr, ap, sym, ◌∙◌, subst, refl, take, length, get_or, map, arith}
-use Rattle.std.specs.Prelude.{IfSome, IfOk, OnOk, if◌then◌else◌}
+use Rattle.std.specs.Prelude.{IfSome, IfOk, OnOk, string_bytes, IsPermutation, IsSorted, if◌then◌else◌}
+use Rattle.std.specs.declared.alloc.Global.{Global}
+use Rattle.std.specs.declared.string.String.{String}
+use Rattle.std.specs.String.{string_cmp}
 use Rattle.std.proofs.Math.Seq.{take-suc}
 use Rattle.std.proofs.lemmas.List.{map_more, take_all}
 use Rattle.crontab.specs.declared.line.Dialect.{Dialect}
-use Rattle.croncheck_command.specs.declared.settings.Settings.{Settings}
+use Rattle.croncheck_command.specs.declared.progress.Terms.{Terms}
+use Rattle.croncheck_command.specs.declared.progress.TermsByKind.{TermsByKind}
 use Rattle.crontab.specs.Checked.{LineRead, entry_of_line, TakesInTurn, TakesAll}
-use Rattle.croncheck_command.specs.Files.{HaveTexts}
+use Rattle.croncheck_command.specs.Files.{Contents}
+use Rattle.croncheck_command.specs.Folder.{sort_of}
+use Rattle.croncheck_command.specs.Names.{File, dialect_of}
+use Rattle.croncheck_command.specs.Shown.{bytes_shown}
+use Rattle.croncheck_command.specs.declared.folder.Sort.{Sort}
 use Rattle.croncheck_command.specs.Output.{Written, IsFlushed}
 use Rattle.croncheck_command.specs.Tally.{status_of}
-use Rattle.croncheck_command.specs.Shown.{bytes_shown}
-use Rattle.croncheck_command.specs.Sink.{State, at_file, Ends, EndsFile, IsToldFile, AreToldFiles, IsToldStatus}
+use Rattle.croncheck_command.specs.Sink.{State, at_file, Ends, EndsFile, IsToldFile, IsToldAs, IsToldOf, IsToldEntry, IsToldFolder, IsToldAsked, IsToldStatus, terms_of}
 use Rattle.croncheck_command.specs.Stand.{Stand}
 use Rattle.crontab.proofs.TakenLines.{in_turn_push}
 
@@ -67,13 +74,13 @@ module _ {S T V Y : Type 0} (view : S → V) (terms_of : S → T) (Leaves : T �
 pub file_told : {S T F : Type 0} (view : S → State F) (terms_of : S → T) (Leaves : T → State F → LineRead → State F → Type 0)
     (ends : F → Stand → Written → Written → Type 0) (dialect : Dialect) (name : List ℕ) (remaining : Option (List ℕ)) (t : T) (before : State F) (old new : S)
     (after : State F) → terms_of old ≡ t → view old ≡ at_file name before → TakesAll (Takes view terms_of Leaves) dialect remaining old new
-    → EndsFile ends dialect (view new) after → IfSome remaining (λ text. IsToldFile (Leaves t) ends dialect name text before after × (terms_of new ≡ t))
+    → EndsFile ends dialect (view new) after → IfSome remaining (λ text. IsToldFile (Leaves t) ends dialect name text before after)
 file_told view terms_of Leaves ends dialect name None t before old new after same begun taken ended = tt
 file_told {S} {T} {F} view terms_of Leaves ends dialect name (Some text) t before old new after same begun taken ended =
     let ys = map (entry_of_line dialect) taken.0 in
     let told = in_turn_seen view terms_of Leaves t ys old new same taken.2 in
     let P : State F → Type 0 = λ s. TakesInTurn (Leaves t) s ys (view new) in
-    ((taken.0, view new, taken.1, subst P begun told.0, ended), told.1)
+    (taken.0, view new, taken.1, subst P begun told.0, ended)
 
 -- what holds where a reader's text is known, of a reader whose text is known
 pub of_text : {T E : Type 0} (r : Result T E) (remaining : Option (List ℕ)) (text : List ℕ) (P : List ℕ → Type 0) → remaining ≡ Some text
@@ -83,54 +90,70 @@ of_text (Err e) remaining text P is h = tt
 
 -- ---- files
 
-module _ {X F T : Type 0} (name_of : X → List ℕ) (holds : List ℕ → Option (List ℕ) → Type 0) (takes : T → State F → LineRead → State F → Type 0)
-    (ends_file : T → F → Stand → Written → Written → Type 0) (dialect_of : T → Dialect) where
-  -- the first files were told by terms that stay, unless one failed
-  abbrev pub SoFar : List X → T → State F → T → State F → Bool → Type 0
-  SoFar names t old t' new failed =
-      (text_of : List ℕ → List ℕ) → HaveTexts holds text_of → failed ≡ false
-      → AreToldFiles (takes t) (ends_file t) (dialect_of t) text_of (map name_of names) old new × (t' ≡ t)
+module _ {M X V S : Type 0} (Has : M → Type 0) (view : X → V) (Tells : M → S → V → S → Type 0) where
+  -- the first of some were told, unless one failed
+  abbrev pub SoFar : List X → S → S → Bool → Type 0
+  SoFar xs old new failed = (m : M) → Has m → failed ≡ false → TakesInTurn (Tells m) old (map view xs) new
 
-  pub so_far_none : (t : T) (old : State F) → SoFar [] t old t old false
-  so_far_none t old = λ text_of has ok. (refl, refl)
+  pub so_far_none : (old : S) → SoFar [] old old false
+  so_far_none old = λ m has ok. refl
 
   neither : (a b : Bool) → (if a then true else b) ≡ false → (a ≡ false) × (b ≡ false)
   neither true b h = absurd (cc)
   neither false b h = (refl, h)
 
-  -- one more file was told
-  pub so_far_next : (names : List X) (k : ℕ) (x d : X) (t t_between t_new : T) (old between new : State F) (failed fails either : Bool) → k < length names
-      → x ≡ get_or names k d → either ≡ (if fails then true else failed) → SoFar (take k names) t old t_between between failed
-      → ((text : List ℕ) → ((remaining : Option (List ℕ)) → holds (name_of x) remaining → remaining ≡ Some text) → fails ≡ false
-      → IsToldFile (takes t_between) (ends_file t_between) (dialect_of t_between) (bytes_shown (name_of x)) text between new × (t_new ≡ t_between))
-      → SoFar (take (k + 1) names) t old t_new new either
-  so_far_next names k x d t t_between t_new old between new failed fails either within is joined before one = λ text_of has ok.
+  -- one more was told
+  pub so_far_next : (xs : List X) (k : ℕ) (x d : X) (old between new : S) (failed fails either : Bool) → k < length xs → x ≡ get_or xs k d
+      → either ≡ (if fails then true else failed) → SoFar (take k xs) old between failed → ((m : M) → Has m → fails ≡ false → Tells m between (view x) new)
+      → SoFar (take (k + 1) xs) old new either
+  so_far_next xs k x d old between new failed fails either within is joined before one = λ m has ok.
       let both = neither fails failed (sym joined ∙ ok) in
-      let first = before text_of has both.1 in
-      let told = one (text_of (name_of x)) (has (name_of x)) both.0 in
-      let Tells : State F → List ℕ → State F → Type 0 =
-      λ a name b. IsToldFile (takes t) (ends_file t) (dialect_of t) (bytes_shown name) (text_of name) a b in
-      let P : T → Type 0 = λ u. IsToldFile (takes u) (ends_file u) (dialect_of u) (bytes_shown (name_of x)) (text_of (name_of x)) between new in
-      let pushed : TakesInTurn Tells old (map name_of (take k names) ++ name_of x ∷ []) new =
-      in_turn_push Tells old between new (map name_of (take k names)) (name_of x) first.0 (subst P first.1 told.0) in
-      let here : TakesInTurn Tells old (map name_of (take k names) ++ name_of (get_or names k d) ∷ []) new =
-      subst (λ (y : X). TakesInTurn Tells old (map name_of (take k names) ++ name_of y ∷ []) new) is pushed in
-      (subst (λ (ys : List (List ℕ)). TakesInTurn Tells old ys new) (sym (map_more name_of names k d within)) here, told.1 ∙ first.1)
+      let pushed : TakesInTurn (Tells m) old (map view (take k xs) ++ view x ∷ []) new =
+      in_turn_push (Tells m) old between new (map view (take k xs)) (view x) (before m has both.1) (one m has both.0) in
+      let here : TakesInTurn (Tells m) old (map view (take k xs) ++ view (get_or xs k d) ∷ []) new =
+      subst (λ (y : X). TakesInTurn (Tells m) old (map view (take k xs) ++ view y ∷ []) new) is pushed in
+      subst (λ (ys : List V). TakesInTurn (Tells m) old ys new) (sym (map_more view xs k d within)) here
 
-  -- all files were told, and their end
-  pub told_status : (names : List X) (k : ℕ) (t t_last : T) (s : Settings) (old last ended new : State F) (failed : Bool) (status : ℕ)
-      (ends : T → F → Written → Written → Type 0) (strict_of : T → Bool) → length names ≤ k → SoFar (take k names) t old t_last last failed
-      → s.dialect ≡ dialect_of t → s.is_strict ≡ strict_of t → Ends (ends t_last) last ended → Ends (λ form. IsFlushed) ended new
-      → status ≡ (if failed then 3 else status_of (strict_of t_last) new.stand.tally)
-      → (text_of : List ℕ → List ℕ) → HaveTexts holds text_of
-      → IsToldStatus (takes t) (ends_file t) (ends t) s text_of (map name_of names) old new status
-  told_status names k t t_last s old last ended new true status ends strict_of all before dialect strict ending flushed is text_of has = inl is
-  told_status names k t t_last s old last ended new false status ends strict_of all before dialect strict ending flushed is text_of has =
-      let told = before text_of has refl in
-      let Files : Dialect → List X → Type 0 = λ d xs. AreToldFiles (takes t) (ends_file t) d text_of (map name_of xs) old last in
-      let files : Files s.dialect names =
-      subst (λ (xs : List X). Files s.dialect xs) (take_all k names all) (subst (λ (d : Dialect). Files d (take k names)) (sym dialect) told.0) in
-      let at_end : Ends (ends t) last ended = subst (λ (u : T). Ends (ends u) last ended) told.1 ending in
-      let strictly : status ≡ status_of s.is_strict new.stand.tally =
-      is ∙ ap (λ u. status_of (strict_of u) new.stand.tally) told.1 ∙ ap (λ b. status_of b new.stand.tally) (sym strict) in
-      inr ((last, ended, files, at_end, flushed), strictly)
+  -- all of them were
+  pub so_far_all : (xs : List X) (k : ℕ) (old new : S) (failed : Bool) → length xs ≤ k → SoFar (take k xs) old new failed → SoFar xs old new failed
+  so_far_all xs k old new failed all before = subst (λ (ys : List X). SoFar ys old new failed) (take_all k xs all) before
+
+-- a file was told by the terms of its kind
+pub told_as : {F : Type 0} (takes : Terms → State F → LineRead → State F → Type 0) (ends_file : Terms → F → Stand → Written → Written → Type 0)
+    (kinds : TermsByKind) (text : List ℕ) (f : File) (t : Terms) (dialect : Dialect) (old new : State F) (remaining : Option (List ℕ))
+    → t ≡ terms_of kinds dialect → dialect ≡ dialect_of f → remaining ≡ Some text
+    → IfSome remaining (λ x. IsToldFile (takes t) (ends_file t) t.settings.now.dialect (bytes_shown f.name) x old new)
+    → IsToldAs takes ends_file kinds text f old new
+told_as {F} takes ends_file kinds text f t dialect old new remaining is_t is_dialect is h =
+    let same : t ≡ terms_of kinds (dialect_of f) = is_t ∙ ap (terms_of kinds) is_dialect in
+    let P : List ℕ → Type 0 = λ x. IsToldFile (takes t) (ends_file t) t.settings.now.dialect (bytes_shown f.name) x old new in
+    let here : P text = subst (λ (o : Option (List ℕ)). IfSome o P) is h in
+    subst (λ (u : Terms). IsToldFile (takes u) (ends_file u) u.settings.now.dialect (bytes_shown f.name) text old new) same here
+
+-- a file was told as its sort says
+pub told_of : {F : Type 0} (takes : Terms → State F → LineRead → State F → Type 0) (ends_file : Terms → F → Stand → Written → Written → Type 0)
+    (kinds : TermsByKind) (m : Contents) (f : File) (answer : Bool) (sort : Sort) (old new : State F) → sort ≡ sort_of answer f → answer ≡ m.is_folder f.word
+    → IsToldOf sort takes ends_file kinds m f old new → IsToldAsked takes ends_file kinds m old f new
+told_of {F} takes ends_file kinds m f answer sort old new is_sort is h =
+    subst (λ (s : Sort). IsToldOf s takes ends_file kinds m f old new) (is_sort ∙ ap (λ (b : Bool). sort_of b f) is) h
+
+-- all files were told, and their end
+pub told_status : {F : Type 0} (takes : Terms → State F → LineRead → State F → Type 0) (ends_file : Terms → F → Stand → Written → Written → Type 0)
+    (ends : Terms → F → Written → Written → Type 0) (kinds : TermsByKind) (m : Contents) (files : List File) (t : Terms) (old last ended new : State F)
+    (failed : Bool) (status : ℕ) → t ≡ kinds.user → (failed ≡ false → TakesInTurn (IsToldAsked takes ends_file kinds m) old files last)
+    → Ends (ends t) last ended → Ends (λ form. IsFlushed) ended new → status ≡ (if failed then 3 else status_of t.settings.now.is_strict new.stand.tally)
+    → IsToldStatus takes ends_file ends kinds m files old new status
+told_status takes ends_file ends kinds m files t old last ended new true status same told ending flushed is = inl is
+told_status takes ends_file ends kinds m files t old last ended new false status same told ending flushed is =
+    let at_end = subst (λ (u : Terms). Ends (ends u) last ended) same ending in
+    let strictly : status ≡ status_of kinds.user.settings.now.is_strict new.stand.tally =
+    is ∙ ap (λ (u : Terms). status_of u.settings.now.is_strict new.stand.tally) same in
+    inr ((last, ended, told refl, at_end, flushed), strictly)
+
+-- the files of a folder were told
+pub told_folder : {F : Type 0} (takes : Terms → State F → LineRead → State F → Type 0) (ends_file : Terms → F → Stand → Written → Written → Type 0)
+    (kinds : TermsByKind) (m : Contents) (f : File) (old new : State F) (found names : List (String Global)) → found ≡ m.names_of f.word
+    → IsPermutation found names → IsSorted string_cmp names
+    → TakesInTurn (IsToldEntry takes ends_file kinds m f) old (map (λ name. string_bytes name) names) new → IsToldFolder takes ends_file kinds m f old new
+told_folder takes ends_file kinds m f old new found names is all in_order told =
+    record { names = names; all = subst (λ (xs : List (String Global)). IsPermutation xs names) is all; in_order = in_order; told = told }

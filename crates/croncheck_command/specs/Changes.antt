@@ -1,6 +1,6 @@
--- What changes of a clock do to the seconds that a job schedules. Source: this crate's documentation of `Changes`; for cron(8), its manual
--- page of Debian's 3.0pl1, "Notes".
-use Rattle.std.specs.Prelude.{◌≡◌, ◌<◌, ◌⊎◌, ◌↔◌, ◌&&◌, ◌||◌, ◌==◌, not, IsTrue, ℕ, nat_lt, Bool, true, false, ℤ, pos, neg_ℤ, ◌+ℤ◌, ◌-ℤ◌, ◌<ℤ◌, ◌≤ℤ◌, unsigned_abs, List, length, slice_index_or, codes, Option, Some, None, is_some}
+-- What changes of a clock do to the seconds that a job schedules. Source: this crate's documentation of `Changes`; for cron, its starts as
+-- the crate `crontab_runs` defines them.
+use Rattle.std.specs.Prelude.{◌≡◌, ◌<◌, ◌⊎◌, ◌↔◌, ◌&&◌, ◌||◌, ◌==◌, not, IsTrue, ℕ, nat_lt, Bool, true, false, ℤ, pos, neg_ℤ, ◌+ℤ◌, ◌-ℤ◌, ◌<ℤ◌, ◌≤ℤ◌, int_lt, unsigned_abs, List, length, slice_index_or, codes, Option, Some, None, if◌then◌else◌}
 use Rattle.std.specs.List.{All}
 use Rattle.croner_base.specs.declared.errors.CronError.{CronError}
 use Rattle.croner_base.specs.declared.errors.CronError.TheVariants.{InvalidTime, OutOfMemory}
@@ -14,16 +14,17 @@ use Rattle.croner_pattern.specs.Meaning.{Meaning}
 use Rattle.croner_pattern.specs.Schedule.{IsScheduled, is_fixed_time}
 use Rattle.croner.specs.search.PatternJob.{pattern_job}
 use Rattle.croner.specs.search.Runs.{CarriedRun}
-use Rattle.crontab.specs.Bytes.{begins_with}
-use Rattle.crontab.specs.Line.{next}
+use Rattle.crontab_runs.specs.Starts.{minute_of, due_after}
 use Rattle.croncheck_command.specs.declared.changes.Change.{Change}
 use Rattle.croncheck_command.specs.declared.changes.Fate.{Fate}
 use Rattle.croncheck_command.specs.declared.changes.Fate.TheVariants as fates
 use Rattle.croncheck_command.specs.declared.changes.Meeting.{Meeting}
 use Rattle.croncheck_command.specs.declared.changes.Range.{Range}
 use Rattle.croncheck_command.specs.declared.changes.Range.TheVariants as ranges
-use Rattle.croncheck_command.specs.declared.changes.meetings.Compared.{Compared}
 use Rattle.croncheck_command.specs.declared.changes.meetings.Meetings.{Meetings}
+use Rattle.croncheck_command.specs.declared.changes.meetings.Met.{Met}
+use Rattle.croncheck_command.specs.declared.runs.Runner.{Runner}
+use Rattle.croncheck_command.specs.declared.runs.Runner.TheVariants as runners
 
 -- ---- the changes of a clock
 
@@ -95,7 +96,7 @@ pub record MeetsFirst (z : Zone) (start : ℤ) (m : Meaning) (range : Range) (c 
 
 -- ---- what becomes of the job's seconds
 
--- here: a second of the gap is moved where the change's instant is a run that is carried over it, and else left out; a second of the
+-- in croner: a second of the gap is moved where the change's instant is a run that is carried over it, and else left out; a second of the
 -- repeated range is made once, at the earlier instant, by a fixed-time job, and else twice
 abbrev pub IsFate : Zone → Meaning → Range → Change → Fate → Type 0
 IsFate z m ranges.Gap c fates.Moved = CarriedRun (pattern_job m z) c.instant
@@ -107,36 +108,33 @@ IsFate z m ranges.Repeated c fates.LeftOut = ⊥
 IsFate z m ranges.Repeated c fates.Once = is_fixed_time m ≡ true
 IsFate z m ranges.Repeated c fates.Twice = is_fixed_time m ≡ false
 
--- the first change that meets a job, at its first such second, and what becomes of it here
-pub record IsMeeting (z : Zone) (start : ℤ) (m : Meaning) (range : Range) (g : Meeting) : Type 0 where
+-- ---- in cron
+
+-- the minute that the clock shows where cron looks at the job for a second of the range: behind the gap, or as the second is shown again
+abbrev pub minute_there : Range → Change → ℤ → ℤ
+minute_there ranges.Gap c w = minute_of c.after
+minute_there ranges.Repeated c w = minute_of w
+
+-- cron starts the job there for the minute of the second
+abbrev pub is_started_there : Bool → Range → Change → ℤ → Bool
+is_started_there is_starred range c w = int_lt (due_after is_starred (minute_of (c.before -ℤ pos 1)) (minute_there range c w)) (minute_of w)
+
+-- what becomes of it
+abbrev pub fate_in_cron : Bool → Range → Change → ℤ → Fate
+fate_in_cron is_starred ranges.Gap c w = if is_started_there is_starred ranges.Gap c w then fates.Moved else fates.LeftOut
+fate_in_cron is_starred ranges.Repeated c w = if is_started_there is_starred ranges.Repeated c w then fates.Twice else fates.Once
+
+-- ---- by what runs the line
+
+abbrev pub IsFateBy : Runner → Zone → Meaning → Range → Change → ℤ → Fate → Type 0
+IsFateBy runners.Croner z m range c w fate = IsFate z m range c fate
+IsFateBy (runners.Cron is_starred) z m range c w fate = fate ≡ fate_in_cron is_starred range c w
+
+-- the first change that meets a job, at its first such second, and what becomes of it
+pub record IsMeeting (z : Zone) (start : ℤ) (runner : Runner) (m : Meaning) (range : Range) (g : Meeting) : Type 0 where
   pub range_is : g.range ≡ range
   pub first : MeetsFirst z start m range g.change g.second
-  pub fate : IsFate z m range g.change g.fate
-
--- ---- in cron(8)
-
--- the text of the minutes or that of the hours begins with a star
-abbrev pub has_clock_star : List ℕ → Bool
-has_clock_star text = begins_with 42 text || begins_with 42 (next text)
-
--- the clock is moved by less than three hours
-abbrev pub IsSmall : Change → Type 0
-IsSmall c = unsigned_abs (c.before -ℤ c.after) < 10_800
-
--- cron(8) makes up for a change of less than three hours, for a job whose minutes and hours don't begin with a star
-abbrev pub MakesUp : List ℕ → Change → Type 0
-MakesUp text c = (has_clock_star text ≡ false) × IsSmall c
-
--- what becomes of them in cron(8): where it makes up, what the gap skipped is run at once, and what is shown twice once
-abbrev pub IsFateInCron : List ℕ → Range → Change → Fate → Type 0
-IsFateInCron text ranges.Gap c fates.Moved = MakesUp text c
-IsFateInCron text ranges.Gap c fates.LeftOut = ¬ (MakesUp text c)
-IsFateInCron text ranges.Gap c fates.Once = ⊥
-IsFateInCron text ranges.Gap c fates.Twice = ⊥
-IsFateInCron text ranges.Repeated c fates.Moved = ⊥
-IsFateInCron text ranges.Repeated c fates.LeftOut = ⊥
-IsFateInCron text ranges.Repeated c fates.Once = MakesUp text c
-IsFateInCron text ranges.Repeated c fates.Twice = ¬ (MakesUp text c)
+  pub fate : IsFateBy runner z m range g.change g.second g.fate
 
 -- ---- beside a change
 
@@ -159,22 +157,6 @@ IsDueBeside m ranges.Repeated c = IsDueAround m c.after c.before
 
 -- ---- what is told
 
--- what becomes of a meeting's second in cron(8). Of a pattern, which is no text for cron(8), it is what becomes of it here
-abbrev pub IsFateThere : Option (List ℕ) → Meeting → Fate → Type 0
-IsFateThere None g fate = fate ≡ g.fate
-IsFateThere (Some text) g fate = IsFateInCron text g.range g.change fate
-
--- the same, where it is something else than here
-abbrev pub IsOtherInCron : Option (List ℕ) → Meeting → Option Fate → Type 0
-IsOtherInCron text g None = IsFateThere text g g.fate
-IsOtherInCron text g (Some fate) = IsFateThere text g fate × ¬ (fate ≡ g.fate)
-
--- the first change that meets a job in a range, what cron(8) does there, and whether the job is due beside it
-pub record IsCompared (z : Zone) (start : ℤ) (text : Option (List ℕ)) (m : Meaning) (range : Range) (c : Compared) : Type 0 where
-  pub meeting : IsMeeting z start m range c.meeting
-  pub in_cron : IsOtherInCron text c.meeting c.in_cron
-  pub beside : IsTrue c.is_due_beside ↔ IsDueBeside m c.meeting.range c.meeting.change
-
 -- the clock is moved by less than twelve hours: more goes to another date, and is no daylight saving
 abbrev pub is_within_a_date : Change → Bool
 is_within_a_date c = nat_lt (unsigned_abs (c.before -ℤ c.after)) 43_200
@@ -186,54 +168,43 @@ is_harmed fates.Moved = false
 is_harmed fates.Once = false
 is_harmed fates.Twice = true
 
--- what becomes of the second by what runs the line: cron(8), or what lists the runs here
-abbrev pub fate_by : Option Fate → Fate → Fate
-fate_by None here = here
-fate_by (Some there) here = there
+-- the first change that meets a job in a range, and whether the job is due beside it
+pub record IsMet (z : Zone) (start : ℤ) (runner : Runner) (m : Meaning) (range : Range) (c : Met) : Type 0 where
+  pub meeting : IsMeeting z start runner m range c.meeting
+  pub beside : IsTrue c.is_due_beside ↔ IsDueBeside m c.meeting.range c.meeting.change
 
--- a run is left out, or made twice, by what runs the line
-abbrev pub is_harmful : Compared → Bool
-is_harmful c = is_harmed (fate_by c.in_cron c.meeting.fate)
-
--- it is told, if cron(8) does otherwise, or a run is left out or made twice of a job that isn't due beside the range
-abbrev pub is_told : Compared → Bool
-is_told c = is_within_a_date c.meeting.change && (is_some c.in_cron || (is_harmed c.meeting.fate && not c.is_due_beside))
+-- there is a warning of it, if a run is left out or made twice, and the job isn't due beside the range
+abbrev pub is_warned : Met → Bool
+is_warned c = is_within_a_date c.meeting.change && (is_harmed c.meeting.fate && not c.is_due_beside)
 
 -- the name of the warning
-abbrev pub name_of_range : Range → List ℕ
-name_of_range ranges.Gap = codes "gap"
-name_of_range ranges.Repeated = codes "twice"
-
-abbrev pub name_by : Option Fate → Range → List ℕ
-name_by None range = name_of_range range
-name_by (Some fate) range = codes "cron-change"
-
-abbrev pub name_of : Compared → List ℕ
-name_of c = name_by c.in_cron c.meeting.range
+abbrev pub name_of : Range → List ℕ
+name_of ranges.Gap = codes "gap"
+name_of ranges.Repeated = codes "twice"
 
 -- no change meets the job in the range
 abbrev pub IsMetByNone : Zone → ℤ → Meaning → Range → Type 0
 IsMetByNone z start m range = (c : Change) (w : ℤ) → ¬ (Meets z start m range c w)
 
--- what is told of the first change that meets a job in a range: nothing where none does, or where it isn't told
-abbrev pub TellsFirst : Zone → ℤ → Option (List ℕ) → Meaning → Range → Option Compared → Type 0
-TellsFirst z start text m range None = IsMetByNone z start m range ⊎ ((c : Compared) × IsCompared z start text m range c × (is_told c ≡ false))
-TellsFirst z start text m range (Some c) = IsCompared z start text m range c × (is_told c ≡ true)
+-- what is told of the first change that meets a job in a range
+abbrev pub TellsFirst : Zone → ℤ → Runner → Meaning → Range → Option Met → Type 0
+TellsFirst z start runner m range None = IsMetByNone z start m range
+TellsFirst z start runner m range (Some c) = IsMet z start runner m range c
 
 -- what is told of the changes of a start's own clock behind it
-pub record AreMeetings (start : TableTime) (text : Option (List ℕ)) (m : Meaning) (met : Meetings) : Type 0 where
-  pub gap : TellsFirst (table_moment start).zone (table_moment start).instant text m ranges.Gap met.gap
-  pub twice : TellsFirst (table_moment start).zone (table_moment start).instant text m ranges.Repeated met.twice
+pub record AreMeetings (start : TableTime) (runner : Runner) (m : Meaning) (met : Meetings) : Type 0 where
+  pub gap : TellsFirst (table_moment start).zone (table_moment start).instant runner m ranges.Gap met.gap
+  pub repeated : TellsFirst (table_moment start).zone (table_moment start).instant runner m ranges.Repeated met.repeated
 
 -- nothing is told
 abbrev pub none_met : Meetings
-none_met = record { gap = None; twice = None }
+none_met = record { gap = None; repeated = None }
 
--- what is told of a harmful one is a warning, of another a note
-abbrev pub is_warned : Option Compared → Bool
-is_warned None = false
-is_warned (Some c) = is_harmful c
+-- there is a warning of one that meets a job
+abbrev pub has_warning : Option Met → Bool
+has_warning None = false
+has_warning (Some c) = is_warned c
 
--- one of them is a warning
+-- there is a warning of one of them
 abbrev pub are_warned : Meetings → Bool
-are_warned met = is_warned met.gap || is_warned met.twice
+are_warned met = has_warning met.gap || has_warning met.repeated

@@ -19,24 +19,30 @@ counts (refused fault) = true
 
 abbrev pub is_refused : Report → Bool
 is_refused reports.Silent = false
-is_refused (reports.Setting is_zone has_feed) = false
+is_refused (reports.Setting seen has_feed) = false
 is_refused (reports.Job j) = false
 is_refused (reports.Refused start end why) = true
 
 -- ---- the file
 
--- what contracts see of a file: its name as it is shown, that a line of it is refused, and that its last line has no line feed and counts
+-- what contracts see of a file: its name as it is shown, that a line of it is refused, that its last line has no line feed and counts, and that
+-- cron passes over it for its name
 pub record File : Type 0 where
   pub name : List ℕ
   pub has_refused : Bool
   pub is_unfed : Bool
+  pub is_passed_over : Bool
 
 abbrev pub file_seen : FileSeen → File
-file_seen f = record { name = string_bytes f.name; has_refused = f.has_refused; is_unfed = f.is_unfed }
+file_seen f = record { name = string_bytes f.name; has_refused = f.has_refused; is_unfed = f.is_unfed; is_passed_over = f.is_passed_over }
 
 -- a file of this name, of which no line was read
 abbrev pub unread : List ℕ → File
-unread name = record { name = name; has_refused = false; is_unfed = false }
+unread name = record { name = name; has_refused = false; is_unfed = false; is_passed_over = false }
+
+-- the same, where cron passes over it for its name
+abbrev pub passed_over : List ℕ → File
+passed_over name = record (unread name) { is_passed_over = true }
 
 -- with one more line, which has its line feed or hasn't
 abbrev pub with_line : Line → Bool → File → File
@@ -73,8 +79,17 @@ reasons_of lines f =
     ++ if_so f.is_unfed (ignored f.name (codes "its last line has no line feed\n")))
     ++ if_so (are_many_lines lines) (ignored f.name (codes "it has more than 10000 lines\n"))
 
--- what is said of a file of so many lines as a whole: nothing of one of patterns, which cron doesn't read
+-- the same of a file, which may be one of patterns: cron doesn't read it
+abbrev pub whole_of : Dialect → ℕ → File → List ℕ
+whole_of dialects.User lines f = reasons_of lines f
+whole_of dialects.System lines f = reasons_of lines f
+whole_of dialects.Patterns lines f = []
+
+-- `file-name`: what is said of a file of this name, which cron passes over
+abbrev pub name_text : List ℕ → List ℕ
+name_text name =
+    name ++ codes ": warning: file-name: cron passes over a file of this name, and no line of it is read here: write letters, digits, _ and - alone\n"
+
+-- what is said of a file of so many lines as a whole
 abbrev pub ending_of : Dialect → ℕ → File → List ℕ
-ending_of dialects.User lines f = reasons_of lines f
-ending_of dialects.System lines f = reasons_of lines f
-ending_of dialects.Patterns lines f = []
+ending_of dialect lines f = if f.is_passed_over then name_text f.name else whole_of dialect lines f

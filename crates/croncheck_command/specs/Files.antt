@@ -1,5 +1,7 @@
 -- The files of a call, and what is said at its end. Source: this crate's documentation of `tell_files`.
-use Rattle.std.specs.Prelude.{◌≡◌, ◌==◌, ℕ, List, [], ◌∷◌, ◌++◌, codes, Option, Some, if◌then◌else◌}
+use Rattle.std.specs.Prelude.{◌≡◌, ◌==◌, ℕ, Bool, List, ◌++◌, codes, Option, Some, if◌then◌else◌}
+use Rattle.std.specs.declared.alloc.Global.{Global}
+use Rattle.std.specs.declared.string.String.{String}
 use Rattle.std.specs.Fmt.{decimal}
 use Rattle.croncheck_command.specs.declared.tally.Tally.{Tally}
 
@@ -7,14 +9,18 @@ use Rattle.croncheck_command.specs.declared.tally.Tally.{Tally}
 abbrev pub HasText : (List ℕ → Option (List ℕ) → Type 0) → List ℕ → List ℕ → Type 0
 HasText holds name text = (remaining : Option (List ℕ)) → holds name remaining → remaining ≡ Some text
 
--- the texts of the files are known
-abbrev pub HaveTexts : (List ℕ → Option (List ℕ) → Type 0) → (List ℕ → List ℕ) → Type 0
-HaveTexts holds text_of = (name : List ℕ) → HasText holds name (text_of name)
+-- what the files and folders of a machine hold: the text of a file, whether a name is one of a folder, and the names in a folder, in any order
+pub record Contents : Type 0 where
+  pub text_of : List ℕ → List ℕ
+  pub is_folder : List ℕ → Bool
+  pub names_of : List ℕ → List (String Global)
 
--- the files that are asked for: standard input where no name is given
-abbrev pub asked : List (List ℕ) → List (List ℕ)
-asked [] = codes "-" ∷ []
-asked (name ∷ names) = name ∷ names
+-- they hold this
+pub record HaveContents (holds : List ℕ → Option (List ℕ) → Type 0) (is_folder : List ℕ → Bool → Type 0) (lists : List ℕ → List (String Global) → Type 0)
+    (m : Contents) : Type 0 where
+  pub texts : (name : List ℕ) → HasText holds name (m.text_of name)
+  pub folders : (name : List ℕ) (answer : Bool) → is_folder name answer → answer ≡ m.is_folder name
+  pub names : (name : List ℕ) (found : List (String Global)) → lists name found → found ≡ m.names_of name
 
 -- the noun of so many jobs
 abbrev pub noun_of : ℕ → List ℕ

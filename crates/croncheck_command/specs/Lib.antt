@@ -1,8 +1,12 @@
+pub mod Annotations
 pub mod Changes
 pub mod Clock
 pub mod FileSeen
 pub mod Files
+pub mod Findings
+pub mod Folder
 pub mod Found
+pub mod Hidden
 pub mod Json
 pub mod Length
 pub mod Moment
@@ -21,6 +25,7 @@ pub mod Settings
 pub mod Shown
 pub mod Sink
 pub mod Stand
+pub mod Starred
 pub mod Tally
 pub mod Told
 pub mod Warnings

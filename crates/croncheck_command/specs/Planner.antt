@@ -1,5 +1,5 @@
 -- What a planner takes of files, and what it writes. Source: this crate's documentation of `Planner`.
-use Rattle.std.specs.Prelude.{◌≡◌, ◌==◌, ℕ, Bool, true, List, [], ◌∷◌, ◌++◌, codes, length, map, slice_get, Option, Some, None, string_bytes, if◌then◌else◌}
+use Rattle.std.specs.Prelude.{◌≡◌, ◌==◌, ◌||◌, ℕ, Bool, true, List, [], ◌∷◌, ◌++◌, codes, length, map, slice_get, Option, Some, None, string_bytes, if◌then◌else◌}
 use Rattle.std.specs.Fmt.{decimal}
 use Rattle.std.specs.declared.alloc.Global.{Global}
 use Rattle.std.specs.declared.vec.Vec.{Vec}
@@ -24,7 +24,7 @@ use Rattle.croncheck_command.specs.declared.shown.Shared.{Shared}
 use Rattle.croncheck_command.specs.declared.tally.Tally.{Tally}
 use Rattle.crontab.specs.Checked.{LineRead, IsEntryOf, TakesInTurn}
 use Rattle.crontab.specs.Content.{IsOutcome}
-use Rattle.crontab.specs.Line.{Line, blank, comment, setting, job, pattern, refused}
+use Rattle.crontab.specs.Line.{Line, blank, comment, setting, job, pattern, refused, are_patterns}
 use Rattle.croncheck_command.specs.FileSeen.{with_report}
 use Rattle.croncheck_command.specs.Output.{Written, WritesApart}
 use Rattle.croncheck_command.specs.Plan.{meaning_found, IsPlanned}
@@ -71,7 +71,7 @@ pub record Passes (s : Settings) (text : List ℕ) (entry : Entry) (old new : Se
   pub patterns : new.patterns ≡ old.patterns
   pub places : new.places ≡ old.places
   pub stand : new.stand ≡ record old.stand { tally = counted old.stand.tally report; file = with_report report old.stand.file }
-  pub written : WritesReport old.stand.file.name old.stand.lines report old.written new.written
+  pub written : WritesReport old.stand.file.name old.stand.lines text report old.written new.written
 
 -- what a line with that meaning leaves
 abbrev pub PlansMeaning : Settings → LineRead → Option Meaning → Seen → Seen → Type 0
@@ -138,12 +138,20 @@ IsPlanEnd shared is_empty ends.Cut text = text ≡ codes "and more: a list ends 
 IsPlanEnd shared is_empty ends.Window text = (said : List ℕ) × IsWindowEnd shared.stop said × (text ≡ said ++ 10 ∷ [])
 IsPlanEnd shared is_empty (ends.Failed e) text = text ≡ codes "and more, which were not found: " ++ (text_of e ++ codes "\n")
 
--- the plan of the jobs of these patterns was written, of which this is shown: each moment, in order, and what stands behind them
+-- what stands in front of the moments of crontabs' jobs: whose runs they are
+abbrev pub plan_head : Bool → Bool → List ℕ
+plan_head is_empty of_patterns =
+    if is_empty || of_patterns then []
+    else codes "these are croner's runs; where the clock changes cron goes by another rule, and show lists what it starts\n"
+
+-- the plan of the jobs of these patterns was written, of which this is shown: each moment, in order, and what stands before and behind them
 pub record WritesPlan (s : Settings) (shared : Shared) (patterns : List Meaning) (all : List (List ℕ)) (old new : Written) : Type 0 where
   pub plan : Plan
   pub text : List ℕ
+  pub headed : Written
   pub between : Written
   pub planned : IsPlanned patterns (start_of s) (window_end s) s.listing plan
-  pub moments : TakesInTurn (WritesMoment (plain_zone shared.zone) all) old plan.items.items between
+  pub head : WritesApart (plan_head (length plan.items.items == 0) (are_patterns s.dialect)) old headed
+  pub moments : TakesInTurn (WritesMoment (plain_zone shared.zone) all) headed plan.items.items between
   pub end_is : IsPlanEnd shared (length plan.items.items == 0) plan.end text
   pub end : WritesApart text between new

@@ -1,6 +1,6 @@
--- The ends of listings, watched changes of a clock, a job's seconds at one of them, and remarks with their sentences. Private contracts alone cite these definitions.
+-- The ends of listings and their items, watched changes of a clock, and a job's seconds at one of them. Private contracts alone cite these definitions.
 pub mod Ends
 pub mod Level
+pub mod Listed
 pub mod Met
-pub mod Remarks
 pub mod Watched

@@ -2,7 +2,6 @@
 use Rattle.std.specs.Prelude.{◌≡◌, ◌⊎◌, ◌<◌, get_or, not, ◌||◌, ◌==◌, ℕ, ◌+◌, Bool, true, false, List, [], length, Option, Some, None, option_map, is_some, Result, Ok, Err, string_bytes, IsUtf8}
 use Rattle.croner_base.specs.declared.errors.CronError.{CronError}
 use Rattle.croner_base.specs.declared.time.civil.CivilDateTime.{CivilDateTime}
-use Rattle.croner_base.specs.declared.time.table.TableTime.{TableTime}
 use Rattle.croner_base.specs.Civil.{wall_second, weekday_of_second}
 use Rattle.croner_base.specs.TableZone.{table_moment}
 use Rattle.croner_base.specs.Zone.{reading}
@@ -12,28 +11,34 @@ use Rattle.croner.specs.parser.Grammar.{Refusal, outcome, Texts}
 use Rattle.crontab.specs.declared.bytes.Kind.TheVariants as kinds
 use Rattle.crontab.specs.declared.line.Entry.{Entry}
 use Rattle.crontab.specs.declared.line.Entry.TheVariants as entries
-use Rattle.crontab.specs.Bytes.{front}
+use Rattle.crontab.specs.Bytes.{front, behind}
 use Rattle.crontab.specs.Content.{IsRefusalOf, IsFaultOf}
 use Rattle.crontab.specs.Entries.{job_seen}
 use Rattle.crontab.specs.declared.notes.Note.{Note}
 use Rattle.crontab.specs.Notes.{notes_of}
 use Rattle.crontab.specs.Line.{Timing, reboot, never, named, Task}
 use Rattle.crontab.specs.Parsed.{crontab_settings}
+use Rattle.crontab.specs.Setting.{is_not_expanded}
 use Rattle.croncheck_command.specs.declared.changes.meetings.Meetings.{Meetings}
 use Rattle.croncheck_command.specs.declared.report.JobReport.{JobReport}
 use Rattle.croncheck_command.specs.declared.report.Report.TheVariants as reports
 use Rattle.croncheck_command.specs.declared.report.Report.{Report}
 use Rattle.croncheck_command.specs.declared.report.Same.{Same}
+use Rattle.croncheck_command.specs.declared.report.SettingReport.{SettingReport}
 use Rattle.croncheck_command.specs.declared.report.Why.TheVariants as whys
 use Rattle.croncheck_command.specs.declared.report.Why.{Why}
+use Rattle.croncheck_command.specs.declared.runs.Run.{Run}
+use Rattle.croncheck_command.specs.declared.runs.Runner.{Runner}
+use Rattle.croncheck_command.specs.declared.runs.Runner.TheVariants as runners
 use Rattle.croncheck_command.specs.declared.settings.Settings.{Settings}
 use Rattle.croncheck_command.specs.declared.told.Told.TheVariants as tolds
 use Rattle.croncheck_command.specs.declared.told.Told.{Told}
 use Rattle.croncheck_command.specs.declared.warnings.Warning.{Warning}
 use Rattle.croncheck_command.specs.declared.warnings.sides.Dates.{Dates}
 use Rattle.croncheck_command.specs.Changes.{AreMeetings, none_met, are_warned}
+use Rattle.croncheck_command.specs.Hidden.{has_hidden}
 use Rattle.croncheck_command.specs.Settings.{start_of}
-use Rattle.croncheck_command.specs.Told.{TellsMeaning, TellsTiming, is_at_window_end, is_never, is_told_past, is_idle}
+use Rattle.croncheck_command.specs.Told.{TellsMeaning, TellsTiming, cron_of, is_at_window_end, is_never, is_told_past, is_idle}
 use Rattle.croncheck_command.specs.Warnings.{fields_of_schedule, AreFieldsOfPattern, is_either_day, IsMonthOf, NamesDates, Subject, warnings_of}
 
 -- ---- warnings
@@ -79,27 +84,27 @@ pub record WarnsPattern (is_fed : Bool) (text : List ℕ) (meaning : Option Mean
 
 -- ---- changes of the clock
 
--- what is told of changes of the clock to a job of this meaning that was told so: nothing where no run of it is left
-pub record TellsMeetings (s : Settings) (text : Option (List ℕ)) (m : Meaning) (told : Told) (met : Meetings) : Type 0 where
+-- what is told of changes of the clock to a job of this meaning that was told so, by what runs it: nothing where no run of it is left
+pub record TellsMeetings (s : Settings) (runner : Runner) (m : Meaning) (told : Told) (met : Meetings) : Type 0 where
   pub idle : is_idle told ≡ true → met ≡ none_met
-  pub left : is_idle told ≡ false → AreMeetings (start_of s) text m met
+  pub left : is_idle told ≡ false → AreMeetings (start_of s) runner m met
 
 -- the same, where it may have no meaning: then it names no time
-abbrev pub TellsChanges : Settings → Option (List ℕ) → Option Meaning → Told → Meetings → Type 0
-TellsChanges s text None told met = met ≡ none_met
-TellsChanges s text (Some m) told met = TellsMeetings s text m told met
+abbrev pub TellsChanges : Settings → Runner → Option Meaning → Told → Meetings → Type 0
+TellsChanges s runner None told met = met ≡ none_met
+TellsChanges s runner (Some m) told met = TellsMeetings s runner m told met
 
--- a job of a crontab is compared with cron(8) by its times as they are written, a pattern isn't compared
+-- of a job of a crontab it is what cron makes of the change, of a pattern what croner does
 abbrev pub MeetsJob : Settings → Task → Told → Meetings → Type 0
-MeetsJob s task told met = TellsChanges s (Some task.schedule) (meaning_of_timing task.times) told met
+MeetsJob s task told met = TellsChanges s (cron_of task.schedule) (meaning_of_timing task.times) told met
 
 abbrev pub MeetsPattern : Settings → Option Meaning → Told → Meetings → Type 0
-MeetsPattern s meaning told met = TellsChanges s None meaning told met
+MeetsPattern s meaning told met = TellsChanges s runners.Croner meaning told met
 
 -- ---- the dates of either day field
 
 -- runs are listed, and this is the first
-abbrev pub IsFirstListed : Told → TableTime → Type 0
+abbrev pub IsFirstListed : Told → Run → Type 0
 IsFirstListed tolds.Reboot run = ⊥
 IsFirstListed tolds.Nothing run = ⊥
 IsFirstListed (tolds.Runs text runs is_past) run = (0 < length runs.items.items) × (get_or runs.items.items 0 run ≡ run)
@@ -111,16 +116,16 @@ has_listed tolds.Nothing = false
 has_listed (tolds.Runs text runs is_past) = not (length runs.items.items == 0)
 
 -- the days of the month of a run that each day field names by itself
-pub record AreDatesAt (m : Meaning) (told : Told) (d : Dates) (run : TableTime) (shown : CivilDateTime) : Type 0 where
+pub record AreDatesAt (m : Meaning) (told : Told) (d : Dates) (run : Run) (shown : CivilDateTime) : Type 0 where
   pub first : IsFirstListed told run
-  pub shows : wall_second shown ≡ reading (table_moment run)
-  pub month : IsMonthOf shown.date (weekday_of_second (reading (table_moment run))) d.month
+  pub shows : wall_second shown ≡ reading (table_moment run.time)
+  pub month : IsMonthOf shown.date (weekday_of_second (reading (table_moment run.time))) d.month
   pub names : NamesDates m d
 
 -- what a job of this meaning that was told so is told of its dates: where it runs on either day, those of the month of its first listed run
 abbrev pub TellsDates : Meaning → Told → Option Dates → Type 0
 TellsDates m told None = (is_either_day m ≡ false) ⊎ (has_listed told ≡ false)
-TellsDates m told (Some d) = (is_either_day m ≡ true) × ((run : TableTime) × (shown : CivilDateTime) × AreDatesAt m told d run shown)
+TellsDates m told (Some d) = (is_either_day m ≡ true) × ((run : Run) × (shown : CivilDateTime) × AreDatesAt m told d run shown)
 
 -- the same, where it may have no meaning
 abbrev pub DatesOf : Option Meaning → Told → Option Dates → Type 0
@@ -165,9 +170,9 @@ IsFaultBehind blanks fault start end = (start ≡ blanks + fault.start) × (end 
 -- the report of a job of a crontab, behind so many blanks; the place of a refusal is that of its times
 abbrev pub IsReportOfJob : Bool → Settings → ℕ → Task → Report → Type 0
 IsReportOfJob is_fed s blanks task reports.Silent = ⊥
-IsReportOfJob is_fed s blanks task (reports.Setting is_zone has_feed) = ⊥
+IsReportOfJob is_fed s blanks task (reports.Setting seen has_feed) = ⊥
 IsReportOfJob is_fed s blanks task (reports.Job j) =
-    IsJobTold task.schedule task.user (Some task.command) (TellsTiming s task.times) (WarnsJob is_fed task) (MeetsJob s task)
+    IsJobTold task.schedule task.user (Some task.command) (TellsTiming s task.schedule task.times) (WarnsJob is_fed task) (MeetsJob s task)
     (DatesOf (meaning_of_timing task.times)) j
 IsReportOfJob is_fed s blanks task (reports.Refused start end why) = IsWholeBehind blanks task.schedule start end × IsJobRefused task why
 
@@ -185,11 +190,25 @@ IsPatternRefused s blanks text start end whys.NotText = ¬ (IsUtf8 text) × IsWh
 -- the report of a pattern behind so many blanks
 abbrev pub IsReportOfPattern : Bool → Settings → ℕ → List ℕ → Report → Type 0
 IsReportOfPattern is_fed s blanks text reports.Silent = ⊥
-IsReportOfPattern is_fed s blanks text (reports.Setting is_zone has_feed) = ⊥
+IsReportOfPattern is_fed s blanks text (reports.Setting seen has_feed) = ⊥
 IsReportOfPattern is_fed s blanks text (reports.Job j) =
-    IsJobTold text None None (TellsMeaning s (outcome s.parser text)) (WarnsPattern is_fed text (meaning_read (outcome s.parser text)))
+    IsJobTold text None None (TellsMeaning s runners.Croner (outcome s.parser text)) (WarnsPattern is_fed text (meaning_read (outcome s.parser text)))
     (MeetsPattern s (meaning_read (outcome s.parser text))) (DatesOf (meaning_read (outcome s.parser text))) j
 IsReportOfPattern is_fed s blanks text (reports.Refused start end why) = IsPatternRefused s blanks text start end why
+
+-- ---- a setting
+
+-- what is found of a line that sets a variable
+abbrev pub setting_found : Bool → List ℕ → SettingReport
+setting_found is_zone line = record {
+  is_zone = is_zone;
+  is_not_expanded = is_not_expanded (behind kinds.Blank line);
+  is_hiding = has_hidden (behind kinds.Blank line);
+}
+
+-- any of these is found
+abbrev pub is_setting_found : SettingReport → Bool
+is_setting_found s = s.is_zone || (s.is_not_expanded || s.is_hiding)
 
 -- ---- a line
 
@@ -201,7 +220,7 @@ blanks_of line = length (front kinds.Blank line)
 abbrev pub IsReportOfLine : Bool → Settings → List ℕ → Entry → Report → Type 0
 IsReportOfLine is_fed s line entries.Blank r = r ≡ reports.Silent
 IsReportOfLine is_fed s line entries.Comment r = r ≡ reports.Silent
-IsReportOfLine is_fed s line (entries.Setting is_zone) r = r ≡ reports.Setting is_zone is_fed
+IsReportOfLine is_fed s line (entries.Setting is_zone) r = r ≡ reports.Setting (setting_found is_zone line) is_fed
 IsReportOfLine is_fed s line (entries.Job j) r = IsReportOfJob is_fed s (blanks_of line) (job_seen j) r
 IsReportOfLine is_fed s line (entries.Pattern text) r = IsReportOfPattern is_fed s (blanks_of line) text.now r
 IsReportOfLine is_fed s line (entries.Refused fault start end) r = r ≡ reports.Refused start end (whys.Cron fault)
@@ -215,7 +234,7 @@ file_and_line same = (string_bytes same.file, same.line)
 -- the place of an earlier job that is the same, where the report has one
 abbrev pub earlier_of : Report → Option (List ℕ × ℕ)
 earlier_of reports.Silent = None
-earlier_of (reports.Setting is_zone has_feed) = None
+earlier_of (reports.Setting seen has_feed) = None
 earlier_of (reports.Job j) = option_map file_and_line j.same
 earlier_of (reports.Refused start end why) = None
 
@@ -223,7 +242,7 @@ earlier_of (reports.Refused start end why) = None
 -- that is read, and else none
 abbrev pub place_for : Report → Option (List ℕ × ℕ) → Option (List ℕ × ℕ)
 place_for reports.Silent found = None
-place_for (reports.Setting is_zone has_feed) found = None
+place_for (reports.Setting seen has_feed) found = None
 place_for (reports.Job j) found = found
 place_for (reports.Refused start end why) found = None
 
@@ -233,10 +252,10 @@ place_for (reports.Refused start end why) found = None
 abbrev pub has_job_warnings : JobReport → Bool
 has_job_warnings j = (not (length j.warnings.items == 0) || are_warned j.meetings) || is_some j.same
 
--- a line has a warning. Those of a setting are said in other words: it sets a zone elsewhere, or has no line feed
+-- a line has a warning. Those of a setting are what is found of it, and that it has no line feed
 abbrev pub has_warnings : Report → Bool
 has_warnings reports.Silent = false
-has_warnings (reports.Setting is_zone has_feed) = is_zone || not has_feed
+has_warnings (reports.Setting seen has_feed) = is_setting_found seen || not has_feed
 has_warnings (reports.Job j) = has_job_warnings j
 has_warnings (reports.Refused start end why) = false
 
@@ -257,6 +276,6 @@ notes_of_refusal whys.NotText line = []
 -- the notes of a line with a report
 abbrev pub notes_of_report : List ℕ → Report → List Note
 notes_of_report line reports.Silent = []
-notes_of_report line (reports.Setting is_zone is_fed) = []
+notes_of_report line (reports.Setting seen is_fed) = []
 notes_of_report line (reports.Job j) = notes_of_job (option_map (λ c. c.now) j.command) line
 notes_of_report line (reports.Refused start end why) = notes_of_refusal why line

@@ -1,6 +1,9 @@
 -- What a line leaves that is told as a report, and the text of that report. Source: this crate's documentation of `Progress` and `Reporter`.
-use Rattle.std.specs.Prelude.{◌≡◌, ℕ, true, false, List, [], Option, None, option_map}
+use Rattle.std.specs.Prelude.{◌≡◌, ℕ, true, false, List, [], ◌∷◌, ◌++◌, codes, Option, Some, None, option_map, string_bytes}
 use Rattle.crontab.specs.declared.line.Entry.{Entry}
+use Rattle.croncheck_command.specs.declared.findings.Finding.{Finding}
+use Rattle.croncheck_command.specs.declared.findings.Severity.{Severity}
+use Rattle.croncheck_command.specs.declared.findings.Severity.TheVariants as severities
 use Rattle.croncheck_command.specs.declared.report.Report.{Report}
 use Rattle.croncheck_command.specs.declared.report.Same.{Same}
 use Rattle.croncheck_command.specs.declared.settings.Settings.{Settings}
@@ -10,11 +13,12 @@ use Rattle.crontab.specs.Checked.{LineRead, IsEntryOf}
 use Rattle.crontab.specs.Content.{IsOutcome}
 use Rattle.crontab.specs.Line.{Line}
 use Rattle.croncheck_command.specs.FileSeen.{ending_of, with_line, with_report}
+use Rattle.croncheck_command.specs.Findings.{findings_seen, findings_of_line}
 use Rattle.croncheck_command.specs.Output.{Written, WritesApart}
 use Rattle.croncheck_command.specs.Report.{IsReportOfLine, earlier_of, file_and_line, place_for}
 use Rattle.croncheck_command.specs.Tally.{added, one_more}
 use Rattle.croncheck_command.specs.Same.{JobKey, IsCompared, FindsAny}
-use Rattle.croncheck_command.specs.Shown.{is_told, AreLinesOf}
+use Rattle.croncheck_command.specs.Shown.{is_told, place_text}
 use Rattle.croncheck_command.specs.Stand.{Stand}
 
 -- what was found at a place of a line of which the parser makes this: the first job that is the same, where the settings compare jobs, and
@@ -40,14 +44,40 @@ pub record Reports (s : Settings) (old : Stand) (y : LineRead) (report : Report)
 
 -- ---- as a text
 
--- the text of the report of a line of a file: nothing where there is nothing to tell, and else lines that begin with its place
-pub record IsTextOf (file : List ℕ) (line : ℕ) (report : Report) (text : List ℕ) : Type 0 where
+-- a field in front of what a finding of it says
+abbrev pub field_front : Option (List ℕ) → List ℕ
+field_front None = []
+field_front (Some field) = field ++ codes ": "
+
+-- what stands in front of what a finding says: nothing of a refusal, else its kind, its name, and its field, if it is of one
+abbrev pub front_of : Severity → List ℕ → Option (List ℕ) → List ℕ
+front_of severities.Error name field = []
+front_of severities.Warning name field = codes "warning: " ++ (name ++ (codes ": " ++ field_front field))
+front_of severities.Note name field = codes "note: " ++ (name ++ (codes ": " ++ field_front field))
+
+-- a finding, on a line of its own below the line that it is of
+abbrev pub said_below : Finding → List ℕ
+said_below f = codes "\n  " ++ (front_of f.severity f.name.now (option_map (λ field. field.now) f.field) ++ string_bytes f.text)
+
+-- findings, in order
+abbrev pub below : List Finding → List ℕ
+below [] = []
+below (f ∷ fs) = said_below f ++ below fs
+
+-- the text is lines: the first begins with the place of a line of a file, and all that is found of it stands last, in order
+abbrev pub AreLinesFound : List ℕ → ℕ → List ℕ → Report → List ℕ → Type 0
+AreLinesFound file number line report text =
+    (head : List ℕ) × (found : List Finding) × (findings_seen found ≡ findings_of_line line report)
+    × (text ≡ place_text file number ++ (head ++ (below found ++ 10 ∷ [])))
+
+-- the text of the report of a line of a file: nothing where there is nothing to tell
+pub record IsTextOf (file : List ℕ) (number : ℕ) (line : List ℕ) (report : Report) (text : List ℕ) : Type 0 where
   pub silent : is_told report ≡ false → text ≡ []
-  pub told : is_told report ≡ true → AreLinesOf file line text
+  pub told : is_told report ≡ true → AreLinesFound file number line report text
 
 -- it was written, set apart
-abbrev pub WritesReport : List ℕ → ℕ → Report → Written → Written → Type 0
-WritesReport file line report old new = (text : List ℕ) × IsTextOf file line report text × WritesApart text old new
+abbrev pub WritesReport : List ℕ → ℕ → List ℕ → Report → Written → Written → Type 0
+WritesReport file number line report old new = (text : List ℕ) × IsTextOf file number line report text × WritesApart text old new
 
 -- what is said of the file as a whole was written, set apart
 abbrev pub WritesEnding : Settings → Stand → Written → Written → Type 0
@@ -56,4 +86,25 @@ WritesEnding s stand old new = WritesApart (ending_of s.dialect stand.lines stan
 -- what a line leaves: the text of its report was written
 abbrev pub Tells : Settings → Stand → Written → LineRead → Stand → Written → Type 0
 Tells s old before y new after =
-    (report : Report) × Reports s old y report new × WritesReport new.file.name new.lines report before after
+    (report : Report) × Reports s old y report new × WritesReport new.file.name new.lines y.bytes report before after
+
+-- ---- what is found alone
+
+-- the text of findings of a line of a file: nothing where there are none, and else lines that begin with its place
+abbrev pub IsTextOfFound : List ℕ → ℕ → List Finding → List ℕ → Type 0
+IsTextOfFound file number [] text = text ≡ []
+IsTextOfFound file number (f ∷ fs) text = (head : List ℕ) × (text ≡ place_text file number ++ (head ++ (below (f ∷ fs) ++ 10 ∷ [])))
+
+-- the text of all that is found of a line of a file
+abbrev pub IsFinding : List ℕ → ℕ → List ℕ → Report → List ℕ → Type 0
+IsFinding file number line report text =
+    (found : List Finding) × (findings_seen found ≡ findings_of_line line report) × IsTextOfFound file number found text
+
+-- it was written, set apart
+abbrev pub WritesFinding : List ℕ → ℕ → List ℕ → Report → Written → Written → Type 0
+WritesFinding file number line report old new = (text : List ℕ) × IsFinding file number line report text × WritesApart text old new
+
+-- what a line leaves: what is found of it was written
+abbrev pub TellsFound : Settings → Stand → Written → LineRead → Stand → Written → Type 0
+TellsFound s old before y new after =
+    (report : Report) × Reports s old y report new × WritesFinding new.file.name new.lines y.bytes report before after

@@ -1,4 +1,5 @@
--- Listings of the runs of a job after a start. Source: this crate's documentation of `Listing` and `End`.
+-- Listings of the runs of a pattern, or of cron's starts of a crontab's job, after a start. Source: this crate's documentation of `Runs`,
+-- `Listing` and `End`.
 use Rattle.std.specs.Prelude.{◌≡◌, ◌⊎◌, ⊤, ◌≤◌, ℕ, false, ℤ, ◌<ℤ◌, ◌≤ℤ◌, List, length, Option, Some, None}
 use Rattle.std.specs.List.{All, Contains}
 use Rattle.croner_base.specs.declared.time.Direction.TheVariants.{Forward}
@@ -7,22 +8,28 @@ use Rattle.croner_base.specs.Calm.{IsStart}
 use Rattle.croner_base.specs.TableZone.{table_moment}
 use Rattle.croner_base.specs.Zone.{Moment, reading}
 use Rattle.croner_pattern.specs.Meaning.{Meaning}
-use Rattle.croner.specs.iterator.Listing.{Standing, new_standing, instants, IsLeft, BeginsRest}
+use Rattle.croner.specs.Recurring.{CountsFrom}
+use Rattle.croner.specs.iterator.Listing.{Standing, new_standing, instants, IsLeft, BeginsWhere}
 use Rattle.croner.specs.laws.Neighbours.{IsWholeIn}
 use Rattle.croner.specs.search.Limit.{InSpan}
 use Rattle.croncheck_command.specs.declared.runs.End.{End}
 use Rattle.croncheck_command.specs.declared.runs.End.TheVariants as ends
 use Rattle.croncheck_command.specs.declared.runs.Listing.{Listing}
 use Rattle.croncheck_command.specs.declared.runs.Listing.TheVariants as listings
+use Rattle.croncheck_command.specs.declared.runs.Run.{Run}
+use Rattle.croncheck_command.specs.declared.runs.Runner.{Runner}
+use Rattle.croncheck_command.specs.declared.runs.Runner.TheVariants as runners
 use Rattle.croncheck_command.specs.declared.runs.Runs.{Runs}
+use Rattle.crontab_runs.specs.Searches.{IsStartOf}
+use Rattle.crontab_runs.specs.Starts.{CronJob, cron_job, Starts}
 
 -- where a listing begins: behind the start
 abbrev pub starts : Meaning → TableTime → Standing
 starts m start = new_standing m (table_moment start) false Forward
 
 -- the instants of runs
-abbrev pub seconds_of : List TableTime → List ℤ
-seconds_of items = instants table_moment items
+abbrev pub seconds_of : List Run → List ℤ
+seconds_of items = instants (λ (run : Run). table_moment run.time) items
 
 -- the most runs that are listed up to a second
 abbrev pub most_runs : ℕ
@@ -38,6 +45,31 @@ pub record Rest : Type 1 where
 -- the runs of a pattern
 abbrev pub runs_behind : Meaning → TableTime → Rest
 runs_behind m start = record { start = table_moment start; left = IsLeft (starts m start) }
+
+-- the instants at which cron starts a job
+abbrev pub starts_behind : CronJob → TableTime → Rest
+starts_behind job start = record { start = table_moment start; left = CountsFrom Forward (Starts job (table_moment start).zone) start.second }
+
+-- what is listed: the instants that are left, and how many times the job is started at each
+pub record Listed : Type 1 where
+  pub rest : Rest
+  pub times : ℤ → ℕ → Type 0
+
+-- of a pattern its runs, each once
+abbrev pub runs_listed : Meaning → TableTime → Listed
+runs_listed m start = record { rest = runs_behind m start; times = λ i n. n ≡ 1 }
+
+-- of a crontab's job what cron starts, each once or more
+abbrev pub starts_listed : CronJob → TableTime → Listed
+starts_listed job start = record {
+  rest = starts_behind job start;
+  times = λ i n. IsStartOf job (table_moment start).zone (record { second = i; count = n });
+}
+
+-- by what runs the line, whose times have this meaning
+abbrev pub listed_by : Runner → Meaning → TableTime → Listed
+listed_by runners.Croner m start = runs_listed m start
+listed_by (runners.Cron is_starred) m start = starts_listed (cron_job m is_starred) start
 
 -- each that is left and comes no later than a second is among the items
 abbrev pub GaveUntil : (ℤ → Type 0) → ℤ → List ℤ → Type 0
@@ -100,11 +132,12 @@ abbrev pub IsAsked : Listing → List ℤ → Type 0
 IsAsked (listings.Count count) items = length items ≤ count
 IsAsked (listings.Until until) items = All (λ i. i ≤ℤ until) items
 
--- the listing of the runs of a pattern after a start, on a clock whose window ends there or not before the years that are searched: the
--- items begin the listing of the runs behind the start, on its clock and in its window, and the end is so
-pub record IsListed (m : Meaning) (start : TableTime) (last : Option ℤ) (listing : Listing) (r : Runs) : Type 0 where
-  pub begins : BeginsRest (starts m start) (seconds_of r.items.items)
+-- the listing behind a start, on a clock whose window ends there or not before the years that are searched: the items are the first that are
+-- left, in order, none left out, each so many times; they lie on the start's clock and in its window; and the end is so
+pub record IsListed (what : Listed) (last : Option ℤ) (listing : Listing) (r : Runs) : Type 0 where
+  pub begins : BeginsWhere Forward what.rest.left (seconds_of r.items.items)
+  pub times : All (λ run. what.times run.time.second run.count) r.items.items
   pub asked : IsAsked listing (seconds_of r.items.items)
-  pub on_clock : All (λ t. IsWholeIn (table_moment start).zone (table_moment t)) r.items.items
+  pub on_clock : All (λ run. IsWholeIn what.rest.start.zone (table_moment run.time)) r.items.items
   pub in_window : All (IsInWindow last) (seconds_of r.items.items)
-  pub end : IsEnd (runs_behind m start) last listing (seconds_of r.items.items) r.end
+  pub end : IsEnd what.rest last listing (seconds_of r.items.items) r.end

@@ -4,8 +4,11 @@ use Rattle.croner_base.specs.declared.time.table.TableTime.{TableTime}
 use Rattle.croner_words.specs.English.{english}
 use Rattle.croner_words.specs.Swedish.{swedish}
 use Rattle.croner_words.specs.Wording.{Wording}
+use Rattle.crontab.specs.declared.line.Dialect.{Dialect}
+use Rattle.crontab.specs.declared.line.Dialect.TheVariants as dialects
 use Rattle.croncheck_command.specs.declared.clock.stop.Stop.{Stop}
 use Rattle.croncheck_command.specs.declared.settings.Settings.{Settings}
+use Rattle.croncheck_command.specs.declared.settings.SettingsByKind.{SettingsByKind}
 use Rattle.croncheck_command.specs.declared.settings.Tongue.TheVariants as tongues
 use Rattle.croncheck_command.specs.declared.settings.Tongue.{Tongue}
 use Rattle.croncheck_command.specs.Clock.{last_before}
@@ -26,3 +29,13 @@ stop_of s = s.changes.now.clock.now.stop
 -- the last second of that window, where it stops so
 abbrev pub window_end : Settings → Option ℤ
 window_end s = last_before (stop_of s)
+
+-- these settings, for files of a dialect
+abbrev pub in_dialect : Dialect → Settings → Settings
+in_dialect d s = record s { dialect = d }
+
+-- the settings for the files of a kind
+abbrev pub of_kind : SettingsByKind → Dialect → Settings
+of_kind k dialects.User = k.user
+of_kind k dialects.System = k.system
+of_kind k dialects.Patterns = k.patterns

@@ -17,6 +17,7 @@ use Rattle.croner_base.specs.ZonedZone.{is_timestamp_second}
 use Rattle.croncheck_command.specs.declared.clock.stop.Stop.{Stop}
 use Rattle.croncheck_command.specs.declared.report.Report.{Report}
 use Rattle.croncheck_command.specs.declared.report.Report.TheVariants as reports
+use Rattle.croncheck_command.specs.Report.{is_setting_found}
 
 -- what is shown of the front of some bytes: the character that it is, or where there is none its first byte as `\xFF`
 abbrev pub front_shown : Option ℕ → List ℕ → List ℕ
@@ -48,13 +49,22 @@ is_printed b = nat_le 32 b && nat_le b 126
 
 -- ---- the front of a text
 
--- bytes of a line as they are shown, a tab as a space: some that stand before a tab or the end, and those that follow
-abbrev pub spaced_behind : List ℕ → List ℕ → List ℕ
-spaced_behind before [] = bytes_shown before
-spaced_behind before (b ∷ bs) = if b == 9 then bytes_shown before ++ 32 ∷ spaced_behind [] bs else spaced_behind (before ++ b ∷ []) bs
+-- bytes of a line as they are shown, with a text in place of each byte of one value: some that stand before one or the end, and those that follow
+abbrev pub replaced_behind : ℕ → List ℕ → List ℕ → List ℕ → List ℕ
+replaced_behind sign text before [] = bytes_shown before
+replaced_behind sign text before (b ∷ bs) =
+    if b == sign then bytes_shown before ++ (text ++ replaced_behind sign text [] bs) else replaced_behind sign text (before ++ b ∷ []) bs
 
+abbrev pub replaced : ℕ → List ℕ → List ℕ → List ℕ
+replaced sign text bytes = replaced_behind sign text [] bytes
+
+-- a tab as a space
 abbrev pub spaced : List ℕ → List ℕ
-spaced bytes = spaced_behind [] bytes
+spaced bytes = replaced 9 (32 ∷ []) bytes
+
+-- a backslash as two, so that none of the bytes is taken for a sign of how others are shown
+abbrev pub exact : List ℕ → List ℕ
+exact bytes = replaced 92 (92 ∷ 92 ∷ []) bytes
 
 -- the byte at a place continues a character of UTF-8
 abbrev pub is_continuing : Option ℕ → Bool
@@ -135,20 +145,16 @@ IsClockText zone run text =
 
 -- ---- the text of a report
 
--- there is something to tell of a line: it is a job, is refused, or sets a variable that says a zone elsewhere
+-- there is something to tell of a line: it is a job, is refused, or sets a variable and something is found of that
 abbrev pub is_told : Report → Bool
 is_told reports.Silent = false
-is_told (reports.Setting is_zone has_feed) = is_zone
+is_told (reports.Setting seen has_feed) = is_setting_found seen
 is_told (reports.Job j) = true
 is_told (reports.Refused start end why) = true
 
 -- a file and the number of a line there, as they stand in front of what is told of it
 abbrev pub place_text : List ℕ → ℕ → List ℕ
 place_text file line = file ++ (codes ":" ++ (decimal line ++ codes "  "))
-
--- the text is lines, the first of which begins with this place, and the last of which has its line feed
-abbrev pub AreLinesOf : List ℕ → ℕ → List ℕ → Type 0
-AreLinesOf file line text = (told : List ℕ) × (text ≡ place_text file line ++ (told ++ 10 ∷ []))
 
 -- the text is lines, one at least, the last of which has its line feed
 abbrev pub AreLines : List ℕ → Type 0

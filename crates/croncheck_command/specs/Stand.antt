@@ -7,7 +7,7 @@ use Rattle.croncheck_command.specs.declared.same.Seen.{Seen}
 use Rattle.crontab.specs.declared.line.Dialect.{Dialect}
 use Rattle.crontab.specs.Checked.{LineRead, line_seen}
 use Rattle.crontab.specs.Line.{Line as Meant}
-use Rattle.croncheck_command.specs.FileSeen.{File, file_seen, is_ignored, unread, with_line}
+use Rattle.croncheck_command.specs.FileSeen.{File, file_seen, is_ignored, unread, passed_over, with_line}
 use Rattle.croncheck_command.specs.Tally.{one_more, with_file}
 
 -- how far the reading has come: what was counted, the jobs that were seen, what was seen of the file, its number from 1, and how many of its
@@ -26,13 +26,17 @@ stand_of p = record { tally = p.tally; seen = p.seen; file = file_seen p.file; f
 abbrev pub begin_of_file : List ℕ → Stand → Stand
 begin_of_file name s = record s { file = unread name; files = one_more s.files; lines = 0 }
 
+-- at the begin of the next file, whose name is shown so, and which cron passes over for it
+abbrev pub begin_passed_over : List ℕ → Stand → Stand
+begin_passed_over name s = record s { file = passed_over name; files = one_more s.files; lines = 0 }
+
 -- at the next line, which is this and has its line feed or hasn't
 abbrev pub at_line : Meant → Bool → Stand → Stand
 at_line line is_fed s = record s { file = with_line line is_fed s.file; lines = one_more s.lines }
 
--- at the end of the file: it is counted, if cron ignores it as a whole
+-- at the end of the file: it is counted, if cron ignores it as a whole or passes over it
 abbrev pub end_of_file : Dialect → Stand → Stand
-end_of_file dialect s = record s { tally = with_file (is_ignored dialect s.lines s.file) s.tally }
+end_of_file dialect s = record s { tally = with_file (is_ignored dialect s.lines s.file) s.file.is_passed_over s.tally }
 
 -- what is seen of a line
 abbrev pub line_taken : Line → LineRead

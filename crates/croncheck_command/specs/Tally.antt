@@ -23,7 +23,7 @@ none_counted = record { lines = 0; jobs = 0; refused = 0; warned = 0; ignored = 
 -- with one more line, of which no warning is counted
 abbrev pub counted : Tally → Report → Tally
 counted t reports.Silent = record t { lines = one_more t.lines }
-counted t (reports.Setting is_zone has_feed) = record t { lines = one_more t.lines }
+counted t (reports.Setting seen has_feed) = record t { lines = one_more t.lines }
 counted t (reports.Job j) = record t { lines = one_more t.lines; jobs = one_more t.jobs }
 counted t (reports.Refused start end why) = record t { lines = one_more t.lines; refused = one_more t.refused }
 
@@ -45,9 +45,9 @@ one_more_if counts n = if counts then one_more n else n
 abbrev pub added : Dialect → ℕ → Tally → Report → Tally
 added dialect lines t report = record (counted t report) { warned = one_more_if (is_line_warned dialect lines report) t.warned }
 
--- with one more file, which cron ignores as a whole or doesn't
-abbrev pub with_file : Bool → Tally → Tally
-with_file is_ignored t = record t { ignored = one_more_if is_ignored t.ignored }
+-- with one more file, which cron ignores as a whole or doesn't, and whose name it passes over or doesn't: that is a warning
+abbrev pub with_file : Bool → Bool → Tally → Tally
+with_file is_ignored is_passed_over t = record t { ignored = one_more_if is_ignored t.ignored; warned = one_more_if is_passed_over t.warned }
 
 -- a line is refused, cron ignores a whole file, or a line has a warning where the call is strict
 abbrev pub has_findings : Bool → Tally → Bool

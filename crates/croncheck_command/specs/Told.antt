@@ -1,5 +1,5 @@
 -- When a job runs, as it is told. Source: this crate's documentation of `Told`.
-use Rattle.std.specs.Prelude.{◌≡◌, ◌↔◌, not, ◌&&◌, ◌||◌, ◌==◌, ◌≤ℤ◌, Bool, true, false, IsTrue, ℤ, length, Result, Ok, string_bytes}
+use Rattle.std.specs.Prelude.{◌≡◌, ◌↔◌, not, ◌&&◌, ◌||◌, ◌==◌, ◌≤ℤ◌, ℕ, Bool, true, false, IsTrue, ℤ, List, length, Result, Ok, string_bytes}
 use Rattle.std.specs.declared.string.String.{String}
 use Rattle.std.specs.declared.alloc.Global.{Global}
 use Rattle.croner_base.specs.declared.time.civil.CivilDateTime.{CivilDateTime}
@@ -12,14 +12,17 @@ use Rattle.croner_pattern.specs.Schedule.{is_year_matching}
 use Rattle.croner.specs.parser.Grammar.{Refusal, outcome}
 use Rattle.croncheck_command.specs.declared.runs.End.TheVariants as ends
 use Rattle.croncheck_command.specs.declared.runs.End.{End}
+use Rattle.croncheck_command.specs.declared.runs.Runner.{Runner}
+use Rattle.croncheck_command.specs.declared.runs.Runner.TheVariants as runners
 use Rattle.croncheck_command.specs.declared.runs.Runs.{Runs}
 use Rattle.croncheck_command.specs.declared.settings.Settings.{Settings}
 use Rattle.croncheck_command.specs.declared.told.Told.TheVariants as tolds
 use Rattle.croncheck_command.specs.declared.told.Told.{Told}
 use Rattle.crontab.specs.Line.{Timing, reboot, never, named}
 use Rattle.crontab.specs.Parsed.{crontab_settings}
-use Rattle.croncheck_command.specs.Runs.{IsListed}
+use Rattle.croncheck_command.specs.Runs.{listed_by, IsListed}
 use Rattle.croncheck_command.specs.Settings.{wording_of, start_of, window_end}
+use Rattle.croncheck_command.specs.Starred.{is_starred}
 
 -- the pattern names no year from this one on
 abbrev pub NamesNoneFrom : Meaning → ℤ → Type 0
@@ -31,23 +34,27 @@ pub record IsPastAt (m : Meaning) (w : ℤ) (is_past : Bool) : Type 0 where
   pub shows : wall_second shown ≡ w
   pub none : IsTrue is_past ↔ NamesNoneFrom m shown.date.year
 
--- a meaning is told as its description, its runs behind the start, and whether its years are past
-pub record IsTold (s : Settings) (m : Meaning) (text : String Global) (runs : Runs) (is_past : Bool) : Type 0 where
+-- a meaning is told as its description, what is listed of it behind the start by what runs the line, and whether its years are past
+pub record IsTold (s : Settings) (runner : Runner) (m : Meaning) (text : String Global) (runs : Runs) (is_past : Bool) : Type 0 where
   pub described : string_bytes text ≡ description (wording_of s.language) m
-  pub listed : IsListed m (start_of s) (window_end s) s.listing runs
+  pub listed : IsListed (listed_by runner m (start_of s)) (window_end s) s.listing runs
   pub past : IsPastAt m (reading (table_moment (start_of s))) is_past
 
 -- what was told of a text for a parser: that of its meaning, so that it has one
-abbrev pub TellsMeaning : Settings → Result Meaning Refusal → Told → Type 0
-TellsMeaning s read tolds.Reboot = ⊥
-TellsMeaning s read tolds.Nothing = ⊥
-TellsMeaning s read (tolds.Runs text runs is_past) = (m : Meaning) × (read ≡ Ok m) × IsTold s m text runs is_past
+abbrev pub TellsMeaning : Settings → Runner → Result Meaning Refusal → Told → Type 0
+TellsMeaning s runner read tolds.Reboot = ⊥
+TellsMeaning s runner read tolds.Nothing = ⊥
+TellsMeaning s runner read (tolds.Runs text runs is_past) = (m : Meaning) × (read ≡ Ok m) × IsTold s runner m text runs is_past
 
--- what was told of a job's times
-abbrev pub TellsTiming : Settings → Timing → Told → Type 0
-TellsTiming s reboot told = told ≡ tolds.Reboot
-TellsTiming s never told = told ≡ tolds.Nothing
-TellsTiming s (named text both) told = TellsMeaning s (outcome (crontab_settings both) text) told
+-- what runs the job of a crontab whose times are written so
+abbrev pub cron_of : List ℕ → Runner
+cron_of schedule = runners.Cron (is_starred schedule)
+
+-- what was told of a job's times, which are written so
+abbrev pub TellsTiming : Settings → List ℕ → Timing → Told → Type 0
+TellsTiming s schedule reboot told = told ≡ tolds.Reboot
+TellsTiming s schedule never told = told ≡ tolds.Nothing
+TellsTiming s schedule (named text both) told = TellsMeaning s (cron_of schedule) (outcome (crontab_settings both) text) told
 
 -- ---- never
 

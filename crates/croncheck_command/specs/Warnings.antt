@@ -1,8 +1,9 @@
 -- Warnings of lines that are taken: each is given exactly where its definition here holds. Source: this crate's documentation of `Warning`.
-use Rattle.std.specs.Prelude.{◌≡◌, ℕ, ◌+◌, ◌-◌, ◌%◌, Bool, true, false, not, ◌&&◌, ◌||◌, ◌==◌, nat_lt, pos, List, [], ◌∷◌, length, fold, filter, codes, Option, Some, None, option_map, unwrap_or, if◌then◌else◌}
+use Rattle.std.specs.Prelude.{◌≡◌, ℕ, ◌+◌, ◌-◌, ◌%◌, Bool, true, false, not, ◌&&◌, ◌||◌, ◌==◌, nat_lt, nat_le, pos, List, [], ◌∷◌, length, fold, filter, codes, Option, Some, None, option_map, is_some, unwrap_or, if◌then◌else◌}
 use Rattle.std.specs.Io.BufRead.{ends_with_byte}
-use Rattle.std.specs.List.{list_any, list_all, slice_split}
+use Rattle.std.specs.List.{list_any, list_all, slice_split, suffix_len}
 use Rattle.std.specs.Option.{option_or}
+use Rattle.std.specs.Str.{bytes_eq}
 use Rattle.jiff_core.specs.Calendar.{days_in_month}
 use Rattle.croner_base.specs.declared.time.civil.CivilDate.{CivilDate}
 use Rattle.croner_base.specs.Civil.{weekday_index}
@@ -20,9 +21,11 @@ use Rattle.crontab.specs.declared.field.Place.{Place}
 use Rattle.crontab.specs.declared.field.Part.{Part}
 use Rattle.croncheck_command.specs.declared.warnings.OtherWarning.{OtherWarning}
 use Rattle.croncheck_command.specs.declared.warnings.OtherWarning.TheVariants as others
-use Rattle.crontab.specs.Bytes.{is_digit, front, begins_with}
+use Rattle.crontab.specs.Bytes.{front, behind, begins_with}
 use Rattle.crontab.specs.Line.{Five, words_of, minute_place, hour_place, day_place, month_place, weekday_place}
-use Rattle.crontab.specs.List.{parts_of}
+use Rattle.crontab.specs.List.{parts_of, names_nothing, is_uneven}
+use Rattle.crontab.specs.Notes.{has_passed_over as are_passed_over, has_large_number as is_large_in, has_other_name as is_named_otherwise, looks_like_weekdays}
+use Rattle.croncheck_command.specs.Hidden.{has_hidden, has_hidden_within}
 use Rattle.croncheck_command.specs.declared.warnings.Subject.{Subject as GivenSubject}
 use Rattle.croncheck_command.specs.declared.warnings.Warning.{Warning}
 use Rattle.croncheck_command.specs.declared.warnings.Warning.TheVariants as warnings
@@ -77,19 +80,48 @@ turn_of fields.Minutes = 60
 turn_of fields.Hours = 24
 turn_of other = 0
 
--- one part, which is a star with a step below this number that doesn't divide it
-abbrev pub is_uneven : ℕ → List Part → Bool
-is_uneven turn [] = false
-is_uneven turn (part ∷ []) = part.is_star && (nat_lt 0 part.step && (nat_lt part.step turn && not (turn % part.step == 0)))
-is_uneven turn (part ∷ other ∷ more) = false
-
 -- `uneven-step`: seconds, minutes or hours are one part `*/n`, and n is below 60, 60 or 24 and doesn't divide it
 abbrev pub has_uneven_step : PatternField → Texts → Bool
 has_uneven_step field t = is_uneven (turn_of field) (parts_in field t)
 
--- `step-beyond`: a step of the field is past its last value
+-- a range names its first value alone, since the second is past its end
+abbrev pub is_beyond : Part → Bool
+is_beyond part = nat_lt 1 part.step && (nat_le part.first part.last && nat_lt (part.last - part.first) part.step)
+
+-- `step-beyond`: a step of the field leads past the end of its range
 abbrev pub has_step_beyond : PatternField → Texts → Bool
-has_step_beyond field t = list_any (λ part. nat_lt (place_of_field field).last part.step) (parts_in field t)
+has_step_beyond field t = list_any is_beyond (parts_in field t)
+
+-- several values in a row, as one range without a step
+abbrev pub is_one_range : List Part → Bool
+is_one_range [] = false
+is_one_range (part ∷ []) = not part.is_star && (part.step == 1 && nat_lt part.first part.last)
+is_one_range (part ∷ other ∷ more) = false
+
+-- the hours are written so
+abbrev pub has_hours_in_range : Texts → Bool
+has_hours_in_range t = is_one_range (parts_in fields.Hours t)
+
+-- a range of the field runs down, so that it names nothing
+abbrev pub has_range_down : PatternField → Texts → Bool
+has_range_down field t = list_any names_nothing (parts_in field t)
+
+-- cron passes over bytes of the field
+abbrev pub has_passed_over : PatternField → Texts → Bool
+has_passed_over field t = are_passed_over (place_of_field field) (text_of_field field t)
+
+-- a number of the field is one that 32 bits don't hold
+abbrev pub has_large_number : PatternField → Texts → Bool
+has_large_number field t = is_large_in (place_of_field field) (text_of_field field t)
+
+-- a word of the field is a name, and none of this field
+abbrev pub has_other_name : PatternField → Texts → Bool
+has_other_name field t = is_named_otherwise (place_of_field field) (text_of_field field t)
+
+-- a field of a crontab has a byte that hides others
+abbrev pub has_hidden_field : Texts → Bool
+has_hidden_field t =
+    has_hidden_within t.minutes || (has_hidden_within t.hours || (has_hidden_within t.days || (has_hidden_within t.months || has_hidden_within t.days_of_week)))
 
 -- an item of the field's list is empty
 abbrev pub has_empty_item : List ℕ → Bool
@@ -115,9 +147,14 @@ names_each_weekday m = list_all (is_plain m.days_of_week) (0 ∷ 1 ∷ 2 ∷ 3 �
 abbrev pub is_either_day : Meaning → Bool
 is_either_day m = not (m.star_day || (m.star_weekday || m.and)) && not (names_each_day m && names_each_weekday m)
 
--- `whole-hour`: all minutes, and exactly one hour
+-- each date is named
+abbrev pub names_each_date : Meaning → Bool
+names_each_date m = (names_each_day m && names_each_weekday m) && length (marked_values 1 m.months) == 12
+
+-- all minutes, but not all hours of all dates
 abbrev pub is_whole_hour : Meaning → Bool
-is_whole_hour m = length (marked_values 1 m.minutes) == 60 && length (marked_values 1 m.hours) == 1
+is_whole_hour m =
+    length (marked_values 1 m.minutes) == 60 && not (length (marked_values 1 m.hours) == 24 && names_each_date m)
 
 -- the month of the year ends before the day
 abbrev pub is_without : ℕ → ℕ → ℕ → Bool
@@ -172,13 +209,24 @@ pub record NamesDates (m : Meaning) (d : Dates) : Type 0 where
 
 -- ---- the command
 
--- digits, and the signs of lists, ranges and steps
-abbrev pub is_field_sign : ℕ → Bool
-is_field_sign b = is_digit b || (b == 42 || (b == 44 || (b == 45 || b == 47)))
+-- the command is spaces alone, or begins with `#` behind blanks, so that a shell takes it for a comment
+abbrev pub has_no_command : List ℕ → Bool
+has_no_command command = length (behind kinds.Space command) == 0 || begins_with 35 (behind kinds.Blank command)
 
--- the text begins with a word of such signs alone
+-- the text begins with a word that may be a field of weekdays, and with no comment
 abbrev pub looks_like_field : List ℕ → Bool
-looks_like_field text = nat_lt 0 (length (front kinds.Word text)) && list_all is_field_sign (front kinds.Word text)
+looks_like_field text = nat_lt 0 (length (front kinds.Word text)) && (not (begins_with 35 text) && looks_like_weekdays (front kinds.Word text))
+
+-- a sign that no user's name has: `/`, `=`, `$`, `*` or `,`
+abbrev pub is_no_user_sign : ℕ → Bool
+is_no_user_sign b = b == 47 || (b == 61 || (b == 36 || (b == 42 || b == 44)))
+
+abbrev pub has_no_user_sign : List ℕ → Bool
+has_no_user_sign name = list_any is_no_user_sign name
+
+-- the command begins with `root` and a blank
+abbrev pub begins_with_root : List ℕ → Bool
+begins_with_root command = bytes_eq (front kinds.Word command) (codes "root") && nat_lt 0 (length (behind kinds.Word command))
 
 -- what was met of a command, byte by byte: a percent sign counts that stands behind no backslash, and a backslash takes in the byte behind it
 abbrev pub met_next : Met → ℕ → Met
@@ -194,6 +242,10 @@ is_percent met.Percent = true
 -- `percent`: a percent sign of the command counts
 abbrev pub has_percent : List ℕ → Bool
 has_percent command = is_percent (fold met_next met.Plain command)
+
+-- `continued`: the command ends in a backslash that no other takes in, as a line of a shell does that is to go on
+abbrev pub is_continued : List ℕ → Bool
+is_continued command = suffix_len (λ b. b == 92) command % 2 == 1
 
 -- `carriage-return`: the command ends with one
 abbrev pub has_carriage_return : List ℕ → Bool
@@ -240,10 +292,32 @@ is_some_so test (Some x) = test x
 abbrev pub behind_times : Subject → Option (List ℕ)
 behind_times s = option_or s.user s.command
 
+-- the field is that of weekdays, behind which the command stands
+abbrev pub is_last_field : PatternField → Bool
+is_last_field fields.Weekday = true
+is_last_field other = false
+
+-- the command fell into this field: it is the last one, and nothing stands behind the times
+abbrev pub has_command_within : Subject → PatternField → Bool
+has_command_within s field = is_last_field field && is_some_so (λ text. length text == 0) (behind_times s)
+
+-- a further word stands behind five fields, which may be a field
+abbrev pub has_sixth_field : Subject → Bool
+has_sixth_field s = is_some s.fields && is_some_so looks_like_field (behind_times s)
+
+-- the word where the user stands is none, and no further field; or where no user stands the command begins with `root`
+abbrev pub has_no_user : Subject → Bool
+has_no_user s =
+    (is_some_so has_no_user_sign s.user && not (has_sixth_field s)) || (not (is_some s.user) && is_some_so begins_with_root s.command)
+
 -- the field of which a warning is
 abbrev pub field_of : Warning → Option PatternField
 field_of (warnings.UnevenStep field) = Some field
 field_of (warnings.StepBeyond field) = Some field
+field_of (warnings.RangeDown field) = Some field
+field_of (warnings.PassedOver field) = Some field
+field_of (warnings.LargeNumber field) = Some field
+field_of (warnings.OtherName field) = Some field
 field_of other = None
 
 -- the name by which a warning is known
@@ -251,20 +325,30 @@ abbrev pub warning_name : Warning → List ℕ
 warning_name warnings.EitherDay = codes "either-day"
 warning_name (warnings.UnevenStep field) = codes "uneven-step"
 warning_name (warnings.StepBeyond field) = codes "step-beyond"
+warning_name (warnings.RangeDown field) = codes "range-down"
+warning_name (warnings.PassedOver field) = codes "passed-over"
+warning_name (warnings.LargeNumber field) = codes "large-number"
 warning_name warnings.WholeHour = codes "whole-hour"
 warning_name warnings.ShortMonths = codes "short-months"
 warning_name warnings.Gone = codes "gone"
 warning_name warnings.Never = codes "never"
+warning_name warnings.NoCommand = codes "no-command"
 warning_name warnings.LooksLikeField = codes "looks-like-field"
+warning_name warnings.User = codes "user"
 warning_name warnings.Percent = codes "percent"
+warning_name warnings.Continued = codes "continued"
+warning_name warnings.ControlByte = codes "control-byte"
 warning_name warnings.NoNewline = codes "no-newline"
 warning_name warnings.CarriageReturn = codes "carriage-return"
 warning_name warnings.EmptyItem = codes "empty-item"
+warning_name (warnings.OtherName field) = codes "other-name"
 
--- the name of one of a setting, or of the number of lines: that of a missing line feed is the same as a job's
+-- the name of one of a setting, or of the number of lines: where a job may have it too the name is the same
 abbrev pub other_name : OtherWarning → List ℕ
 other_name others.NoNewline = warning_name warnings.NoNewline
+other_name others.ControlByte = warning_name warnings.ControlByte
 other_name others.NoZone = codes "no-zone"
+other_name others.NotExpanded = codes "not-expanded"
 other_name others.ManyLines = codes "many-lines"
 
 -- the name of a field as warnings have it
@@ -277,20 +361,30 @@ field_name fields.Month = codes "months"
 field_name fields.Weekday = codes "weekdays"
 field_name fields.Year = codes "years"
 
--- the warning stands at the job. `looks-like-field`: what stands behind the times begins with a word of a field's signs
+-- the warning stands at the job. `no-command`: the user's name begins with `#`, or there is no command. `looks-like-field`: what stands behind five fields
+-- begins with a word that may be a further one
 abbrev pub holds : Subject → Warning → Bool
 holds s warnings.EitherDay = is_some_so is_either_day s.meaning
 holds s (warnings.UnevenStep field) = is_some_so (has_uneven_step field) s.fields
 holds s (warnings.StepBeyond field) = is_some_so (has_step_beyond field) s.fields
-holds s warnings.WholeHour = is_some_so is_whole_hour s.meaning
+holds s (warnings.RangeDown field) = s.is_crontab && is_some_so (has_range_down field) s.fields
+holds s (warnings.PassedOver field) = (s.is_crontab && not (has_command_within s field)) && is_some_so (has_passed_over field) s.fields
+holds s (warnings.LargeNumber field) = s.is_crontab && is_some_so (has_large_number field) s.fields
+holds s warnings.WholeHour = is_some_so is_whole_hour s.meaning && not (is_some_so has_hours_in_range s.fields)
 holds s warnings.ShortMonths = not (s.is_past || (s.is_never || s.is_at_window_end)) && is_some_so has_short_months s.meaning
 holds s warnings.Gone = s.is_past
 holds s warnings.Never = not s.is_past && s.is_never
-holds s warnings.LooksLikeField = is_some_so looks_like_field (behind_times s)
+holds s warnings.NoCommand = is_some_so (begins_with 35) s.user || is_some_so has_no_command s.command
+holds s warnings.LooksLikeField = has_sixth_field s
+holds s warnings.User = has_no_user s
 holds s warnings.Percent = is_some_so has_percent s.command
+holds s warnings.Continued = is_some_so is_continued s.command
+holds s warnings.ControlByte =
+    s.is_crontab && (is_some_so has_hidden_field s.fields || (is_some_so has_hidden s.user || is_some_so has_hidden_within s.command))
 holds s warnings.NoNewline = s.is_crontab && not s.is_fed
 holds s warnings.CarriageReturn = is_some_so has_carriage_return s.command
 holds s warnings.EmptyItem = not s.is_crontab && is_some_so has_empty_items s.fields
+holds s (warnings.OtherName field) = not s.is_crontab && is_some_so (has_other_name field) s.fields
 
 -- the warnings of jobs and patterns, in the order in which they are given
 abbrev pub all_warnings : List Warning
@@ -299,8 +393,16 @@ all_warnings =
     ∷ warnings.UnevenStep fields.Seconds ∷ warnings.UnevenStep fields.Minutes ∷ warnings.UnevenStep fields.Hours
     ∷ warnings.StepBeyond fields.Seconds ∷ warnings.StepBeyond fields.Minutes ∷ warnings.StepBeyond fields.Hours
     ∷ warnings.StepBeyond fields.DayOfMonth ∷ warnings.StepBeyond fields.Month ∷ warnings.StepBeyond fields.Weekday ∷ warnings.StepBeyond fields.Year
+    ∷ warnings.RangeDown fields.Minutes ∷ warnings.RangeDown fields.Hours ∷ warnings.RangeDown fields.DayOfMonth
+    ∷ warnings.RangeDown fields.Month ∷ warnings.RangeDown fields.Weekday
+    ∷ warnings.PassedOver fields.Minutes ∷ warnings.PassedOver fields.Hours ∷ warnings.PassedOver fields.DayOfMonth
+    ∷ warnings.PassedOver fields.Month ∷ warnings.PassedOver fields.Weekday
+    ∷ warnings.LargeNumber fields.Minutes ∷ warnings.LargeNumber fields.Hours ∷ warnings.LargeNumber fields.DayOfMonth
+    ∷ warnings.LargeNumber fields.Month ∷ warnings.LargeNumber fields.Weekday
     ∷ warnings.WholeHour ∷ warnings.ShortMonths ∷ warnings.Gone ∷ warnings.Never
-    ∷ warnings.LooksLikeField ∷ warnings.Percent ∷ warnings.NoNewline ∷ warnings.CarriageReturn ∷ warnings.EmptyItem ∷ []
+    ∷ warnings.NoCommand ∷ warnings.LooksLikeField ∷ warnings.User ∷ warnings.Percent ∷ warnings.Continued ∷ warnings.ControlByte ∷ warnings.NoNewline ∷ warnings.CarriageReturn ∷ warnings.EmptyItem
+    ∷ warnings.OtherName fields.Seconds ∷ warnings.OtherName fields.Minutes ∷ warnings.OtherName fields.Hours
+    ∷ warnings.OtherName fields.DayOfMonth ∷ warnings.OtherName fields.Month ∷ warnings.OtherName fields.Weekday ∷ warnings.OtherName fields.Year ∷ []
 
 -- the warnings of a job or a pattern
 abbrev pub warnings_of : Subject → List Warning

@@ -1,32 +1,30 @@
 //! What changes of the clock do to a job: which of its seconds are skipped, or shown twice.
-ghost use Rattle.std.specs.Prelude.{◌≡◌, ◌↔◌, true, IsTrue, IfOk, IfErr, MatchOption, ℤ, pos, ◌-ℤ◌};
+ghost use Rattle.std.specs.Prelude.{◌≡◌, true, IfOk, IfErr, MatchOption, ℤ, pos, ◌-ℤ◌};
 ghost use Rattle.croner_base.specs.TableZone.{table_moment};
 ghost use Rattle.croner_base.specs.Zone.{at_instant};
 ghost use Rattle.croner_pattern.specs.Schedule.{is_fixed_time};
 ghost use Rattle.croner.specs.Views.{job_of};
-ghost use Rattle.croncheck_command.specs.Changes.{AreChangesFrom, IsNoStart, names_all_hours, Meets, IsMeeting, IsFate, MakesUp, IsFateInCron, has_clock_star};
-ghost use Rattle.crontab.specs.Line.{next};
+ghost use Rattle.croncheck_command.specs.Changes.{AreChangesFrom, IsNoStart, names_all_hours, Meets, IsMeeting, IsFate, IsFateBy};
 ghost use Rattle.croncheck_command.specs.Private.Met.{IsToldOf, IsInYears, IsNoneIn, IsFirstIn};
 
+mod cron;
 mod found;
 mod level;
 pub mod meetings;
 pub mod told;
 
+use crate::changes::cron::fate_in_cron;
 use crate::changes::found::changes_behind;
 use crate::changes::level::Level;
 use crate::clock::Clock;
+use crate::runs::Runner;
 use croner::component::ALL_BIT;
 use croner::errors::CronError;
 use croner::time::table::TableTime;
 use croner::{Cron, JobType};
-use crontab::bytes::{Kind, begins_with, cut};
 use std::alloc::Global;
 
 const HOURS_PER_DAY: usize = 24;
-
-/// By less than so many seconds a clock is moved where cron(8) makes up for it.
-const MADE_UP_SECONDS: u64 = 10_800;
 
 /// A change of a clock. Wall seconds are counted as if the wall clock never changed, from 1970-01-01T00:00:00 on it.
 #[derive(Clone, Copy, Drop)]
@@ -68,7 +66,7 @@ pub struct Meeting {
     pub range: Range,
     /// The first wall second in the range that is scheduled.
     pub second: i64,
-    /// What becomes of it here.
+    /// What becomes of it by what runs the line.
     pub fate: Fate,
 }
 
@@ -109,10 +107,10 @@ impl<'t> Changes<'t> {
 
     /// The first of them that meets a job: not all hours are named, and a scheduled second lies in such a range of the change. `None` where none
     /// does.
-    pub fn first_meeting(&self, job: &Cron, range: Range) -> Option<Meeting>
+    pub fn first_meeting(&self, job: &Cron, runner: Runner, range: Range) -> Option<Meeting>
         ensures { MatchOption result
             ((c : Change) (w : ℤ) → ¬ (Meets (table_moment self.now.start).zone (table_moment self.now.start).instant (job_of job.now) range c w))
-            (IsMeeting (table_moment self.now.start).zone (table_moment self.now.start).instant (job_of job.now) range) }
+            (IsMeeting (table_moment self.now.start).zone (table_moment self.now.start).instant runner (job_of job.now) range) }
     {
         if names_all_hours(job) {
             return None;
@@ -123,7 +121,7 @@ impl<'t> Changes<'t> {
                     change: *change,
                     range,
                     second,
-                    fate: self.fate_of(job, range, *change, second),
+                    fate: self.fate_of(job, runner, range, *change, second),
                 });
             }
         }
@@ -146,8 +144,21 @@ impl<'t> Changes<'t> {
         }
     }
 
-    // What becomes of a scheduled second in a range of a change.
-    fn fate_of(&self, job: &Cron, range: Range, change: Change, second: i64) -> Fate
+    // What becomes of a scheduled second in a range of a change, by what runs the line.
+    fn fate_of(&self, job: &Cron, runner: Runner, range: Range, change: Change, second: i64) -> Fate
+        requires told { IsToldOf self.now.start change }
+        requires years { IsInYears change }
+        requires first { IsFirstIn (job_of job.now) range change second }
+        ensures { IsFateBy runner (table_moment self.now.start).zone (job_of job.now) range change second result }
+    {
+        match runner {
+            Runner::Croner => self.fate_in_croner(job, range, change, second),
+            Runner::Cron { is_starred } => fate_in_cron(is_starred, range, change, second),
+        }
+    }
+
+    // The same of a pattern, which croner runs.
+    fn fate_in_croner(&self, job: &Cron, range: Range, change: Change, second: i64) -> Fate
         requires told { IsToldOf self.now.start change }
         requires first { IsFirstIn (job_of job.now) range change second }
         ensures { IsFate (table_moment self.now.start).zone (job_of job.now) range change result }
@@ -202,41 +213,4 @@ fn names_all_hours(job: &Cron) -> bool
     ensures { result ≡ names_all_hours (job_of job.now) }
 {
     job.pattern.hours.count_set_values(ALL_BIT) == HOURS_PER_DAY
-}
-
-impl Meeting {
-    /// What becomes of the second in cron(8), which takes the job's times as the text of five fields.
-    pub fn fate_in_cron(&self, times: &[u8]) -> Fate
-        ensures { IsFateInCron times.now self.now.range self.now.change result }
-    {
-        match (self.range, makes_up(times, self.change)) {
-            (Range::Gap, true) => Fate::Moved,
-            (Range::Gap, false) => Fate::LeftOut,
-            (Range::Repeated, true) => Fate::Once,
-            (Range::Repeated, false) => Fate::Twice,
-        }
-    }
-}
-
-// Whether cron(8) makes up for a change.
-fn makes_up(times: &[u8], change: Change) -> bool
-    ensures { IsTrue result ↔ MakesUp times.now change }
-{
-    !has_clock_star(times) && change.before.abs_diff(change.after) < MADE_UP_SECONDS
-}
-
-// Whether the text of the minutes or that of the hours begins with a star.
-fn has_clock_star(times: &[u8]) -> bool
-    ensures { result ≡ has_clock_star times.now }
-{
-    begins_with(times, b'*') || begins_with(next(times), b'*')
-}
-
-// What stands behind the first word and the blanks after it.
-fn next(text: &[u8]) -> &[u8]
-    ensures { result.now ≡ next text.now }
-{
-    let (_, rest) = cut(text, Kind::Word);
-    let (_, rest) = cut(rest, Kind::Blank);
-    rest
 }

@@ -1,7 +1,7 @@
 //! The form of a check: a text for each line of which something is found.
 ghost use Rattle.std.specs.Prelude.{OnOk};
-ghost use Rattle.croncheck_command.specs.Found.{WritesFinding};
 ghost use Rattle.croncheck_command.specs.Output.{written_of};
+ghost use Rattle.croncheck_command.specs.Reported.{WritesFinding};
 
 use crate::form::Form;
 use crate::output::Output;
@@ -19,8 +19,7 @@ pub struct Checker;
 
 impl Form for Checker {
     ghost use Rattle.std.specs.Prelude.{◌≡◌};
-    ghost use Rattle.croncheck_command.specs.Found.{TellsFound};
-    ghost use Rattle.croncheck_command.specs.Reported.{WritesEnding};
+    ghost use Rattle.croncheck_command.specs.Reported.{TellsFound, WritesEnding};
 
     ghost takes = { λ terms old y new. TellsFound terms.settings.now old.stand old.written y new.stand new.written };
 

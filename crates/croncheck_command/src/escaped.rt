@@ -4,10 +4,13 @@ ghost use Rattle.std.specs.List.{All, list_all};
 ghost use Rattle.std.specs.Str.{encode_utf8_all};
 ghost use Rattle.bstr.specs.Escape.{escaped};
 ghost use Rattle.bstr.specs.Utf8.{decoded};
-ghost use Rattle.croncheck_command.specs.Shown.{front_shown, front_size, bytes_shown, is_harmless, is_printed};
+ghost use Rattle.crontab.specs.Setting.{has};
+ghost use Rattle.croncheck_command.specs.Shown.{front_shown, front_size, bytes_shown, is_harmless, is_printed, replaced, exact};
 
 use bstr::{ByteSlice, decode_utf8};
 use croner_base::excerpt::ShownCharacter;
+use crontab::bytes::{Kind, cut, rest_of};
+use crontab::setting::has;
 use std::alloc::{AllocError, Global};
 
 /// Some bytes as they are shown. Text in UTF-8 stands as it is, but for a character that a terminal acts on or that nobody sees: it
@@ -53,4 +56,49 @@ fn push_front<'b>(text: &mut String, bytes: &'b [u8]) -> Result<&'b [u8], AllocE
             Ok(rest)
         }
     }
+}
+
+/// Some bytes as they are shown, but for a backslash, which stands as two: so it is told apart from those of a character that stands
+/// by its name or number. The only error is want of memory.
+pub fn exact(alloc: Global, bytes: &[u8]) -> Result<String, AllocError>
+    ensures { IfOk result (λ text. string_bytes text ≡ exact bytes.now) }
+{
+    let mut text = String::new(alloc);
+    push_replaced(&mut text, bytes, b'\\', "\\\\")?;
+    Ok(text)
+}
+
+/// Puts some bytes behind a text, as they are shown, with another text in place of each byte of one value. The only error is want of
+/// memory; what then stands behind the text is not said.
+pub(crate) fn push_replaced(
+    text: &mut String,
+    bytes: &[u8],
+    sign: u8,
+    replacement: &str,
+) -> Result<(), AllocError>
+    ensures { OnOk result (string_bytes text.new ≡ string_bytes text.old ++ replaced sign replacement.now bytes.now) }
+{
+    let mut rest = bytes;
+    while has(rest, sign) {
+        rest = push_piece(text, rest, sign, replacement)?;
+    }
+    push_shown(text, rest)
+}
+
+// Puts what stands before the first such byte behind a text, as it is shown, and the other text. What stands behind it is left.
+#[tactic(auto, using(crate::proofs::SpacedBytes::one_piece))]
+fn push_piece<'b>(
+    text: &mut String,
+    bytes: &'b [u8],
+    sign: u8,
+    replacement: &str,
+) -> Result<&'b [u8], AllocError>
+    requires { IsTrue (has sign bytes.now) }
+    ensures shown { IfOk result (λ rest. string_bytes text.new ++ replaced sign replacement.now rest.now ≡ string_bytes text.old ++ replaced sign replacement.now bytes.now) }
+    ensures shorter { IfOk result (λ rest. length rest.now < length bytes.now) }
+{
+    let (piece, behind) = cut(bytes, Kind::But(sign));
+    push_shown(text, piece)?;
+    text.push_str(replacement)?;
+    Ok(rest_of(behind))
 }

@@ -1,7 +1,7 @@
 //! What was seen of the file that is read, and what cron makes of it as a whole.
 ghost use Rattle.std.specs.Prelude.{◌≡◌, ◌++◌, IfOk, OnOk, string_bytes};
 ghost use Rattle.crontab.specs.Entries.{entry_seen};
-ghost use Rattle.croncheck_command.specs.FileSeen.{file_seen, unread, with_line, with_report, counts, is_refused, if_so, ignored, is_ignored, reasons_of, ending_of};
+ghost use Rattle.croncheck_command.specs.FileSeen.{file_seen, unread, passed_over, with_line, with_report, counts, is_refused, if_so, ignored, is_ignored, name_text, reasons_of, whole_of, ending_of};
 
 use crate::report::Report;
 use crate::warnings::are_many_lines;
@@ -16,6 +16,8 @@ pub struct FileSeen {
     has_refused: bool,
     // Its last line has no line feed, and is neither blank nor a comment.
     is_unfed: bool,
+    // Cron passes over it for its name, so that none of its lines is read.
+    is_passed_over: bool,
 }
 
 impl FileSeen {
@@ -27,6 +29,19 @@ impl FileSeen {
             name,
             has_refused: false,
             is_unfed: false,
+            is_passed_over: false,
+        }
+    }
+
+    /// A file that cron passes over for its name, by that name as it is shown.
+    pub fn passed_over(name: String) -> FileSeen
+        ensures { file_seen result ≡ passed_over (string_bytes name) }
+    {
+        FileSeen {
+            name,
+            has_refused: false,
+            is_unfed: false,
+            is_passed_over: true,
         }
     }
 
@@ -35,6 +50,20 @@ impl FileSeen {
         ensures { result.now ≡ string_bytes self.now.name }
     {
         self.name.as_str()
+    }
+
+    /// A line of it is refused.
+    pub fn has_refused(&self) -> bool
+        ensures { result ≡ self.now.has_refused }
+    {
+        self.has_refused
+    }
+
+    /// Its last line has no line feed, and is neither blank nor a comment.
+    pub fn is_unfed(&self) -> bool
+        ensures { result ≡ self.now.is_unfed }
+    {
+        self.is_unfed
     }
 
     /// Takes up one more line, and whether a line feed ends it.
@@ -53,15 +82,32 @@ impl FileSeen {
         }
     }
 
-    /// What cron makes of the file of so many lines as a whole: a line for each reason for which it ignores it. Nothing of
-    /// a file of patterns, which cron doesn't read.
+    /// What cron makes of the file of so many lines as a whole: that it passes over it for its name, or a line for each
+    /// reason for which it ignores it. Nothing of a file of patterns, which cron doesn't read.
     pub fn ending(&self, alloc: Global, dialect: Dialect, lines: u64) -> Result<String, AllocError>
         ensures { IfOk result (λ text. string_bytes text ≡ ending_of dialect lines (file_seen self.now)) }
+    {
+        if self.is_passed_over {
+            return name_text(alloc, self.name.as_str());
+        }
+        self.whole_text(alloc, dialect, lines)
+    }
+
+    // A line for each reason for which cron ignores the file of so many lines as a whole.
+    fn whole_text(&self, alloc: Global, dialect: Dialect, lines: u64) -> Result<String, AllocError>
+        ensures { IfOk result (λ text. string_bytes text ≡ whole_of dialect lines (file_seen self.now)) }
     {
         match dialect {
             Dialect::Patterns => Ok(String::new(alloc)),
             Dialect::User | Dialect::System => self.reasons(alloc, lines),
         }
+    }
+
+    /// Whether cron passes over it for its name.
+    pub fn is_passed_over(&self) -> bool
+        ensures { result ≡ (file_seen self.now).is_passed_over }
+    {
+        self.is_passed_over
     }
 
     /// Whether cron ignores the file of so many lines as a whole. One of patterns it doesn't read.
@@ -97,6 +143,15 @@ impl FileSeen {
         )?;
         Ok(text)
     }
+}
+
+// What is said of a file of this name, which cron passes over.
+fn name_text(alloc: Global, name: &str) -> Result<String, AllocError>
+    ensures { IfOk result (λ text. string_bytes text ≡ name_text name.now) }
+{
+    format!(in alloc;
+        "{name}: warning: file-name: cron passes over a file of this name, and no line of it is read here: write letters, digits, _ and - alone\n"
+    )
 }
 
 // The line of a reason, if it holds.

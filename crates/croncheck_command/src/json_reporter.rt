@@ -1,30 +1,33 @@
-//! The form of JSON: an object for each line.
+//! The form of JSON: an object for each line, and for each file.
 ghost use Rattle.std.specs.Prelude.{◌++◌, OnOk};
 ghost use Rattle.jiff.specs.ZoneView.{plain_zone};
-ghost use Rattle.croncheck_command.specs.Json.{WritesObject};
+ghost use Rattle.croncheck_command.specs.Json.{WritesObject, WritesFile};
+ghost use Rattle.croncheck_command.specs.Output.{written_of};
+ghost use Rattle.croncheck_command.specs.Stand.{stand_of};
 
+use crate::findings::of_file::{findings_of_file, last_line};
+use crate::findings::{Finding, findings_of};
 use crate::form::Form;
-use crate::json::{kind_of_entry, object_of};
+use crate::json::{FILE, kind_of_entry, object_of};
 use crate::output::Output;
 use crate::progress::{Line, Progress, Terms};
 use crate::report::Report;
 use crate::shown::Place;
-use crate::tally::is_too_many;
 use std::io;
 use std::io::Write;
 
-/// Writes the object of each line, each on a line of its own.
+/// Writes the object of each line, and behind them that of their file, each on a line of its own.
 #[derive(Clone, Copy, Drop)]
 pub struct JsonReporter;
 
 impl Form for JsonReporter {
     ghost use Rattle.std.specs.Prelude.{◌≡◌};
     ghost use Rattle.jiff.specs.ZoneView.{plain_zone};
-    ghost use Rattle.croncheck_command.specs.Json.{Writes};
+    ghost use Rattle.croncheck_command.specs.Json.{Writes, WritesFile};
 
     ghost takes = { λ terms old y new. Writes terms.settings.now (plain_zone terms.shared.now.zone) old.stand old.written y new.stand new.written };
 
-    ghost ends_file = { λ terms reporter stand old new. new ≡ old };
+    ghost ends_file = { λ terms reporter stand old new. WritesFile terms.settings.now (plain_zone terms.shared.now.zone) stand old new };
 
     ghost ends = { λ terms reporter old new. new ≡ old };
 
@@ -38,26 +41,25 @@ impl Form for JsonReporter {
     ) -> io::Result<()> {
         let text = line.text;
         let kind = kind_of_entry(&line.entry);
-        let is_too_many = is_too_many(terms.settings.dialect, progress.lines);
         let report = progress.report(terms, line)?;
+        let found = findings_of(terms.alloc, text, &report)?;
         write_object(
             terms,
             kind,
             progress.place(),
-            text,
-            is_too_many,
             &report,
+            found.as_slice(),
             output,
         )
     }
 
     fn end_file<W: Write>(
         &self,
-        _terms: &Terms<'_, '_>,
-        _progress: &Progress,
-        _output: &mut Output<W>,
+        terms: &Terms<'_, '_>,
+        progress: &Progress,
+        output: &mut Output<W>,
     ) -> io::Result<()> {
-        Ok(())
+        write_file(terms, progress, output)
     }
 
     fn end<W: Write>(&self, _terms: &Terms<'_, '_>, _output: &mut Output<W>) -> io::Result<()> {
@@ -65,37 +67,54 @@ impl Form for JsonReporter {
     }
 }
 
-// Writes the object of a line of this text at a place, of this kind of entry, with its report; of a crontab it may be
-// the first line too many.
-#[tactic(auto, using(crate::proofs::Objects::object_written))]
+/// Writes the object of a file as a whole.
+#[tactic(auto, using(crate::proofs::Objects::file_written))]
+pub(crate) fn write_file<W: Write>(
+    terms: &Terms<'_, '_>,
+    progress: &Progress,
+    output: &mut Output<W>,
+) -> io::Result<()>
+    ensures { OnOk result (WritesFile terms.now.settings.now (plain_zone terms.now.shared.now.zone) (stand_of progress.now)
+        (written_of W.contents output.old) (written_of W.contents output.new)) }
+{
+    let found = findings_of_file(
+        terms.alloc,
+        terms.settings.dialect,
+        progress.lines,
+        &progress.file,
+    )?;
+    let place = Place {
+        file: progress.file.name(),
+        line: last_line(progress.lines),
+    };
+    write_object(
+        terms,
+        FILE,
+        place,
+        &Report::Silent,
+        found.as_slice(),
+        output,
+    )
+}
+
+/// Writes the object of a line of this kind of entry, of which this is found.
 pub(crate) fn write_object<W: Write>(
     terms: &Terms<'_, '_>,
     kind: &str,
     place: Place<'_>,
-    line: &[u8],
-    is_too_many: bool,
     report: &Report<'_, '_>,
+    found: &[Finding],
     output: &mut Output<W>,
 ) -> io::Result<()>
     ensures { OnOk result (WritesObject (record {
       zone = plain_zone terms.now.shared.now.zone;
       kind = kind.now;
-      text = line.now;
       file = place.entry.file.now;
       line = place.entry.line;
-      is_too_many = is_too_many;
-    }) report.now (W.contents output.old.out) (W.contents output.new.out)) }
+    }) report.now found.now (W.contents output.old.out) (W.contents output.new.out)) }
 {
     let mut text = {
-        let object = object_of(
-            terms.alloc,
-            terms.shared,
-            kind,
-            place,
-            report,
-            line,
-            is_too_many,
-        )?;
+        let object = object_of(terms.alloc, terms.shared, kind, place, report, found)?;
         object.to_string(terms.alloc)?
     };
     text.push('\n')?;

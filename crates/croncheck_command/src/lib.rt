@@ -2,12 +2,15 @@
 #![tactic(auto)]
 
 mod ahead;
+pub mod annotator;
 pub mod changes;
 pub mod checker;
 pub mod clock;
 pub mod escaped;
 mod file_seen;
 pub mod files;
+pub mod findings;
+pub mod folder;
 pub mod form;
 pub mod json;
 pub mod json_checker;
@@ -28,6 +31,7 @@ pub mod same;
 pub mod settings;
 pub mod shown;
 pub mod sink;
+mod starred;
 pub mod tally;
 pub mod told;
 pub mod warnings;

@@ -42,7 +42,15 @@ impl<W: Write> Output<W> {
         ensures written { OnOk result (WritesText text.now (written_of W.contents self.old) (written_of W.contents self.new)) }
         ensures refused { self.new.is_refused ≡ (if is_err result then true else self.old.is_refused) }
     {
-        let written = self.out.write_all(text.as_bytes());
+        self.write_bytes(text.as_bytes())
+    }
+
+    /// Writes bytes as they are. The error is as that of `write`.
+    pub fn write_bytes(&mut self, bytes: &[u8]) -> io::Result<()>
+        ensures written { OnOk result (WritesText bytes.now (written_of W.contents self.old) (written_of W.contents self.new)) }
+        ensures refused { self.new.is_refused ≡ (if is_err result then true else self.old.is_refused) }
+    {
+        let written = self.out.write_all(bytes);
         if written.is_err() {
             self.is_refused = true;
         }

@@ -6,9 +6,10 @@ ghost use Rattle.croner.specs.Views.{job_of as meaning_of_job};
 ghost use Rattle.crontab.specs.Checked.{TakesInTurn};
 ghost use Rattle.crontab.specs.Content.{IsOutcome};
 ghost use Rattle.crontab.specs.Entries.{entry_seen};
+ghost use Rattle.crontab.specs.Line.{are_patterns};
 ghost use Rattle.croncheck_command.specs.Output.{Written, written_of};
 ghost use Rattle.croncheck_command.specs.Plan.{IsPlanned};
-ghost use Rattle.croncheck_command.specs.Planner.{seen, with_job, Adds, Passes, labels, labels_at, command_text, label_text, WritesMoment, over_text, more_text, IsPlanEnd};
+ghost use Rattle.croncheck_command.specs.Planner.{seen, with_job, Adds, Passes, labels, labels_at, command_text, label_text, WritesMoment, plan_head, over_text, more_text, IsPlanEnd};
 ghost use Rattle.croncheck_command.specs.Settings.{start_of, window_end};
 ghost use Rattle.croncheck_command.specs.Shown.{IsWindowEnd};
 ghost use Rattle.croncheck_command.specs.Stand.{stand_of};
@@ -27,7 +28,7 @@ use croner::crontable::CronTable;
 use croner::errors::CronError;
 use croner::time::table::TableTime;
 use crontab::content::{Outcome, outcome_of};
-use crontab::line::Entry;
+use crontab::line::{Dialect, Entry};
 use std::alloc::{AllocError, Global};
 use std::io;
 use std::io::{ErrorKind, Write};
@@ -181,6 +182,8 @@ impl Form for Planner {
         let Ok(plan) = self.plan(terms) else {
             return Err(io::Error::from(ErrorKind::OutOfMemory));
         };
+        let of_patterns = are_patterns(terms.settings.dialect);
+        output.write_apart(plan_head(plan.items.is_empty(), of_patterns))?;
         write_moments(terms, self.jobs.as_slice(), plan.items.as_slice(), output)?;
         let text = end_text(terms.alloc, terms.shared, &plan)?;
         output.write_apart(text.as_str())
@@ -197,6 +200,26 @@ fn with_job(tally: Tally) -> Tally
         refused: tally.refused,
         warned: tally.warned,
         ignored: tally.ignored,
+    }
+}
+
+fn are_patterns(dialect: Dialect) -> bool
+    ensures { result ≡ are_patterns dialect }
+{
+    match dialect {
+        Dialect::Patterns => true,
+        Dialect::User | Dialect::System => false,
+    }
+}
+
+// What stands in front of the moments of crontabs' jobs: whose runs they are.
+fn plan_head(is_empty: bool, of_patterns: bool) -> &'static str
+    ensures { result.now ≡ plan_head is_empty of_patterns }
+{
+    if is_empty || of_patterns {
+        ""
+    } else {
+        "these are croner's runs; where the clock changes cron goes by another rule, and show lists what it starts\n"
     }
 }
 

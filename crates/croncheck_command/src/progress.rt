@@ -2,17 +2,18 @@
 ghost use Rattle.std.specs.Prelude.{◌≡◌, IfOk, string_bytes};
 ghost use Rattle.crontab.specs.Entries.{entry_seen};
 ghost use Rattle.croncheck_command.specs.Reported.{Reports};
-ghost use Rattle.croncheck_command.specs.Sink.{StandsAtBegin};
-ghost use Rattle.croncheck_command.specs.Stand.{stand_of, begin_of_file, at_line, line_taken};
+ghost use Rattle.croncheck_command.specs.Settings.{of_kind};
+ghost use Rattle.croncheck_command.specs.Sink.{StandsAtBegin, terms_of};
+ghost use Rattle.croncheck_command.specs.Stand.{stand_of, begin_of_file, begin_passed_over, at_line, line_taken};
 
 use crate::file_seen::FileSeen;
 use crate::report::{Report, report_of_line};
 use crate::same::Seen;
-use crate::settings::Settings;
+use crate::settings::{Settings, SettingsByKind};
 use crate::shown::{Place, Shared};
 use crate::tally::{Tally, one_more};
 use crontab::content::outcome_of;
-use crontab::line::Entry;
+use crontab::line::{Dialect, Entry};
 use std::alloc::Global;
 use std::io;
 use std::io::ErrorKind;
@@ -35,6 +36,43 @@ impl<'s, 't> Terms<'s, 't> {
             alloc,
             settings,
             shared,
+        }
+    }
+}
+
+/// What is asked of the lines of the files of each kind.
+#[derive(Clone, Copy)]
+pub struct TermsByKind<'s, 't> {
+    user: Terms<'s, 't>,
+    system: Terms<'s, 't>,
+    patterns: Terms<'s, 't>,
+}
+
+impl<'s, 't> TermsByKind<'s, 't> {
+    /// What is asked by these settings, and what all answers share.
+    pub fn new(
+        alloc: Global,
+        settings: &'s SettingsByKind<'t>,
+        shared: &'s Shared<'t>,
+    ) -> TermsByKind<'s, 't>
+        ensures settings { (d : Dialect) → (terms_of result d).settings.now ≡ of_kind settings.now d }
+        ensures shared { (d : Dialect) → (terms_of result d).shared.now ≡ shared.now }
+    {
+        TermsByKind {
+            user: Terms::new(alloc, settings.of(Dialect::User), shared),
+            system: Terms::new(alloc, settings.of(Dialect::System), shared),
+            patterns: Terms::new(alloc, settings.of(Dialect::Patterns), shared),
+        }
+    }
+
+    /// What is asked of the lines of the files of a kind.
+    pub fn of(&self, dialect: Dialect) -> Terms<'s, 't>
+        ensures { result ≡ terms_of self.now dialect }
+    {
+        match dialect {
+            Dialect::User => self.user,
+            Dialect::System => self.system,
+            Dialect::Patterns => self.patterns,
         }
     }
 }
@@ -91,6 +129,15 @@ impl Progress {
         ensures { stand_of self.new ≡ begin_of_file (string_bytes name) (stand_of self.old) }
     {
         self.file = FileSeen::new(name);
+        self.files = one_more(self.files);
+        self.lines = 0;
+    }
+
+    /// Begins the next file, which cron passes over for its name, by that name as it is shown.
+    pub fn begin_passed_over(&mut self, name: String)
+        ensures { stand_of self.new ≡ begin_passed_over (string_bytes name) (stand_of self.old) }
+    {
+        self.file = FileSeen::passed_over(name);
         self.files = one_more(self.files);
         self.lines = 0;
     }

@@ -1,20 +1,23 @@
 //! What a line is told: values, and no text but the description.
-ghost use Rattle.std.specs.Prelude.{◌≡◌, ◌+◌, Ok, ℕ, length, min, IfOk, IfErr, None, Some, option_map, Result};
+ghost use Rattle.std.specs.Prelude.{◌≡◌, ◌+◌, Ok, ℕ, List, length, min, IfOk, IfErr, None, Some, option_map, Result};
 ghost use Rattle.croner.specs.parser.Grammar.{outcome as outcome_of_text};
 ghost use Rattle.croner.specs.Views.{job_of as meaning_of_job};
 ghost use Rattle.crontab.specs.Content.{IsOutcome, IsOutcomeOfTimes, IsOutcomeOfPattern};
 ghost use Rattle.crontab.specs.Entries.{entry_seen, job_seen, times_seen};
 ghost use Rattle.croncheck_command.specs.declared.settings.Settings.{Settings as Made};
-ghost use Rattle.croncheck_command.specs.Report.{IsReportOfJob, IsReportOfPattern, blanks_of, IsReportOfLine, TellsChanges, subject_of, IsWarned, WarnsPattern, TellsDates, file_and_line, earlier_of, place_for, has_job_warnings, has_warnings, notes_of_job, notes_of_refusal, notes_of_report};
+ghost use Rattle.croncheck_command.specs.Report.{IsReportOfJob, IsReportOfPattern, blanks_of, IsReportOfLine, TellsChanges, subject_of, IsWarned, WarnsPattern, TellsDates, file_and_line, earlier_of, place_for, setting_found, is_setting_found, has_job_warnings, has_warnings, notes_of_job, notes_of_refusal, notes_of_report};
+ghost use Rattle.croncheck_command.specs.Starred.{is_starred};
 ghost use Rattle.croncheck_command.specs.Told.{TellsTiming};
 ghost use Rattle.croncheck_command.specs.Warnings.{fields_seen, subject_seen};
 
 use crate::changes::meetings::Meetings;
+use crate::runs::Runner;
 use crate::settings::Settings;
-use crate::told::{Told, is_idle, told_of};
+use crate::starred::is_starred;
+use crate::told::{Told, is_idle, told_of, told_of_crontab};
 use crate::warnings::{
     Dates, Fields, Subject, Warning, dates_in_month_of, fields_of_pattern, fields_of_schedule,
-    runs_on_either_day, warnings_of,
+    has_hidden, runs_on_either_day, warnings_of,
 };
 use croner::Cron;
 use croner::errors::CronError;
@@ -24,6 +27,8 @@ use crontab::bytes::{Kind, cut};
 use crontab::content::Outcome;
 use crontab::line::{Entry, Fault, Job, Times};
 use crontab::notes::{Note, notes_of};
+use crontab::setting::is_not_expanded;
+use crontab_runs::CrontabJob;
 use std::alloc::{AllocError, Global};
 
 /// What a line is told.
@@ -32,8 +37,7 @@ pub enum Report<'l, 't> {
     Silent,
     /// It sets a variable.
     Setting {
-        /// The variable is `CRON_TZ` or `TZ`.
-        is_zone: bool,
+        setting: SettingReport,
         /// The line has its line feed.
         is_fed: bool,
     },
@@ -53,7 +57,7 @@ impl Drop for Report<'_, '_> {
         match self {
             Report::Silent => {}
             Report::Setting {
-                is_zone: _,
+                setting: _,
                 is_fed: _,
             } => {}
             Report::Job(_) => {}
@@ -63,6 +67,26 @@ impl Drop for Report<'_, '_> {
                 why: _,
             } => {}
         }
+    }
+}
+
+/// What is found of a line that sets a variable.
+#[derive(Clone, Copy, Drop)]
+pub struct SettingReport {
+    /// The variable is `CRON_TZ` or `TZ`.
+    pub is_zone: bool,
+    /// The value has what cron takes as it stands, and a shell doesn't.
+    pub is_not_expanded: bool,
+    /// The line has a byte that hides others.
+    pub is_hiding: bool,
+}
+
+impl SettingReport {
+    /// Any of these is found.
+    pub fn is_found(self) -> bool
+        ensures { result ≡ is_setting_found self }
+    {
+        self.is_zone || self.is_not_expanded || self.is_hiding
     }
 }
 
@@ -120,7 +144,7 @@ impl Report<'_, '_> {
         ensures { result ≡ has_warnings self.now }
     {
         match self {
-            Report::Setting { is_zone, is_fed } => *is_zone || !*is_fed,
+            Report::Setting { setting, is_fed } => setting.is_found() || !*is_fed,
             Report::Job(job) => job.has_warnings(),
             Report::Silent | Report::Refused { .. } => false,
         }
@@ -193,7 +217,10 @@ pub fn report_of_line<'l, 't>(
 {
     match entry {
         Entry::Blank | Entry::Comment => Ok(Report::Silent),
-        Entry::Setting { is_zone } => Ok(Report::Setting { is_zone, is_fed }),
+        Entry::Setting { is_zone } => Ok(Report::Setting {
+            setting: setting_of(is_zone, line),
+            is_fed,
+        }),
         Entry::Refused { fault, start, end } => Ok(Report::Refused {
             start,
             end,
@@ -203,6 +230,18 @@ pub fn report_of_line<'l, 't>(
         Entry::Pattern(text) => report_of_pattern(
             alloc, settings, line, text, outcome, is_fed, same,
         ),
+    }
+}
+
+// What is found of a line that sets a variable, which is `CRON_TZ` or `TZ` or another.
+fn setting_of(is_zone: bool, line: &[u8]) -> SettingReport
+    ensures { result ≡ setting_found is_zone line.now }
+{
+    let (_, text) = cut(line, Kind::Blank);
+    SettingReport {
+        is_zone,
+        is_not_expanded: is_not_expanded(text),
+        is_hiding: has_hidden(text),
     }
 }
 
@@ -229,7 +268,11 @@ fn report_of_job<'l, 't>(
     ensures err { IfErr result (λ e. e ≡ CronError.OutOfMemory) }
 {
     match outcome {
-        Outcome::Job(cron) => told_of_job(alloc, settings, job, &cron, is_fed, same),
+        Outcome::Job(cron) => {
+            let is_starred = is_starred(job.schedule);
+            let crontab_job = CrontabJob { cron, is_starred };
+            told_of_job(alloc, settings, job, &crontab_job, is_fed, same)
+        }
         Outcome::NoText => told_of_no_text(alloc, job, is_fed, same),
         Outcome::TimesRefused(refusal) => Ok(refused(line, job.schedule, Why::Crate(refusal))),
         // A pattern alone is refused so.
@@ -241,22 +284,27 @@ fn report_of_job<'l, 't>(
     }
 }
 
-// The report of a job of whose times the parser makes this one.
+// The report of a job of whose times the parser makes this one, starred as they are written.
 fn told_of_job<'l, 't>(
     alloc: Global,
     settings: &Settings<'t>,
     job: Job<'l>,
-    cron: &Cron,
+    crontab_job: &CrontabJob,
     is_fed: bool,
     same: Option<Same>,
 ) -> Result<Report<'l, 't>, CronError>
-    ensures report { (blanks : ℕ) → IsOutcomeOfTimes (job_seen job.entry).times (Outcome.Job cron.now)
+    ensures report { (blanks : ℕ) → IsOutcomeOfTimes (job_seen job.entry).times (Outcome.Job crontab_job.now.cron)
+        → crontab_job.now.is_starred ≡ is_starred (job_seen job.entry).schedule
         → IfOk result (IsReportOfJob is_fed settings.now blanks (job_seen job.entry)) }
     ensures passed { IfOk result (λ r. earlier_of r ≡ place_for r (option_map file_and_line same)) }
     ensures err { IfErr result (λ e. e ≡ CronError.OutOfMemory) }
 {
-    let times = told_of(alloc, settings, cron)?;
-    let meetings = meetings_of(settings, cron, Some(job.schedule), &times);
+    let times = told_of_crontab(alloc, settings, crontab_job)?;
+    let cron = &crontab_job.cron;
+    let runner = Runner::Cron {
+        is_starred: crontab_job.is_starred,
+    };
+    let meetings = meetings_of(settings, cron, runner, &times);
     let dates = dates_of(cron, &times)?;
     let warnings = warnings_of_job(alloc, &job, Some(cron), &times, is_fed)?;
     Ok(Report::Job(JobReport {
@@ -299,7 +347,7 @@ fn told_of_no_text<'l, 't>(
 
 // Times of no text are told so.
 fn times_of_no_text<'t>(times: &Times) -> Told<'t>
-    ensures { (s : Made) → IsOutcomeOfTimes (times_seen times.now) Outcome.NoText → TellsTiming s (times_seen times.now) result }
+    ensures { (s : Made) → IsOutcomeOfTimes (times_seen times.now) Outcome.NoText → (schedule : List ℕ) → TellsTiming s schedule (times_seen times.now) result }
 {
     match times {
         Times::Reboot => Told::Reboot,
@@ -308,18 +356,13 @@ fn times_of_no_text<'t>(times: &Times) -> Told<'t>
 }
 
 // What a job is told of changes of the clock, whose times were told so.
-fn meetings_of(
-    settings: &Settings<'_>,
-    job: &Cron,
-    text: Option<&[u8]>,
-    told: &Told<'_>,
-) -> Meetings
-    ensures { TellsChanges settings.now (option_map (λ t. t.now) text.entry) (Some (meaning_of_job job.now)) told.now result }
+fn meetings_of(settings: &Settings<'_>, job: &Cron, runner: Runner, told: &Told<'_>) -> Meetings
+    ensures { TellsChanges settings.now runner (Some (meaning_of_job job.now)) told.now result }
 {
     if is_idle(told) {
         return Meetings::none();
     }
-    settings.changes.meetings_of(job, text)
+    settings.changes.meetings_of(job, runner)
 }
 
 // What a job that was told so is told of its dates: where it runs on either day, those of the month of its first listed run.
@@ -333,8 +376,8 @@ fn dates_of(job: &Cron, told: &Told<'_>) -> Result<Option<Dates>, CronError>
             if runs.items.is_empty() || !runs_on_either_day(job) {
                 return Ok(None);
             }
-            let run = &runs.items[0];
-            let dates = dates_in_month_of(job, run.to_civil().date(), run.civil_weekday())?;
+            let first = &runs.items[0].time;
+            let dates = dates_in_month_of(job, first.to_civil().date(), first.civil_weekday())?;
             Ok(Some(dates))
         }
     }
@@ -455,7 +498,7 @@ fn told_of_pattern<'l, 't>(
     ensures err { IfErr result (λ e. e ≡ CronError.OutOfMemory) }
 {
     let times = told_of(alloc, settings, job)?;
-    let meetings = meetings_of(settings, job, None, &times);
+    let meetings = meetings_of(settings, job, Runner::Croner, &times);
     let dates = dates_of(job, &times)?;
     let warnings = warnings_of_pattern(alloc, text, job, &times, is_fed)?;
     Ok(Report::Job(JobReport {

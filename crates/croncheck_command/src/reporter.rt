@@ -60,7 +60,7 @@ pub(crate) fn write_report<W: Write>(
     report: &Report<'_, '_>,
     output: &mut Output<W>,
 ) -> io::Result<()>
-    ensures { OnOk result (WritesReport place.entry.file.now place.entry.line report.now (written_of W.contents output.old) (written_of W.contents output.new)) }
+    ensures { OnOk result (WritesReport place.entry.file.now place.entry.line line.now report.now (written_of W.contents output.old) (written_of W.contents output.new)) }
 {
     let text = text_of(terms.alloc, terms.shared, place, line, report)?;
     output.write_apart(text.as_str())

@@ -1,7 +1,8 @@
-//! The runs of a job from a start.
-ghost use Rattle.std.specs.Prelude.{◌≡◌, ℤ, List, Option, IfOk, IfErr, ◌≤ℤ◌, option_map};
+//! The runs of a pattern from a start, or what cron starts of a crontab's job.
+ghost use Rattle.std.specs.Prelude.{◌≡◌, ℤ, List, Option, IfOk, IfErr, ◌≤ℤ◌, map, option_map, true};
 ghost use Rattle.std.specs.List.{All, Contains};
 ghost use Rattle.jiff_tz.specs.declared.timezone.TimeZone.{TimeZone};
+ghost use Rattle.croner_base.specs.Table.{is_table_second};
 ghost use Rattle.croner_base.specs.TableZone.{table_zone, table_moment};
 ghost use Rattle.croner_base.specs.ZonedZone.{zoned_zone};
 ghost use Rattle.croner_pattern.specs.Meaning.{Meaning};
@@ -10,9 +11,11 @@ ghost use Rattle.croner.specs.iterator.Listing.{IsLeft, BeginsRest, GaveAll, sta
 ghost use Rattle.croner.specs.laws.Zones.{IsOnClockOf, in_zone};
 ghost use Rattle.croner.specs.search.Limit.{InSpan};
 ghost use Rattle.croner.specs.Views.{job_of};
-ghost use Rattle.croncheck_command.specs.Private.Ends.{earlier, bound, limit, full_end, end_before, end_of_years, EndsBy, IsFailedBy};
+ghost use Rattle.crontab_runs.specs.Views.{cron_job_of};
+ghost use Rattle.croncheck_command.specs.Private.Ends.{earlier, bound, limit, full_end, end_before, end_of_years, end_of_starts, EndsBy, IsFailedBy};
+ghost use Rattle.croncheck_command.specs.Private.Listed.{once, run_seen, seen_on};
 ghost use Rattle.croncheck_command.specs.Clock.{last_second};
-ghost use Rattle.croncheck_command.specs.Runs.{starts, IsListed, GaveUntil};
+ghost use Rattle.croncheck_command.specs.Runs.{starts, runs_listed, starts_listed, IsListed, GaveUntil};
 
 use crate::clock::Clock;
 use croner::errors::CronError;
@@ -20,10 +23,32 @@ use croner::laws::listing::{ListingEnd, next_runs_until};
 use croner::laws::zones::listing_of_a_window;
 use croner::time::table::TableTime;
 use croner::{Cron, CronIterator};
-use std::alloc::Global;
+use crontab_runs::{CrontabJob, Start, StartsEnd, next_starts_until};
+use std::alloc::{AllocError, Global};
 
 /// The most runs that are listed up to a second.
 pub const MOST_RUNS: u32 = 100_000;
+
+/// What runs a line.
+#[derive(Clone, Copy, Drop)]
+pub enum Runner {
+    /// Croner: the line is a pattern.
+    Croner,
+    /// Debian's cron: the line is a job of a crontab.
+    Cron {
+        /// The job is starred; where the clock changes, cron goes by that.
+        is_starred: bool,
+    },
+}
+
+/// A run of a pattern, or what cron starts of a crontab's job at one second.
+#[derive(Clone, Copy)]
+pub struct Run<'t> {
+    /// When it is, on the clock of the start.
+    pub time: TableTime<'t>,
+    /// How many times the job is started then. It is more than once only where cron makes up for minutes that the clock has skipped.
+    pub count: u32,
+}
 
 /// Which runs are listed.
 #[derive(Clone, Copy, Drop)]
@@ -65,12 +90,12 @@ impl Drop for End {
 #[derive(Drop)]
 pub struct Runs<'t> {
     /// The runs, on the clock of the start.
-    pub items: Vec<TableTime<'t>>,
+    pub items: Vec<Run<'t>>,
     /// What is left behind them.
     pub end: End,
 }
 
-/// The runs of a job after a start, which doesn't count itself: so many, or all up to a second. Where the window of the start's clock ends
+/// The runs of a pattern after a start, which doesn't count itself: so many, or all up to a second. Where the window of the start's clock ends
 /// with a second, none behind that is listed.
 ///
 /// It takes the room of as many runs as are asked, or of `MOST_RUNS` where all up to a second are. The only error is `OutOfMemory`. A search
@@ -82,7 +107,7 @@ pub fn runs_of<'t>(
     last: Option<i64>,
     listing: Listing,
 ) -> Result<Runs<'t>, CronError>
-    ensures listed { IfOk result (IsListed (job_of job.now) start.entry last listing) }
+    ensures listed { IfOk result (IsListed (runs_listed (job_of job.now) start.entry) last listing) }
     ensures err { IfErr result (λ e. e ≡ CronError.OutOfMemory) }
 {
     let mut iterator = job.iter_after(start)?;
@@ -97,14 +122,92 @@ fn runs_from<'t>(
     last: Option<i64>,
     listing: Listing,
 ) -> Result<Runs<'t>, CronError>
-    ensures listed { (m : Meaning) → standing_of table_moment iterator.old ≡ starts m start.entry → IfOk result (IsListed m start.entry last listing) }
+    ensures listed { (m : Meaning) → standing_of table_moment iterator.old ≡ starts m start.entry → IfOk result (IsListed (runs_listed m start.entry) last listing) }
     ensures err { IfErr result (λ e. e ≡ CronError.OutOfMemory) }
 {
     let until = bound_of(start.second(), last, listing);
     let most = limit_of(listing);
-    let (items, ending) = next_runs_until(alloc, iterator, until, most)?;
+    let (times, ending) = next_runs_until(alloc, iterator, until, most)?;
+    let items = each_once(alloc, times.as_slice())?;
     let end = end_of(listing, last, ending, iterator.fault())?;
     Ok(Runs { items, end })
+}
+
+// Times as runs, each once.
+fn each_once<'t>(alloc: Global, times: &[TableTime<'t>]) -> Result<Vec<Run<'t>>, AllocError>
+    ensures { IfOk result (λ runs. runs.items ≡ map once times.now) }
+{
+    let mut runs = Vec::new(alloc);
+    for time in times {
+        runs.push(Run {
+            time: *time,
+            count: 1,
+        })?;
+    }
+    Ok(runs)
+}
+
+/// What cron starts of a crontab's job after a start, which doesn't count itself, listed as the runs of a pattern are.
+///
+/// It takes the room of as many starts as are asked, or of `MOST_RUNS` where all up to a second are, and then that of those that are listed.
+/// The only error is `OutOfMemory`.
+pub fn starts_of<'t>(
+    alloc: Global,
+    job: &CrontabJob,
+    start: TableTime<'t>,
+    last: Option<i64>,
+    listing: Listing,
+) -> Result<Runs<'t>, CronError>
+    ensures listed { IfOk result (IsListed (starts_listed (cron_job_of job.now) start.entry) last listing) }
+    ensures err { IfErr result (λ e. e ≡ CronError.OutOfMemory) }
+{
+    let until = bound_of(start.second(), last, listing);
+    let most = limit_of(listing);
+    let (starts, ending) = next_starts_until(alloc, job, start, until, most)?;
+    let items = runs_at(alloc, start, starts.as_slice())?;
+    let end = end_of_starts(listing, last, ending);
+    Ok(Runs { items, end })
+}
+
+// Starts as runs on the clock of a time.
+fn runs_at<'t>(
+    alloc: Global,
+    time: TableTime<'t>,
+    starts: &[Start],
+) -> Result<Vec<Run<'t>>, AllocError>
+    requires { All (λ s. is_table_second s.second ≡ true) starts.now }
+    ensures { IfOk result (λ runs. map run_seen runs.items ≡ map (seen_on time.entry.table.now) starts.now) }
+{
+    let mut runs = Vec::new(alloc);
+    for start in starts {
+        runs.push(run_at(time, *start))?;
+    }
+    Ok(runs)
+}
+
+// A start as a run on the clock of a time.
+fn run_at<'t>(time: TableTime<'t>, start: Start) -> Run<'t>
+    requires { is_table_second start.second ≡ true }
+    ensures { run_seen result ≡ seen_on time.entry.table.now start }
+{
+    match TableTime::new(time.table(), start.second) {
+        Ok(at) => Run {
+            time: at,
+            count: start.count,
+        },
+        Err(_) => unreachable!(),
+    }
+}
+
+// How a listing of starts ends by how its search did.
+fn end_of_starts(listing: Listing, last: Option<i64>, ending: StartsEnd) -> End
+    ensures { result ≡ end_of_starts listing last ending }
+{
+    match ending {
+        StartsEnd::Full => full_end(listing),
+        StartsEnd::Past(start) => end_before(start.second, last),
+        StartsEnd::Over => end_of_years(last),
+    }
 }
 
 // The last second up to which is searched, where there is one. Of none asked it is the start: the next run ends the search, and is left.

@@ -1,6 +1,6 @@
 //! What reports are made by.
 ghost use Rattle.std.specs.Prelude.{◌≡◌};
-ghost use Rattle.croncheck_command.specs.Settings.{stop_of, window_end};
+ghost use Rattle.croncheck_command.specs.Settings.{stop_of, window_end, in_dialect, of_kind};
 
 use crate::changes::Changes;
 use crate::clock::stop::Stop;
@@ -45,5 +45,46 @@ impl Settings<'_> {
         ensures { result ≡ window_end self.now }
     {
         self.changes.clock.last()
+    }
+}
+
+/// The settings of a call for the files of each kind, which differ in their dialect alone.
+#[derive(Clone, Copy)]
+pub struct SettingsByKind<'t> {
+    user: Settings<'t>,
+    system: Settings<'t>,
+    patterns: Settings<'t>,
+}
+
+impl<'t> SettingsByKind<'t> {
+    /// These settings for the files of each kind, whatever dialect they have.
+    pub fn new(settings: Settings<'t>) -> SettingsByKind<'t>
+        ensures { (d : Dialect) → of_kind result d ≡ in_dialect d settings.entry }
+    {
+        SettingsByKind {
+            user: Settings {
+                dialect: Dialect::User,
+                ..settings
+            },
+            system: Settings {
+                dialect: Dialect::System,
+                ..settings
+            },
+            patterns: Settings {
+                dialect: Dialect::Patterns,
+                ..settings
+            },
+        }
+    }
+
+    /// Those of the files of a kind.
+    pub fn of(&self, dialect: Dialect) -> &Settings<'t>
+        ensures { result.now ≡ of_kind self.now dialect }
+    {
+        match dialect {
+            Dialect::User => &self.user,
+            Dialect::System => &self.system,
+            Dialect::Patterns => &self.patterns,
+        }
     }
 }

@@ -3,29 +3,32 @@ ghost use Rattle.std.specs.Prelude.{◌≡◌, ◌≤◌, ◌<◌, ◌++◌, ℕ
 ghost use Rattle.jiff.specs.ZoneView.{plain_zone};
 ghost use Rattle.croner_base.specs.Civil.{weekday_index};
 ghost use Rattle.crontab.specs.Setting.{has};
+ghost use Rattle.croncheck_command.specs.Reported.{AreLinesFound};
 ghost use Rattle.croncheck_command.specs.Settings.{stop_of};
-ghost use Rattle.croncheck_command.specs.Shown.{spaced, continues, start_at, cut_at, left_out_text, front_text, weekday_text, IsClockText, is_told, place_text, AreLinesOf, offset_of, IsWindowEnd};
+ghost use Rattle.croncheck_command.specs.Shown.{spaced, continues, start_at, cut_at, left_out_text, front_text, weekday_text, IsClockText, is_told, place_text, offset_of, IsWindowEnd};
 ghost use Rattle.croncheck_command.specs.Warnings.{field_name};
 
+mod below;
+mod changes;
 pub mod found;
 pub mod pattern;
 
 use crate::ahead::Ahead;
-use crate::changes::meetings::{Compared, Meetings};
 use crate::clock::stop::Stop;
-use crate::escaped::push_shown;
+use crate::escaped::push_replaced;
+use crate::findings::findings_of;
 use crate::report::{JobReport, Report, Why};
-use crate::runs::{End, Listing, MOST_RUNS, Runs};
+use crate::runs::{End, Listing, MOST_RUNS, Run, Runs};
 use crate::settings::Settings;
+use crate::shown::changes::{push_made_up, push_next_changes};
 use crate::told::Told;
-use crate::warnings::{Dates, Warning, push_warning_text};
+use below::below;
 use croner::parser::PatternField;
 use croner::time::table::TableTime;
 use croner::time::{CivilDateTime, CronDateTime, Weekday};
 use crontab::bytes::{Kind, begins_with, cut, is_quote, rest_of, trimmed};
 use crontab::line::{Fault, WEEKDAYS};
-use crontab::notes;
-use crontab::notes::{Note, is_nickname, takes};
+use crontab::notes::{is_nickname, takes};
 use crontab::setting::has;
 use jiff::tz::TimeZone;
 use std::alloc::{AllocError, Global};
@@ -84,7 +87,8 @@ pub struct Place<'n> {
     pub line: u64,
 }
 
-/// The text of the report of a line: whole lines, or nothing where there is nothing to tell.
+/// The text of the report of a line: whole lines, or nothing where there is nothing to tell. All that is found of the line
+/// stands last.
 ///
 /// The line is given without its line feed. The error comes where memory is lacking.
 pub fn text_of(
@@ -95,22 +99,32 @@ pub fn text_of(
     report: &Report<'_, '_>,
 ) -> Result<String, AllocError>
     ensures silent { is_told report.now ≡ false → IfOk result (λ text. string_bytes text ≡ []) }
-    ensures told { is_told report.now ≡ true → IfOk result (λ text. AreLinesOf place.entry.file.now place.entry.line (string_bytes text)) }
+    ensures told { is_told report.now ≡ true → IfOk result (λ text. AreLinesFound place.entry.file.now place.entry.line line.now report.now (string_bytes text)) }
 {
-    let mut told = String::new(alloc);
-    if !is_told(report) {
-        return Ok(told);
+    if is_told(report) {
+        told_text(alloc, shared, place, line, report)
+    } else {
+        Ok(String::new(alloc))
     }
+}
+
+#[tactic(auto, using(crate::proofs::Found::lines_found))]
+fn told_text(
+    alloc: Global,
+    shared: &Shared<'_>,
+    place: Place<'_>,
+    line: &[u8],
+    report: &Report<'_, '_>,
+) -> Result<String, AllocError>
+    ensures { IfOk result (λ text. AreLinesFound place.entry.file.now place.entry.line line.now report.now (string_bytes text)) }
+{
+    let found = findings_of(alloc, line, report)?;
     let place = text_of_place(alloc, place)?;
-    push_report(
-        alloc,
-        &mut told,
-        shared,
-        place.as_str().width(),
-        line,
-        report,
-    )?;
-    format!(in alloc; "{place}{told}\n")
+    let mut head = String::new(alloc);
+    let column = place.as_str().width();
+    push_report(alloc, &mut head, shared, column, line, report)?;
+    let below = below(alloc, found.as_slice())?;
+    format!(in alloc; "{place}{head}{below}\n")
 }
 
 // The place of a line, as its report begins.
@@ -127,12 +141,13 @@ fn is_told(report: &Report<'_, '_>) -> bool
 {
     match report {
         Report::Silent => false,
-        Report::Setting { is_zone, .. } => *is_zone,
+        Report::Setting { setting, .. } => setting.is_found(),
         Report::Job(_) | Report::Refused { .. } => true,
     }
 }
 
-// Puts what is told of a line into an empty text, without the last line feed. It stands so many columns to the right.
+// Puts what is told of a line into an empty text, but for what is found of it, and without the last line feed. It stands so
+// many columns to the right.
 fn push_report(
     alloc: Global,
     text: &mut String,
@@ -144,47 +159,16 @@ fn push_report(
     match report {
         Report::Silent => Ok(()),
         Report::Setting { .. } => push_setting(text, line),
-        Report::Job(job) => push_job(alloc, text, shared, line, job),
-        Report::Refused { start, end, why } => {
-            push_refused(alloc, text, column, line, *start, *end, why)
+        Report::Job(job) => push_job(alloc, text, shared, job),
+        Report::Refused { start, end, .. } => {
+            push_view(text, View::of(line, *start, *end), column)
         }
     }
 }
 
-// Where a line is refused, and why, in an empty text that stands so many columns to the right.
-fn push_refused(
-    alloc: Global,
-    text: &mut String,
-    column: usize,
-    line: &[u8],
-    start: usize,
-    end: usize,
-    why: &Why,
-) -> Result<(), AllocError> {
-    let view = View::of(line, start, end);
-    push_view(text, view, column)?;
-    text.push_str("\n  ")?;
-    push_why(alloc, text, line, at_fault(line, start, end), why)?;
-    push_notes(text, why.notes(alloc, line)?.as_slice())
-}
-
 fn push_setting(text: &mut String, line: &[u8]) -> Result<(), AllocError> {
     let (_, setting) = cut(line, Kind::Blank);
-    push_front(text, setting, SHOWN_BYTES)?;
-    text.push_str("\n  changes no time: this cron runs all jobs by the machine's zone")
-}
-
-// The notes of a line below it.
-fn push_notes(text: &mut String, all: &[Note]) -> Result<(), AllocError> {
-    for note in all {
-        push_note(text, *note)?;
-    }
-    Ok(())
-}
-
-fn push_note(text: &mut String, note: Note) -> Result<(), AllocError> {
-    let (name, sentence) = (note.name(), notes::text(note));
-    write!(text, "\n  note: {name}: {sentence}")
+    push_front(text, setting, SHOWN_BYTES)
 }
 
 // ---- bytes of a line
@@ -193,24 +177,7 @@ fn push_note(text: &mut String, note: Note) -> Result<(), AllocError> {
 fn push_spaced(text: &mut String, bytes: &[u8]) -> Result<(), AllocError>
     ensures { OnOk result (string_bytes text.new ≡ string_bytes text.old ++ spaced bytes.now) }
 {
-    let mut rest = bytes;
-    while has(rest, b'\t') {
-        rest = push_piece(text, rest)?;
-    }
-    push_shown(text, rest)
-}
-
-// Puts what stands before the first tab behind a text, as it is shown, and a space. What stands behind the tab is left.
-#[tactic(auto, using(crate::proofs::SpacedBytes::one_piece))]
-fn push_piece<'b>(text: &mut String, bytes: &'b [u8]) -> Result<&'b [u8], AllocError>
-    requires { IsTrue (has 9 bytes.now) }
-    ensures shown { IfOk result (λ rest. string_bytes text.new ++ spaced rest.now ≡ string_bytes text.old ++ spaced bytes.now) }
-    ensures shorter { IfOk result (λ rest. length rest.now < length bytes.now) }
-{
-    let (piece, behind) = cut(bytes, Kind::But(b'\t'));
-    push_shown(text, piece)?;
-    text.push(' ')?;
-    Ok(rest_of(behind))
+    push_replaced(text, bytes, b'\t', " ")
 }
 
 // Puts the first bytes of a text behind another, so many at most, and a mark where there are more.
@@ -510,13 +477,11 @@ fn push_job(
     alloc: Global,
     text: &mut String,
     shared: &Shared<'_>,
-    line: &[u8],
     job: &JobReport<'_, '_>,
 ) -> Result<(), AllocError> {
     push_head(text, job)?;
-    push_notes(text, job.notes(alloc, line)?.as_slice())?;
-    push_told(alloc, text, shared, &job.times)?;
-    push_job_warnings(text, job)
+    push_told(alloc, text, shared, job)?;
+    push_next_changes(text, job)
 }
 
 // The times of a job, its user and its command.
@@ -529,17 +494,6 @@ fn push_head(text: &mut String, job: &JobReport<'_, '_>) -> Result<(), AllocErro
     }
     if let Some(command) = job.command {
         push_command(text, command)?;
-    }
-    Ok(())
-}
-
-// The warnings of a job, and what it is told of changes of the clock.
-fn push_job_warnings(text: &mut String, job: &JobReport<'_, '_>) -> Result<(), AllocError> {
-    push_warnings(text, job)?;
-    push_meetings(text, &job.meetings)?;
-    if job.same.is_some() {
-        write!(text, "\n  warning: {SAME_JOB}: ")?;
-        push_same(text, job)?;
     }
     Ok(())
 }
@@ -559,54 +513,6 @@ pub(crate) fn push_same(text: &mut String, job: &JobReport<'_, '_>) -> Result<()
         text,
         "The same {what} stand in {file}, line {line}: both lines run. Take one out, if one run is meant."
     )
-}
-
-// What a job is told of changes of the clock, below its other warnings.
-fn push_meetings(text: &mut String, meetings: &Meetings) -> Result<(), AllocError> {
-    push_compared(text, &meetings.gap)?;
-    push_compared(text, &meetings.twice)
-}
-
-fn push_compared(text: &mut String, compared: &Option<Compared>) -> Result<(), AllocError> {
-    match compared {
-        Some(compared) => {
-            let kind = if compared.is_harmful() {
-                "warning"
-            } else {
-                "note"
-            };
-            let name = compared.name();
-            write!(text, "\n  {kind}: {name}: ")?;
-            compared.push_text(text)
-        }
-        None => Ok(()),
-    }
-}
-
-// The warnings of a job below it. That its line feed is missing is said at the end of its file.
-fn push_warnings(text: &mut String, job: &JobReport<'_, '_>) -> Result<(), AllocError> {
-    for warning in job.warnings.as_slice() {
-        if !matches!(warning, Warning::NoNewline) {
-            push_warning(text, *warning, &job.dates)?;
-        }
-    }
-    Ok(())
-}
-
-fn push_warning(
-    text: &mut String,
-    warning: Warning,
-    dates: &Option<Dates>,
-) -> Result<(), AllocError> {
-    let name = warning.name();
-    match warning.field() {
-        Some(field) => {
-            let field = field_name(field);
-            write!(text, "\n  warning: {name}: {field}: ")?;
-        }
-        None => write!(text, "\n  warning: {name}: ")?,
-    }
-    push_warning_text(text, warning, dates)
 }
 
 // The name of a field as warnings have it.
@@ -638,9 +544,9 @@ fn push_told(
     alloc: Global,
     text: &mut String,
     shared: &Shared<'_>,
-    times: &Told<'_>,
+    job: &JobReport<'_, '_>,
 ) -> Result<(), AllocError> {
-    match times {
+    match &job.times {
         Told::Reboot => text.push_str("\n  Runs as the machine starts."),
         Told::Nothing => Ok(()),
         Told::Runs {
@@ -651,9 +557,9 @@ fn push_told(
             text.push_str("\n  ")?;
             text.push_str(description.as_str())?;
             for run in runs.items.iter() {
-                push_run(text, shared, run)?;
+                push_run(text, shared, job, run)?;
             }
-            if times.is_never() {
+            if job.times.is_never() {
                 return Ok(());
             }
             push_end(alloc, text, shared, runs)
@@ -661,9 +567,20 @@ fn push_told(
     }
 }
 
-fn push_run(text: &mut String, shared: &Shared<'_>, run: &TableTime<'_>) -> Result<(), AllocError> {
+// A run; how many times the job is started then, where that is more than once; and what it makes up for.
+fn push_run(
+    text: &mut String,
+    shared: &Shared<'_>,
+    job: &JobReport<'_, '_>,
+    run: &Run<'_>,
+) -> Result<(), AllocError> {
     text.push_str("\n  ")?;
-    push_clock(text, shared, run)
+    push_clock(text, shared, &run.time)?;
+    if 1 < run.count {
+        let count = run.count;
+        write!(text, "  {count} times")?;
+    }
+    push_made_up(text, job, run)
 }
 
 // Puts what the zone's clock shows at a run behind a text, and its second.

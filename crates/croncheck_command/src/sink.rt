@@ -2,7 +2,7 @@
 ghost use Rattle.std.specs.Prelude.{◌≡◌, false, OnOk, IfSome};
 ghost use Rattle.croncheck_command.specs.Output.{IsFlushed};
 ghost use Rattle.croncheck_command.specs.Shown.{bytes_shown};
-ghost use Rattle.croncheck_command.specs.Sink.{State, StandsAtBegin, state_of, Ends, IsToldFile};
+ghost use Rattle.croncheck_command.specs.Sink.{State, StandsAtBegin, state_of, Ends, IsToldFile, IsPassedOver};
 ghost use Rattle.croncheck_command.specs.Stand.{stand_of, end_of_file};
 
 use crate::escaped::shown;
@@ -16,7 +16,8 @@ use std::io::{BufRead, Write};
 
 /// Takes the lines of files, one file behind the other, and tells of them in a form.
 pub struct Sink<'s, 't, F, W> {
-    pub(crate) terms: Terms<'s, 't>,
+    // Those of the file that is read.
+    terms: Terms<'s, 't>,
     pub(crate) progress: Progress,
     form: F,
     output: Output<W>,
@@ -35,7 +36,7 @@ impl<F: Drop, W: Drop> Drop for Sink<'_, '_, F, W> {
 }
 
 impl<'s, 't, F: Form, W: Write> Sink<'s, 't, F, W> {
-    /// One that writes to `out`, and has taken no line yet.
+    /// One that writes to `out`, and has taken no line yet. The terms are those of the first file.
     pub fn new(terms: Terms<'s, 't>, form: F, out: W) -> Sink<'s, 't, F, W>
         ensures terms { result.terms ≡ terms.entry }
         ensures begin { StandsAtBegin (stand_of result.progress) }
@@ -59,16 +60,20 @@ impl<'s, 't, F: Form, W: Write> Sink<'s, 't, F, W> {
         self.output.is_refused()
     }
 
-    /// Takes the lines of a file behind those of the files before, and writes what stands at its end.
+    /// Takes the lines of a file behind those of the files before, by these terms, and writes what stands at its end.
     ///
     /// The error is that of the reader or of the writer, or says that memory is lacking.
-    pub fn read<R: BufRead>(&mut self, name: &str, reader: &mut R) -> io::Result<()>
+    pub fn read<R: BufRead>(
+        &mut self,
+        terms: Terms<'s, 't>,
+        name: &str,
+        reader: &mut R,
+    ) -> io::Result<()>
         ensures { OnOk result (IfSome (R.remaining reader.old) (λ text.
-            IsToldFile (F.takes self.old.terms) (F.ends_file self.old.terms) self.old.terms.settings.now.dialect (bytes_shown name.now) text
-            (state_of W.contents self.old.form self.old.progress self.old.output) (state_of W.contents self.new.form self.new.progress self.new.output)
-            × (self.new.terms ≡ self.old.terms))) }
+            IsToldFile (F.takes terms.entry) (F.ends_file terms.entry) terms.entry.settings.now.dialect (bytes_shown name.now) text
+            (state_of W.contents self.old.form self.old.progress self.old.output) (state_of W.contents self.new.form self.new.progress self.new.output))) }
     {
-        let terms = self.terms;
+        self.terms = terms;
         let name = shown(terms.alloc, name.as_bytes())?;
         self.progress.begin(name);
         check(terms.alloc, terms.settings.dialect, reader, self)?;
@@ -78,16 +83,30 @@ impl<'s, 't, F: Form, W: Write> Sink<'s, 't, F, W> {
         Ok(())
     }
 
-    /// Writes what stands behind all files, and passes on what was written.
+    /// Tells of a file that cron passes over for its name: none of its lines is read.
     ///
     /// The error is that of the writer, or says that memory is lacking.
-    pub fn end(&mut self) -> io::Result<()>
-        ensures { OnOk result ((ended : State F)
-            × Ends (F.ends self.old.terms) (state_of W.contents self.old.form self.old.progress self.old.output) ended
-            × Ends (λ form. IsFlushed) ended (state_of W.contents self.new.form self.new.progress self.new.output)
-            × (self.new.terms ≡ self.old.terms)) }
+    pub fn pass_over(&mut self, terms: Terms<'s, 't>, name: &str) -> io::Result<()>
+        ensures { OnOk result (IsPassedOver (F.ends_file terms.entry) terms.entry.settings.now.dialect (bytes_shown name.now)
+            (state_of W.contents self.old.form self.old.progress self.old.output) (state_of W.contents self.new.form self.new.progress self.new.output)) }
     {
-        self.form.end(&self.terms, &mut self.output)?;
+        let name = shown(terms.alloc, name.as_bytes())?;
+        self.progress.begin_passed_over(name);
+        self.form
+            .end_file(&terms, &self.progress, &mut self.output)?;
+        count_file(&mut self.progress, terms.settings.dialect);
+        Ok(())
+    }
+
+    /// Writes what stands behind all files by these terms, and passes on what was written.
+    ///
+    /// The error is that of the writer, or says that memory is lacking.
+    pub fn end(&mut self, terms: Terms<'s, 't>) -> io::Result<()>
+        ensures { OnOk result ((ended : State F)
+            × Ends (F.ends terms.entry) (state_of W.contents self.old.form self.old.progress self.old.output) ended
+            × Ends (λ form. IsFlushed) ended (state_of W.contents self.new.form self.new.progress self.new.output)) }
+    {
+        self.form.end(&terms, &mut self.output)?;
         self.output.flush()
     }
 }
@@ -97,7 +116,9 @@ fn count_file(progress: &mut Progress, dialect: Dialect)
     ensures { stand_of progress.new ≡ end_of_file dialect (stand_of progress.old) }
 {
     let is_ignored = progress.file.is_ignored(dialect, progress.lines);
-    progress.tally.end_file(is_ignored);
+    progress
+        .tally
+        .end_file(is_ignored, progress.file.is_passed_over());
 }
 
 impl<'s, 't, F: Form, W: Write> Entries for Sink<'s, 't, F, W> {

@@ -15,7 +15,7 @@ pub struct Tally {
     pub jobs: u64,
     /// The lines that are refused.
     pub refused: u64,
-    /// The lines that have a warning. A plan counts none.
+    /// The lines that have a warning, and the files whose name has one. A plan counts none of lines.
     pub warned: u64,
     /// The files that cron ignores as a whole.
     pub ignored: u64,
@@ -57,11 +57,13 @@ impl Tally {
         }
     }
 
-    /// Counts one more file that cron ignores as a whole, if it does. No count passes 2^64 - 1.
-    pub fn end_file(&mut self, is_ignored: bool)
-        ensures { self.new ≡ with_file is_ignored self.old }
+    /// Counts one more file that cron ignores as a whole, if it does, and its name as a warning, if it passes over that. No
+    /// count passes 2^64 - 1.
+    pub fn end_file(&mut self, is_ignored: bool, is_passed_over: bool)
+        ensures { self.new ≡ with_file is_ignored is_passed_over self.old }
     {
         self.ignored = one_more_if(is_ignored, self.ignored);
+        self.warned = one_more_if(is_passed_over, self.warned);
     }
 
     /// The status of a call, if all could be read and written: 1 where a line is refused, where cron ignores a whole file, or where a

@@ -10,7 +10,7 @@ ghost use Rattle.croner.specs.Views.{job_of as meaning_of_job};
 ghost use Rattle.croncheck_command.specs.Settings.{wording_of};
 ghost use Rattle.croncheck_command.specs.Told.{NamesNoneFrom, IsPastAt, TellsMeaning, is_over, is_at_end_of_window, is_at_window_end, is_never, is_told_past, is_idle};
 
-use crate::runs::{End, Runs, runs_of};
+use crate::runs::{End, Runner, Runs, runs_of, starts_of};
 use crate::settings::{Settings, Tongue};
 use croner::Cron;
 use croner::describe::lang::english::English;
@@ -18,6 +18,7 @@ use croner::describe::lang::swedish::Swedish;
 use croner::errors::CronError;
 use croner::time::table::TableTime;
 use croner::time::{CivilDateTime, CronDateTime};
+use crontab_runs::CrontabJob;
 use std::alloc::Global;
 
 /// The years that a pattern can name.
@@ -34,6 +35,7 @@ pub enum Told<'t> {
     Runs {
         /// The meaning of its times, as a sentence.
         description: String,
+        /// Those of a pattern, or what cron starts of a crontab's job.
         runs: Runs<'t>,
         /// No year that it names is left at the start.
         is_past: bool,
@@ -110,13 +112,13 @@ impl Told<'_> {
     }
 }
 
-// The description and the runs of a job.
+// The description and the runs of a pattern.
 pub(crate) fn told_of<'t>(
     alloc: Global,
     settings: &Settings<'t>,
     job: &Cron,
 ) -> Result<Told<'t>, CronError>
-    ensures told { IfOk result (TellsMeaning settings.now (Ok (meaning_of_job job.now))) }
+    ensures told { IfOk result (TellsMeaning settings.now Runner.Croner (Ok (meaning_of_job job.now))) }
     ensures err { IfErr result (λ e. e ≡ CronError.OutOfMemory) }
 {
     let description = description_of(job, settings.language)?;
@@ -128,6 +130,31 @@ pub(crate) fn told_of<'t>(
         settings.listing,
     )?;
     let is_past = is_past(job, settings.changes.start);
+    Ok(Told::Runs {
+        description,
+        runs,
+        is_past,
+    })
+}
+
+// The description of a crontab's job, and what cron starts of it.
+pub(crate) fn told_of_crontab<'t>(
+    alloc: Global,
+    settings: &Settings<'t>,
+    job: &CrontabJob,
+) -> Result<Told<'t>, CronError>
+    ensures told { IfOk result (TellsMeaning settings.now (Runner.Cron job.now.is_starred) (Ok (meaning_of_job job.now.cron))) }
+    ensures err { IfErr result (λ e. e ≡ CronError.OutOfMemory) }
+{
+    let description = description_of(&job.cron, settings.language)?;
+    let runs = starts_of(
+        alloc,
+        job,
+        settings.changes.start,
+        settings.last(),
+        settings.listing,
+    )?;
+    let is_past = is_past(&job.cron, settings.changes.start);
     Ok(Told::Runs {
         description,
         runs,

@@ -7,13 +7,12 @@ mod options;
 
 use crate::escaped::push_shown;
 use crate::moment::{Moment, read_moment};
-use crate::names::dialect_of_names;
+use crate::names::{Asked, Places, STANDARD_INPUT, asked_at, asked_files, last_before};
 use crate::settings::Tongue;
 use clap::ArgMatches;
 use clap::error::ErrorKind;
 use croner::parser::{CronParser, Seconds, Year};
-use crontab::line::Dialect;
-use options::{program, verb_of};
+use options::{program, verb_of, verbs_with};
 use std::alloc::{AllocError, Global};
 
 /// The last line of what is told where the words of a call are not of its form.
@@ -41,9 +40,12 @@ const NO_ZONE: &str = "UTC0";
 /// How the word of a moment is written.
 const MOMENT_FORM: &str = "write 2024-10-27T00:00:00 or @1729980000";
 
-/// What is told where only some files are the system's by their names.
-const MIXED: &str =
-    "error: by their names some files are crontabs of the system and others are not: check them in a call for each kind, or write --system or --user\n";
+/// The place of standard input where no file is named: it stands behind all words.
+const BEHIND_ALL: usize = usize::MAX;
+
+/// What is told where standard input has a name, and isn't read.
+const NAMES_NOTHING: &str =
+    "error: --stdin-name is the name of standard input, which isn't read here: write - among the files\n";
 
 /// What the words of a call ask for.
 #[derive(Drop)]
@@ -55,19 +57,19 @@ pub struct Call<'w> {
     pub from: Moment,
     /// One run with [`Verb::Check`], and none with [`Verb::Describe`], which tell none.
     pub span: Span,
-    /// That of an option, and else of the names of the files: see [`dialect_of_names`].
-    pub dialect: Dialect,
     /// The parser of patterns.
     pub parser: CronParser,
     pub language: Tongue,
-    /// What is told is JSON. Only with [`Verb::Check`] and [`Verb::Show`].
-    pub is_json: bool,
+    /// The form in which is told. Only with [`Verb::Check`]; [`Verb::Show`] has texts and JSON alone.
+    pub format: Format,
     /// The status is 1 where a line has a warning, too. Only with these two.
     pub is_strict: bool,
     /// Each job is compared with those before it. Only with these two.
     pub compares_jobs: bool,
-    /// The files, in order, of which none is standard input; with [`Verb::Next`] and [`Verb::Describe`] the patterns.
-    pub words: Vec<&'w str>,
+    /// The files, in order: standard input where none is named. None with [`Verb::Next`] and [`Verb::Describe`].
+    pub files: Vec<Asked<'w>>,
+    /// The patterns, with these two alone.
+    pub patterns: Vec<&'w str>,
 }
 
 /// What is asked.
@@ -83,6 +85,19 @@ pub enum Verb {
     Next,
     /// What such patterns mean.
     Describe,
+}
+
+/// The form in which is told.
+#[derive(Clone, Copy, Drop)]
+pub enum Format {
+    /// Texts for a person.
+    Text,
+    /// A line for each finding, as compilers write them.
+    Gcc,
+    /// A command of a GitHub workflow for each finding.
+    Github,
+    /// An object for each line.
+    Json,
 }
 
 /// Up to where runs are listed.
@@ -134,28 +149,25 @@ fn call_with_verb<'w>(alloc: Global, matches: &ArgMatches<'w>) -> Result<Call<'w
         return call_of(alloc, verb_of(name).unwrap_or(Verb::Check), behind);
     }
     let call = call_of(alloc, Verb::Check, matches)?;
-    match first_verb(call.words.as_slice()) {
+    match first_verb(call.files.as_slice()) {
         Some(name) => Err(misplaced(alloc, name)),
         None => Ok(call),
     }
 }
 
 // The first of some files, where it has the name of a verb, which stands behind an option then.
-fn first_verb<'w>(files: &[&'w str]) -> Option<&'w str> {
+fn first_verb<'w>(files: &[Asked<'w>]) -> Option<&'w str> {
     match files.first() {
-        Some(name) if verb_of(name).is_some() => Some(*name),
+        Some(file) if verb_of(file.word).is_some() => Some(file.word),
         _ => None,
     }
 }
 
 // What is told of a verb behind an option.
 fn misplaced(alloc: Global, name: &str) -> NoCall {
-    match format!(in alloc;
+    told_misuse(format!(in alloc;
         "error: the command '{name}' stands in front of the options; a file of that name is ./{name}\n"
-    ) {
-        Ok(text) => NoCall::Misused(text),
-        Err(_) => NoCall::OutOfMemory,
-    }
+    ))
 }
 
 // What is told where there are no matches.
@@ -164,7 +176,19 @@ fn told(alloc: Global, error: &clap::Error) -> Result<NoCall, AllocError> {
     match error.kind() {
         ErrorKind::DisplayHelp | ErrorKind::DisplayVersion => Ok(NoCall::Asked(text)),
         ErrorKind::OutOfMemory => Ok(NoCall::OutOfMemory),
+        ErrorKind::UnknownArgument => unknown(alloc, text.as_str()),
         _ => Ok(NoCall::Misused(head(alloc, text.as_str())?)),
+    }
+}
+
+// What is told of an option that a verb doesn't have, in place of what this message says: the verbs that have it.
+fn unknown(alloc: Global, message: &str) -> Result<NoCall, AllocError> {
+    let option = message.split('\'').nth(1).unwrap_or("");
+    match verbs_with(option) {
+        Some(verbs) => Ok(told_misuse(format!(in alloc;
+            "error: {option} is an option of {verbs}: write such a command in front, as croncheck show {option}\n"
+        ))),
+        None => Ok(NoCall::Misused(head(alloc, message)?)),
     }
 }
 
@@ -188,32 +212,112 @@ fn call_of<'w>(alloc: Global, verb: Verb, matches: &ArgMatches<'w>) -> Result<Ca
 {
     let from = moment(alloc, FROM, matches.get_str("from").unwrap_or("now"))?;
     let span = span_of(alloc, verb, matches)?;
-    let dialect = dialect(alloc, matches)?;
+    let files = files(alloc, verb, matches)?;
     Ok(Call {
         verb,
         zone: matches.get_str("zone").unwrap_or(NO_ZONE),
         from,
         span,
-        dialect,
         parser: parser(matches),
         language: language(matches),
-        is_json: matches.get_flag("json"),
+        format: format_of(matches),
         is_strict: matches.get_flag("strict"),
         compares_jobs: matches.get_flag("same-job"),
-        words: words(alloc, matches)?,
+        files,
+        patterns: patterns(alloc, matches)?,
     })
 }
 
-// The files or the patterns.
-fn words<'w>(alloc: Global, matches: &ArgMatches<'w>) -> Result<Vec<&'w str>, AllocError> {
-    let mut words = Vec::new(alloc);
-    if let Some(given) = matches.get_strs("file") {
-        words.extend_from_slice(given)?;
-    }
+// The patterns.
+fn patterns<'w>(alloc: Global, matches: &ArgMatches<'w>) -> Result<Vec<&'w str>, AllocError> {
+    let mut patterns = Vec::new(alloc);
     if let Some(given) = matches.get_strs("pattern") {
-        words.extend_from_slice(given)?;
+        patterns.extend_from_slice(given)?;
     }
-    Ok(words)
+    Ok(patterns)
+}
+
+// The files of a verb, if it has files.
+fn files<'w>(
+    alloc: Global,
+    verb: Verb,
+    matches: &ArgMatches<'w>,
+) -> Result<Vec<Asked<'w>>, NoCall> {
+    match verb {
+        Verb::Check | Verb::Show | Verb::Plan => {
+            named_files(alloc, matches, matches.get_strs("file").unwrap_or(&[]))
+        }
+        Verb::Next | Verb::Describe => Ok(Vec::new(alloc)),
+    }
+}
+
+// The files of these words: standard input where there are none.
+fn named_files<'w>(
+    alloc: Global,
+    matches: &ArgMatches<'w>,
+    words: &[&'w str],
+) -> Result<Vec<Asked<'w>>, NoCall> {
+    let options = Places {
+        user: places(matches, "user"),
+        system: places(matches, "system"),
+        patterns: places(matches, "patterns"),
+    };
+    if let Some(refusal) = misplaced_option(alloc, matches, options, words) {
+        return Err(refusal);
+    }
+    let stdin_name = matches.get_str("stdin-name").unwrap_or(STANDARD_INPUT);
+    let mut files = asked_files(alloc, options, stdin_name, words, places(matches, "file"))?;
+    if words.is_empty() {
+        files.reserve(1)?;
+        files.push_reserved(asked_at(options, stdin_name, BEHIND_ALL, STANDARD_INPUT));
+    }
+    Ok(files)
+}
+
+// Where the uses or the values of an argument stand among the words, from 1.
+fn places<'m>(matches: &'m ArgMatches<'_>, id: &str) -> &'m [usize] {
+    matches.indices_of(id).unwrap_or(&[])
+}
+
+// What is told of an option that no file has anything of, where files are named.
+fn misplaced_option(
+    alloc: Global,
+    matches: &ArgMatches<'_>,
+    options: Places<'_>,
+    words: &[&str],
+) -> Option<NoCall> {
+    if words.is_empty() {
+        return None;
+    }
+    let last = last_before(BEHIND_ALL, places(matches, "file"));
+    if last < last_before(BEHIND_ALL, options.user) {
+        return Some(behind_files(alloc, "--user"));
+    }
+    if last < last_before(BEHIND_ALL, options.system) {
+        return Some(behind_files(alloc, "--system"));
+    }
+    if last < last_before(BEHIND_ALL, options.patterns) {
+        return Some(behind_files(alloc, "--patterns"));
+    }
+    let has_name = matches.get_str("stdin-name").is_some();
+    if has_name && !words.contains(&STANDARD_INPUT) {
+        return Some(told_misuse(String::from_str(alloc, NAMES_NOTHING)));
+    }
+    None
+}
+
+// What is told of an option that stands behind all files.
+fn behind_files(alloc: Global, option: &str) -> NoCall {
+    told_misuse(format!(in alloc;
+        "error: {option} holds for the files behind it, and stands behind all of them: write it in front of them\n"
+    ))
+}
+
+fn told_misuse(text: Result<String, AllocError>) -> NoCall {
+    match text {
+        Ok(text) => NoCall::Misused(text),
+        Err(_) => NoCall::OutOfMemory,
+    }
 }
 
 // Up to where the runs are listed that a verb tells or looks at.
@@ -265,10 +369,7 @@ fn moment(alloc: Global, option: &str, word: &str) -> Result<Moment, NoCall>
 
 // What is told of the word of an option that is not of its form.
 fn misused(alloc: Global, option: &str, word: &str, form: &str) -> NoCall {
-    match misuse(alloc, option, word, form) {
-        Ok(text) => NoCall::Misused(text),
-        Err(_) => NoCall::OutOfMemory,
-    }
+    told_misuse(misuse(alloc, option, word, form))
 }
 
 fn misuse(alloc: Global, option: &str, word: &str, form: &str) -> Result<String, AllocError> {
@@ -278,36 +379,15 @@ fn misuse(alloc: Global, option: &str, word: &str, form: &str) -> Result<String,
     Ok(text)
 }
 
-// The dialect that an option names, and else that of the names of the files.
-fn dialect(alloc: Global, matches: &ArgMatches<'_>) -> Result<Dialect, NoCall> {
-    if matches.get_flag("system") {
-        return Ok(Dialect::System);
+fn format_of(matches: &ArgMatches<'_>) -> Format {
+    if matches.get_flag("json") {
+        return Format::Json;
     }
-    if matches.get_flag("patterns") {
-        return Ok(Dialect::Patterns);
-    }
-    if matches.get_flag("user") {
-        return Ok(Dialect::User);
-    }
-    match matches.get_strs("file") {
-        Some(names) => named_dialect(alloc, names),
-        None => Ok(Dialect::User),
-    }
-}
-
-// The dialect that the names of files say.
-fn named_dialect(alloc: Global, names: &[&str]) -> Result<Dialect, NoCall> {
-    match dialect_of_names(names) {
-        Some(dialect) => Ok(dialect),
-        None => Err(mixed(alloc)),
-    }
-}
-
-// What is told where only some files are the system's by their names.
-fn mixed(alloc: Global) -> NoCall {
-    match String::from_str(alloc, MIXED) {
-        Ok(text) => NoCall::Misused(text),
-        Err(_) => NoCall::OutOfMemory,
+    match matches.get_str("format") {
+        Some("gcc") => Format::Gcc,
+        Some("github") => Format::Github,
+        Some("json") => Format::Json,
+        _ => Format::Text,
     }
 }
 

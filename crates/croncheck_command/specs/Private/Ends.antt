@@ -8,6 +8,8 @@ use Rattle.croncheck_command.specs.declared.runs.End.{End}
 use Rattle.croncheck_command.specs.declared.runs.End.TheVariants as ends
 use Rattle.croncheck_command.specs.declared.runs.Listing.{Listing}
 use Rattle.croncheck_command.specs.declared.runs.Listing.TheVariants as listings
+use Rattle.crontab_runs.specs.declared.listing.StartsEnd.{StartsEnd}
+use Rattle.crontab_runs.specs.declared.listing.StartsEnd.TheVariants as starts_ends
 use Rattle.croncheck_command.specs.Runs.{most_runs}
 
 -- the earlier of two seconds, of which the second one may be none
@@ -39,6 +41,12 @@ end_before run (Some last) = if int_lt last run then ends.Window else ends.More
 abbrev pub end_of_years : Option ℤ → End
 end_of_years None = ends.Over
 end_of_years (Some last) = ends.Window
+
+-- by how a search for starts did
+abbrev pub end_of_starts : Listing → Option ℤ → StartsEnd → End
+end_of_starts listing last starts_ends.Full = full_end listing
+end_of_starts listing last (starts_ends.Past start) = end_before start.second last
+end_of_starts listing last starts_ends.Over = end_of_years last
 
 -- by a refused search, unless memory was lacking
 abbrev pub IsFailedBy : Option CronError → End → Type 0

@@ -1,5 +1,5 @@
 -- A job's scheduled seconds in a range of a change.
-use Rattle.std.specs.Prelude.{ℤ, pos, ◌+ℤ◌, ◌≤ℤ◌}
+use Rattle.std.specs.Prelude.{ℕ, ℤ, pos, ◌+ℤ◌, ◌≤ℤ◌}
 use Rattle.croner_base.specs.declared.time.table.TableTime.{TableTime}
 use Rattle.croner_base.specs.Limits.{first_searched}
 use Rattle.croner_base.specs.TableZone.{table_moment}
@@ -20,6 +20,10 @@ pub record IsInYears (c : Change) : Type 0 where
   pub before_to : (c.before +ℤ pos seconds_beside) ≤ℤ year_5000
   pub after_from : (first_searched +ℤ pos seconds_beside) ≤ℤ c.after
   pub after_to : (c.after +ℤ pos seconds_beside) ≤ℤ year_5000
+
+-- so many minutes from 1970 no clock shows
+abbrev pub far_minutes : ℕ
+far_minutes = 100_000_000_000
 
 -- nothing is scheduled there
 abbrev pub IsNoneIn : Meaning → Range → Change → Type 0

@@ -1,39 +1,62 @@
 //! The warnings of changes of the clock: their names, and what they say.
 ghost use Rattle.std.specs.Prelude.{◌≡◌};
-ghost use Rattle.croncheck_command.specs.Changes.{name_of_range, name_of};
+ghost use Rattle.croncheck_command.specs.Changes.{name_of};
 
-use crate::changes::meetings::Compared;
-use crate::changes::{Change, Fate, Range};
+use crate::changes::{Change, Fate, Meeting, Range};
 use croner::time::CivilDateTime;
 use std::alloc::AllocError;
 
-impl Compared {
-    /// The name of the warning: `gap` or `twice`, or where cron(8) does otherwise `cron-change`.
+impl Meeting {
+    /// The name of the warning: `gap` or `twice`.
     pub fn name(&self) -> &'static str
-        ensures { result.now ≡ name_of self.now }
+        ensures { result.now ≡ name_of self.now.range }
     {
-        match self.in_cron {
-            Some(_) => "cron-change",
-            None => name_of_range(self.meeting.range),
+        match self.range {
+            Range::Gap => "gap",
+            Range::Repeated => "twice",
         }
     }
 
     /// Writes what happens at the change, what becomes of the second, and what to write instead.
     pub fn push_text(&self, text: &mut String) -> Result<(), AllocError> {
-        push_change(text, self.meeting.range, self.meeting.change)?;
-        match self.in_cron {
-            Some(in_cron) => push_in_cron(text, self.meeting.second, in_cron),
-            None => push_here(text, self.meeting.second, self.meeting.fate),
-        }
+        push_change(text, self.range, self.change)?;
+        push_fate(text, self.second, self.fate)
     }
-}
 
-fn name_of_range(range: Range) -> &'static str
-    ensures { result.now ≡ name_of_range range }
-{
-    match range {
-        Range::Gap => "gap",
-        Range::Repeated => "twice",
+    /// Writes on which date it is, and what becomes of the second, as `2027-03-28 at 03:00 in place of 02:30`.
+    pub fn push_short(&self, text: &mut String) -> Result<(), AllocError> {
+        match self.fate {
+            Fate::Moved => {
+                push_date(text, self.change.after)?;
+                text.push_str(" at ")?;
+                push_minute(text, self.change.after)?;
+                text.push_str(" in place of ")?;
+            }
+            Fate::LeftOut => {
+                push_date(text, self.second)?;
+                text.push_str(" not at ")?;
+            }
+            Fate::Once => {
+                push_date(text, self.second)?;
+                text.push_str(" once, at the first ")?;
+            }
+            Fate::Twice => {
+                push_date(text, self.second)?;
+                text.push_str(" twice, at either ")?;
+            }
+        }
+        push_minute(text, self.second)
+    }
+
+    /// Writes behind a run what it makes up for; it may be for more than the second.
+    pub fn push_made_up(&self, text: &mut String, is_one_of_many: bool) -> Result<(), AllocError> {
+        text.push_str(if is_one_of_many {
+            ", first for "
+        } else {
+            "  for "
+        })?;
+        push_minute(text, self.second)?;
+        text.push_str(", which the clock skips")
     }
 }
 
@@ -48,8 +71,8 @@ fn push_change(text: &mut String, range: Range, change: Change) -> Result<(), Al
     push_wall(text, change.after)
 }
 
-// What becomes of a second, here and in cron(8).
-fn push_here(text: &mut String, second: i64, fate: Fate) -> Result<(), AllocError> {
+// What becomes of a second.
+fn push_fate(text: &mut String, second: i64, fate: Fate) -> Result<(), AllocError> {
     text.push_str(", and what is due in between, first at ")?;
     push_wall(text, second)?;
     text.push_str(match fate {
@@ -60,29 +83,34 @@ fn push_here(text: &mut String, second: i64, fate: Fate) -> Result<(), AllocErro
     })
 }
 
-// What becomes of a second in cron(8), and what here, which is something else.
-fn push_in_cron(text: &mut String, second: i64, in_cron: Fate) -> Result<(), AllocError> {
-    text.push_str(match in_cron {
-        Fate::LeftOut => ". Cron leaves out what is due in between, first at ",
-        Fate::Moved | Fate::Once | Fate::Twice => ". Cron runs what is due in between, first at ",
-    })?;
-    push_wall(text, second)?;
-    text.push_str(match in_cron {
-        Fate::LeftOut =>
-            "; croncheck lists it as soon as the clock has gone on. Name an hour that isn't skipped, if it may not be missed.",
-        Fate::Moved => ", as soon as the clock has gone on; croncheck lists no run for it.",
-        Fate::Once => ", the first time alone; croncheck lists it twice.",
-        Fate::Twice =>
-            ", twice; croncheck lists it the first time alone. Name an hour that comes once, if that does harm.",
-    })
-}
-
 // A wall second as a date and a time.
 fn push_wall(text: &mut String, wall: i64) -> Result<(), AllocError> {
     match CivilDateTime::of_wall_second(wall) {
         Some(civil) => {
             let (date, time) = (civil.date(), civil.time());
             write!(text, "{date} {time}")
+        }
+        None => write!(text, "{wall}"),
+    }
+}
+
+// The date of a wall second.
+fn push_date(text: &mut String, wall: i64) -> Result<(), AllocError> {
+    match CivilDateTime::of_wall_second(wall) {
+        Some(civil) => {
+            let date = civil.date();
+            write!(text, "{date}")
+        }
+        None => write!(text, "{wall}"),
+    }
+}
+
+// The hour and the minute of a wall second.
+fn push_minute(text: &mut String, wall: i64) -> Result<(), AllocError> {
+    match CivilDateTime::of_wall_second(wall) {
+        Some(civil) => {
+            let (hour, minute) = (civil.hour(), civil.minute());
+            write!(text, "{hour:02}:{minute:02}")
         }
         None => write!(text, "{wall}"),
     }

@@ -2,7 +2,9 @@
 ghost use Rattle.std.specs.Prelude.{IfOk, string_bytes};
 ghost use Rattle.croncheck_command.specs.Shown.{AreLines};
 
+use super::below::push_below;
 use super::{Shared, push_head, push_report};
+use crate::findings::findings_of;
 use crate::report::{JobReport, Report};
 use crate::told::Told;
 use std::alloc::{AllocError, Global};
@@ -20,7 +22,7 @@ pub fn runs_text(
     ensures { IfOk result (λ text. AreLines (string_bytes text)) }
 {
     let mut text = String::new(alloc);
-    push_report(alloc, &mut text, shared, 0, pattern, report)?;
+    push_found(alloc, &mut text, shared, pattern, report)?;
     text.push('\n')?;
     Ok(text)
 }
@@ -38,11 +40,24 @@ pub fn description_text(
     match report {
         Report::Job(job) => push_description(&mut text, job)?,
         Report::Silent | Report::Setting { .. } | Report::Refused { .. } => {
-            push_report(alloc, &mut text, shared, 0, pattern, report)?;
+            push_found(alloc, &mut text, shared, pattern, report)?;
         }
     }
     text.push('\n')?;
     Ok(text)
+}
+
+// What is told of a pattern, and what is found of it, in an empty text.
+fn push_found(
+    alloc: Global,
+    text: &mut String,
+    shared: &Shared<'_>,
+    pattern: &[u8],
+    report: &Report<'_, '_>,
+) -> Result<(), AllocError> {
+    push_report(alloc, text, shared, 0, pattern, report)?;
+    let found = findings_of(alloc, pattern, report)?;
+    push_below(alloc, text, found.as_slice())
 }
 
 // A pattern and its description.

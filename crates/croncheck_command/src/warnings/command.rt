@@ -1,29 +1,48 @@
 //! What a command shows by its bytes.
-ghost use Rattle.std.specs.Prelude.{◌≡◌, fold};
-ghost use Rattle.std.specs.List.{list_all};
-ghost use Rattle.croncheck_command.specs.Warnings.{is_field_sign, looks_like_field, met_next, is_percent, has_percent, has_carriage_return};
+ghost use Rattle.std.specs.Prelude.{◌≡◌, ◌==◌, fold};
+ghost use Rattle.std.specs.List.{suffix_len};
+ghost use Rattle.croncheck_command.specs.Warnings.{has_no_command, looks_like_field, is_no_user_sign, has_no_user_sign, begins_with_root, met_next, is_percent, has_percent, is_continued, has_carriage_return};
 
-use crontab::bytes::is_digit;
+use crontab::bytes::{Kind, begins_with, cut};
 use crontab::line::word;
+use crontab::notes::looks_like_weekdays;
 
-fn is_field_sign(byte: u8) -> bool
-    ensures { result ≡ is_field_sign byte }
+/// Whether a command is spaces alone, or begins with `#` behind blanks.
+pub fn has_no_command(command: &[u8]) -> bool
+    ensures { result ≡ has_no_command command.now }
 {
-    is_digit(byte) || byte == b'*' || byte == b',' || byte == b'-' || byte == b'/'
+    let (_, left) = cut(command, Kind::Space);
+    let (_, text) = cut(command, Kind::Blank);
+    left.is_empty() || begins_with(text, b'#')
 }
 
-fn all_field_signs(word: &[u8]) -> bool
-    ensures { result ≡ list_all is_field_sign word.now }
-{
-    word.iter().all(|byte| is_field_sign(*byte))
-}
-
-/// Whether a text begins with a word of digits and signs of a field alone.
+/// Whether a text begins with a word that may be a field of weekdays, and with no comment.
 pub fn looks_like_field(text: &[u8]) -> bool
     ensures { result ≡ looks_like_field text.now }
 {
     let (word, _) = word(text);
-    !word.is_empty() && all_field_signs(word)
+    !word.is_empty() && !begins_with(text, b'#') && looks_like_weekdays(word)
+}
+
+fn is_no_user_sign(byte: u8) -> bool
+    ensures { result ≡ is_no_user_sign byte }
+{
+    byte == b'/' || byte == b'=' || byte == b'$' || byte == b'*' || byte == b','
+}
+
+/// Whether a word has a sign that no user's name has.
+pub fn has_no_user_sign(name: &[u8]) -> bool
+    ensures { result ≡ has_no_user_sign name.now }
+{
+    name.iter().any(|byte| is_no_user_sign(*byte))
+}
+
+/// Whether a command begins with `root` and a blank.
+pub fn begins_with_root(command: &[u8]) -> bool
+    ensures { result ≡ begins_with_root command.now }
+{
+    let (name, behind) = cut(command, Kind::Word);
+    name == "root".as_bytes() && !behind.is_empty()
 }
 
 /// What was met of a command so far.
@@ -63,6 +82,24 @@ pub fn has_percent(command: &[u8]) -> bool
         Met::Percent => true,
         Met::Plain | Met::Backslash => false,
     }
+}
+
+// How many backslashes a command ends with.
+fn backslashes_behind(command: &[u8]) -> usize
+    ensures { result ≡ suffix_len (λ b. b == 92) command.now }
+{
+    command
+        .iter()
+        .rev()
+        .take_while(|byte| **byte == b'\\')
+        .count()
+}
+
+/// Whether a command ends in a backslash that no other takes in.
+pub fn is_continued(command: &[u8]) -> bool
+    ensures { result ≡ is_continued command.now }
+{
+    backslashes_behind(command) % 2 == 1
 }
 
 /// Whether a command ends with a carriage return.

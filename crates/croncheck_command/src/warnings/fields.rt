@@ -1,17 +1,20 @@
 //! What the texts of fields show.
-ghost use Rattle.std.specs.Prelude.{◌≡◌, nat_lt, IfOk, IfErr, map, option_map};
+ghost use Rattle.std.specs.Prelude.{◌≡◌, IfOk, IfErr, map, option_map};
 ghost use Rattle.std.specs.List.{list_any};
 ghost use Rattle.croner.specs.parser.Grammar.{seven};
 ghost use Rattle.croner.specs.parser.Words.{AreWords};
 ghost use Rattle.crontab.specs.Line.{words_of};
-ghost use Rattle.croncheck_command.specs.Warnings.{texts_of_five, fields_of_schedule, AreFieldsOfPattern, place_of_field, text_of_field, parts_in, turn_of, is_uneven, has_uneven_step, has_step_beyond, has_empty_item, has_empty_items, fields_seen};
+ghost use Rattle.crontab.specs.List.{names_nothing};
+ghost use Rattle.croncheck_command.specs.Warnings.{texts_of_five, fields_of_schedule, AreFieldsOfPattern, place_of_field, text_of_field, parts_in, turn_of, has_uneven_step, is_beyond, has_step_beyond, is_one_range, has_hours_in_range, has_range_down, has_passed_over, has_large_number, has_other_name, has_hidden_field, has_empty_item, has_empty_items, fields_seen};
 
+use super::hidden::has_hidden_within;
 use croner::errors::CronError;
 use croner::parser::PatternField;
 use crontab::bytes::begins_with;
 use crontab::field::{Names, Part, Place};
 use crontab::line::word;
-use crontab::list::parts_of;
+use crontab::list::{is_uneven, names_nothing, parts_of};
+use crontab::notes;
 use std::alloc::{AllocError, Global};
 
 /// The texts of the fields of a job or a pattern, as they are written. Where there are no seconds they are `0`, and where there are no years
@@ -143,20 +146,33 @@ fn turn_of(field: PatternField) -> u64
     }
 }
 
-// One part, which is a star with a step below a number that doesn't divide it.
-fn is_uneven(turn: u64, parts: &[Part]) -> bool
-    ensures { result ≡ is_uneven turn parts.now }
+// Whether a range names its first value alone, since the second is past its end.
+fn is_beyond(part: &Part) -> bool
+    ensures { result ≡ is_beyond part.now }
+{
+    1 < part.step && part.first <= part.last && part.last - part.first < part.step
+}
+
+fn any_beyond(parts: &[Part]) -> bool
+    ensures { result ≡ list_any is_beyond parts.now }
+{
+    parts.iter().any(|part| is_beyond(part))
+}
+
+// Whether a field is several values in a row, as one range without a step.
+fn is_one_range(parts: &[Part]) -> bool
+    ensures { result ≡ is_one_range parts.now }
 {
     match parts {
-        [part] => part.is_star && 0 < part.step && part.step < turn && turn % part.step != 0,
+        [part] => !part.is_star && part.step == 1 && part.first < part.last,
         _ => false,
     }
 }
 
-fn has_step_above(last: u64, parts: &[Part]) -> bool
-    ensures { result ≡ list_any (λ part. nat_lt last part.step) parts.now }
+fn any_down(parts: &[Part]) -> bool
+    ensures { result ≡ list_any names_nothing parts.now }
 {
-    parts.iter().any(|part| last < part.step)
+    parts.iter().any(|part| names_nothing(part))
 }
 
 // Whether an item of a field's list is empty.
@@ -205,13 +221,63 @@ impl<'l> Fields<'l> {
         Ok(is_uneven(turn_of(field), parts.as_slice()))
     }
 
-    /// Whether a step of a field is past its last value. The only error is `OutOfMemory`.
+    /// Whether a step of a field leads past the end of its range. The only error is `OutOfMemory`.
     pub fn has_step_beyond(&self, alloc: Global, field: PatternField) -> Result<bool, CronError>
         ensures ok { IfOk result (λ yes. yes ≡ has_step_beyond field (fields_seen self.now)) }
         ensures err { IfErr result (λ e. e ≡ CronError.OutOfMemory) }
     {
         let parts = self.parts_in(alloc, field)?;
-        Ok(has_step_above(place_of_field(field).last, parts.as_slice()))
+        Ok(any_beyond(parts.as_slice()))
+    }
+
+    /// Whether the hours are several in a row, written as one range. The only error is `OutOfMemory`.
+    pub fn has_hours_in_range(&self, alloc: Global) -> Result<bool, CronError>
+        ensures ok { IfOk result (λ yes. yes ≡ has_hours_in_range (fields_seen self.now)) }
+        ensures err { IfErr result (λ e. e ≡ CronError.OutOfMemory) }
+    {
+        let parts = self.parts_in(alloc, PatternField::Hours)?;
+        Ok(is_one_range(parts.as_slice()))
+    }
+
+    /// Whether a range of a field runs down. The only error is `OutOfMemory`.
+    pub fn has_range_down(&self, alloc: Global, field: PatternField) -> Result<bool, CronError>
+        ensures ok { IfOk result (λ yes. yes ≡ has_range_down field (fields_seen self.now)) }
+        ensures err { IfErr result (λ e. e ≡ CronError.OutOfMemory) }
+    {
+        let parts = self.parts_in(alloc, field)?;
+        Ok(any_down(parts.as_slice()))
+    }
+
+    /// Whether cron passes over bytes of a field.
+    pub fn has_passed_over(&self, field: PatternField) -> bool
+        ensures { result ≡ has_passed_over field (fields_seen self.now) }
+    {
+        notes::has_passed_over(place_of_field(field), self.text_of(field))
+    }
+
+    /// Whether a number of a field is 2^32 or more.
+    pub fn has_large_number(&self, field: PatternField) -> bool
+        ensures { result ≡ has_large_number field (fields_seen self.now) }
+    {
+        notes::has_large_number(place_of_field(field), self.text_of(field))
+    }
+
+    /// Whether a word of a field is a name, and none of this field.
+    pub fn has_other_name(&self, field: PatternField) -> bool
+        ensures { result ≡ has_other_name field (fields_seen self.now) }
+    {
+        notes::has_other_name(place_of_field(field), self.text_of(field))
+    }
+
+    /// Whether one of the five fields of a crontab has a byte that hides others.
+    pub fn has_hidden_field(&self) -> bool
+        ensures { result ≡ has_hidden_field (fields_seen self.now) }
+    {
+        has_hidden_within(self.minutes)
+            || has_hidden_within(self.hours)
+            || has_hidden_within(self.days)
+            || has_hidden_within(self.months)
+            || has_hidden_within(self.weekdays)
     }
 
     /// Whether a list of one of the fields has an empty item.

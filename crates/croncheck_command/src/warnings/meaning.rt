@@ -5,7 +5,7 @@ ghost use Rattle.jiff_core.specs.Calendar.{days_in_month};
 ghost use Rattle.croner_pattern.specs.Meaning.{meaning_of};
 ghost use Rattle.croner_pattern.specs.Schedule.{is_plain};
 ghost use Rattle.croner.specs.Views.{job_of as meaning_of_job};
-ghost use Rattle.croncheck_command.specs.Warnings.{names_each_day, names_each_weekday, is_either_day, is_whole_hour, is_without, is_wanting, are_late, is_only, is_leap_day, has_short_months};
+ghost use Rattle.croncheck_command.specs.Warnings.{names_each_day, names_each_weekday, is_either_day, names_each_date, is_whole_hour, is_without, is_wanting, are_late, is_only, is_leap_day, has_short_months};
 
 use croner::component::{ALL_BIT, CronComponent};
 use croner::errors::CronError;
@@ -19,6 +19,10 @@ const MOST_DAYS: usize = 31;
 const LEAST_DAYS: u16 = 28;
 
 const MINUTES: usize = 60;
+
+const HOURS: usize = 24;
+
+const MONTHS: usize = 12;
 
 const FEBRUARY: u16 = 2;
 
@@ -67,12 +71,20 @@ pub fn is_either_day(job: &Cron) -> bool
     !is_one_day_side(&job.pattern) && !(names_each_day(job) && names_each_weekday(job))
 }
 
-/// Whether all minutes of exactly one hour are named.
+fn names_each_date(job: &Cron) -> bool
+    ensures { result ≡ names_each_date (meaning_of_job job.now) }
+{
+    names_each_day(job)
+        && names_each_weekday(job)
+        && job.pattern.months.count_set_values(ALL_BIT) == MONTHS
+}
+
+/// Whether all minutes are named, but not all hours of all dates.
 pub fn is_whole_hour(job: &Cron) -> bool
     ensures { result ≡ is_whole_hour (meaning_of_job job.now) }
 {
     job.pattern.minutes.count_set_values(ALL_BIT) == MINUTES
-        && job.pattern.hours.count_set_values(ALL_BIT) == 1
+        && !(job.pattern.hours.count_set_values(ALL_BIT) == HOURS && names_each_date(job))
 }
 
 fn length(year: u16, month: u16) -> u16

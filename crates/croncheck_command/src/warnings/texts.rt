@@ -16,15 +16,23 @@ impl Warning {
             Warning::EitherDay => "either-day",
             Warning::UnevenStep(_) => "uneven-step",
             Warning::StepBeyond(_) => "step-beyond",
+            Warning::RangeDown(_) => "range-down",
+            Warning::PassedOver(_) => "passed-over",
+            Warning::LargeNumber(_) => "large-number",
             Warning::WholeHour => "whole-hour",
             Warning::ShortMonths => "short-months",
             Warning::Gone => "gone",
             Warning::Never => "never",
+            Warning::NoCommand => "no-command",
             Warning::LooksLikeField => "looks-like-field",
+            Warning::User => "user",
             Warning::Percent => "percent",
+            Warning::Continued => "continued",
+            Warning::ControlByte => "control-byte",
             Warning::NoNewline => "no-newline",
             Warning::CarriageReturn => "carriage-return",
             Warning::EmptyItem => "empty-item",
+            Warning::OtherName(_) => "other-name",
         }
     }
 
@@ -33,14 +41,23 @@ impl Warning {
         ensures { result ≡ field_of self }
     {
         match self {
-            Warning::UnevenStep(field) | Warning::StepBeyond(field) => Some(field),
+            Warning::UnevenStep(field)
+            | Warning::StepBeyond(field)
+            | Warning::RangeDown(field)
+            | Warning::PassedOver(field)
+            | Warning::LargeNumber(field)
+            | Warning::OtherName(field) => Some(field),
             Warning::EitherDay
             | Warning::WholeHour
             | Warning::ShortMonths
             | Warning::Gone
             | Warning::Never
+            | Warning::NoCommand
             | Warning::LooksLikeField
+            | Warning::User
             | Warning::Percent
+            | Warning::Continued
+            | Warning::ControlByte
             | Warning::NoNewline
             | Warning::CarriageReturn
             | Warning::EmptyItem => None,
@@ -53,15 +70,23 @@ impl Warning {
             Warning::EitherDay => EITHER_DAY,
             Warning::UnevenStep(_) => UNEVEN_STEP,
             Warning::StepBeyond(_) => STEP_BEYOND,
+            Warning::RangeDown(_) => RANGE_DOWN,
+            Warning::PassedOver(_) => PASSED_OVER,
+            Warning::LargeNumber(_) => LARGE_NUMBER,
             Warning::WholeHour => WHOLE_HOUR,
             Warning::ShortMonths => SHORT_MONTHS,
             Warning::Gone => GONE,
             Warning::Never => NEVER,
+            Warning::NoCommand => NO_COMMAND,
             Warning::LooksLikeField => LOOKS_LIKE_FIELD,
+            Warning::User => USER,
             Warning::Percent => PERCENT,
+            Warning::Continued => CONTINUED,
+            Warning::ControlByte => CONTROL_BYTE,
             Warning::NoNewline => NO_NEWLINE,
             Warning::CarriageReturn => CARRIAGE_RETURN,
             Warning::EmptyItem => EMPTY_ITEM,
+            Warning::OtherName(_) => OTHER_NAME,
         }
     }
 }
@@ -73,7 +98,9 @@ impl OtherWarning {
     {
         match self {
             OtherWarning::NoNewline => Warning::NoNewline.name(),
+            OtherWarning::ControlByte => Warning::ControlByte.name(),
             OtherWarning::NoZone => "no-zone",
+            OtherWarning::NotExpanded => "not-expanded",
             OtherWarning::ManyLines => "many-lines",
         }
     }
@@ -82,7 +109,9 @@ impl OtherWarning {
     pub fn text(self) -> &'static str {
         match self {
             OtherWarning::NoNewline => Warning::NoNewline.text(),
+            OtherWarning::ControlByte => Warning::ControlByte.text(),
             OtherWarning::NoZone => NO_ZONE,
+            OtherWarning::NotExpanded => NOT_EXPANDED,
             OtherWarning::ManyLines => MANY_LINES,
         }
     }
@@ -140,10 +169,19 @@ const UNEVEN_STEP: &str =
     "The step is counted anew from the field's first value, so that from the last run of an hour, minute or day to the next it is shorter. Write a step that divides 60 (24 for hours).";
 
 const STEP_BEYOND: &str =
-    "No second value of the field is so far away, so the first alone is named. Write that value; a longer interval takes the field of the greater unit, or more lines.";
+    "No second value of the range is so far away, so the first alone is named. Write that value; a longer interval takes the field of the greater unit, or more lines.";
+
+const RANGE_DOWN: &str =
+    "A range that goes down names nothing to cron. Write it as two, as `22-23,0-4` for `22-4`, and `fri-7` for `fri-sun`.";
+
+const PASSED_OVER: &str =
+    "Cron passes over what stands behind a number, a name or a star and is no comma, with the rest of the field: `1#2` is 1, `0~5` is 0, `*5` is each value. Write only what counts.";
+
+const LARGE_NUMBER: &str =
+    "Cron keeps of a number what is left after division by 4294967296. Write that number.";
 
 const WHOLE_HOUR: &str =
-    "The job runs in each of the sixty minutes of that hour. For one run write one minute, as `0`.";
+    "The job runs in each of the sixty minutes of its hours. For one run an hour write one minute, as `0`; where each minute is meant, write the hours as one range, as `9-17`.";
 
 const SHORT_MONTHS: &str =
     "A named month is too short for a named day, and has no run on that day. For a run in each month name a day up to 28, or the days 28 to 31 and let the command test for the last one.";
@@ -154,11 +192,23 @@ const GONE: &str =
 const NEVER: &str =
     "No run is left before year 5000. Look for a date that doesn't exist, a range that runs down, as `10-5`, or a time that the clock skips.";
 
+const NO_COMMAND: &str =
+    "The line has no command, so cron starts a shell that does nothing. Write the command behind the times; for none put `#` in front of the line.";
+
 const LOOKS_LIKE_FIELD: &str =
     "A crontab has five fields, so a sixth is taken for the command or the user. Take one field out: seconds and years have no place there.";
 
+const USER: &str =
+    "In a crontab of the system the word behind the times is the user who runs the command; in a user's crontab it is the command. Put the user's name in, or take it out.";
+
 const PERCENT: &str =
     "Cron ends the command at a percent sign that no backslash takes in, and gives it what follows as its input. Write `\\%` for a percent sign.";
+
+const CONTINUED: &str =
+    "Cron has no continued lines: the command ends here, and the next line is read as one of its own. Write the command on one line, or into a script.";
+
+const CONTROL_BYTE: &str =
+    "A control byte, or a character that nobody sees, stands in the line: it can hide what cron runs. Take it out.";
 
 const NO_NEWLINE: &str =
     "The last line doesn't end with a line feed, so cron ignores the whole file. End the line.";
@@ -166,11 +216,17 @@ const NO_NEWLINE: &str =
 const NO_ZONE: &str =
     "This cron doesn't run jobs in the zone of a setting: it is only a variable of the commands. Write the times in the machine's zone.";
 
+const NOT_EXPANDED: &str =
+    "Cron takes a value as it stands: it expands neither `$` nor `~`, and a comment behind it is a part of it. Write the whole path, and put a comment on a line of its own.";
+
 const CARRIAGE_RETURN: &str =
     "The line ends with a carriage return, which becomes part of the command. Save the file with line feeds alone.";
 
 const EMPTY_ITEM: &str =
     "A list has an empty item, which is skipped here and refused by cron. Take out the comma, or write what is missing.";
+
+const OTHER_NAME: &str =
+    "The name is one of another field, and its number counts here: `MON` among months is January. Write the number, or a name of this field.";
 
 const MANY_LINES: &str =
     "The file has more than 10,000 lines, so cron ignores it. Write fewer lines.";

@@ -1,7 +1,7 @@
 //! The verbs of a call and their options, as they are read and shown by `--help`.
 
 use super::{VERSION, Verb};
-use clap::{Arg, ArgAction, Command, value_parser};
+use clap::{Arg, ArgAction, Command};
 use std::alloc::{AllocError, Global};
 
 const NAME: &str = "croncheck";
@@ -39,6 +39,18 @@ pub(super) fn verb_of(name: &str) -> Option<Verb> {
         "plan" => Some(Verb::Plan),
         "next" => Some(Verb::Next),
         "describe" => Some(Verb::Describe),
+        _ => None,
+    }
+}
+
+/// The verbs that have an option which not all have, if it is one.
+pub(super) fn verbs_with(option: &str) -> Option<&'static str> {
+    match option {
+        "--zone" | "--from" => Some("check, show, plan and next"),
+        "--runs" | "--until" => Some("show, plan and next"),
+        "--json" | "--strict" | "--same-job" => Some("check and show"),
+        "--system" | "--user" | "--patterns" | "--stdin-name" => Some("check, show and plan"),
+        "--language" => Some("check, show, next and describe"),
         _ => None,
     }
 }
@@ -93,15 +105,29 @@ fn check<'w>(alloc: Global) -> Result<Command<'w>, AllocError> {
 // With what `check` takes.
 fn with_checking<'w>(alloc: Global, command: Command<'w>) -> Result<Command<'w>, AllocError> {
     let command = with_clock(alloc, command)?;
+    let command = with_format(alloc, command)?;
     let command = with_output(
         alloc,
         command,
-        "One JSON object for each line with a finding",
+        "The same as --format json: one object for each line with a finding, and one for each file",
     )?;
     let command = with_kinds(alloc, command)?;
     let command = with_language(alloc, command)?;
     let command = with_settings_of_files(alloc, command)?;
     with_files(alloc, command)
+}
+
+// With the forms in which is told what is found.
+fn with_format<'w>(alloc: Global, command: Command<'w>) -> Result<Command<'w>, AllocError> {
+    let format = value(alloc, "format", "FORM")
+        .short('f')
+        .value_parser(["text", "gcc", "github", "json"].as_slice())
+        .default_value("text")
+        .help(
+            "How findings are told: as texts, or one a line as compilers or GitHub workflows have them, or as JSON",
+        )
+        .conflicts_with("json");
+    add(command, format)
 }
 
 fn show<'w>(alloc: Global) -> Result<Command<'w>, AllocError> {
@@ -110,7 +136,11 @@ fn show<'w>(alloc: Global) -> Result<Command<'w>, AllocError> {
         .after_help(AFTER_HELP);
     let command = with_clock(alloc, command)?;
     let command = with_span(alloc, command, "How many runs of each line, 0 to 1000")?;
-    let command = with_output(alloc, command, "One JSON object for each line")?;
+    let command = with_output(
+        alloc,
+        command,
+        "One JSON object for each line, and one for each file",
+    )?;
     let command = with_kinds(alloc, command)?;
     let command = with_language(alloc, command)?;
     let command = with_settings_of_files(alloc, command)?;
@@ -159,7 +189,7 @@ fn with_files<'w>(alloc: Global, command: Command<'w>) -> Result<Command<'w>, Al
         Arg::new(alloc, "file")
             .value_name("FILE")
             .num_args(0..)
-            .help("The files to read; - is standard input"),
+            .help("The files to read, and folders, whose files are read; - is standard input"),
     )
 }
 
@@ -192,12 +222,7 @@ fn with_span<'w>(
     command: Command<'w>,
     runs: &'w str,
 ) -> Result<Command<'w>, AllocError> {
-    let command = command.arg(
-        value(alloc, "runs", "N")
-            .value_parser(value_parser!(u32).range(0..=1000))
-            .default_value("3")
-            .help(runs),
-    )?;
+    let command = command.arg(value(alloc, "runs", "N").default_value("3").help(runs))?;
     add(
         command,
         value(alloc, "until", "DATETIME|@SECONDS")
@@ -220,25 +245,28 @@ fn with_output<'w>(
 }
 
 fn with_kinds<'w>(alloc: Global, command: Command<'w>) -> Result<Command<'w>, AllocError> {
-    let command = command.arg(flag(alloc, "system").help(
-        "A user stands before each command; so it is without this option where all files are /etc/crontab or in a folder cron.d",
-    ))?;
-    let user = flag(alloc, "user")
-        .help("No user stands before the commands, whatever the files are named")
-        .conflicts_with("system");
-    let command = add(command, user)?;
-    let patterns = flag(alloc, "patterns")
-        .help("Each line is a pattern of five to seven fields, and no command")
-        .conflicts_with("system");
-    add(command, not_beside(patterns, "user"))
+    command
+        .arg(kind(alloc, "system").help(
+            "In the files behind it a user stands before each command; so it is without this option in /etc/crontab and in files of a folder cron.d",
+        ))?
+        .arg(kind(alloc, "user").help(
+            "In the files behind it no user stands before the commands, whatever they are named",
+        ))?
+        .arg(kind(alloc, "patterns").help(
+            "In the files behind it each line is a pattern of five to seven fields, and no command",
+        ))?
+        .arg(value(alloc, "stdin-name", "NAME").help(
+            "The name of standard input: it is told under this name, and read as a file of this name",
+        ))
 }
 
-// An argument that can't stand beside this one.
-fn not_beside<'w>(arg: Result<Arg<'w>, AllocError>, id: &'w str) -> Result<Arg<'w>, AllocError> {
-    match arg {
-        Ok(arg) => arg.conflicts_with(id),
-        Err(error) => Err(error),
-    }
+// An option that holds for the files behind it, so that each use of it has its place.
+fn kind<'w>(alloc: Global, id: &'w str) -> Arg<'w> {
+    Arg::new(alloc, id)
+        .long(id)
+        .action(ArgAction::Append)
+        .num_args(0..=0)
+        .default_missing_value("true")
 }
 
 fn with_language<'w>(alloc: Global, command: Command<'w>) -> Result<Command<'w>, AllocError> {

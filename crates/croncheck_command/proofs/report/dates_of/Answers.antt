@@ -11,7 +11,7 @@ use Rattle.croncheck_command.proofs.report.dates_of.Goals as goal
 
 pub returns-in_ok-dates-in-Runs-clause-dates : goal.returns-in_ok-dates-in-Runs-clause-dates
 returns-in_ok-dates-in-Runs-clause-dates c =
-    let run = c.index-run.result.now in
+    let run = c.index.result.now in
     let month = c.in_ok-dates-in-Runs.dates.month in
     let counted : vec_len c.in-Runs.runs.items ≡ length c.in-Runs.runs.items.items = search rules in
     let filled : false ≡ (length c.in-Runs.runs.items.items == 0) = subst (λ (n : ℕ). false ≡ (n == 0)) counted c.if-is_empty.ensures in
@@ -21,7 +21,7 @@ returns-in_ok-dates-in-Runs-clause-dates c =
         run,
         c.to_civil.result,
         record {
-          first = subst (λ (t : Told). IsFirstListed t run) (sym c.in-Runs.is) (some, sym c.index-run.ensures);
+          first = subst (λ (t : Told). IsFirstListed t run) (sym c.in-Runs.is) (some, sym c.index.ensures);
           shows = c.to_civil.ensures;
           month = subst (λ (w : ℕ). IsMonthOf c.to_civil.result.date w month) c.civil_weekday.ensures
               (subst (λ (d : CivilDate). IsMonthOf d (weekday_index c.civil_weekday.result) month) c.date.ensures c.in_ok-dates-in-Runs.ensures.month);

@@ -1,7 +1,8 @@
-use Rattle.std.proofs.Common.{Option, Some, None, refl, sym, subst}
+use Rattle.std.proofs.Common.{Option, None, refl, sym, subst}
 use Rattle.croner_pattern.specs.Meaning.{Meaning}
 use Rattle.crontab.specs.Entries.{job_seen}
 use Rattle.croncheck_command.specs.Report.{IsWarned, TellsChanges, DatesOf}
+use Rattle.croncheck_command.specs.Told.{cron_of}
 use Rattle.croncheck_command.proofs.Outcomes.{no_meaning}
 use Rattle.croncheck_command.proofs.report.told_of_no_text.Goals as goal
 
@@ -14,9 +15,9 @@ returns-clause-report c = λ s blanks read.
       schedule_is = refl;
       user_is = refl;
       command_is = refl;
-      tells_times = c.times_of_no_text-times.ensures s read;
+      tells_times = c.times_of_no_text-times.ensures s read task.schedule;
       warned = subst (λ (m : Option Meaning). IsWarned c.args.is_fed task.schedule task.user task.command m times c.in_ok-warnings.warnings.items) is
           c.in_ok-warnings.ensures.warnings;
-      met = subst (λ (m : Option Meaning). TellsChanges s (Some task.schedule) m times c.none.result) is c.none.ensures;
+      met = subst (λ (m : Option Meaning). TellsChanges s (cron_of task.schedule) m times c.none.result) is c.none.ensures;
       dated = subst (λ (m : Option Meaning). DatesOf m times None) is refl;
     }

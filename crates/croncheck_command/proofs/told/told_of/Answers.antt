@@ -1,6 +1,6 @@
 use Rattle.std.proofs.Common.{ℤ, Option, refl, subst}
 use Rattle.croner.specs.Views.{job_of}
-use Rattle.croncheck_command.specs.Runs.{IsListed}
+use Rattle.croncheck_command.specs.Runs.{runs_listed, IsListed}
 use Rattle.croncheck_command.specs.Settings.{start_of}
 use Rattle.croncheck_command.proofs.told.told_of.Goals as goal
 
@@ -12,7 +12,7 @@ returns-clause-told c =
       refl,
       record {
         described = c.in_ok-description.ensures;
-        listed = subst (λ (last : Option ℤ). IsListed m (start_of s) last s.listing c.in_ok-runs.runs) c.last.ensures c.in_ok-runs.ensures.listed;
+        listed = subst (λ (last : Option ℤ). IsListed (runs_listed m (start_of s)) last s.listing c.in_ok-runs.runs) c.last.ensures c.in_ok-runs.ensures.listed;
         past = c.is_past-is_past.ensures;
       },
     )

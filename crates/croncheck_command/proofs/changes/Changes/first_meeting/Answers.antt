@@ -19,6 +19,12 @@ second_in-requires c =
     in_years me.start (get_or c.deref-change-items.result.now c.loop-change.change-index nothing)
     (told_at me.start me.items.items c.deref-change-items.result.now c.loop-change.change-index nothing c.deref-change-items.ensures.value me.all c.loop-change-test.true)
 
+pub fate_of-requires-clause-years : goal.fate_of-requires-clause-years
+fate_of-requires-clause-years c =
+    let me = c.args.self.now in
+    in_years me.start (get_or c.deref-change-items.result.now c.loop-change.change-index nothing)
+    (told_at me.start me.items.items c.deref-change-items.result.now c.loop-change.change-index nothing c.deref-change-items.ensures.value me.all c.loop-change-test.true)
+
 pub fate_of-requires-clause-told : goal.fate_of-requires-clause-told
 fate_of-requires-clause-told c =
     let me = c.args.self.now in

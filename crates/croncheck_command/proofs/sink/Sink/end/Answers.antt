@@ -10,5 +10,4 @@ returns g c =
       state_of g.W.Write.contents self.form self.progress c.end.new.output,
       (refl, refl, c.in_ok-end.ensures),
       (refl, refl, c.flush.ensures.kept),
-      refl,
     )

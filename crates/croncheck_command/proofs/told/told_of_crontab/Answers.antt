@@ -1,0 +1,19 @@
+use Rattle.std.proofs.Common.{ℤ, Option, refl, subst}
+use Rattle.croner.specs.Views.{job_of}
+use Rattle.crontab_runs.specs.Views.{cron_job_of}
+use Rattle.croncheck_command.specs.Runs.{starts_listed, IsListed}
+use Rattle.croncheck_command.specs.Settings.{start_of}
+use Rattle.croncheck_command.proofs.told.told_of_crontab.Goals as goal
+
+pub returns-clause-told : goal.returns-clause-told
+returns-clause-told c =
+    let s = c.args.settings.now in
+    let m = job_of c.args.job.now.cron in (
+      m,
+      refl,
+      record {
+        described = c.in_ok-description.ensures;
+        listed = subst (λ (last : Option ℤ). IsListed (starts_listed (cron_job_of c.args.job.now) (start_of s)) last s.listing c.in_ok-runs.runs) c.last.ensures c.in_ok-runs.ensures.listed;
+        past = c.is_past-is_past.ensures;
+      },
+    )
