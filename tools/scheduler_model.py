@@ -200,6 +200,9 @@ class Standing:
     def is_due(self, now):
         return isinstance(self.next, int) and self.next <= now
 
+    def is_stopped(self):
+        return isinstance(self.next, str)
+
 
 class Model:
     """Jobs by their ids, and nothing else. A call that searches is a generator, which waits for searches."""
@@ -216,33 +219,41 @@ class Model:
     def given_back(self, job):
         return [job.text, job.position]
 
+    def refused(self, error, pattern, second):
+        """Why a job isn't added, with what is handed back."""
+        return [error, [self.patterns[pattern], second]]
+
+    def told(self, answer, job):
+        """An answer of a call that may stop a job, which tells it."""
+        return [answer, "stopped"] if job.is_stopped() else answer
+
     def add(self, pattern, zone, second):
         if not self.zones[zone].holds(second):
             return "no such second"
         if self.next_id == LAST_ID:
-            return "NoIdLeft"
+            return self.refused("NoIdLeft", pattern, second)
         job = yield from self.standing(pattern, zone, second)
         self.next_id += 1
         self.jobs[self.next_id - 1] = job
-        return self.next_id - 1
+        return self.told(self.next_id - 1, job)
 
     def add_from(self, pattern, zone, second):
         if not self.zones[zone].holds(second):
             return "no such second"
         if self.next_id == LAST_ID:
-            return "NoIdLeft"
+            return self.refused("NoIdLeft", pattern, second)
         if not self.zones[zone].holds(second - 1):
-            return "SecondBeforeNotHeld"
+            return self.refused("SecondBeforeNotHeld", pattern, second)
         return (yield from self.add(pattern, zone, second - 1))
 
     def replace(self, key, pattern, zone, second):
         if not self.zones[zone].holds(second):
             return "no such second"
         if key not in self.jobs:
-            return None
+            return self.refused("NoJob", pattern, second)
         job = self.jobs[key]
         self.jobs[key] = yield from self.standing(pattern, zone, second)
-        return self.given_back(job)
+        return self.told(self.given_back(job), self.jobs[key])
 
     def remove(self, key):
         job = self.jobs.pop(key, None)
@@ -261,7 +272,7 @@ class Model:
             return last
         job.position = last if isinstance(last, int) and job.next < last <= now else job.next
         yield from job.search(self.searches)
-        return job.position
+        return self.told(job.position, job)
 
     def skip_to(self, key, now):
         job = self.jobs.get(key)
@@ -274,14 +285,14 @@ class Model:
         job.position = now
         if not isinstance(job.next, int) or job.next <= now:
             yield from job.search(self.searches)
-        return "Moved"
+        return self.told("Moved", job)
 
     def ask_again(self, key):
         job = self.jobs.get(key)
-        if job is None or not isinstance(job.next, str):
-            return False
+        if job is None or not job.is_stopped():
+            return "NotStopped"
         yield from job.search(self.searches)
-        return True
+        return "StillStopped" if job.is_stopped() else "GoesOn"
 
     def take_due(self, now, most):
         given = []
@@ -292,7 +303,7 @@ class Model:
             second, key = min(due)
             self.jobs[key].position = second
             yield from self.jobs[key].search(self.searches)
-            given.append([key, second])
+            given.append(self.told([key, second], self.jobs[key]))
         return given
 
     def next_wake_up(self):
@@ -444,7 +455,7 @@ class List:
     def runs(self):
         """How many runs were given."""
         given = [answer for call, answer in zip(self.calls, self.answers) if call[0] == "take_due"]
-        latest = [answer for call, answer in zip(self.calls, self.answers) if call[0] == "take_latest_due" and isinstance(answer, int)]
+        latest = [answer for call, answer in zip(self.calls, self.answers) if call[0] == "take_latest_due" and not isinstance(answer, str)]
         return sum(map(len, given)) + len(latest)
 
 

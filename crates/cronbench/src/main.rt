@@ -2,7 +2,7 @@
 //!
 //! Its word is the number of rounds, one where there is none. Each group of calls is measured so often. Standard output
 //! has the answers' sum of each group, the same in every run; standard error has the nanoseconds of processor time of one
-//! call, in the fastest round.
+//! call, in the fastest round. Where no pattern stands on standard input, standard error says so, and nothing is measured.
 //!
 //! With the word `memory` each line of standard input is a case of calls that ask for memory, and is answered.
 #![tactic(auto)]
@@ -35,6 +35,8 @@ use subjects::Subjects;
 /// The status where the words are not of their form.
 const MISUSED: u8 = 2;
 
+const NO_PATTERN: &str = "No pattern stands on standard input: nothing is measured.";
+
 const USAGE: &str = "usage: cronbench [ROUNDS] < PATTERNS\n       cronbench memory < CASES";
 
 fn show(rt: &HostRuntime, group: &str, measured: Measured) -> io::Result<()> {
@@ -49,14 +51,20 @@ fn show(rt: &HostRuntime, group: &str, measured: Measured) -> io::Result<()> {
     }
 }
 
-// Measures each group, and shows what it answered and took.
+// Measures each group, and shows what it answered and took, where there is a pattern.
 fn bench(rt: &HostRuntime, rounds: u32) -> Result<bool> {
-    let clocks = Clocks::new(rt.alloc())?;
-    bench_by(rt, &clocks, rounds)
+    let patterns = given::patterns(rt)?;
+    if patterns.is_empty() {
+        eprintln!(rt; "{NO_PATTERN}")?;
+        Ok(true)
+    } else {
+        bench_by(rt, patterns, rounds)
+    }
 }
 
-fn bench_by(rt: &HostRuntime, clocks: &Clocks, rounds: u32) -> Result<bool> {
-    let subjects = Subjects::new(rt.alloc(), given::patterns(rt)?, clocks)?;
+fn bench_by(rt: &HostRuntime, patterns: Vec<String>, rounds: u32) -> Result<bool> {
+    let clocks = Clocks::new(rt.alloc())?;
+    let subjects = Subjects::new(rt.alloc(), patterns, &clocks)?;
     bench_on(rt, &subjects, rounds)
 }
 

@@ -91,10 +91,17 @@ fn daily(alloc: Global, job: u32) -> Result<Cron, CronError> {
 fn keep<'t>(scheduler: &mut Jobs<'t>, job: Cron, start: TableTime<'t>) -> Result<(), CronError> {
     match scheduler.add(job, start) {
         Ok(_) => Ok(()),
-        Err(AddError::OutOfMemory) => Err(CronError::OutOfMemory),
-        Err(AddError::NoIdLeft | AddError::PositionNotHeld | AddError::SecondBeforeNotHeld) => Err(
-            CronError::InvalidTime,
-        ),
+        Err(refused) => Err(error_of(AddError::from(refused))),
+    }
+}
+
+fn error_of(error: AddError) -> CronError {
+    match error {
+        AddError::OutOfMemory => CronError::OutOfMemory,
+        AddError::NoIdLeft
+        | AddError::PositionNotHeld
+        | AddError::SecondBeforeNotHeld
+        | AddError::NoJob => CronError::InvalidTime,
     }
 }
 

@@ -2,7 +2,9 @@
 
 use crate::{Caller, Fault, Job, Result, items, number, number_at, parts, shown, word};
 use croner::{Clocked, Cron};
-use croner_scheduler::{AddError, Due, Latest, Scheduler, Skip, Stop, Waiting};
+use croner_scheduler::{
+    AddError, Again, Due, Latest, NotAdded, Replaced, Scheduler, Skip, Stop, Waiting,
+};
 use serde_json::Value;
 use std::alloc::{AllocError, Global};
 
@@ -109,8 +111,8 @@ fn add<T: Clocked>(
     };
     caller.end();
     match added {
-        Ok(id) => Ok(Value::from(id)),
-        Err(refusal) => not_added(caller.alloc, refusal),
+        Ok(added) => marked(caller.alloc, Value::from(added.id), added.is_stopped),
+        Err(refused) => not_added(caller.alloc, refused),
     }
 }
 
@@ -130,8 +132,8 @@ fn replace<T: Clocked>(
     let replaced = scheduler.replace(id, job, position);
     caller.end();
     match replaced {
-        Ok(out) => given_back(caller.alloc, out),
-        Err(refusal) => not_added(caller.alloc, refusal),
+        Ok(out) => put_in_place(caller.alloc, out),
+        Err(refused) => not_added(caller.alloc, refused),
     }
 }
 
@@ -145,7 +147,10 @@ fn remove<T: Clocked>(
     caller.begin();
     let out = scheduler.remove(id);
     caller.end();
-    given_back(caller.alloc, out)
+    match out {
+        Some((job, position)) => given_back(caller.alloc, &job, &position),
+        None => Ok(Value::Null),
+    }
 }
 
 fn skip_to<T: Clocked>(
@@ -158,7 +163,7 @@ fn skip_to<T: Clocked>(
     caller.begin();
     let skipped = scheduler.skip_to(id, now);
     caller.end();
-    shown::text(caller.alloc, skip_name(skipped?))
+    shown_skip(caller.alloc, skipped?)
 }
 
 fn ask_again<T: Clocked>(
@@ -171,7 +176,7 @@ fn ask_again<T: Clocked>(
     caller.begin();
     let asked = scheduler.ask_again(id);
     caller.end();
-    Ok(Value::Bool(asked?))
+    shown::text(caller.alloc, again_name(asked?))
 }
 
 // At most so many runs, up to the first call that gives none.
@@ -219,7 +224,7 @@ fn take_latest_due<T: Clocked>(
 // The second of a run, or why there is none.
 fn shown_latest(alloc: Global, latest: Latest) -> Result<Value> {
     match latest {
-        Latest::Given(second) => Ok(Value::from(second)),
+        Latest::Given { second, is_stopped } => marked(alloc, Value::from(second), is_stopped),
         Latest::NothingDue => shown::text(alloc, "NothingDue"),
         Latest::NoJob => shown::text(alloc, "NoJob"),
         Latest::NotHeld => shown::text(alloc, "NotHeld"),
@@ -265,27 +270,46 @@ fn what_comes_next<T: Clocked>(alloc: Global, waiting: &Waiting<Cron, T>) -> Res
     }
 }
 
-// A job that is given back, as its text, and its position; or null.
-fn given_back<T: Clocked>(alloc: Global, out: Option<(Cron, T)>) -> Result<Value> {
-    match out {
-        Some((job, position)) => {
-            let text = shown::text(alloc, job.as_str())?;
-            shown::pair(alloc, text, Value::from(position.second()))
-        }
-        None => Ok(Value::Null),
-    }
+// A job that is given back, as its text, and its position.
+fn given_back<T: Clocked>(alloc: Global, job: &Cron, position: &T) -> Result<Value> {
+    let text = shown::text(alloc, job.as_str())?;
+    shown::pair(alloc, text, Value::from(position.second()))
+}
+
+fn put_in_place<T: Clocked>(alloc: Global, out: Replaced<Cron, T>) -> Result<Value> {
+    let given = given_back(alloc, &out.job, &out.position)?;
+    marked(alloc, given, out.is_stopped)
 }
 
 fn shown_due(alloc: Global, due: Due) -> Result<Value> {
-    shown::pair(alloc, Value::from(due.id), Value::from(due.second))
+    let run = shown::pair(alloc, Value::from(due.id), Value::from(due.second))?;
+    marked(alloc, run, due.is_stopped)
 }
 
-fn not_added(alloc: Global, refusal: AddError) -> Result<Value> {
-    match refusal {
+// An answer; and where it tells that its job is stopped, that beside it.
+fn marked(alloc: Global, answer: Value, is_stopped: bool) -> Result<Value> {
+    if is_stopped {
+        let stopped = shown::text(alloc, "stopped")?;
+        shown::pair(alloc, answer, stopped)
+    } else {
+        Ok(answer)
+    }
+}
+
+// Why a job isn't added, and the job and its position as they were handed back.
+fn not_added<T: Clocked>(alloc: Global, refused: NotAdded<Cron, T>) -> Result<Value> {
+    let error = shown::text(alloc, error_name(&refused.error)?)?;
+    let given = given_back(alloc, &refused.job, &refused.position)?;
+    shown::pair(alloc, error, given)
+}
+
+fn error_name(error: &AddError) -> Result<&'static str> {
+    match error {
         AddError::OutOfMemory => Err(Fault::OutOfMemory),
-        AddError::NoIdLeft => shown::text(alloc, "NoIdLeft"),
-        AddError::PositionNotHeld => shown::text(alloc, "PositionNotHeld"),
-        AddError::SecondBeforeNotHeld => shown::text(alloc, "SecondBeforeNotHeld"),
+        AddError::NoIdLeft => Ok("NoIdLeft"),
+        AddError::PositionNotHeld => Ok("PositionNotHeld"),
+        AddError::SecondBeforeNotHeld => Ok("SecondBeforeNotHeld"),
+        AddError::NoJob => Ok("NoJob"),
     }
 }
 
@@ -294,12 +318,21 @@ fn no_second(alloc: Global) -> Result<Value> {
     shown::text(alloc, "no such second")
 }
 
-fn skip_name(skip: Skip) -> &'static str {
-    match skip {
-        Skip::Moved => "Moved",
-        Skip::AlreadyThere => "AlreadyThere",
-        Skip::NoJob => "NoJob",
-        Skip::NotHeld => "NotHeld",
+fn shown_skip(alloc: Global, skip: Skip) -> Result<Value> {
+    let (name, is_stopped) = match skip {
+        Skip::Moved { is_stopped } => ("Moved", is_stopped),
+        Skip::AlreadyThere => ("AlreadyThere", false),
+        Skip::NoJob => ("NoJob", false),
+        Skip::NotHeld => ("NotHeld", false),
+    };
+    marked(alloc, shown::text(alloc, name)?, is_stopped)
+}
+
+fn again_name(again: Again) -> &'static str {
+    match again {
+        Again::GoesOn => "GoesOn",
+        Again::StillStopped => "StillStopped",
+        Again::NotStopped => "NotStopped",
     }
 }
 
