@@ -8,8 +8,10 @@ use Rattle.croner_base.specs.declared.time.civil.CivilDate.{CivilDate}
 use Rattle.croner_base.specs.declared.time.civil.CivilDateTime.{CivilDateTime}
 use Rattle.croner_examples.specs.declared.interval.Interval.{Interval}
 use Rattle.croner_examples.specs.declared.plan.Plan.{Plan}
-use Rattle.croner_examples.specs.declared.plan.Plan.TheVariants.{ByPattern, OnWorkdays, AtIntervals}
+use Rattle.croner_examples.specs.declared.plan.Plan.TheVariants.{ByPattern, AsCron, OnWorkdays, AtIntervals}
 use Rattle.croner_examples.specs.declared.workdays.Workdays.{Workdays}
+use Rattle.crontab_runs.specs.Starts.{Starts}
+use Rattle.crontab_runs.specs.Views.{cron_job_of}
 
 -- the wall second lies on a date of the list
 abbrev pub IsOn : List CivilDate → ℤ → Type 0
@@ -32,5 +34,6 @@ pub record IntervalRun (interval : Interval) (z : Zone) (i : ℤ) : Type 0 where
 -- the runs of each kind of plan
 abbrev pub plan_runs : Plan → Zone → ℤ → Type 0
 plan_runs (ByPattern cron) = runs_of (job_of cron)
+plan_runs (AsCron job) = Starts (cron_job_of job)
 plan_runs (OnWorkdays workdays) = workday_runs workdays
 plan_runs (AtIntervals interval) = IntervalRun interval

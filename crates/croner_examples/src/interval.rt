@@ -77,13 +77,13 @@ impl Interval {
     }
 }
 
-impl Recurring for Interval {
+impl<T: Clocked> Recurring<T> for Interval {
     ghost use Rattle.croner_examples.specs.Plans.{IntervalRun};
 
     ghost runs = { IntervalRun };
 
     #[tactic(auto, using(crate::proofs::Intervals::found_after))]
-    fn next_after<T: Clocked>(&self, after: &T) -> Result<T, CronError> {
+    fn next_after(&self, after: &T) -> Result<T, CronError> {
         match self.second_after(after.second()) {
             Some(second) => self.run_at(after, second),
             None => Err(CronError::TimeSearchLimitExceeded),
@@ -91,7 +91,7 @@ impl Recurring for Interval {
     }
 
     #[tactic(auto, using(crate::proofs::Intervals::found_until, crate::proofs::Intervals::none_before))]
-    fn last_until<T: Clocked>(&self, until: &T) -> Result<T, CronError> {
+    fn last_until(&self, until: &T) -> Result<T, CronError> {
         match self.second_until(until.second()) {
             Some(second) => self.run_at(until, second),
             None => Err(CronError::TimeSearchLimitExceeded),

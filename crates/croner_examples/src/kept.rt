@@ -5,7 +5,6 @@
 use crate::scheduler::{Task, start_next};
 use croner::{Clocked, Recurring};
 use croner_scheduler::Scheduler;
-use jiff::Zoned;
 use serde_json::{Map, Value};
 use std::alloc::{AllocError, Global};
 use std::fs;
@@ -13,9 +12,9 @@ use std::fs::File;
 use std::io::{ErrorKind, Write};
 
 // The position of each job by its name, in seconds since 1970.
-fn positions<J: Recurring>(
+fn positions<J: Recurring<T>, T: Clocked>(
     alloc: Global,
-    scheduler: &Scheduler<Task<J>, Zoned<'_>>,
+    scheduler: &Scheduler<Task<J>, T>,
 ) -> Result<Value, AllocError> {
     let mut positions = Map::new(alloc);
     for (_id, job) in scheduler.iter() {
@@ -26,9 +25,9 @@ fn positions<J: Recurring>(
 }
 
 /// Writes the positions beside the file, which is then put in its place: whenever the program is killed, the file is whole.
-pub fn keep<J: Recurring>(
+pub fn keep<J: Recurring<T>, T: Clocked>(
     rt: &HostRuntime,
-    scheduler: &Scheduler<Task<J>, Zoned<'_>>,
+    scheduler: &Scheduler<Task<J>, T>,
     path: &str,
 ) -> anyhow::Result<()> {
     let text = positions(rt.alloc(), scheduler)?.to_string(rt.alloc())?;
@@ -50,15 +49,15 @@ pub fn kept_in(rt: &HostRuntime, path: &str) -> anyhow::Result<Value> {
 }
 
 /// Where a job is added: at its position, if that was kept, else at `now`. None where the zone doesn't hold the position.
-pub fn position_of<'z>(kept: &Value, name: &str, now: &Zoned<'z>) -> Option<Zoned<'z>> {
+pub fn position_of<T: Clocked>(kept: &Value, name: &str, now: &T) -> Option<T> {
     let second = kept.get(name).and_then(Value::as_i64);
     now.at_second(second.unwrap_or(Clocked::second(now)))
 }
 
 /// Starts what is due up to a second, in order of time, and keeps the positions after each run.
-pub fn start_and_keep<J: Recurring>(
+pub fn start_and_keep<J: Recurring<T>, T: Clocked>(
     rt: &HostRuntime,
-    scheduler: &mut Scheduler<Task<J>, Zoned<'_>>,
+    scheduler: &mut Scheduler<Task<J>, T>,
     now: i64,
     path: &str,
 ) -> anyhow::Result<()> {

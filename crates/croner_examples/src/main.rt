@@ -93,7 +93,7 @@ fn add<'z>(
 ) -> anyhow::Result<u64> {
     let when = Cron::from_str(rt.alloc(), pattern)?;
     let name = String::from_str(rt.alloc(), name)?;
-    Ok(scheduler.add(Task { name, when }, position)?)
+    Ok(scheduler.add(Task { name, when }, position)?.id)
 }
 
 // Jobs of two zones, which come and go.

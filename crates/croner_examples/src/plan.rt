@@ -1,36 +1,42 @@
-//! Three kinds of jobs for one scheduler.
+//! Four kinds of jobs for one scheduler.
 use crate::interval::Interval;
 use crate::workdays::Workdays;
 use croner::errors::CronError;
-use croner::{Clocked, Cron, Recurring};
+use croner::time::table::TableTime;
+use croner::{Cron, Recurring};
+use crontab_runs::CrontabJob;
 
 /// When a job runs.
 #[derive(Debug, Drop)]
 pub enum Plan {
     /// By a pattern.
     ByPattern(Cron),
+    /// When Debian's cron starts a line of a crontab.
+    AsCron(CrontabJob),
     /// By a pattern, but not on some dates.
     OnWorkdays(Workdays),
     /// Again and again after the same time.
     AtIntervals(Interval),
 }
 
-impl Recurring for Plan {
+impl<'t> Recurring<TableTime<'t>> for Plan {
     ghost use Rattle.croner_examples.specs.Plans.{plan_runs};
 
     ghost runs = { plan_runs };
 
-    fn next_after<T: Clocked>(&self, after: &T) -> Result<T, CronError> {
+    fn next_after(&self, after: &TableTime<'t>) -> Result<TableTime<'t>, CronError> {
         match self {
             Plan::ByPattern(cron) => cron.next_after(after),
+            Plan::AsCron(job) => Recurring::next_after(job, after),
             Plan::OnWorkdays(workdays) => workdays.next_after(after),
             Plan::AtIntervals(interval) => interval.next_after(after),
         }
     }
 
-    fn last_until<T: Clocked>(&self, until: &T) -> Result<T, CronError> {
+    fn last_until(&self, until: &TableTime<'t>) -> Result<TableTime<'t>, CronError> {
         match self {
             Plan::ByPattern(cron) => cron.last_until(until),
+            Plan::AsCron(job) => Recurring::last_until(job, until),
             Plan::OnWorkdays(workdays) => workdays.last_until(until),
             Plan::AtIntervals(interval) => interval.last_until(until),
         }

@@ -2,7 +2,6 @@
 use croner::errors::CronError;
 use croner::{Clocked, Recurring};
 use croner_scheduler::Scheduler;
-use jiff::Zoned;
 
 /// What a job starts, and when it runs.
 #[derive(Debug, Drop)]
@@ -12,29 +11,29 @@ pub struct Task<J> {
 }
 
 /// Its runs are those of what says when it runs.
-impl<J: Recurring> Recurring for Task<J> {
+impl<J: Recurring<T>, T: Clocked> Recurring<T> for Task<J> {
     ghost runs = { λ task. J.runs task.when };
 
-    fn next_after<T: Clocked>(&self, after: &T) -> Result<T, CronError> {
+    fn next_after(&self, after: &T) -> Result<T, CronError> {
         self.when.next_after(after)
     }
 
-    fn last_until<T: Clocked>(&self, until: &T) -> Result<T, CronError> {
+    fn last_until(&self, until: &T) -> Result<T, CronError> {
         self.when.last_until(until)
     }
 }
 
 /// Starts the first run that is due up to a second; whether there was one.
-pub fn start_next<J: Recurring>(
+pub fn start_next<J: Recurring<T>, T: Clocked>(
     rt: &HostRuntime,
-    scheduler: &mut Scheduler<Task<J>, Zoned<'_>>,
+    scheduler: &mut Scheduler<Task<J>, T>,
     now: i64,
 ) -> anyhow::Result<bool> {
     let Some(due) = scheduler.take_due(now)? else {
         return Ok(false);
     };
     if let Some(job) = scheduler.get(due.id) {
-        println!(rt; "{}: {}", job.job().name, job.position())?; // here it would be started
+        println!(rt; "{}: {}", job.job().name, job.position().to_civil())?; // here it would be started
         if let Some(stop) = job.stop() {
             eprintln!(rt; "{} is stopped: {stop:?}", job.job().name)?;
         }
@@ -43,9 +42,9 @@ pub fn start_next<J: Recurring>(
 }
 
 /// Starts what is due up to a second, in order of time. Gives the second at which to call again; none where no run is left.
-pub fn start_due<J: Recurring>(
+pub fn start_due<J: Recurring<T>, T: Clocked>(
     rt: &HostRuntime,
-    scheduler: &mut Scheduler<Task<J>, Zoned<'_>>,
+    scheduler: &mut Scheduler<Task<J>, T>,
     now: i64,
 ) -> anyhow::Result<Option<i64>> {
     for _run in 0..u64::MAX {

@@ -75,19 +75,19 @@ fn is_beyond(direction: Direction, from: i64, second: i64) -> bool
     }
 }
 
-impl Recurring for Workdays {
+impl<T: Clocked> Recurring<T> for Workdays {
     ghost use Rattle.croner_examples.specs.Plans.{workday_runs};
 
     ghost runs = { workday_runs };
 
-    fn next_after<T: Clocked>(&self, after: &T) -> Result<T, CronError> {
+    fn next_after(&self, after: &T) -> Result<T, CronError> {
         match self.cron.next_after(after) {
             Ok(first) => self.pass_over(first, Direction::Forward),
             Err(refusal) => Err(refusal),
         }
     }
 
-    fn last_until<T: Clocked>(&self, until: &T) -> Result<T, CronError> {
+    fn last_until(&self, until: &T) -> Result<T, CronError> {
         match self.cron.last_until(until) {
             Ok(first) => self.pass_over(first, Direction::Backward),
             Err(refusal) => Err(refusal),
