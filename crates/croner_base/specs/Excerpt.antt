@@ -9,11 +9,13 @@ use Rattle.std.specs.Str.{chars}
 abbrev pub excerpt_characters : ℕ
 excerpt_characters = 64
 
+-- the most of each of two: of a part, and of a piece of it
 abbrev pub half_excerpt_characters : ℕ
 half_excerpt_characters = 32
 
 -- ---- characters that nobody sees
 
+-- a number from one to another
 abbrev pub is_among : ℕ → ℕ → ℕ → Bool
 is_among first last c = nat_le first c && nat_le c last
 
@@ -40,6 +42,7 @@ has_no_width c =
 abbrev pub has_no_width_above : ℕ → Bool
 has_no_width_above c = is_among 0x1bca0 0x1bca3 c || (is_among 0x1d173 0x1d17a c || is_among 0xe0000 0xe0fff c)
 
+-- nobody sees the character
 abbrev pub is_unseen : ℕ → Bool
 is_unseen c = is_control c || (ends_a_line c || (turns_round c || (has_no_width c || has_no_width_above c)))
 
@@ -54,6 +57,7 @@ shown c =
     else if is_unseen c then codes "\\u{" ++ (digits 16 false c ++ codes "}")
     else encode_utf8 c
 
+-- the characters as a message repeats them
 abbrev pub all_shown : List ℕ → List ℕ
 all_shown cs = flat_map shown cs
 

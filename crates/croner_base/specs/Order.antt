@@ -5,6 +5,7 @@ use Rattle.std.specs.Cmp.{IsTotalOrder, on_total, then_total, nat_cmp_total, boo
 use Rattle.std.specs.Cmp.Lexicographic.{slice_cmp, lists_total}
 use Rattle.croner_base.specs.Field.{Field}
 
+-- by the marks from value 0 on, minimum, maximum, step, star, supported modifiers, enabled features, offset, sloppiness
 abbrev pub field_cmp : Field → Field → Ordering
 field_cmp =
     then_cmp (then_cmp (then_cmp (then_cmp (then_cmp (then_cmp (then_cmp (then_cmp (on (λ f. f.marks) (slice_cmp nat_cmp))

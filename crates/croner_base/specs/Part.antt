@@ -42,12 +42,15 @@ abbrev pub all_marked : Shape → ℕ → List ℕ → Reading
 all_marked f bits [] = nothing
 all_marked f bits (v ∷ vs) = marked f bits v then all_marked f bits vs
 
+-- a feature is enabled, where it is supported
 abbrev pub enabled : Shape → ℕ → Reading
 enabled f bits = wants (has_all f.supported bits) (did (enables bits))
 
+-- a text has this byte
 abbrev pub contains_byte : ℕ → List ℕ → Bool
 contains_byte c text = list_any (λ b. b == c) text
 
+-- the texts between the bytes of this value
 abbrev pub pieces_at : ℕ → List ℕ → List (List ℕ)
 pieces_at c text = slice_split (λ b. b == c) text
 
@@ -56,6 +59,7 @@ abbrev pub two_of : List (List ℕ) → Option (List ℕ × List ℕ)
 two_of (a ∷ b ∷ []) = Some (a, b)
 two_of other = None
 
+-- the text ends in an L, in capitals or small
 abbrev pub ends_in_l : List ℕ → Bool
 ends_in_l text = slice_index text (length text - 1) == letter_l
 
@@ -69,6 +73,7 @@ tag_of part =
     else if contains_byte hash part then option_and_then nth_bit (number_of (after_first (λ b. b == hash) part))
     else Some plain_bit
 
+-- the text in front of the first `#`
 abbrev pub head_of : List ℕ → List ℕ
 head_of part = before_first (λ b. b == hash) part
 
@@ -112,6 +117,7 @@ stepped_by f left step tag =
     then (if is_starred f left then did stars else nothing)
     then stepped_from f left step tag
 
+-- a part with `/`: its modifier, one `/`, a step, and what stands on its left
 abbrev pub stepping : Shape → List ℕ → Reading
 stepping f part =
     with (tag_of part) (λ tag.
@@ -119,6 +125,7 @@ stepping f part =
     with (number_of sides.1) (λ step.
     stepped_by f sides.0 step tag)))
 
+-- a part with `-`: each value from one number to another
 abbrev pub ranged : Shape → List ℕ → Reading
 ranged f part =
     with (tag_of part) (λ tag.
@@ -132,6 +139,7 @@ ranged f part =
 abbrev pub is_letter_l : List ℕ → Bool
 is_letter_l text = bytes_eq text (codes "L") || bytes_eq text (codes "l")
 
+-- a part with `W`: the Monday-to-Friday day nearest to a number
 abbrev pub nearest_weekday : Shape → List ℕ → Reading
 nearest_weekday f part =
     let day = before_first (λ b. b == letter_w) part in
@@ -141,6 +149,7 @@ nearest_weekday f part =
 abbrev pub single : Shape → ℕ → List ℕ → Reading
 single f tag head = with (number_of head) (λ n. wants (is_in_bounds f n) (marked f tag n))
 
+-- a part that is a number with its modifier
 abbrev pub one_number : Shape → List ℕ → Reading
 one_number f part =
     wants (not (contains_byte hash part || contains_byte letter_l part) || has_all f.supported nth_bits)
@@ -148,6 +157,7 @@ one_number f part =
     then single f last_bit (before_first (λ b. b == letter_l) part)
     else with (tag_of part) (λ tag. single f tag (head_of part)))
 
+-- a part, by the first of `/`, `-` and `W` that it has; else a lone `L`, or a number
 abbrev pub part_of : Shape → List ℕ → Reading
 part_of f part =
     if contains_byte slash part then stepping f part

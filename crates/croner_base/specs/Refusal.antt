@@ -3,6 +3,7 @@ use Rattle.std.specs.Prelude.{ℕ, List, ◌++◌, codes, string_bytes}
 use Rattle.croner_base.specs.declared.errors.CronError.{CronError}
 use Rattle.croner_base.specs.declared.errors.CronError.TheVariants.{EmptyPattern, InvalidDate, InvalidTime, TimeSearchLimitExceeded, InvalidPattern, IllegalCharacters, ComponentError, OutOfMemory}
 
+-- the text of each error
 abbrev pub text_of : CronError → List ℕ
 text_of EmptyPattern = codes "CronPattern cannot be an empty string."
 text_of InvalidDate = codes "CronScheduler encountered an invalid date."

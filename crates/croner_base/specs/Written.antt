@@ -28,6 +28,7 @@ unfoldable pub sets_writes : List ℕ → ℕ → ℕ → List (List ℕ)
 sets_writes marks max supported =
     flat_map (λ k. if bit_at supported k == 1 then set_writes marks ((room max + 63) / 64) k else []) (range_with_len 0 8)
 
+-- what a field's hash is made of
 abbrev pub field_writes : Field → List (List ℕ)
 field_writes f =
     sets_writes f.marks f.shape.max f.shape.supported ++ fed.u16 f.shape.min ++ fed.u16 f.shape.max ++ fed.u16 f.step ++ fed.bool f.wildcard ++ fed.u8 f.shape.supported ++ fed.u8 f.enabled ++ fed.u16 f.shape.offset ++ fed.bool f.shape.sloppy

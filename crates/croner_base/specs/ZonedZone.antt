@@ -23,6 +23,7 @@ use Rattle.croner_base.specs.Limits.{year_limit}
 abbrev pub first_timestamp : ℤ
 first_timestamp = neg_ℤ (pos 377_705_023_201)
 
+-- the last of these
 abbrev pub last_timestamp : ℤ
 last_timestamp = pos 253_402_207_200
 

@@ -2,12 +2,15 @@
 use Rattle.std.specs.Prelude.{ℕ, ◌+◌, ◌-◌, ◌%◌, Bool, not, ◌&&◌, ◌||◌, ◌==◌, nat_lt, nat_le, List, count_by, if◌then◌else◌}
 use Rattle.std.specs.List.{list_all, range_with_len}
 
+-- the days of a month, from 1 to its length
 abbrev pub days_of : ℕ → List ℕ
 days_of len = range_with_len 1 len
 
+-- the weekday of a day, 0 for Sunday
 abbrev pub weekday_of : ℕ → ℕ → ℕ
 weekday_of first day = (first + (day - 1)) % 7
 
+-- Monday to Friday
 abbrev pub is_working : ℕ → ℕ → Bool
 is_working first day = not (weekday_of first day == 0) && not (weekday_of first day == 6)
 
@@ -27,6 +30,7 @@ is_last_day len day = list_all (λ other. nat_le other day) (days_of len)
 abbrev pub is_last_working : ℕ → ℕ → ℕ → Bool
 is_last_working len first day = is_working first day && list_all (λ other. nat_le other day || not (is_working first other)) (days_of len)
 
+-- how many days lie between two
 abbrev pub distance : ℕ → ℕ → ℕ
 distance a b = (a - b) + (b - a)
 

@@ -57,9 +57,11 @@ items_of streak =
     if nat_le (streak.first + 2) streak.last then (range streak.first streak.last ∷ [])
     else map number (values_between streak.first streak.last)
 
+-- ascending values as items: three or more in a row are a range
 abbrev pub number_items : List ℕ → List Item
 number_items values = flat_map items_of (streaks_of values)
 
+-- an item in digits
 abbrev pub item_text : Item → List ℕ
 item_text (number n) = decimal n
 item_text (range a b) = decimal a ++ (codes "-" ++ decimal b)

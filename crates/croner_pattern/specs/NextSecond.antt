@@ -48,6 +48,7 @@ pub record IsMove (m : Meaning) (from t : CivilTime) : Type 0 where
   pub hour : is_plain m.hours from.hour ≡ true → t.hour ≡ from.hour
   pub minute : t.hour ≡ from.hour → is_plain m.minutes from.minute ≡ true → t.minute ≡ from.minute
 
+-- the date and time is scheduled
 abbrev pub IsOnSchedule : Meaning → CivilDateTime → Type 0
 IsOnSchedule m c = is_scheduled m c ≡ true
 

@@ -43,6 +43,7 @@ last_target len day = if nat_lt (day + 2) len then (day + 2) else len
 abbrev pub near_answer : Field → ℕ → ℕ → ℕ → ℕ → Option Bool
 near_answer days len first day target = and_test (is_nearest len first target day) (asked nearest_bit days target)
 
+-- whether the day is nearest to one of the targets
 abbrev pub near_answers : Field → ℕ → ℕ → ℕ → Option Bool
 near_answers days len first day =
     first_yes (map (near_answer days len first day) (values_between (first_target day) (last_target len day)))
@@ -74,6 +75,7 @@ both_answers join None weekday = None
 both_answers join (Some day) None = None
 both_answers join (Some day) (Some weekday) = Some (join day weekday)
 
+-- whether the day fits, by the questions that its two day fields are asked
 abbrev pub date_answer : Meaning → ℕ → ℕ → ℕ → Option Bool
 date_answer m len first day =
     both_answers (are_joined m.star_day m.star_weekday m.and) (day_answer m.days len first day) (weekday_answer m.days_of_week len first day)
@@ -100,10 +102,12 @@ abbrev pub can_search : Direction → Field → ℕ → Bool
 can_search Forward f value = can_ask f.shape value plain_bit
 can_search Backward f value = nat_le value f.shape.max && can_ask f.shape f.shape.max plain_bit
 
+-- such a field is there, and can be searched from the value
 abbrev pub can_find : Direction → Option Field → ℕ → Bool
 can_find direction None value = false
 can_find direction (Some f) value = can_search direction f value
 
+-- the search found the nearest member of such a field
 abbrev pub FindsMember : Direction → Option Field → ℕ → Option ℕ → Type 0
 FindsMember direction None value found = ⊥
 FindsMember direction (Some f) value found = IsNearestMember direction f value found

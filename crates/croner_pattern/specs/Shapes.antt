@@ -8,6 +8,7 @@ use Rattle.croner_pattern.specs.Meaning.{Meaning}
 abbrev pub sixty_shape : Shape
 sixty_shape = new_shape 0 59 0 0
 
+-- hours
 abbrev pub hour_shape : Shape
 hour_shape = new_shape 0 23 0 0
 
@@ -15,6 +16,7 @@ hour_shape = new_shape 0 23 0 0
 abbrev pub day_shape : Shape
 day_shape = new_shape 1 31 (bit_or last_bit nearest_bit) 0
 
+-- months
 abbrev pub month_shape : Shape
 month_shape = new_shape 1 12 0 0
 
@@ -23,6 +25,7 @@ month_shape = new_shape 1 12 0 0
 abbrev pub weekday_shape : ℕ → Shape
 weekday_shape offset = new_shape 0 7 (bit_or nth_bits last_bit) offset
 
+-- years
 abbrev pub year_shape : Shape
 year_shape = new_shape first_year last_year 0 0
 

@@ -14,6 +14,7 @@ abbrev pub meaning_writes : Meaning → List (List ℕ)
 meaning_writes m =
     field_writes m.seconds ++ field_writes m.minutes ++ field_writes m.hours ++ field_writes m.days ++ field_writes m.months ++ field_writes m.days_of_week ++ field_writes m.years ++ fed.bool m.star_day ++ fed.bool m.star_weekday ++ fed.bool m.and
 
+-- what a pattern's hash is made of: its meaning without the text
 abbrev pub pattern_writes : CronPattern → List (List ℕ)
 pattern_writes p = meaning_writes (meaning_of p)
 

@@ -9,12 +9,15 @@ suffix n =
     if nat_eq n 1 then codes "st"
     else (if nat_eq n 2 then codes "nd" else (if nat_eq n 3 then codes "rd" else codes "th"))
 
+-- a repetition past the hours in which it comes
 abbrev pub past : List ℕ → List ℕ → List ℕ
 past every hours = every ++ (codes " past " ++ hours)
 
+-- the hours in which something repeats
 abbrev pub past_hour : List ℕ → List ℕ
 past_hour hours = codes "hour " ++ hours
 
+-- every so many months
 abbrev pub every_months : ℕ → List ℕ
 every_months step = codes "every " ++ (decimal step ++ codes " months")
 
@@ -29,6 +32,7 @@ every_years year_phrase step = year_phrase (every_step step)
 abbrev pub with_year : List ℕ → List ℕ
 with_year years = codes "year " ++ years
 
+-- the words of English
 abbrev pub english : Wording
 english = record {
   every_minute = codes "Every minute";

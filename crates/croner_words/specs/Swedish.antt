@@ -39,6 +39,7 @@ ordinal n =
 abbrev pub every_so_many : ℕ → List ℕ → List ℕ
 every_so_many step thing = codes "var " ++ (decimal step ++ (codes ":e " ++ thing))
 
+-- the words of Swedish
 abbrev pub swedish : Wording
 swedish = record {
   every_minute = codes "Varje minut";

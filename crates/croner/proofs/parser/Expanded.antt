@@ -23,16 +23,16 @@ HasNoDigit (b ∷ bs) = (is_digit b ≡ false) × HasNoDigit bs
 
 -- ---- what stands for a name
 
-decimal_digits : (n : ℕ) → n < 20 → list_all is_digit (decimal_of n) ≡ true
+pub decimal_digits : (n : ℕ) → n < 20 → list_all is_digit (decimal_of n) ≡ true
 decimal_digits n h =
     cond_both (ltb n 10) ((48 + n) ∷ []) (49 ∷ (38 + n) ∷ []) (λ bs. list_all is_digit bs ≡ true)
     (λ small. let l = ltb-true n 10 small in and_from (is_digit (48 + n)) true (and_from (leb 48 (48 + n)) (leb (48 + n) 57) (le-leb 48 (48 + n) (omega arith)) (le-leb (48 + n) 57 (omega (arith, l)))) refl)
     (λ large. and_from (is_digit (38 + n)) true (and_from (leb 48 (38 + n)) (leb (38 + n) 57) (grind (arith, nat_tests, large)) (le-leb (38 + n) 57 (omega (arith, h)))) refl)
 
-decimal_some : (n : ℕ) → 0 < length (decimal_of n)
+pub decimal_some : (n : ℕ) → 0 < length (decimal_of n)
 decimal_some n = cond_both (ltb n 10) ((48 + n) ∷ []) (49 ∷ (38 + n) ∷ []) (λ bs. 0 < length bs) (λ _. omega arith) (λ _. omega arith)
 
-weekday_small : (quartz after_dash : Bool) (n : ℕ) → n < 7 → weekday_number quartz after_dash n < 20
+pub weekday_small : (quartz after_dash : Bool) (n : ℕ) → n < 7 → weekday_number quartz after_dash n < 20
 weekday_small true after_dash n h = omega (arith, h)
 weekday_small false after_dash n h = cond_both (after_dash && eqb n 0) 7 n (λ k. k < 20) (λ _. omega arith) (λ _. omega (arith, h))
 

@@ -63,7 +63,7 @@ pub same_fields : (text : List ℕ) (a1 a2 a3 a4 a5 a6 a7 b1 b2 b3 b4 b5 b6 b7 :
 same_fields text a1 a2 a3 a4 a5 a6 a7 b1 b2 b3 b4 b5 b6 b7 e1 e2 e3 e4 e5 e6 e7 = rw (e1, e2, e3, e4, e5, e6, e7) refl
 
 -- the first of seven tests that fails, where one does
-abbrev first_false : (a b c d e f : Bool) → PatternField
+abbrev pub first_false : (a b c d e f : Bool) → PatternField
 first_false a b c d e f =
     if not a then fields.Seconds else if not b then fields.Minutes else if not c then fields.Hours else if not d then fields.DayOfMonth
     else if not e then fields.Month else if not f then fields.Weekday else fields.Year
@@ -92,7 +92,7 @@ fails_6 a b c d e f g h1 h2 h3 h4 h5 h6 = rw (h1, h2, h3, h4, h5, h6) (refl, ref
 pub fails_7 : (a b c d e f g : Bool) → a ≡ true → b ≡ true → c ≡ true → d ≡ true → e ≡ true → f ≡ true → g ≡ false → FailsAt a b c d e f g fields.Year
 fails_7 a b c d e f g h1 h2 h3 h4 h5 h6 h7 = rw (h1, h2, h3, h4, h5, h6, h7) (refl, refl)
 
-all_hold : (a b c d e f g : Bool) → a ≡ true → b ≡ true → c ≡ true → d ≡ true → e ≡ true → f ≡ true → g ≡ true → (a && (b && (c && (d && (e && (f && g)))))) ≡ true
+pub all_hold : (a b c d e f g : Bool) → a ≡ true → b ≡ true → c ≡ true → d ≡ true → e ≡ true → f ≡ true → g ≡ true → (a && (b && (c && (d && (e && (f && g)))))) ≡ true
 all_hold a b c d e f g h1 h2 h3 h4 h5 h6 h7 =
     and_from a (b && (c && (d && (e && (f && g))))) h1
     (and_from b (c && (d && (e && (f && g)))) h2 (and_from c (d && (e && (f && g))) h3 (and_from d (e && (f && g)) h4 (and_from e (f && g) h5 (and_from f g h6 h7)))))

@@ -12,14 +12,14 @@ use Rattle.croner.specs.parser.Faults.{behind_name, from_illegal}
 use Rattle.croner.specs.parser.Grammar.{is_list_character, takes}
 use Rattle.croner.specs.Private.parser.Steps.{HasNoName, IsBehindLegal, IsBehindName}
 
-named : (field : PatternField) (text : List ℕ) (name : Piece) → name_of (take 3 text) ≡ Some name → 3 ≤ length text → from_illegal field text ≡ from_illegal field (drop 3 text)
+pub named : (field : PatternField) (text : List ℕ) (name : Piece) → name_of (take 3 text) ≡ Some name → 3 ≤ length text → from_illegal field text ≡ from_illegal field (drop 3 text)
 named field [] name e long = absurd (omega (arith, long))
 named field (a ∷ []) name e long = absurd (omega (arith, long))
 named field (a ∷ b ∷ []) name e long = absurd (omega (arith, long))
 named field (a ∷ b ∷ c ∷ rest) name e long =
     ap (λ p. behind_name p (cond (takes field a) (from_illegal field (b ∷ c ∷ rest)) (a ∷ b ∷ c ∷ rest)) (from_illegal field rest)) e
 
-unnamed : (field : PatternField) (a : ℕ) (rest : List ℕ) → HasNoName (a ∷ rest) → from_illegal field (a ∷ rest) ≡ cond (takes field a) (from_illegal field rest) (a ∷ rest)
+pub unnamed : (field : PatternField) (a : ℕ) (rest : List ℕ) → HasNoName (a ∷ rest) → from_illegal field (a ∷ rest) ≡ cond (takes field a) (from_illegal field rest) (a ∷ rest)
 unnamed field a [] h = refl
 unnamed field a (b ∷ []) h = refl
 unnamed field a (b ∷ c ∷ rest) h =

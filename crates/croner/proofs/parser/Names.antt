@@ -23,17 +23,17 @@ weekday_shown quartz after_dash name n number none e same small =
 
 -- ---- a name at the front
 
-cut_named : (t : List ℕ) (p : Piece) → 3 ≤ length t → name_of (take 3 t) ≡ Some p → cut_of t ≡ onto p (cut_of (drop 3 t))
+pub cut_named : (t : List ℕ) (p : Piece) → 3 ≤ length t → name_of (take 3 t) ≡ Some p → cut_of t ≡ onto p (cut_of (drop 3 t))
 cut_named [] p h e = absurd (omega (arith, h))
 cut_named (a ∷ []) p h e = absurd (omega (arith, h))
 cut_named (a ∷ b ∷ []) p h e = absurd (omega (arith, h))
 cut_named (a ∷ b ∷ c ∷ rest) p h e = ap (λ o. named o (alone a (cut_of (b ∷ c ∷ rest))) (cut_of rest)) e
 
-shown_onto : (quartz after_dash : Bool) (p : Piece) (o : Option (List Piece)) → option_map (expansion quartz after_dash) (onto p o) ≡ behind (shown quartz after_dash p) (option_map (expansion quartz (is_dash p)) o)
+pub shown_onto : (quartz after_dash : Bool) (p : Piece) (o : Option (List Piece)) → option_map (expansion quartz after_dash) (onto p o) ≡ behind (shown quartz after_dash p) (option_map (expansion quartz (is_dash p)) o)
 shown_onto quartz after_dash p None = refl
 shown_onto quartz after_dash p (Some ps) = refl
 
-behind_behind : (a b : List ℕ) (o : Option (List ℕ)) → behind a (behind b o) ≡ behind (a ++ b) o
+pub behind_behind : (a b : List ℕ) (o : Option (List ℕ)) → behind a (behind b o) ≡ behind (a ++ b) o
 behind_behind a b None = refl
 behind_behind a b (Some t) = ap Some (sym (append_assoc a b t))
 
@@ -120,7 +120,7 @@ pub replaced_lost : (quartz after_dash : Bool) (c : ℕ) (t : List ℕ) → HasN
 replaced_lost quartz after_dash c t h lost =
     ap (option_map (expansion quartz after_dash)) (cut_unnamed c t h ∙ ap (λ b. cond b None (onto (single c) (cut_of t))) lost)
 
-replaced_single : (quartz after_dash : Bool) (c : ℕ) (t : List ℕ) → HasNoName (c ∷ t) → is_lost c ≡ false → replaced quartz after_dash (c ∷ t) ≡ behind (c ∷ []) (replaced quartz (eqb c 45) t)
+pub replaced_single : (quartz after_dash : Bool) (c : ℕ) (t : List ℕ) → HasNoName (c ∷ t) → is_lost c ≡ false → replaced quartz after_dash (c ∷ t) ≡ behind (c ∷ []) (replaced quartz (eqb c 45) t)
 replaced_single quartz after_dash c t h kept =
     ap (option_map (expansion quartz after_dash)) (cut_unnamed c t h ∙ ap (λ b. cond b None (onto (single c) (cut_of t))) kept)
     ∙ shown_onto quartz after_dash (single c) (cut_of t)
@@ -142,7 +142,7 @@ high_kept c h = (grind (arith, nat_tests), grind (arith, nat_tests))
 abbrev pub AreHigh : List ℕ → Type 0
 AreHigh bs = (k : ℕ) → k < length bs → 128 ≤ get_or bs k 0
 
-replaced_high : (quartz after_dash : Bool) (b : ℕ) (bs t : List ℕ) → AreHigh (b ∷ bs) → replaced quartz after_dash ((b ∷ bs) ++ t) ≡ behind (b ∷ bs) (replaced quartz false t)
+pub replaced_high : (quartz after_dash : Bool) (b : ℕ) (bs t : List ℕ) → AreHigh (b ∷ bs) → replaced quartz after_dash ((b ∷ bs) ++ t) ≡ behind (b ∷ bs) (replaced quartz false t)
 replaced_high quartz after_dash b [] t h =
     let high = h 0 (omega arith) in
     let k = high_kept b high in

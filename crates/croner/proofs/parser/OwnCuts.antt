@@ -91,7 +91,7 @@ raised_high (b ∷ bs) h =
     let first = h 0 (omega arith) in
     ap (λ x. x ∷ str_to_ascii_uppercase bs) ((uppercase_is b).2 (omega (arith, first))) ∙ ap (λ xs. b ∷ xs) (raised_high bs (λ k l. h (suc k) (omega (arith, l))))
 
-raised_char : (c : ℕ) → str_to_ascii_uppercase (encode_utf8 c) ≡ encode_utf8 (to_ascii_uppercase c)
+pub raised_char : (c : ℕ) → str_to_ascii_uppercase (encode_utf8 c) ≡ encode_utf8 (to_ascii_uppercase c)
 raised_char c = elim (cases_lt c 128) [
   | inl small ↦ ap str_to_ascii_uppercase (encode_ascii c small) ∙ sym (encode_ascii (to_ascii_uppercase c) (uppercase_ascii c small))
   | inr high ↦ raised_high (encode_utf8 c) (high_bytes c high) ∙ ap encode_utf8 (sym ((uppercase_is c).2 (omega (arith, high))))

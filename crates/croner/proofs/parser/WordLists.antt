@@ -15,7 +15,7 @@ is_some_word w = ltb 0 (length w)
 
 -- ---- no other list
 
-split_encodes : (ds cs rest : List ℕ) → encode_utf8_all cs ≡ encode_utf8_all ds ++ rest → (es : List ℕ) × (cs ≡ ds ++ es) × (encode_utf8_all es ≡ rest)
+pub split_encodes : (ds cs rest : List ℕ) → encode_utf8_all cs ≡ encode_utf8_all ds ++ rest → (es : List ℕ) × (cs ≡ ds ++ es) × (encode_utf8_all es ≡ rest)
 split_encodes [] cs rest e = (cs, refl, e)
 split_encodes (d ∷ ds) cs rest e =
     let k = cons_from_encodes cs (encode_utf8_all ds ++ rest) d (e ∙ append_assoc (encode_utf8 d) (encode_utf8_all ds) rest) in
@@ -82,7 +82,7 @@ words_are text ws utf8 h =
 
 -- ---- and it is one
 
-gap_more : (g t : List ℕ) (ws : List (List ℕ)) → NoCharPasses is_not_whitespace g → AreWords t ws → AreWords (g ++ t) ws
+pub gap_more : (g t : List ℕ) (ws : List (List ℕ)) → NoCharPasses is_not_whitespace g → AreWords t ws → AreWords (g ++ t) ws
 gap_more g t [] gap h = NoCharPasses-append is_not_whitespace g t gap h
 gap_more g t (w ∷ ws) gap h =
     let s = h.1 in (

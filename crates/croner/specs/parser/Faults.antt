@@ -26,6 +26,7 @@ kind_of Invalid = kinds.InvalidPattern
 kind_of (Illegal field) = kinds.IllegalCharacters
 kind_of (Component field part) = kinds.ComponentError
 
+-- the field that refused the text, where one did
 abbrev pub refused_by : Refusal → Option PatternField
 refused_by Empty = None
 refused_by Invalid = None
@@ -63,6 +64,7 @@ unwritten text = if length (words text) == 5 then 1 else 0
 abbrev pub place_of_word : List ℕ → PatternField → ℕ
 place_of_word text field = place_of_field field - unwritten text
 
+-- the word at a place
 abbrev pub word_at : List ℕ → ℕ → List ℕ
 word_at text place = slice_index_or (words text) place []
 

@@ -86,6 +86,7 @@ fields_of s given = if accepts_count s.seconds_field s.year_field (length given)
 abbrev pub starred : List ℕ → List ℕ
 starred text = map (λ c. if c == question_mark then star else c) text
 
+-- the text begins with a plus
 abbrev pub has_plus : List ℕ → Bool
 has_plus text = slice_index text 0 == plus
 
@@ -168,6 +169,7 @@ is_word_legal quartz field word = is_replaced_legal field (replaced quartz false
 abbrev pub illegal_word : Bool → Texts → PatternField
 illegal_word quartz t = first_failing (is_word_legal quartz) t
 
+-- the text is a lone star
 abbrev pub is_star : List ℕ → Bool
 is_star text = bytes_eq text (codes "*")
 

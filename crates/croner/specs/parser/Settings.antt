@@ -22,10 +22,12 @@ abbrev pub seconds_optional : Seconds → Bool
 seconds_optional seconds.Optional = true
 seconds_optional other = false
 
+-- seconds have to be written
 abbrev pub seconds_required : Seconds → Bool
 seconds_required seconds.Required = true
 seconds_required other = false
 
+-- no seconds may be written
 abbrev pub seconds_disallowed : Seconds → Bool
 seconds_disallowed seconds.Disallowed = true
 seconds_disallowed other = false
@@ -35,10 +37,12 @@ abbrev pub year_optional : Year → Bool
 year_optional year.Optional = true
 year_optional other = false
 
+-- a year has to be written
 abbrev pub year_required : Year → Bool
 year_required year.Required = true
 year_required other = false
 
+-- no year may be written
 abbrev pub year_disallowed : Year → Bool
 year_disallowed year.Disallowed = true
 year_disallowed other = false

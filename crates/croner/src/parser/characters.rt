@@ -187,14 +187,3 @@ fn behind_legal(field: PatternField, text: &str) -> Option<&str>
         _ => None,
     }
 }
-
-/// Whether a character is legal in a field, where it is no letter of a name.
-pub fn is_legal_in(c: char, is_first: bool, field: PatternField) -> bool {
-    let signs = match field {
-        PatternField::DayOfMonth => "*/,-?LW",
-        PatternField::Weekday if is_first => "*/,-?#L+",
-        PatternField::Weekday => "*/,-?#L",
-        _ => "*/,-",
-    };
-    c.is_ascii_digit() || signs.contains(c)
-}

@@ -18,7 +18,7 @@ use croner_base::errors::CronError;
 use std::alloc::{AllocError, Global};
 
 impl CronParser {
-    ghost use Rattle.std.specs.Prelude.{IfErr, IfOk, IfSome};
+    ghost use Rattle.std.specs.Prelude.{IfErr, IfOk};
     ghost use Rattle.croner.specs.parser.Faults.{Explains, IsFault};
     ghost use Rattle.croner.specs.parser.Grammar.{Refusal, outcome};
     ghost use Rattle.croner.specs.Views.{job_of};
@@ -67,31 +67,24 @@ impl CronParser {
     {
         match self.parse_text(alloc, text) {
             Ok(pattern) => Ok(Ok(Cron { pattern })),
-            Err(Stop::Refused(cause)) => match self.fault_of(alloc, text, cause)? {
-                Some(fault) => Ok(Err(fault)),
-                None => Err(AllocError),
-            },
+            Err(Stop::Refused(cause)) => Ok(Err(self.fault_of(alloc, text, cause)?)),
             Err(Stop::OutOfMemory) => Err(AllocError),
         }
     }
 
-    /// The fault of a text that is refused for this cause; nothing where its place fails a test.
-    fn fault_of(
-        &self,
-        alloc: Global,
-        text: &str,
-        cause: Cause,
-    ) -> Result<Option<PatternFault>, AllocError>
-        ensures { IfOk result (λ o. IfSome o (λ f. IsFault self.now text.now (refusal_of cause) f)) }
+    /// The fault of a text that is refused for this cause.
+    fn fault_of(&self, alloc: Global, text: &str, cause: Cause) -> Result<PatternFault, AllocError>
+        requires { outcome self.now text.now ≡ Err (refusal_of cause) }
+        ensures { IfOk result (λ f. IsFault self.now text.now (refusal_of cause) f) }
     {
         let words = words_of(alloc, text)?;
-        let words = words.as_slice();
-        let found = find_fault(alloc, self, text, words, cause)?;
-        fault_at(alloc, self, text, words, cause, found)
+        let found = find_fault(alloc, self, text, words.as_slice(), cause)?;
+        Ok(fault_at(text, cause, found))
     }
 
     /// The error of a text that is refused for this cause, with its message.
     pub(super) fn error_of(&self, alloc: Global, text: &str, cause: Cause) -> CronError
+        requires { outcome self.now text.now ≡ Err (refusal_of cause) }
         ensures { Fails {Y = Meaning} result (Err (refusal_of cause)) }
     {
         let Ok(message) = self.message(alloc, text, cause) else {
@@ -106,13 +99,13 @@ impl CronParser {
     }
 
     /// The message of a refused text: its fault, and what the text says there. An empty text has none.
-    fn message(&self, alloc: Global, text: &str, cause: Cause) -> Result<String, AllocError> {
+    fn message(&self, alloc: Global, text: &str, cause: Cause) -> Result<String, AllocError>
+        requires { outcome self.now text.now ≡ Err (refusal_of cause) }
+    {
         if let Cause::Empty = cause {
             return Ok(String::new(alloc));
         }
-        let Some(fault) = self.fault_of(alloc, text, cause)? else {
-            return Ok(String::new(alloc));
-        };
+        let fault = self.fault_of(alloc, text, cause)?;
         let (start, end) = repeated(text, &fault);
         let found = found_at(alloc, text, start, end)?;
         format!(in alloc; "{fault} Found: {found}.")

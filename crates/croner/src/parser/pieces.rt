@@ -1,8 +1,7 @@
-//! Pieces of a text: its words in their places, cut once for a fault, and words counted without memory.
+//! Pieces of a text: its words in their places, cut once for a fault.
 
-ghost use Rattle.std.specs.Prelude.{◌≡◌, ◌∷◌, [], length, map, true, IfOk};
-ghost use Rattle.croner.specs.parser.Faults.{word_at};
-ghost use Rattle.croner.specs.parser.Words.{words};
+ghost use Rattle.std.specs.Prelude.{◌≡◌, ◌+◌, ◌<◌, ◌^◌, length, IfOk};
+ghost use Rattle.croner.specs.Private.parser.Places.{AreItsWords};
 
 use super::fault::Expected;
 use std::alloc::{AllocError, Global};
@@ -16,12 +15,17 @@ pub struct Piece<'t> {
 
 impl<'t> Piece<'t> {
     /// The byte behind its last one.
-    pub fn end(self) -> usize {
+    pub fn end(self) -> usize
+        ensures { self.entry.start + length self.entry.text.now < 2 ^ 64 → result ≡ self.entry.start + length self.entry.text.now }
+    {
         self.start.saturating_add(self.text.len())
     }
 
     /// This place, for a fault.
-    pub fn found(self, expected: Expected) -> Finding {
+    pub fn found(self, expected: Expected) -> Finding
+        ensures starts { result.start ≡ self.entry.start }
+        ensures ends { self.entry.start + length self.entry.text.now < 2 ^ 64 → result.end ≡ self.entry.start + length self.entry.text.now }
+    {
         Finding {
             start: self.start,
             end: self.end(),
@@ -40,39 +44,15 @@ pub struct Finding {
 
 /// The words of a text in their places.
 pub fn words_of<'t>(alloc: Global, text: &'t str) -> Result<Vec<Piece<'t>>, AllocError>
-    ensures { IfOk result (λ v. map (λ w. w.text.now) v.items ≡ words text.now) }
+    ensures { IfOk result (λ v. AreItsWords text.now v.items) }
 {
     let mut words = Vec::with_capacity(alloc, 7)?;
     let mut from = 0;
     for word in text.split_whitespace() {
-        let here = text.get(from..).unwrap_or("").trim_start();
-        let start = text.len().saturating_sub(here.len());
+        let here = text[from..].trim_start();
+        let start = text.len() - here.len();
         words.push(Piece { text: word, start })?;
-        from = start.saturating_add(word.len());
+        from = start + word.len();
     }
     Ok(words)
-}
-
-/// How many words a text has.
-pub fn word_count(text: &str) -> usize
-    ensures { result ≡ length (words text.now) }
-{
-    text.split_whitespace().count()
-}
-
-/// The word of a text at a place from 0; nothing where there is none.
-pub fn word_at(text: &str, place: usize) -> &str
-    ensures { result.now ≡ word_at text.now place }
-{
-    match text.split_whitespace().nth(place) {
-        Some(word) => word,
-        None => "",
-    }
-}
-
-/// Whether a text is one word, with no white space around it.
-pub fn is_one_word(text: &str) -> bool
-    ensures { result ≡ true → words text.now ≡ text.now ∷ [] }
-{
-    word_count(text) == 1 && word_at(text, 0) == text
 }

@@ -13,7 +13,7 @@ use super::stop::{Cause, Stop};
 use std::alloc::{AllocError, Global};
 
 /// How many letters a name of a month or a weekday has.
-const NAME_LENGTH: usize = 3;
+pub const NAME_LENGTH: usize = 3;
 
 impl CronParser {
     /// The text as a pattern keeps it: raised, trimmed, its nickname replaced, and with a number for each name.

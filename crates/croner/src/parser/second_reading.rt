@@ -1,12 +1,19 @@
 //! The second reading of a refused text: where its first fault is, and what was expected there. It looks at the text as it was
 //! handed in, with its own letters and names.
 
-use super::characters::is_legal_in;
+ghost use Rattle.std.specs.Prelude.{◌≡◌, ◌+◌, ◌<◌, ◌^◌, ℕ, List, [], true, length, IfOk, MatchOption, IsCharBoundary, IsSomeAnd};
+ghost use Rattle.std.specs.Str.{str_to_ascii_uppercase};
+ghost use Rattle.croner.specs.parser.Faults.{from_illegal, place_of_word, word_at};
+ghost use Rattle.croner.specs.parser.Grammar.{Invalid, Illegal as IllegalRefusal, Component, without_sign};
+ghost use Rattle.croner.specs.Private.parser.Places.{AreItsWords, HasCauseInSight, IsFound, IsIllegalFrom, IsIllegalIn, IsPartIn, IsWithin, IsWordFrom, IsWritten, has_part};
+ghost use Rattle.croner.specs.Private.parser.Steps.{refusal_of};
+
+use super::characters::{from_illegal, without_sign};
 use super::fault::{Expected, Hint, PatternField};
 use super::part::{Part, Rules, fault_of_part};
 use super::pieces::{Finding, Piece};
-use super::place::place_of_word;
-use super::prepare::{name_at, replaced};
+use super::place::{counted_word, place_of_word};
+use super::prepare::{NAME_LENGTH, has_byte, name_at, replaced};
 use super::settle::starred;
 use super::stop::{Cause, Stop};
 use super::{CronParser, Seconds, Year};
@@ -19,9 +26,15 @@ const WORDS_WITH_SECONDS: usize = 6;
 const LEAST_FIELDS: usize = 5;
 
 /// The whole text, for a fault.
-fn whole(text: &str, expected: Expected) -> Finding {
-    let piece = Piece { text, start: 0 };
-    piece.found(expected)
+fn whole(text: &str, expected: Expected) -> Finding
+    ensures starts { result.start ≡ 0 }
+    ensures ends { result.end ≡ length text.now }
+{
+    Finding {
+        start: 0,
+        end: text.len(),
+        expected,
+    }
 }
 
 /// Where the fault of a refused text is: in the word of the field that refused it, or in the count of words.
@@ -31,16 +44,16 @@ pub fn find_fault(
     text: &str,
     words: &[Piece<'_>],
     cause: Cause,
-) -> Result<Finding, AllocError> {
-    let found = match cause {
-        Cause::Empty => None,
-        Cause::Invalid => Some(wrong_count(alloc, parser, text, words)?),
-        Cause::Illegal(field) => illegal_character(alloc, parser, text, words, field)?,
-        Cause::Component(field, part) => refused_part(alloc, parser, words, field, part)?,
-    };
-    match found {
-        Some(found) => Ok(found),
-        None => Ok(whole(text, Expected::Pattern)),
+) -> Result<Finding, AllocError>
+    requires words { AreItsWords text.now words.now }
+    requires cause { HasCauseInSight text.now (refusal_of cause) }
+    ensures { IfOk result (λ found. IsFound parser.now text.now (refusal_of cause) found.start found.end) }
+{
+    match cause {
+        Cause::Empty => Ok(whole(text, Expected::Pattern)),
+        Cause::Invalid => wrong_count(alloc, parser, text, words),
+        Cause::Illegal(field) => illegal_character(alloc, parser, text, words, field),
+        Cause::Component(field, part) => refused_part(alloc, parser, text, words, field, part),
     }
 }
 
@@ -52,25 +65,43 @@ fn wrong_count(
     parser: &CronParser,
     text: &str,
     words: &[Piece<'_>],
-) -> Result<Finding, AllocError> {
+) -> Result<Finding, AllocError>
+    requires words { AreItsWords text.now words.now }
+    requires cause { HasCauseInSight text.now Invalid }
+    ensures { IfOk result (λ found. IsFound parser.now text.now Invalid found.start found.end) }
+{
     let most = parser.most_fields();
     if most == 0 {
         return Ok(whole(text, Expected::Settings));
     }
-    let (word, hint) = match words.get(most) {
-        Some(word) => (Some(word), hint_of_many(alloc, parser, text, words, most)?),
-        None => (words.last(), hint_of_few(alloc, parser, text, words)?),
-    };
     let expected = Expected::Count {
         found: words.len(),
         seconds: parser.seconds,
         year: parser.year,
-        hint,
+        hint: hint_of_count(alloc, parser, text, words, most)?,
     };
-    match word {
-        Some(word) if !text.contains('@') => Ok(word.found(expected)),
-        _ => Ok(whole(text, nickname_fault(words, expected, parser))),
+    if has_byte(text, b'@') {
+        return Ok(whole(text, nickname_fault(words, expected, parser)));
     }
+    let number = counted_word(parser, words.len());
+    let Some(word) = words.get(number.saturating_sub(1)) else {
+        unreachable!()
+    };
+    Ok(word.found(expected))
+}
+
+/// Why there may be too many fields, or too few.
+fn hint_of_count(
+    alloc: Global,
+    parser: &CronParser,
+    text: &str,
+    words: &[Piece<'_>],
+    most: usize,
+) -> Result<Hint, AllocError> {
+    if most < words.len() {
+        return hint_of_many(alloc, parser, text, words, most);
+    }
+    hint_of_few(alloc, parser, text, words)
 }
 
 /// Why there may be too few fields: a nickname without its sign, a time of day, what is no pattern, an interval in words, or a
@@ -243,9 +274,10 @@ fn hint_of_command(alloc: Global, words: &[Piece<'_>], most: usize) -> Result<Hi
 
 /// Whether each character of a word is legal in the day of month, or each in the weekday: these take every sign.
 fn is_of_days(alloc: Global, word: Piece<'_>) -> Result<bool, AllocError> {
-    let in_days = illegal_in_word(alloc, word, PatternField::DayOfMonth)?;
-    let in_weekdays = illegal_in_word(alloc, word, PatternField::Weekday)?;
-    Ok(in_days.is_none() || in_weekdays.is_none())
+    let raised = word.text.to_ascii_uppercase(alloc)?;
+    let in_days = illegal_at(word.text, raised.as_str(), PatternField::DayOfMonth);
+    let in_weekdays = illegal_at(word.text, raised.as_str(), PatternField::Weekday);
+    Ok(in_days == word.text.len() || in_weekdays == word.text.len())
 }
 
 /// Why a text with `@` is refused for its count.
@@ -310,7 +342,10 @@ fn nickname_in_fields(word: &str) -> Option<&'static str> {
 // ---- characters
 
 /// The word of a field, and its place among the words; nothing where there is none.
-fn word_of<'t>(words: &[Piece<'t>], field: PatternField) -> Option<(usize, Piece<'t>)> {
+fn word_of<'t>(words: &[Piece<'t>], field: PatternField) -> Option<(usize, Piece<'t>)>
+    ensures { (text : List ℕ) → AreItsWords text words.now → IsWritten text field
+        → IsSomeAnd result (λ x. IsWordFrom text (place_of_word text field) x.1.start x.1.text.now × (x.1.text.now ≡ word_at text (place_of_word text field))) }
+{
     let place = place_of_word(field, words.len());
     let word = words.get(place)?;
     Some((place, *word))
@@ -324,28 +359,37 @@ fn illegal_character(
     text: &str,
     words: &[Piece<'_>],
     field: PatternField,
-) -> Result<Option<Finding>, AllocError> {
+) -> Result<Finding, AllocError>
+    requires words { AreItsWords text.now words.now }
+    requires cause { HasCauseInSight text.now (IllegalRefusal field) }
+    ensures { IfOk result (λ found. IsFound parser.now text.now (IllegalRefusal field) found.start found.end) }
+{
     if let Some(start) = text.find('@') {
-        return Ok(Some(at_sign(start)));
+        return Ok(at_sign(start));
     }
     let Some((place, word)) = word_of(words, field) else {
-        return Ok(None);
+        unreachable!()
     };
     let Some(illegal) = illegal_in_word(alloc, word, field)? else {
-        return Ok(None);
+        unreachable!()
     };
-    if let Some(step) = illegal.step_of(word, field) {
-        return Ok(Some(illegal.found_as(Expected::StepAlone { step })));
-    }
-    let hint = illegal.hint(place, words, field);
-    let hint = hint_of_lines(text, hint);
-    Ok(Some(illegal.found(field, parser.alternative_weekdays, hint)))
+    let expected = illegal.expected(place, words, field, text, parser.alternative_weekdays);
+    Ok(Finding {
+        start: illegal.start,
+        end: illegal.end,
+        expected,
+    })
 }
 
-fn at_sign(start: usize) -> Finding {
+/// The `@` at a byte of a text.
+fn at_sign(start: usize) -> Finding
+    requires { start + 1 < 2 ^ 64 }
+    ensures starts { result.start ≡ start }
+    ensures ends { result.end ≡ start + 1 }
+{
     Finding {
         start,
-        end: start.saturating_add(1),
+        end: start + 1,
         expected: Expected::NoAtSign,
     }
 }
@@ -374,18 +418,43 @@ fn hint_of_character(c: char) -> Hint {
     }
 }
 
-/// A character that is not legal in its field, in capitals, the name that stands right in front of it, whether a value stands
-/// there, and whether a letter stands beside it.
+/// A character that is not legal in its field, in capitals, and its place in the text; the name that stands right in front of
+/// it, whether a value stands there, and whether a letter stands beside it.
 #[derive(Clone, Copy)]
 struct Illegal {
     c: char,
     start: usize,
+    end: usize,
     name: Option<&'static str>,
     is_behind_value: bool,
     is_in_word: bool,
 }
 
 impl Illegal {
+    /// What was expected in place of the character, which stands in the word at a place.
+    fn expected(
+        self,
+        place: usize,
+        words: &[Piece<'_>],
+        field: PatternField,
+        text: &str,
+        quartz: bool,
+    ) -> Expected {
+        if let Some(step) = self.step_of(words, place, field) {
+            return Expected::StepAlone { step };
+        }
+        match self.name {
+            Some(name) if self.c.is_ascii_uppercase() && is_name_of(name, field) => {
+                Expected::Name { name }
+            }
+            _ => Expected::Legal {
+                field,
+                quartz,
+                hint: hint_of_lines(text, self.hint(place, words, field)),
+            },
+        }
+    }
+
     /// Why the character may stand in the word at a place.
     fn hint(self, place: usize, words: &[Piece<'_>], field: PatternField) -> Hint {
         let hint = hint_of_character(self.c);
@@ -420,7 +489,7 @@ impl Illegal {
     }
 
     /// The step in front of a unit of the field, as 5 of `*/5m` in the minutes.
-    fn step_of(self, word: Piece<'_>, field: PatternField) -> Option<u16> {
+    fn step_of(self, words: &[Piece<'_>], place: usize, field: PatternField) -> Option<u16> {
         let unit = match field {
             PatternField::Seconds => 'S',
             PatternField::Minutes => 'M',
@@ -428,6 +497,7 @@ impl Illegal {
             PatternField::DayOfMonth => 'D',
             _ => return None,
         };
+        let word = words.get(place)?;
         let at = self.start.saturating_sub(word.start);
         let number = word.text.get(..at)?.strip_prefix("*/")?;
         let rest = word.text.get(at..)?;
@@ -451,28 +521,6 @@ impl Illegal {
                 }
             }
             _ => Hint::None,
-        }
-    }
-
-    fn found(self, field: PatternField, quartz: bool, hint: Hint) -> Finding {
-        let expected = match self.name {
-            Some(name) if self.c.is_ascii_uppercase() && is_name_of(name, field) => {
-                Expected::Name { name }
-            }
-            _ => Expected::Legal {
-                field,
-                quartz,
-                hint,
-            },
-        };
-        self.found_as(expected)
-    }
-
-    fn found_as(self, expected: Expected) -> Finding {
-        Finding {
-            start: self.start,
-            end: self.start.saturating_add(self.c.len_utf8()),
-            expected,
         }
     }
 }
@@ -501,58 +549,87 @@ fn is_name_of(name: &str, field: PatternField) -> bool {
     }
 }
 
-/// The first character of a word that is in no name and not legal in the field.
+/// The first character of a word that is in no name and not legal in the field; nothing where there is none.
 fn illegal_in_word(
     alloc: Global,
     word: Piece<'_>,
     field: PatternField,
-) -> Result<Option<Illegal>, AllocError> {
+) -> Result<Option<Illegal>, AllocError>
+    requires { word.start + length word.text.now < 2 ^ 64 }
+    ensures { IfOk result (λ o. MatchOption o (from_illegal field (without_sign field (str_to_ascii_uppercase word.entry.text.now)) ≡ [])
+        (λ i. IsIllegalIn field word.entry.text.now word.entry.start i.start i.end)) }
+{
     let raised = word.text.to_ascii_uppercase(alloc)?;
-    let raised = raised.as_str();
-    let mut behind_name = 0;
-    let mut name = None;
-    for (at, c) in raised.char_indices() {
-        if at < behind_name {
-            continue;
-        }
-        if let Some(found) = name_at(raised, at) {
-            name = Some(found);
-            behind_name = at.saturating_add(found.len());
-            continue;
-        }
-        if !is_legal_in(c, at == 0, field) {
-            let start = word.start.saturating_add(at);
-            let name = if at == behind_name { name } else { None };
-            let rest = raised.get(at.saturating_add(c.len_utf8())..).unwrap_or("");
-            let front = raised.get(..at).unwrap_or("");
-            let is_in_word = name.is_some() || rest.starts_with(is_letter) && !is_last(c, rest);
-            return Ok(Some(Illegal {
-                c,
-                start,
-                name,
-                is_behind_value: name.is_some() || front.ends_with(ends_value),
-                is_in_word,
-            }));
-        }
+    let at = illegal_at(word.text, raised.as_str(), field);
+    let (_, behind) = word.text.split_at(at);
+    let Some(c) = behind.chars().next() else {
+        return Ok(None);
+    };
+    let end = at + c.len_utf8();
+    let name = name_before(raised.as_str(), at);
+    Ok(Some(Illegal {
+        c: c.to_ascii_uppercase(),
+        start: word.start + at,
+        end: word.start + end,
+        name,
+        is_behind_value: name.is_some() || is_behind_value(raised.as_str(), at),
+        is_in_word: name.is_some() || is_before_letter(raised.as_str(), end, c),
+    }))
+}
+
+/// The byte of a word from which on its field doesn't take it, and its length where the field takes all. The word is handed in
+/// in capitals too.
+fn illegal_at(word: &str, raised: &str, field: PatternField) -> usize
+    requires { raised.now ≡ str_to_ascii_uppercase word.now }
+    ensures { IsIllegalFrom field word.now result }
+{
+    raised.len() - from_illegal(field, without_sign(field, raised)).len()
+}
+
+/// The name that ends at a byte of a text in capitals.
+fn name_before(raised: &str, at: usize) -> Option<&'static str> {
+    name_at(raised, at.checked_sub(NAME_LENGTH)?)
+}
+
+/// Whether a number or an `L` ends at a byte of a text in capitals.
+fn is_behind_value(raised: &str, at: usize) -> bool {
+    match raised.get(..at) {
+        Some(front) => front.ends_with(ends_value),
+        None => false,
     }
-    Ok(None)
+}
+
+/// Whether a letter begins at a byte of a text in capitals, other than the `W` of an `LW`.
+fn is_before_letter(raised: &str, end: usize, c: char) -> bool {
+    match raised.get(end..) {
+        Some(rest) => rest.starts_with(is_letter) && !is_last(c.to_ascii_uppercase(), rest),
+        None => false,
+    }
 }
 
 // ---- parts
 
-/// The part of a field's word that the field refused.
+/// The part of a field's word that the field refused, or the `@` of a text with one.
 fn refused_part(
     alloc: Global,
     parser: &CronParser,
+    text: &str,
     words: &[Piece<'_>],
     field: PatternField,
     part: usize,
-) -> Result<Option<Finding>, AllocError> {
+) -> Result<Finding, AllocError>
+    requires words { AreItsWords text.now words.now }
+    requires cause { HasCauseInSight text.now (Component field part) }
+    ensures { IfOk result (λ found. IsFound parser.now text.now (Component field part) found.start found.end) }
+{
+    if let Some(start) = text.find('@') {
+        return Ok(at_sign(start));
+    }
     let Some((place, word)) = word_of(words, field) else {
-        return Ok(None);
+        unreachable!()
     };
     let Some(written) = part_of(word, field, part) else {
-        return Ok(None);
+        unreachable!()
     };
     let rules = Rules {
         field,
@@ -565,21 +642,58 @@ fn refused_part(
         written,
         read: read.as_str(),
     };
-    let (place, expected) = fault_of_part(refused, rules);
-    Ok(Some(place.found(expected)))
+    let (found, expected) = fault_of_part(refused, rules);
+    Ok(found_within(text, found, written, expected))
+}
+
+/// The place of a piece that lies in another one, and else of this other.
+fn found_within(text: &str, piece: Piece<'_>, whole: Piece<'_>, expected: Expected) -> Finding
+    requires small { whole.start + length whole.text.now < 2 ^ 64 }
+    requires whole { IsWithin text.now whole.start (whole.start + length whole.text.now) whole.start (whole.start + length whole.text.now) }
+    ensures { IsWithin text.now whole.entry.start (whole.entry.start + length whole.entry.text.now) result.start result.end }
+{
+    let (start, end) = (piece.start, piece.end());
+    let lies_within = whole.start <= start && start < end && end <= whole.end();
+    if lies_within && text.is_char_boundary(start) && text.is_char_boundary(end) {
+        return Finding {
+            start,
+            end,
+            expected,
+        };
+    }
+    whole.found(expected)
 }
 
 /// The part of a word at a place from 0, without the sign in front of the word.
-fn part_of(word: Piece<'_>, field: PatternField, part: usize) -> Option<Piece<'_>> {
-    let mut start = word.start;
-    for (place, text) in word.text.split(',').enumerate() {
-        let here = Piece { text, start };
-        if place == part {
-            return Some(without_plus(here, word.start, field));
-        }
-        start = here.end().saturating_add(1);
+fn part_of(word: Piece<'_>, field: PatternField, part: usize) -> Option<Piece<'_>>
+    requires { word.start + length word.text.now < 2 ^ 64 }
+    ensures { has_part part (without_sign field word.entry.text.now) ≡ true → IsSomeAnd result (λ p. IsPartIn word.entry.text.now word.entry.start part p) }
+{
+    let text = without_sign(field, word.text);
+    let start = word.start + (word.text.len() - text.len());
+    part_from(Piece { text, start }, part)
+}
+
+/// The part of a list at a place from 0.
+fn part_from(list: Piece<'_>, part: usize) -> Option<Piece<'_>>
+    requires { list.start + length list.text.now < 2 ^ 64 }
+    ensures { has_part part list.entry.text.now ≡ true → IsSomeAnd result (λ p. IsPartIn list.entry.text.now list.entry.start part p) }
+{
+    let Some((text, behind)) = list.text.split_once(',') else {
+        return if part == 0 { Some(list) } else { None };
+    };
+    if part == 0 {
+        return Some(Piece {
+            text,
+            start: list.start,
+        });
     }
-    None
+    let start = list.start + text.len() + 1;
+    let rest = Piece {
+        text: behind,
+        start,
+    };
+    part_from(rest, part - 1)
 }
 
 /// Why a refused part may stand in the word at a place: a space beside a sign, or six fields that end in a year.
@@ -638,19 +752,6 @@ fn is_digit(c: char) -> bool {
 /// Whether a word is a number of four digits.
 fn is_year(word: &str) -> bool {
     word.len() == 4 && word.as_bytes().iter().all(|b| b.is_ascii_digit())
-}
-
-/// The first part of the weekday field, without one `+` in front.
-fn without_plus(part: Piece<'_>, first: usize, field: PatternField) -> Piece<'_> {
-    if field == PatternField::Weekday && part.start == first {
-        if let Some(text) = part.text.strip_prefix('+') {
-            return Piece {
-                text,
-                start: first.saturating_add(1),
-            };
-        }
-    }
-    part
 }
 
 /// A part as the field reads it: in capitals, with numbers for names and `*` for `?`.

@@ -1,7 +1,8 @@
-use Rattle.std.proofs.Common.{List, ℕ, map, ◌++◌}
+use Rattle.std.proofs.Common.{map}
 use Rattle.std.specs.Str.Iter.{split_whitespace_rest}
-use Rattle.croner.specs.parser.Words.{AreWords}
+use Rattle.croner.specs.Private.parser.Places.{ArePlaced, IsWalked}
 use Rattle.croner.proofs.parser.pieces.words_of.Given as goal
 
 abbrev pub invariant-loop-word : goal.invariant-loop-word
-invariant-loop-word l = (ws : List (List ℕ)) → AreWords (split_whitespace_rest l.word-iterator) ws → AreWords l.fn.text (map (λ w. w.text.now) l.words.items ++ ws)
+invariant-loop-word l =
+    IsWalked l.fn.text (map (λ w. w.text.now) l.words.items) l.from (split_whitespace_rest l.word-iterator) × ArePlaced l.fn.text 0 l.words.items

@@ -1,7 +1,0 @@
-use Rattle.std.proofs.Common.{lit<}
-use Rattle.std.proofs.lemmas.Iterator.Consumers.{count_from_yields_List}
-use Rattle.std.proofs.lemmas.Iterator.Splits.{YieldsList-from_str_split}
-use Rattle.croner.proofs.parser.place.part_count.Goals as goal
-
-pub returns : goal.returns
-returns c = count_from_yields_List _ _ c.count.ensures.ran (YieldsList-from_str_split 44 c.args.list.now (lit< tt) (cc) (cc) (cc))
