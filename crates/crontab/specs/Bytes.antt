@@ -17,6 +17,7 @@ is_space b = b == 32 || (nat_le 9 b && nat_le b 13)
 abbrev pub is_quote : ℕ → Bool
 is_quote b = b == 34 || b == 39
 
+-- 0 to 9
 abbrev pub is_digit : ℕ → Bool
 is_digit b = nat_le 48 b && nat_le b 57
 
@@ -37,6 +38,7 @@ is_of (kinds.But c) b = not (b == c)
 abbrev pub front : Kind → List ℕ → List ℕ
 front kind text = take (prefix_len (is_of kind) text) text
 
+-- what stands behind the bytes of a kind with which a text begins
 abbrev pub behind : Kind → List ℕ → List ℕ
 behind kind text = drop (prefix_len (is_of kind) text) text
 

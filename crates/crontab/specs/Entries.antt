@@ -10,11 +10,13 @@ use Rattle.crontab.specs.declared.line.Words.{Words}
 use Rattle.crontab.specs.declared.line.Texts.{Texts}
 use Rattle.crontab.specs.Line.{Timing, FiveTexts, reboot, never, named, Five, Task, Line, blank, comment, setting, job, pattern, refused}
 
+-- the times of a job
 abbrev pub times_seen : Times → Timing
 times_seen times.Reboot = reboot
 times_seen times.Never = never
 times_seen (times.Named text both) = named (string_bytes text) both
 
+-- the five words of a job
 abbrev pub words_seen : Words → Five
 words_seen w = record {
   minutes = w.minutes.now;
@@ -33,6 +35,7 @@ read_seen (Err fault) = Err fault
 abbrev pub job_seen : Job → Task
 job_seen j = record { times = times_seen j.times; schedule = j.schedule.now; user = option_map (λ u. u.now) j.user; command = j.command.now }
 
+-- what contracts see of an entry: what its line is
 abbrev pub entry_seen : Entry → Line
 entry_seen entries.Blank = blank
 entry_seen entries.Comment = comment

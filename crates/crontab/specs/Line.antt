@@ -30,6 +30,7 @@ pattern_of_nickname word =
     else if bytes_eq word (codes "hourly") then Some (codes "0 * * * *")
     else None
 
+-- when a job with a nickname runs: at the start of the machine, or by a pattern
 abbrev pub nickname_of : List ℕ → Option Timing
 nickname_of word =
     if bytes_eq word (codes "reboot") then Some reboot
@@ -68,6 +69,7 @@ next text = behind kinds.Blank (behind kinds.Word text)
 abbrev pub behind_fields : List ℕ → List ℕ
 behind_fields text = behind kinds.Word (next (next (next (next text))))
 
+-- the five words with which a text begins
 abbrev pub words_of : List ℕ → Five
 words_of text = record {
   minutes = front kinds.Word text;
@@ -124,6 +126,7 @@ times_of_texts w (Ok t) =
     if begins_with 255 w.rest then Err faults.Weekdays
     else Ok (scheduled (are_both w) t.minutes t.hours t.days t.months t.weekdays)
 
+-- when a job of five words runs, or the field at fault
 abbrev pub times_of : Five → Result Timing Fault
 times_of w = times_of_texts w (texts_of w)
 

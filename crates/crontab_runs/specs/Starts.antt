@@ -35,6 +35,10 @@ most_late = 5
 abbrev pub most_changed : ℕ
 most_changed = 180
 
+-- a minute so far from 1970, on either side, no clock shows
+abbrev pub far_minute : ℕ
+far_minute = 1_000_000_000_000
+
 -- a number is one of those from the first to the last
 abbrev pub is_from_to : ℤ → ℤ → ℤ → Bool
 is_from_to first last d = int_le first d && int_le d last

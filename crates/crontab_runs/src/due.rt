@@ -3,7 +3,7 @@ ghost use Rattle.std.specs.Prelude.{◌≡◌, ◌↔◌, ◌≤◌, IsTrue, pos
 ghost use Rattle.croner_base.specs.TableZone.{table_zone};
 ghost use Rattle.croner.specs.Views.{job_of};
 ghost use Rattle.croner.specs.search.Limit.{IsWithin};
-ghost use Rattle.crontab_runs.specs.Starts.{NamesMinute, due_after as first_due, most_changed};
+ghost use Rattle.crontab_runs.specs.Starts.{NamesMinute, due_after as first_due, most_changed, far_minute};
 ghost use Rattle.crontab_runs.specs.Views.{cron_job_of};
 ghost use Rattle.crontab_runs.specs.Private.Due.{IsNamedCount, AreStarts};
 ghost use Rattle.crontab_runs.specs.Private.Known.{IsKnown};
@@ -31,6 +31,33 @@ fn towards_1970(minute: i64) -> Direction
     }
 }
 
+/// The minute after which cron starts a job for each minute that it names, up to the minute that the clock shows now. `shown` is the greatest
+/// that the clock has shown before. Minutes are counted from 1970-01-01T00:00 on the wall clock.
+///
+/// Where the answer is `minute`, it starts nothing.
+pub fn due_after(is_starred: bool, shown: i64, minute: i64) -> i64
+    requires shown_low { neg_ℤ (pos far_minute) ≤ℤ shown }
+    requires shown_high { shown ≤ℤ pos far_minute }
+    requires low { neg_ℤ (pos far_minute) ≤ℤ minute }
+    requires high { minute ≤ℤ pos far_minute }
+    ensures { result ≡ first_due is_starred shown minute }
+{
+    let late = minute - shown;
+    if late <= -MOST_CHANGED {
+        return minute - 1;
+    }
+    if late <= 0 {
+        return if is_starred { minute - 1 } else { minute };
+    }
+    if late <= MOST_LATE {
+        return shown;
+    }
+    if late <= MOST_CHANGED {
+        return if is_starred { minute - 1 } else { shown };
+    }
+    minute - 1
+}
+
 impl CrontabJob {
     // Whether the job names a minute: then it is the nearest one from itself on.
     fn names(&self, minute: i64) -> bool
@@ -40,30 +67,6 @@ impl CrontabJob {
             Some(nearest) => nearest == minute,
             None => false,
         }
-    }
-
-    // The minute after which the job is due up to the one that the clock shows now. `shown` is the greatest that it has shown before.
-    fn due_after(&self, shown: i64, minute: i64) -> i64
-        requires shown_low { neg_ℤ (pos far) ≤ℤ shown }
-        requires shown_high { shown ≤ℤ pos far }
-        requires low { neg_ℤ (pos far) ≤ℤ minute }
-        requires high { minute ≤ℤ pos far }
-        ensures { result ≡ first_due self.now.is_starred shown minute }
-    {
-        let late = minute - shown;
-        if late <= -MOST_CHANGED {
-            return minute - 1;
-        }
-        if late <= 0 {
-            return if self.is_starred { minute - 1 } else { minute };
-        }
-        if late <= MOST_LATE {
-            return shown;
-        }
-        if late <= MOST_CHANGED {
-            return if self.is_starred { minute - 1 } else { shown };
-        }
-        minute - 1
     }
 
     // Whether what is known, or one search, shows that the job names no minute after one and up to another.
@@ -111,6 +114,6 @@ impl CrontabJob {
         if minute == shown {
             return 0;
         }
-        self.named_count(known, self.due_after(shown, minute), minute)
+        self.named_count(known, due_after(self.is_starred, shown, minute), minute)
     }
 }

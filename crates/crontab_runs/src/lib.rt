@@ -20,5 +20,6 @@ mod recurring;
 mod search;
 mod stretch;
 
+pub use due::due_after;
 pub use job::{CrontabJob, Start};
 pub use listing::{StartIterator, StartsEnd, next_starts_until};
