@@ -312,6 +312,9 @@ class Model:
     def standings(self):
         return [[key, self.jobs[key].position, self.jobs[key].next] for key in sorted(self.jobs)]
 
+    def stopped(self):
+        return [[key, self.jobs[key].next] for key in sorted(self.jobs) if self.jobs[key].is_stopped()]
+
 
 # ---- what is drawn
 
@@ -433,6 +436,10 @@ class List:
             near = draw.randint(*job.zone.held)
         yield from self.call("skip_to", key, near)
 
+    def look(self):
+        yield from self.call("standings")
+        yield from self.call("stopped")
+
     def draw_calls(self):
         draw = self.draw
         for _ in range(draw.randint(2, 5)):
@@ -440,11 +447,11 @@ class List:
         acts = [self.take] * 10 + [lambda: self.call("add", *self.job())] * 2 + [self.remove, self.put_back, self.skip]
         acts += [lambda: self.call("replace", self.key(), *self.job()), lambda: self.call("ask_again", self.key())]
         acts += [lambda: self.call("add_from", *self.job()), self.take_latest]
-        acts += [lambda: self.call("next_wake_up")] * 2 + [lambda: self.call("standings")]
+        acts += [lambda: self.call("next_wake_up")] * 2 + [self.look]
         for _ in range(self.length):
             yield from draw.choice(acts)()
         yield from self.call("take_due", self.now, 30 if self.length < 30 else 3_000)
-        yield from self.call("standings")
+        yield from self.look()
 
     def line(self):
         question = {"op": "scheduler", "zones": [zone.member for zone in self.zones], "patterns": [{"text": text} for text in self.patterns]}

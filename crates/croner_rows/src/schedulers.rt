@@ -86,6 +86,7 @@ fn view<T: Clocked>(
     match name {
         "next_wake_up" => Ok(next_wake_up(caller, scheduler)),
         "standings" => standings(caller.alloc, scheduler),
+        "stopped" => stopped(caller, scheduler),
         _ => Err(Fault::Unsupported),
     }
 }
@@ -264,10 +265,29 @@ fn standing<T: Clocked>(alloc: Global, id: u64, waiting: &Waiting<Cron, T>) -> R
 fn what_comes_next<T: Clocked>(alloc: Global, waiting: &Waiting<Cron, T>) -> Result<Value> {
     match (waiting.next_run(), waiting.stop()) {
         (Some(run), _) => Ok(Value::from(run.second())),
-        (None, Some(Stop::Refused(error))) => shown::refused(alloc, error),
-        (None, Some(Stop::NotLater)) => shown::text(alloc, "NotLater"),
+        (None, Some(stop)) => shown_stop(alloc, stop),
         (None, None) => Ok(Value::Null),
     }
+}
+
+fn shown_stop(alloc: Global, stop: &Stop) -> Result<Value> {
+    match stop {
+        Stop::Refused(error) => shown::refused(alloc, error),
+        Stop::NotLater => shown::text(alloc, "NotLater"),
+    }
+}
+
+// Each job of a scheduler that is stopped, in the order of the ids: its id, and why.
+fn stopped<T: Clocked>(caller: Caller<'_>, scheduler: &Scheduler<Cron, T>) -> Result<Value> {
+    caller.begin();
+    let left = scheduler.stopped();
+    caller.end();
+    let mut stopped = Vec::new(caller.alloc);
+    for (id, stop) in left {
+        let why = shown_stop(caller.alloc, stop)?;
+        stopped.push(shown::pair(caller.alloc, Value::from(id), why)?)?;
+    }
+    Ok(Value::Array(stopped))
 }
 
 // A job that is given back, as its text, and its position.

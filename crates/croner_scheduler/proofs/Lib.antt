@@ -5,7 +5,9 @@ pub mod Nearest
 pub mod Changes
 pub mod Puts
 pub mod Passed
+pub mod StopLists
 pub mod History
 pub mod Lives
 pub mod ExamplesHistory
 pub mod ExamplesLatest
+pub mod ExamplesStops

@@ -2,6 +2,7 @@ pub mod Standing
 pub mod Kept
 pub mod Views
 pub mod Awaited
+pub mod Stops
 pub mod Calls
 pub mod History
 pub mod Lives

@@ -3,6 +3,7 @@ use Rattle.std.specs.Prelude.{ℕ, List, codes}
 use Rattle.croner_scheduler.specs.declared.add.AddError.{AddError}
 use Rattle.croner_scheduler.specs.declared.add.AddError.TheVariants.{OutOfMemory, NoIdLeft, PositionNotHeld, SecondBeforeNotHeld, NoJob}
 
+-- the text of each error
 abbrev pub text_of : AddError → List ℕ
 text_of OutOfMemory = codes "Out of memory."
 text_of NoIdLeft = codes "No id is left for another job."

@@ -8,6 +8,7 @@ mod latest;
 pub mod laws;
 mod scheduler;
 mod skip;
+mod stops;
 mod turns;
 mod waiting;
 
@@ -16,5 +17,6 @@ pub use again::Again;
 pub use latest::Latest;
 pub use scheduler::Scheduler;
 pub use skip::Skip;
+pub use stops::Stops;
 pub use turns::Due;
 pub use waiting::{Stop, Waiting};

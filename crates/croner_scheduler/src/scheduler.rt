@@ -14,7 +14,7 @@ use crate::turns::{
     Due, Turn, await_next, change_turn, due_of, first_turn, take_out_next, take_out_turn,
 };
 use crate::waiting::{Waiting, next_of, second_before};
-use crate::{AddError, Added, Again, Latest, NotAdded, Replaced, Skip};
+use crate::{AddError, Added, Again, Latest, NotAdded, Replaced, Skip, Stops};
 use croner::{Clocked, Recurring};
 use std::alloc::{AllocError, Global};
 use std::collections::{BTreeMap, BTreeSet, btree_map};
@@ -32,7 +32,7 @@ use std::collections::{BTreeMap, BTreeSet, btree_map};
 /// [`replace`](Scheduler::replace) they are those of the other job after its position (`laws` says it of every list of calls). In another
 /// zone a run is given that its search found, later than the position. One job in such a zone takes nothing from the others. A job whose
 /// search is refused by its backend, or finds a run that isn't later than the position, is *stopped* ([`Waiting::stop`]): the call at which
-/// that comes tells it, and [`ask_again`](Scheduler::ask_again) searches again. One that has no run left in the searched years stays and is
+/// that comes tells it, [`stopped`](Scheduler::stopped) lists such jobs, and [`ask_again`](Scheduler::ask_again) searches again. One that has no run left in the searched years stays and is
 /// silent.
 ///
 /// Seconds are those of [`Clocked::second`]: since 1970-01-01T00:00:00 UTC, and in civil time since that date and time.
@@ -67,7 +67,7 @@ impl<J: Recurring<T> + Drop, T: Clocked> Drop for Scheduler<J, T> {
 
 impl<J: Recurring<T>, T: Clocked> Scheduler<J, T> {
     ghost use Rattle.std.specs.Prelude.{length, ◌<◌, ◌+◌, ◌-◌, ◌^◌, ◌↔◌, IsTrue, IsFalse, IsSome, IfOk, IfErr, OnOk, OnErr, true, option_map, if◌then◌else◌};
-    ghost use Rattle.std.specs.Option.{IsSomeAnd};
+    ghost use Rattle.std.specs.Option.{IsSomeAnd, option_and_then};
     ghost use Rattle.std.specs.BTreeMap.{is_at};
     ghost use Rattle.std.specs.List.Sorted.{IsStrictlySortedBy};
     ghost use Rattle.std.specs.Map.{lookup, keys_of};
@@ -322,6 +322,17 @@ impl<J: Recurring<T>, T: Clocked> Scheduler<J, T> {
         ensures ordered { IsStrictlySortedBy nat_cmp (keys_of result) }
     {
         self.jobs.iter()
+    }
+
+    /// The ids of the jobs that are stopped, in order, each with why ([`Waiting::stop`]). Takes no memory; the iterator borrows the
+    /// scheduler, and goes over all of its jobs.
+    pub fn stopped(&self) -> Stops<'_, J, T>
+        ensures stops { (id : ℕ) → lookup (is_at (nat_cmp id)) result ≡ option_and_then (λ s. s.stop) ((held_of T.moment self.now).jobs id) }
+        ensures ordered { IsStrictlySortedBy nat_cmp (keys_of result) }
+    {
+        Stops {
+            jobs: self.jobs.iter(),
+        }
     }
 
     /// Takes out a job, and gives it with its position, so that it can be added again; `None` where no job has the id. It asks for no
