@@ -1,6 +1,9 @@
 pub mod Says
 pub mod Summaries
 pub mod English
+pub mod Swedish
+pub mod Words
 pub mod TimeWords
 pub mod DayWords
+pub mod Texts
 pub mod Private

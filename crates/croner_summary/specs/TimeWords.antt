@@ -1,12 +1,17 @@
--- The times of a day in English words, by the first case that holds.
-use Rattle.std.specs.Prelude.{ℕ, ◌+◌, ◌-◌, Bool, true, false, ◌&&◌, ◌==◌, List, [], ◌∷◌, ◌++◌, drop, codes, decimal, Option, Some, None, if◌then◌else◌}
+-- The times of a day in words, by the first case that holds.
+use Rattle.std.specs.Prelude.{ℕ, ◌+◌, ◌-◌, nat_le, Bool, true, false, ◌&&◌, ◌==◌, List, [], ◌∷◌, ◌++◌, drop, length, decimal, Option, Some, None, if◌then◌else◌}
 use Rattle.std.specs.List.{list_all}
+use Rattle.croner_summary.specs.declared.language.Style.{Style}
+use Rattle.croner_summary.specs.declared.language.SummaryLanguage.{SummaryLanguage}
+use Rattle.croner_summary.specs.declared.language.Term.TheVariants.{To, AtTime, At, AndAt, Of, FromTime, FromMinute, AtSecond}
+use Rattle.croner_summary.specs.declared.language.TimeUnit.{TimeUnit}
+use Rattle.croner_summary.specs.declared.language.TimeUnit.TheVariants.{Second, Minute, Hour}
 use Rattle.croner_summary.specs.declared.phrase.Piece.{Piece}
 use Rattle.croner_summary.specs.declared.phrase.Piece.TheVariants.{Every, EveryNth, One, Range, RangeNth}
 use Rattle.croner_summary.specs.declared.time_words.Stretch.{Stretch}
 use Rattle.croner_summary.specs.declared.words.Kind.{Kind}
 use Rattle.croner_summary.specs.declared.words.Kind.TheVariants.{Number, HourAt, MinuteOf}
-use Rattle.croner_summary.specs.English.{clock_text, list_text, sole, unit_text}
+use Rattle.croner_summary.specs.Words.{clock_text, every_text, list_text, sole, span_text, term_text, unit_text}
 
 -- a part of the day, stepped through by minutes or by hours
 abbrev pub by_minutes : ℕ → ℕ → ℕ → ℕ → ℕ → Stretch
@@ -62,33 +67,43 @@ stretch_of minutes (Some (EveryNth n)) = at_step minutes 0 (24 - n) n
 stretch_of minutes (Some Every) = None
 stretch_of minutes None = None
 
--- so many units
-unfoldable pub steps_text : ℕ → List ℕ → List ℕ
-steps_text n unit = if n == 1 then unit else decimal n ++ (codes " " ++ (unit ++ codes "s"))
-
 -- a unit of a stretch
-abbrev pub unit_of : Bool → List ℕ
-unit_of by_hours = if by_hours then codes "hour" else codes "minute"
+abbrev pub unit_of : Bool → TimeUnit
+unit_of by_hours = if by_hours then Hour else Minute
 
 -- the full hours of the whole day, at a step
 abbrev pub is_whole_day : Stretch → Bool
 is_whole_day s = s.by_hours && (s.from_hour == 0 && (s.from_minute == 0 && s.to_hour + s.step == 24))
 
 -- from when to when
-unfoldable pub ends_text : Stretch → List ℕ
-ends_text s =
-    codes " from " ++ (clock_text s.from_hour s.from_minute 0 ++ (codes " to " ++ clock_text s.to_hour s.to_minute 0))
+unfoldable pub ends_text : SummaryLanguage → Stretch → List ℕ
+ends_text l s =
+    term_text l FromTime ++ (clock_text s.from_hour s.from_minute 0 ++ (term_text l To ++ clock_text s.to_hour s.to_minute 0))
 
 -- the ends, unless it is the whole day
-unfoldable pub part_text : Stretch → List ℕ
-part_text s = if is_whole_day s then [] else ends_text s
+unfoldable pub part_text : SummaryLanguage → Stretch → List ℕ
+part_text l s = if is_whole_day s then [] else ends_text l s
 
-unfoldable pub stretch_text : Stretch → List ℕ
-stretch_text s = codes "Every " ++ (steps_text s.step (unit_of s.by_hours) ++ part_text s)
+unfoldable pub stretch_text : SummaryLanguage → Stretch → List ℕ
+stretch_text l s = every_text l true s.step (unit_of s.by_hours) ++ part_text l s
 
--- the minutes by their numbers
-unfoldable pub minutes_of : List Piece → List ℕ
-minutes_of minutes = unit_text (codes "minute") Number minutes
+-- the minutes at the head of a text: `Every 5 minutes`, `At minutes 0 and 5`
+unfoldable pub minutes_head : Style → List Piece → Option Piece → List ℕ
+minutes_head style minutes (Some Every) = every_text style.language true 1 Minute
+minutes_head style minutes (Some (EveryNth n)) = every_text style.language true n Minute
+minutes_head style minutes (Some (RangeNth first last n)) =
+    every_text style.language true n Minute ++ (term_text style.language FromMinute ++ span_text style.language Number first last)
+minutes_head style minutes (Some (One minute)) = term_text style.language At ++ unit_text style Minute minutes
+minutes_head style minutes (Some (Range first last)) = term_text style.language At ++ unit_text style Minute minutes
+minutes_head style minutes None = term_text style.language At ++ unit_text style Minute minutes
+
+-- the hours behind them: ` of hours 8 and 12`
+unfoldable pub of_hours : Style → List Piece → List ℕ
+of_hours style hours = term_text style.language Of ++ unit_text style Hour hours
+
+-- minutes of hours that have no form of their own
+unfoldable pub minutes_and_hours : Style → List Piece → List Piece → List ℕ
+minutes_and_hours style minutes hours = minutes_head style minutes (sole minutes) ++ of_hours style hours
 
 -- the step that a list of more than one piece begins with
 abbrev pub head_step : List Piece → Option ℕ
@@ -96,34 +111,27 @@ head_step (EveryNth n ∷ one ∷ more) = Some n
 head_step other = None
 
 -- a step with others beside
-unfoldable pub beside_text : ℕ → List ℕ
-beside_text n = codes "Every " ++ (decimal n ++ codes " minutes, and at ")
+unfoldable pub beside_text : Style → ℕ → List Piece → List ℕ
+beside_text style n minutes = every_text style.language true n Minute ++ (term_text style.language AndAt ++ unit_text style Minute (drop 1 minutes))
 
--- a list of minutes, which may begin with a step
-unfoldable pub headed : List Piece → Option ℕ → List ℕ
-headed minutes None = codes "At " ++ minutes_of minutes
-headed minutes (Some n) = beside_text n ++ minutes_of (drop 1 minutes)
-
-unfoldable pub listed_minutes : List Piece → List ℕ
-listed_minutes minutes = headed minutes (head_step minutes) ++ codes " of each hour"
+-- a list of minutes of each hour, which may begin with a step
+unfoldable pub listed_minutes : Style → List Piece → List Piece → Option ℕ → List ℕ
+listed_minutes style minutes hours None = minutes_and_hours style minutes hours
+listed_minutes style minutes hours (Some n) = beside_text style n minutes ++ of_hours style hours
 
 -- minutes of each hour
-unfoldable pub each_hour_text : List Piece → Option Piece → List ℕ
-each_hour_text minutes (Some Every) = codes "Every minute"
-each_hour_text minutes (Some (EveryNth n)) = codes "Every " ++ (decimal n ++ codes " minutes")
-each_hour_text minutes (Some (One minute)) =
-    if minute == 0 then codes "Every hour" else listed_minutes minutes
-each_hour_text minutes (Some (Range first last)) = listed_minutes minutes
-each_hour_text minutes (Some (RangeNth first last n)) = listed_minutes minutes
-each_hour_text minutes None = listed_minutes minutes
+unfoldable pub each_hour_text : Style → List Piece → List Piece → Option Piece → List ℕ
+each_hour_text style minutes hours (Some Every) = every_text style.language true 1 Minute
+each_hour_text style minutes hours (Some (EveryNth n)) = every_text style.language true n Minute
+each_hour_text style minutes hours (Some (One minute)) =
+    if minute == 0 then every_text style.language true 1 Hour else minutes_and_hours style minutes hours
+each_hour_text style minutes hours (Some (Range first last)) = minutes_and_hours style minutes hours
+each_hour_text style minutes hours (Some (RangeNth first last n)) = minutes_and_hours style minutes hours
+each_hour_text style minutes hours None = listed_minutes style minutes hours (head_step minutes)
 
--- minutes of hours that have no form of their own
-unfoldable pub minutes_and_hours : List Piece → List Piece → List ℕ
-minutes_and_hours minutes hours = minutes_of minutes ++ (codes " of " ++ unit_text (codes "hour") Number hours)
-
-unfoldable pub stretched : List Piece → List Piece → Option Stretch → List ℕ
-stretched minutes hours (Some s) = stretch_text s
-stretched minutes hours None = codes "At " ++ minutes_and_hours minutes hours
+unfoldable pub stretched : Style → List Piece → List Piece → Option Stretch → List ℕ
+stretched style minutes hours (Some s) = stretch_text style.language s
+stretched style minutes hours None = minutes_and_hours style minutes hours
 
 -- each value
 abbrev pub is_every : Option Piece → Bool
@@ -131,10 +139,10 @@ is_every (Some Every) = true
 is_every other = false
 
 -- minutes and hours, at second 0
-unfoldable pub minutes_text : List Piece → List Piece → List ℕ
-minutes_text minutes hours =
-    if is_every (sole hours) then each_hour_text minutes (sole minutes)
-    else stretched minutes hours (stretch_of (sole minutes) (sole hours))
+unfoldable pub minutes_text : Style → List Piece → List Piece → List ℕ
+minutes_text style minutes hours =
+    if is_every (sole hours) then each_hour_text style minutes hours (sole minutes)
+    else stretched style minutes hours (stretch_of (sole minutes) (sole hours))
 
 -- one value
 abbrev pub is_one : Piece → Bool
@@ -150,46 +158,56 @@ abbrev pub value_of : Option Piece → ℕ
 value_of (Some (One n)) = n
 value_of other = 0
 
+-- single values, six at most: these are told as times of day
+unfoldable pub are_times : List Piece → Bool
+are_times pieces = nat_le (length pieces) 6 && list_all is_one pieces
+
 -- a time that has no form of its own
-unfoldable pub parts_text : List Piece → List Piece → List Piece → List ℕ
-parts_text seconds minutes hours =
-    codes "At " ++ (unit_text (codes "second") Number seconds ++ (codes " of " ++ minutes_and_hours minutes hours))
+unfoldable pub parts_text : Style → List Piece → List Piece → List Piece → List ℕ
+parts_text style seconds minutes hours =
+    term_text style.language At ++ (unit_text style Second seconds
+    ++ (term_text style.language Of ++ (unit_text style Minute minutes ++ of_hours style hours)))
+
+-- at a second that isn't 0
+unfoldable pub at_second : SummaryLanguage → ℕ → List ℕ
+at_second l second = if second == 0 then [] else term_text l AtSecond ++ decimal second
 
 -- minutes and hours at a second that are no times of day
-unfoldable pub untimed : ℕ → List Piece → List Piece → List Piece → List ℕ
-untimed second seconds minutes hours = if second == 0 then minutes_text minutes hours else parts_text seconds minutes hours
+unfoldable pub untimed : Style → ℕ → List Piece → List Piece → List ℕ
+untimed style second minutes hours = minutes_text style minutes hours ++ at_second style.language second
 
 -- times of day
-unfoldable pub times_text : Kind → List Piece → List ℕ
-times_text kind pieces = codes "At " ++ list_text kind pieces
+unfoldable pub times_text : Style → Kind → List Piece → List ℕ
+times_text style kind pieces = term_text style.language AtTime ++ list_text style kind pieces
 
 -- single minutes of one hour are times of day
-unfoldable pub hour_case : ℕ → List Piece → List Piece → List Piece → Option Piece → List ℕ
-hour_case second seconds minutes hours (Some (One hour)) =
-    if list_all is_one minutes then times_text (MinuteOf hour second) minutes else untimed second seconds minutes hours
-hour_case second seconds minutes hours other = untimed second seconds minutes hours
+unfoldable pub hour_case : Style → ℕ → List Piece → List Piece → Option Piece → List ℕ
+hour_case style second minutes hours (Some (One hour)) =
+    if are_times minutes then times_text style (MinuteOf hour second) minutes else untimed style second minutes hours
+hour_case style second minutes hours other = untimed style second minutes hours
 
 -- and so is one minute of single hours
-unfoldable pub minute_case : ℕ → List Piece → List Piece → List Piece → Option Piece → List ℕ
-minute_case second seconds minutes hours (Some (One minute)) =
-    if list_all is_one hours then times_text (HourAt minute second) hours
-    else hour_case second seconds minutes hours (sole hours)
-minute_case second seconds minutes hours other = hour_case second seconds minutes hours (sole hours)
+unfoldable pub minute_case : Style → ℕ → List Piece → List Piece → Option Piece → List ℕ
+minute_case style second minutes hours (Some (One minute)) =
+    if are_times hours then times_text style (HourAt minute second) hours
+    else hour_case style second minutes hours (sole hours)
+minute_case style second minutes hours other = hour_case style second minutes hours (sole hours)
 
 -- seconds of each minute
-unfoldable pub seconds_text : List Piece → List Piece → List Piece → Option Piece → List ℕ
-seconds_text seconds minutes hours (Some Every) = codes "Every second"
-seconds_text seconds minutes hours (Some (EveryNth n)) = codes "Every " ++ (decimal n ++ codes " seconds")
-seconds_text seconds minutes hours other = parts_text seconds minutes hours
+unfoldable pub seconds_text : Style → List Piece → List Piece → List Piece → Option Piece → List ℕ
+seconds_text style seconds minutes hours (Some Every) = every_text style.language true 1 Second
+seconds_text style seconds minutes hours (Some (EveryNth n)) = every_text style.language true n Second
+seconds_text style seconds minutes hours other = parts_text style seconds minutes hours
 
-unfoldable pub many_seconds : List Piece → List Piece → List Piece → Option Piece → List ℕ
-many_seconds seconds minutes hours one =
-    if is_every (sole minutes) && is_every (sole hours) then seconds_text seconds minutes hours one else parts_text seconds minutes hours
+unfoldable pub many_seconds : Style → List Piece → List Piece → List Piece → Option Piece → List ℕ
+many_seconds style seconds minutes hours one =
+    if is_every (sole minutes) && is_every (sole hours) then seconds_text style seconds minutes hours one
+    else parts_text style seconds minutes hours
 
 -- the times of a day
-unfoldable pub second_case : List Piece → List Piece → List Piece → Option Piece → List ℕ
-second_case seconds minutes hours (Some (One second)) = minute_case second seconds minutes hours (sole minutes)
-second_case seconds minutes hours other = many_seconds seconds minutes hours other
+unfoldable pub second_case : Style → List Piece → List Piece → List Piece → Option Piece → List ℕ
+second_case style seconds minutes hours (Some (One second)) = minute_case style second minutes hours (sole minutes)
+second_case style seconds minutes hours other = many_seconds style seconds minutes hours other
 
-unfoldable pub time_text : List Piece → List Piece → List Piece → List ℕ
-time_text seconds minutes hours = second_case seconds minutes hours (sole seconds)
+unfoldable pub time_text : Style → List Piece → List Piece → List Piece → List ℕ
+time_text style seconds minutes hours = second_case style seconds minutes hours (sole seconds)

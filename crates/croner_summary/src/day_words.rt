@@ -1,14 +1,19 @@
-//! Days, months and years in English words.
+//! Days, months and years in words.
 
-ghost use Rattle.std.specs.Prelude.{◌≡◌, ◌++◌};
+ghost use Rattle.std.specs.Prelude.{◌≡◌, ◌++◌, false, codes};
 ghost use Rattle.std.specs.List.{list_any};
 ghost use Rattle.croner_summary.specs.Private.Appended.{Appends};
-ghost use Rattle.croner_summary.specs.DayWords.{behind_numbers, both_text, dated_weekday, days_text, from_end_text, from_fifth, from_first, from_fourth, from_second, from_third, has_nth, is_counted, is_dated_weekday, is_first_day, is_late, is_range, is_some, is_stepped, late_text, month_days_text, months_text, names_month_day, names_weekday, near_list, near_words, nearest, nearest_text, nth_part, numbered, numbers_text, of_week_text, on_text, weekday_part, weekdays_text, years_text};
+ghost use Rattle.croner_summary.specs.Words.{every_text, list_text, term_text};
+ghost use Rattle.croner_summary.specs.DayWords.{behind_numbers, between_days, both_text, dated_weekday, days_text, from_end_text, from_fifth, from_first, from_fourth, from_second, from_third, has_nth, having_text, is_counted, is_dated_weekday, is_first_day, is_late, is_range, is_some, late_text, month_days_text, months_case, months_text, names_month_day, names_weekday, near_list, nearest, nearest_text, nth_part, numbered, numbers_text, of_week_text, on_text, only_text, stepped_all, stepped_span, weekday_part, weekdays_text, years_case, years_text};
 
 use crate::days::{Days, FromEnd, MonthDays, Weekdays};
+use crate::language::{Style, SummaryLanguage, Term, TimeUnit};
 use crate::phrase::{Phrase, Piece};
-use crate::time_words::{is_every, is_sole, value_of};
-use crate::words::{Kind, sole, write_list, write_ordinal, write_sole, write_text, write_value};
+use crate::time_words::{is_sole, value_of};
+use crate::words::{
+    Kind, least_of, sole, write_every, write_list, write_ordinal, write_span, write_term,
+    write_text, write_unit_name, write_value,
+};
 use croner_base::errors::CronError;
 
 /// The days of the shortest month.
@@ -23,92 +28,155 @@ pub(crate) fn is_some(phrase: &Phrase) -> bool
 }
 
 /// Writes what goes before a part of the days.
-fn write_on(text: &mut String, told: bool) -> Result<(), CronError>
-    ensures { Appends (on_text told) text.old text.new result }
+fn write_on(text: &mut String, language: SummaryLanguage, told: bool) -> Result<(), CronError>
+    ensures { Appends (on_text language told) text.old text.new result }
 {
-    write_text(text, if told { " and on " } else { " on " })
+    write_term(text, language, if told { Term::AndOn } else { Term::On })
 }
 
-/// Writes the weekdays of a phrase, if it has any.
+/// Writes the weekdays of a phrase behind a term, if there are any.
 #[tactic(auto, unfolding(crate::specs::DayWords::weekday_part))]
 fn write_weekday_part(
     text: &mut String,
-    before: &str,
-    behind: &str,
+    style: Style,
+    kind: Kind,
+    before: Term,
     told: bool,
     phrase: &Phrase,
 ) -> Result<(), CronError>
-    ensures { Appends (weekday_part before.now behind.now told phrase.now) text.old text.new result }
+    ensures { Appends (weekday_part style kind before told phrase.now) text.old text.new result }
 {
     if !is_some(phrase) {
         return Ok(());
     }
-    write_on(text, told)?;
-    write_text(text, before)?;
-    write_list(text, Kind::Weekday, &phrase.pieces)?;
-    write_text(text, behind)
+    write_on(text, style.language, told)?;
+    write_term(text, style.language, before)?;
+    write_list(text, style, kind, &phrase.pieces)
 }
 
 /// Writes nth weekdays of the month, if there are any.
 #[tactic(auto, unfolding(crate::specs::DayWords::nth_part))]
-fn write_nth(text: &mut String, before: &str, told: bool, phrase: &Phrase) -> Result<(), CronError>
-    ensures { Appends (nth_part before.now told phrase.now) text.old text.new result }
+fn write_nth_part(
+    text: &mut String,
+    style: Style,
+    before: Term,
+    told: bool,
+    phrase: &Phrase,
+) -> Result<(), CronError>
+    ensures { Appends (nth_part style before told phrase.now) text.old text.new result }
 {
-    write_weekday_part(text, before, " of the month", told, phrase)
+    if !is_some(phrase) {
+        return Ok(());
+    }
+    write_weekday_part(text, style, Kind::NthWeekday, before, told, phrase)?;
+    write_term(text, style.language, Term::OfTheMonth)
 }
 
 /// Writes the fifth weekdays and the last.
 #[tactic(auto, unfolding(crate::specs::DayWords::from_fifth))]
-fn write_from_fifth(text: &mut String, told: bool, week: &Weekdays) -> Result<(), CronError>
-    ensures { Appends (from_fifth told week.now) text.old text.new result }
+fn write_from_fifth(
+    text: &mut String,
+    style: Style,
+    told: bool,
+    week: &Weekdays,
+) -> Result<(), CronError>
+    ensures { Appends (from_fifth style told week.now) text.old text.new result }
 {
-    write_nth(text, "the fifth ", told, &week.fifth)?;
-    write_nth(text, "the last ", told || is_some(&week.fifth), &week.last)
+    write_nth_part(text, style, Term::FifthTime, told, &week.fifth)?;
+    write_nth_part(
+        text,
+        style,
+        Term::LastTime,
+        told || is_some(&week.fifth),
+        &week.last,
+    )
 }
 
 /// Writes the fourth weekdays and those behind them.
 #[tactic(auto, unfolding(crate::specs::DayWords::from_fourth))]
-fn write_from_fourth(text: &mut String, told: bool, week: &Weekdays) -> Result<(), CronError>
-    ensures { Appends (from_fourth told week.now) text.old text.new result }
+fn write_from_fourth(
+    text: &mut String,
+    style: Style,
+    told: bool,
+    week: &Weekdays,
+) -> Result<(), CronError>
+    ensures { Appends (from_fourth style told week.now) text.old text.new result }
 {
-    write_nth(text, "the fourth ", told, &week.fourth)?;
-    write_from_fifth(text, told || is_some(&week.fourth), week)
+    write_nth_part(text, style, Term::FourthTime, told, &week.fourth)?;
+    write_from_fifth(text, style, told || is_some(&week.fourth), week)
 }
 
 /// Writes the third weekdays and those behind them.
 #[tactic(auto, unfolding(crate::specs::DayWords::from_third))]
-fn write_from_third(text: &mut String, told: bool, week: &Weekdays) -> Result<(), CronError>
-    ensures { Appends (from_third told week.now) text.old text.new result }
+fn write_from_third(
+    text: &mut String,
+    style: Style,
+    told: bool,
+    week: &Weekdays,
+) -> Result<(), CronError>
+    ensures { Appends (from_third style told week.now) text.old text.new result }
 {
-    write_nth(text, "the third ", told, &week.third)?;
-    write_from_fourth(text, told || is_some(&week.third), week)
+    write_nth_part(text, style, Term::ThirdTime, told, &week.third)?;
+    write_from_fourth(text, style, told || is_some(&week.third), week)
 }
 
 /// Writes the second weekdays and those behind them.
 #[tactic(auto, unfolding(crate::specs::DayWords::from_second))]
-fn write_from_second(text: &mut String, told: bool, week: &Weekdays) -> Result<(), CronError>
-    ensures { Appends (from_second told week.now) text.old text.new result }
+fn write_from_second(
+    text: &mut String,
+    style: Style,
+    told: bool,
+    week: &Weekdays,
+) -> Result<(), CronError>
+    ensures { Appends (from_second style told week.now) text.old text.new result }
 {
-    write_nth(text, "the second ", told, &week.second)?;
-    write_from_third(text, told || is_some(&week.second), week)
+    write_nth_part(text, style, Term::SecondTime, told, &week.second)?;
+    write_from_third(text, style, told || is_some(&week.second), week)
 }
 
 /// Writes the first weekdays and those behind them.
 #[tactic(auto, unfolding(crate::specs::DayWords::from_first))]
-fn write_from_first(text: &mut String, told: bool, week: &Weekdays) -> Result<(), CronError>
-    ensures { Appends (from_first told week.now) text.old text.new result }
+fn write_from_first(
+    text: &mut String,
+    style: Style,
+    told: bool,
+    week: &Weekdays,
+) -> Result<(), CronError>
+    ensures { Appends (from_first style told week.now) text.old text.new result }
 {
-    write_nth(text, "the first ", told, &week.first)?;
-    write_from_second(text, told || is_some(&week.first), week)
+    write_nth_part(text, style, Term::FirstTime, told, &week.first)?;
+    write_from_second(text, style, told || is_some(&week.first), week)
 }
 
 /// Writes weekdays.
 #[tactic(auto, unfolding(crate::specs::DayWords::weekdays_text))]
-fn write_weekdays(text: &mut String, told: bool, week: &Weekdays) -> Result<(), CronError>
-    ensures { Appends (weekdays_text told week.now) text.old text.new result }
+fn write_weekdays(
+    text: &mut String,
+    style: Style,
+    told: bool,
+    week: &Weekdays,
+) -> Result<(), CronError>
+    ensures { Appends (weekdays_text style told week.now) text.old text.new result }
 {
-    write_weekday_part(text, "each ", "", told, &week.each)?;
-    write_from_first(text, told || is_some(&week.each), week)
+    write_weekday_part(text, style, Kind::Weekday, Term::Each, told, &week.each)?;
+    write_from_first(text, style, told || is_some(&week.each), week)
+}
+
+/// Writes weekdays to which days are narrowed.
+#[tactic(auto, unfolding(crate::specs::DayWords::only_text))]
+fn write_only(text: &mut String, style: Style, week: &Weekdays) -> Result<(), CronError>
+    ensures { Appends (only_text style week.now) text.old text.new result }
+{
+    write_term(text, style.language, Term::ButOnly)?;
+    write_weekday_part(
+        text,
+        style,
+        Kind::OnlyWeekday,
+        Term::OnlyEach,
+        false,
+        &week.each,
+    )?;
+    write_from_first(text, style, is_some(&week.each), week)
 }
 
 /// Whether a weekday is named as the nth or the last of a month.
@@ -144,65 +212,111 @@ fn is_range(one: Option<Piece>) -> bool
 
 /// Writes weekdays that alone say which days are named.
 #[tactic(auto, unfolding(crate::specs::DayWords::of_week_text))]
-fn write_of_week(text: &mut String, week: &Weekdays) -> Result<(), CronError>
-    ensures { Appends (of_week_text week.now) text.old text.new result }
+fn write_of_week(text: &mut String, style: Style, week: &Weekdays) -> Result<(), CronError>
+    ensures { Appends (of_week_text style week.now) text.old text.new result }
 {
     if is_range(sole(&week.each.pieces)) && !has_nth(week) {
         write_text(text, ", ")?;
-        return write_list(text, Kind::Weekday, &week.each.pieces);
+        return write_list(text, style, Kind::Weekday, &week.each.pieces);
     }
-    write_weekdays(text, false, week)
+    write_weekdays(text, style, false, week)
 }
 
-/// Whether it is a step.
-fn is_stepped(one: Option<Piece>) -> bool
-    ensures { result ≡ is_stepped one }
+/// Writes from which day of the month to which.
+#[tactic(auto, unfolding(crate::specs::DayWords::between_days))]
+fn write_between(
+    text: &mut String,
+    language: SummaryLanguage,
+    first: u16,
+    last: u16,
+) -> Result<(), CronError>
+    ensures { Appends (between_days language first last) text.old text.new result }
 {
-    match one {
-        Some(Piece::EveryNth(_)) => true,
-        Some(Piece::RangeNth(_, _, _)) => true,
-        _ => false,
-    }
+    write_term(text, language, Term::FromThe)?;
+    write_ordinal(text, language, first)?;
+    write_term(text, language, Term::ToThe)?;
+    write_ordinal(text, language, last)
+}
+
+/// Writes a list of days of the month.
+fn write_day_list(text: &mut String, style: Style, pieces: &[Piece]) -> Result<(), CronError>
+    ensures { Appends (term_text style.language Term.On ++ (term_text style.language Term.The ++ list_text style Kind.Ordinal pieces.now)) text.old text.new result }
+{
+    write_term(text, style.language, Term::On)?;
+    write_term(text, style.language, Term::The)?;
+    write_list(text, style, Kind::Ordinal, pieces)
+}
+
+/// Writes every so many days, before the first of them.
+fn write_day_step(text: &mut String, language: SummaryLanguage, n: u16) -> Result<(), CronError>
+    ensures { Appends (codes " " ++ every_text language false n TimeUnit.Day) text.old text.new result }
+{
+    write_text(text, " ")?;
+    write_every(text, language, false, n, TimeUnit::Day)
 }
 
 /// Writes days by number.
 #[tactic(auto, unfolding(crate::specs::DayWords::numbered))]
-fn write_numbered(text: &mut String, pieces: &[Piece], one: Option<Piece>) -> Result<(), CronError>
-    ensures { Appends (numbered pieces.now one) text.old text.new result }
+fn write_numbered(
+    text: &mut String,
+    style: Style,
+    pieces: &[Piece],
+    one: Option<Piece>,
+) -> Result<(), CronError>
+    ensures { Appends (numbered style pieces.now one) text.old text.new result }
 {
-    if is_every(one) || is_stepped(one) {
-        return write_sole(text, "day", Kind::Ordinal, pieces, one);
+    let language = style.language;
+    match one {
+        Some(Piece::Every) => {
+            write_term(text, language, Term::On)?;
+            write_term(text, language, Term::Each)?;
+            write_unit_name(text, language, TimeUnit::Day)
+        }
+        Some(Piece::EveryNth(n)) => {
+            write_day_step(text, language, n)?;
+            write_term(text, language, Term::FromThe)?;
+            write_ordinal(text, language, 1)
+        }
+        Some(Piece::RangeNth(first, last, n)) => {
+            write_day_step(text, language, n)?;
+            write_between(text, language, first, last)
+        }
+        Some(Piece::One(_)) => write_day_list(text, style, pieces),
+        Some(Piece::Range(_, _)) => write_day_list(text, style, pieces),
+        None => write_day_list(text, style, pieces),
     }
-    write_text(text, "the ")?;
-    write_list(text, Kind::Ordinal, pieces)
 }
 
 /// Writes the days that a phrase names by number, if there are any.
 #[tactic(auto, unfolding(crate::specs::DayWords::numbers_text))]
-fn write_numbers(text: &mut String, phrase: &Phrase) -> Result<(), CronError>
-    ensures { Appends (numbers_text phrase.now) text.old text.new result }
+fn write_numbers(text: &mut String, style: Style, phrase: &Phrase) -> Result<(), CronError>
+    ensures { Appends (numbers_text style phrase.now) text.old text.new result }
 {
     if !is_some(phrase) {
         return Ok(());
     }
-    write_text(text, " on ")?;
-    write_numbered(text, &phrase.pieces, sole(&phrase.pieces))
+    write_numbered(text, style, &phrase.pieces, sole(&phrase.pieces))
 }
 
 /// Writes the day from the end.
 #[tactic(auto, unfolding(crate::specs::DayWords::from_end_text))]
-fn write_from_end(text: &mut String, told: bool, from_end: FromEnd) -> Result<(), CronError>
-    ensures { Appends (from_end_text told from_end) text.old text.new result }
+fn write_from_end(
+    text: &mut String,
+    language: SummaryLanguage,
+    told: bool,
+    from_end: FromEnd,
+) -> Result<(), CronError>
+    ensures { Appends (from_end_text language told from_end) text.old text.new result }
 {
     match from_end {
         FromEnd::Neither => Ok(()),
         FromEnd::LastDay => {
-            write_on(text, told)?;
-            write_text(text, "the last day of the month")
+            write_on(text, language, told)?;
+            write_term(text, language, Term::TheLastDay)
         }
         FromEnd::LastWorkingDay => {
-            write_on(text, told)?;
-            write_text(text, "the last weekday (Monday to Friday) of the month")
+            write_on(text, language, told)?;
+            write_term(text, language, Term::TheLastWorkingDay)
         }
     }
 }
@@ -228,32 +342,47 @@ fn has_late(pieces: &[Piece]) -> bool
 }
 
 /// Writes that only some months have the day.
+#[tactic(auto, unfolding(crate::specs::DayWords::having_text))]
+fn write_having(
+    text: &mut String,
+    language: SummaryLanguage,
+    one: Option<Piece>,
+) -> Result<(), CronError>
+    ensures { Appends (having_text language one) text.old text.new result }
+{
+    match one {
+        Some(Piece::One(day)) => {
+            write_term(text, language, Term::HavingOne)?;
+            write_ordinal(text, language, day)?;
+            write_term(text, language, Term::HavingOneEnd)
+        }
+        _ => write_term(text, language, Term::HavingDays),
+    }
+}
+
+/// Writes that only some months have the days, where that is so.
 #[tactic(auto, unfolding(crate::specs::DayWords::late_text))]
-fn write_late(text: &mut String, pieces: &[Piece]) -> Result<(), CronError>
-    ensures { Appends (late_text pieces.now) text.old text.new result }
+fn write_late(
+    text: &mut String,
+    language: SummaryLanguage,
+    pieces: &[Piece],
+) -> Result<(), CronError>
+    ensures { Appends (late_text language pieces.now) text.old text.new result }
 {
     if !has_late(pieces) {
         return Ok(());
     }
-    write_text(text, ", where the month has it")
-}
-
-/// Writes what goes before the days to which the nearest weekdays are meant.
-#[tactic(auto, unfolding(crate::specs::DayWords::near_words))]
-fn write_near_words(text: &mut String) -> Result<(), CronError>
-    ensures { Appends near_words text.old text.new result }
-{
-    write_text(text, "the weekday (Monday to Friday) nearest the ")
+    write_having(text, language, sole(pieces))
 }
 
 /// Writes the weekdays nearest to listed days.
 #[tactic(auto, unfolding(crate::specs::DayWords::near_list))]
-fn write_near_list(text: &mut String, pieces: &[Piece]) -> Result<(), CronError>
-    ensures { Appends (near_list pieces.now) text.old text.new result }
+fn write_near_list(text: &mut String, style: Style, pieces: &[Piece]) -> Result<(), CronError>
+    ensures { Appends (near_list style pieces.now) text.old text.new result }
 {
-    write_near_words(text)?;
-    write_list(text, Kind::Ordinal, pieces)?;
-    write_late(text, pieces)
+    write_term(text, style.language, Term::Nearest)?;
+    write_list(text, style, Kind::Ordinal, pieces)?;
+    write_late(text, style.language, pieces)
 }
 
 /// Whether it is the 1st alone.
@@ -266,25 +395,30 @@ fn is_first_day(one: Option<Piece>) -> bool
 
 /// Writes the weekdays nearest to some days.
 #[tactic(auto, unfolding(crate::specs::DayWords::nearest))]
-fn write_nearest(text: &mut String, pieces: &[Piece]) -> Result<(), CronError>
-    ensures { Appends (nearest pieces.now) text.old text.new result }
+fn write_nearest(text: &mut String, style: Style, pieces: &[Piece]) -> Result<(), CronError>
+    ensures { Appends (nearest style pieces.now) text.old text.new result }
 {
     if is_first_day(sole(pieces)) {
-        return write_text(text, "the first weekday (Monday to Friday) of the month");
+        return write_term(text, style.language, Term::TheFirstWorkingDay);
     }
-    write_near_list(text, pieces)
+    write_near_list(text, style, pieces)
 }
 
 /// Writes the weekdays nearest to the days of a phrase, if it has any.
 #[tactic(auto, unfolding(crate::specs::DayWords::nearest_text))]
-fn write_nearest_part(text: &mut String, told: bool, phrase: &Phrase) -> Result<(), CronError>
-    ensures { Appends (nearest_text told phrase.now) text.old text.new result }
+fn write_nearest_part(
+    text: &mut String,
+    style: Style,
+    told: bool,
+    phrase: &Phrase,
+) -> Result<(), CronError>
+    ensures { Appends (nearest_text style told phrase.now) text.old text.new result }
 {
     if !is_some(phrase) {
         return Ok(());
     }
-    write_on(text, told)?;
-    write_nearest(text, &phrase.pieces)
+    write_on(text, style.language, told)?;
+    write_nearest(text, style, &phrase.pieces)
 }
 
 /// Whether a day is counted from the end.
@@ -300,20 +434,30 @@ fn is_counted(from_end: FromEnd) -> bool
 
 /// Writes the days of the month behind those by number.
 #[tactic(auto, unfolding(crate::specs::DayWords::behind_numbers))]
-fn write_behind_numbers(text: &mut String, told: bool, month: &MonthDays) -> Result<(), CronError>
-    ensures { Appends (behind_numbers told month.now) text.old text.new result }
+fn write_behind_numbers(
+    text: &mut String,
+    style: Style,
+    told: bool,
+    month: &MonthDays,
+) -> Result<(), CronError>
+    ensures { Appends (behind_numbers style told month.now) text.old text.new result }
 {
-    write_from_end(text, told, month.from_end)?;
-    write_nearest_part(text, told || is_counted(month.from_end), &month.nearest)
+    write_from_end(text, style.language, told, month.from_end)?;
+    write_nearest_part(
+        text,
+        style,
+        told || is_counted(month.from_end),
+        &month.nearest,
+    )
 }
 
 /// Writes days of the month.
 #[tactic(auto, unfolding(crate::specs::DayWords::month_days_text))]
-fn write_month_days(text: &mut String, month: &MonthDays) -> Result<(), CronError>
-    ensures { Appends (month_days_text month.now) text.old text.new result }
+fn write_month_days(text: &mut String, style: Style, month: &MonthDays) -> Result<(), CronError>
+    ensures { Appends (month_days_text style month.now) text.old text.new result }
 {
-    write_numbers(text, &month.numbers)?;
-    write_behind_numbers(text, is_some(&month.numbers), month)
+    write_numbers(text, style, &month.numbers)?;
+    write_behind_numbers(text, style, is_some(&month.numbers), month)
 }
 
 /// Whether a day of the month is named.
@@ -337,77 +481,190 @@ fn is_dated_weekday(month: &MonthDays, week: &Weekdays) -> bool
 
 /// Writes a weekday of a date.
 #[tactic(auto, unfolding(crate::specs::DayWords::dated_weekday))]
-fn write_dated_weekday(text: &mut String, weekday: u16, day: u16) -> Result<(), CronError>
-    ensures { Appends (dated_weekday weekday day) text.old text.new result }
+fn write_dated_weekday(
+    text: &mut String,
+    language: SummaryLanguage,
+    weekday: u16,
+    day: u16,
+) -> Result<(), CronError>
+    ensures { Appends (dated_weekday language weekday day) text.old text.new result }
 {
-    write_text(text, " on ")?;
-    write_value(text, Kind::Weekday, weekday)?;
-    write_text(text, " the ")?;
-    write_ordinal(text, day)
+    write_term(text, language, Term::On)?;
+    write_value(text, language, Kind::Weekday, weekday)?;
+    write_term(text, language, Term::DatedThe)?;
+    write_ordinal(text, language, day)
 }
 
 /// Writes days that are named in both ways.
 #[tactic(auto, unfolding(crate::specs::DayWords::both_text))]
-fn write_both(text: &mut String, month: &MonthDays, week: &Weekdays) -> Result<(), CronError>
-    ensures { Appends (both_text month.now week.now) text.old text.new result }
+fn write_both(
+    text: &mut String,
+    style: Style,
+    month: &MonthDays,
+    week: &Weekdays,
+) -> Result<(), CronError>
+    ensures { Appends (both_text style month.now week.now) text.old text.new result }
 {
     if is_dated_weekday(month, week) {
         let weekday = value_of(sole(&week.each.pieces));
-        return write_dated_weekday(text, weekday, value_of(sole(&month.numbers.pieces)));
+        let day = value_of(sole(&month.numbers.pieces));
+        return write_dated_weekday(text, style.language, weekday, day);
     }
-    write_month_days(text, month)?;
-    write_text(text, ", but only")?;
-    write_weekdays(text, false, week)
+    write_month_days(text, style, month)?;
+    write_only(text, style, week)
 }
 
 /// Writes days that are named in one of the two ways.
-fn write_either(text: &mut String, month: &MonthDays, week: &Weekdays) -> Result<(), CronError>
-    ensures { Appends (month_days_text month.now ++ weekdays_text (names_month_day month.now) week.now) text.old text.new result }
+fn write_either(
+    text: &mut String,
+    style: Style,
+    month: &MonthDays,
+    week: &Weekdays,
+) -> Result<(), CronError>
+    ensures { Appends (month_days_text style month.now ++ weekdays_text style (names_month_day month.now) week.now) text.old text.new result }
 {
-    write_month_days(text, month)?;
-    write_weekdays(text, names_month_day(month), week)
+    write_month_days(text, style, month)?;
+    write_weekdays(text, style, names_month_day(month), week)
 }
 
 /// Writes days.
 #[tactic(auto, unfolding(crate::specs::DayWords::days_text))]
-pub(crate) fn write_days(text: &mut String, days: &Days) -> Result<(), CronError>
-    ensures { Appends (days_text days.now) text.old text.new result }
+pub(crate) fn write_days(text: &mut String, style: Style, days: &Days) -> Result<(), CronError>
+    ensures { Appends (days_text style days.now) text.old text.new result }
 {
     match days {
         Days::Every => Ok(()),
-        Days::OfMonth(month) => write_month_days(text, month),
-        Days::OfWeek(week) => write_of_week(text, week),
-        Days::Either(month, week) => write_either(text, month, week),
-        Days::Both(month, week) => write_both(text, month, week),
+        Days::OfMonth(month) => write_month_days(text, style, month),
+        Days::OfWeek(week) => write_of_week(text, style, week),
+        Days::Either(month, week) => write_either(text, style, month, week),
+        Days::Both(month, week) => write_both(text, style, month, week),
+    }
+}
+
+/// Writes every so many units from the least value on.
+#[tactic(auto, unfolding(crate::specs::DayWords::stepped_all))]
+fn write_stepped_all(
+    text: &mut String,
+    language: SummaryLanguage,
+    unit: TimeUnit,
+    kind: Kind,
+    n: u16,
+) -> Result<(), CronError>
+    ensures { Appends (stepped_all language unit kind n) text.old text.new result }
+{
+    write_every(text, language, false, n, unit)?;
+    write_term(text, language, Term::From)?;
+    write_value(text, language, kind, least_of(kind))
+}
+
+/// Writes every so many units from one value to another.
+#[tactic(auto, unfolding(crate::specs::DayWords::stepped_span))]
+fn write_stepped_span(
+    text: &mut String,
+    language: SummaryLanguage,
+    unit: TimeUnit,
+    kind: Kind,
+    first: u16,
+    last: u16,
+    n: u16,
+) -> Result<(), CronError>
+    ensures { Appends (stepped_span language unit kind first last n) text.old text.new result }
+{
+    write_every(text, language, false, n, unit)?;
+    write_term(text, language, Term::From)?;
+    write_span(text, language, kind, first, last)
+}
+
+/// Writes a list of months.
+fn write_month_list(text: &mut String, style: Style, pieces: &[Piece]) -> Result<(), CronError>
+    ensures { Appends (term_text style.language Term.InMonths ++ list_text style Kind.Month pieces.now) text.old text.new result }
+{
+    write_term(text, style.language, Term::InMonths)?;
+    write_list(text, style, Kind::Month, pieces)
+}
+
+/// Writes months, unless each is named, by their one piece.
+#[tactic(auto, unfolding(crate::specs::DayWords::months_case))]
+fn write_months_case(
+    text: &mut String,
+    style: Style,
+    pieces: &[Piece],
+    one: Option<Piece>,
+) -> Result<(), CronError>
+    ensures { Appends (months_case style pieces.now one) text.old text.new result }
+{
+    let language = style.language;
+    match one {
+        Some(Piece::Every) => Ok(()),
+        Some(Piece::EveryNth(n)) => {
+            write_text(text, " ")?;
+            write_stepped_all(text, language, TimeUnit::Month, Kind::Month, n)
+        }
+        Some(Piece::RangeNth(first, last, n)) => {
+            write_text(text, " ")?;
+            write_stepped_span(text, language, TimeUnit::Month, Kind::Month, first, last, n)
+        }
+        Some(Piece::One(_)) => write_month_list(text, style, pieces),
+        Some(Piece::Range(_, _)) => write_month_list(text, style, pieces),
+        None => write_month_list(text, style, pieces),
     }
 }
 
 /// Writes months, unless each is named.
 #[tactic(auto, unfolding(crate::specs::DayWords::months_text))]
-pub(crate) fn write_months(text: &mut String, pieces: &[Piece]) -> Result<(), CronError>
-    ensures { Appends (months_text pieces.now) text.old text.new result }
+pub(crate) fn write_months(
+    text: &mut String,
+    style: Style,
+    pieces: &[Piece],
+) -> Result<(), CronError>
+    ensures { Appends (months_text style pieces.now) text.old text.new result }
 {
-    if is_every(sole(pieces)) {
-        return Ok(());
+    write_months_case(text, style, pieces, sole(pieces))
+}
+
+/// Writes a list of years.
+fn write_year_list(text: &mut String, style: Style, pieces: &[Piece]) -> Result<(), CronError>
+    ensures { Appends (term_text style.language Term.InYears ++ list_text style Kind.Year pieces.now) text.old text.new result }
+{
+    write_term(text, style.language, Term::InYears)?;
+    write_list(text, style, Kind::Year, pieces)
+}
+
+/// Writes years, unless each is named, by their one piece.
+#[tactic(auto, unfolding(crate::specs::DayWords::years_case))]
+fn write_years_case(
+    text: &mut String,
+    style: Style,
+    pieces: &[Piece],
+    one: Option<Piece>,
+) -> Result<(), CronError>
+    ensures { Appends (years_case style pieces.now one) text.old text.new result }
+{
+    let language = style.language;
+    match one {
+        Some(Piece::Every) => Ok(()),
+        Some(Piece::EveryNth(n)) => {
+            write_text(text, ", ")?;
+            write_stepped_all(text, language, TimeUnit::Year, Kind::Year, n)
+        }
+        Some(Piece::RangeNth(first, last, n)) => {
+            write_text(text, ", ")?;
+            write_stepped_span(text, language, TimeUnit::Year, Kind::Year, first, last, n)
+        }
+        Some(Piece::One(_)) => write_year_list(text, style, pieces),
+        Some(Piece::Range(_, _)) => write_year_list(text, style, pieces),
+        None => write_year_list(text, style, pieces),
     }
-    write_text(text, " in ")?;
-    if is_stepped(sole(pieces)) {
-        return write_sole(text, "month", Kind::Month, pieces, sole(pieces));
-    }
-    write_list(text, Kind::Month, pieces)
 }
 
 /// Writes years, unless each is named.
 #[tactic(auto, unfolding(crate::specs::DayWords::years_text))]
-pub(crate) fn write_years(text: &mut String, pieces: &[Piece]) -> Result<(), CronError>
-    ensures { Appends (years_text pieces.now) text.old text.new result }
+pub(crate) fn write_years(
+    text: &mut String,
+    style: Style,
+    pieces: &[Piece],
+) -> Result<(), CronError>
+    ensures { Appends (years_text style pieces.now) text.old text.new result }
 {
-    if is_every(sole(pieces)) {
-        return Ok(());
-    }
-    write_text(text, ", in ")?;
-    if is_stepped(sole(pieces)) {
-        return write_sole(text, "year", Kind::Year, pieces, sole(pieces));
-    }
-    write_list(text, Kind::Year, pieces)
+    write_years_case(text, style, pieces, sole(pieces))
 }

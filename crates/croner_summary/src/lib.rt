@@ -7,15 +7,19 @@
 mod day_phrases;
 mod day_words;
 mod days;
+mod english;
 mod exact;
 mod field;
+mod language;
 mod phrase;
 mod pieces;
 mod summary;
+mod swedish;
 mod text;
 mod time_words;
 mod words;
 
 pub use days::{Days, FromEnd, MonthDays, Weekdays};
+pub use language::SummaryLanguage;
 pub use phrase::{Phrase, Piece};
 pub use summary::Summary;

@@ -1,7 +1,8 @@
 //! The text of a summary.
 
-ghost use Rattle.std.specs.Prelude.{◌≡◌, true, false, Some, None, MatchOption};
-ghost use Rattle.croner_summary.specs.DayWords.{are_days_told, date_text, english_text, is_month_told, is_told, is_week_told, is_whole, never_text, no_day, nothing, some_text};
+ghost use Rattle.std.specs.Prelude.{◌≡◌, ◌<◌, true, false, Some, None, MatchOption, MatchResult};
+ghost use Rattle.croner_summary.specs.DayWords.{is_some};
+ghost use Rattle.croner_summary.specs.Texts.{are_all_told, are_days_told, cut_style, date_text, is_month_told, is_short, is_told, is_week_told, is_whole, no_day, nothing, some_text, styled_text, text_of, whole_style};
 ghost use Rattle.croner_summary.specs.Private.Appended.{Appends};
 ghost use Rattle.croner_words.specs.Writes.{Writes};
 
@@ -9,122 +10,150 @@ use crate::day_words::{
     is_some, names_month_day, names_weekday, write_days, write_months, write_years,
 };
 use crate::days::{Days, MonthDays, Weekdays};
+use crate::language::{Style, SummaryLanguage, Term};
 use crate::phrase::Phrase;
 use crate::summary::Summary;
 use crate::time_words::write_time;
-use crate::words::{MOST_TOLD, write_text};
+use crate::words::write_term;
 use croner_base::errors::CronError;
 use std::alloc::Global;
+use std::fmt;
 
 /// The bytes that most texts fit in. Room for them is taken at once.
 const TEXT_ROOM: usize = 96;
 
+/// A text that tells all has at most so many bytes. It also tells at most so many pieces of a list, since more need more bytes.
+const MOST_BYTES: u16 = 400;
+
+/// A longer text is cut: of each list it tells so many pieces.
+const CUT_PIECES: u16 = 3;
+
 /// What a list of days lacks, unless the test holds.
-fn unless(names: bool, field: &'static str) -> Option<&'static str>
-    ensures { MatchOption result (names ≡ true) (λ told. (names ≡ false) × (told.now ≡ field.now)) }
+fn unless(names: bool, term: Term) -> Option<Term>
+    ensures { MatchOption result (names ≡ true) (λ told. (names ≡ false) × (told ≡ term)) }
 {
-    if names { None } else { Some(field) }
+    if names { None } else { Some(term) }
 }
 
-/// What the days don't name, where they name nothing.
-#[tactic(auto, unfolding(crate::specs::DayWords::no_day))]
-fn no_day(days: &Days) -> Option<&'static str>
-    ensures { MatchOption result (no_day days.now ≡ None) (λ field. no_day days.now ≡ Some field.now) }
+/// That the days name nothing, where they don't.
+#[tactic(auto, unfolding(crate::specs::Texts::no_day))]
+fn no_day(days: &Days) -> Option<Term>
+    ensures { result ≡ no_day days.now }
 {
     match days {
         Days::Every => None,
-        Days::OfMonth(month) => unless(names_month_day(month), "day of the month"),
-        Days::OfWeek(week) => unless(names_weekday(week), "weekday"),
+        Days::OfMonth(month) => unless(names_month_day(month), Term::NoMonthDay),
+        Days::OfWeek(week) => unless(names_weekday(week), Term::NoWeekday),
         Days::Either(month, week) => {
-            unless(names_month_day(month) || names_weekday(week), "day")
+            unless(names_month_day(month) || names_weekday(week), Term::NoDay)
         }
         Days::Both(month, week) => {
             if !names_month_day(month) {
-                return Some("day of the month");
+                return Some(Term::NoMonthDay);
             }
-            unless(names_weekday(week), "weekday")
+            unless(names_weekday(week), Term::NoWeekday)
         }
     }
 }
 
-/// The first field that names nothing.
-#[tactic(auto, unfolding(crate::specs::DayWords::nothing))]
-fn nothing(summary: &Summary) -> Option<&'static str>
-    ensures { MatchOption result (nothing summary.now ≡ None) (λ field. nothing summary.now ≡ Some field.now) }
+/// That the first field that names nothing does so.
+#[tactic(auto, unfolding(crate::specs::Texts::nothing))]
+fn nothing(summary: &Summary) -> Option<Term>
+    ensures { result ≡ nothing summary.now }
 {
     if !is_some(&summary.seconds) {
-        return Some("second");
+        return Some(Term::NoSecond);
     }
     if !is_some(&summary.minutes) {
-        return Some("minute");
+        return Some(Term::NoMinute);
     }
     if !is_some(&summary.hours) {
-        return Some("hour");
+        return Some(Term::NoHour);
     }
     if !is_some(&summary.months) {
-        return Some("month");
+        return Some(Term::NoMonth);
     }
     if !is_some(&summary.years) {
-        return Some("year");
+        return Some(Term::NoYear);
     }
     no_day(&summary.days)
 }
 
-/// Writes that nothing is scheduled, and which field names nothing.
-#[tactic(auto, unfolding(crate::specs::DayWords::never_text))]
-fn write_never(text: &mut String, field: &str) -> Result<(), CronError>
-    ensures { Appends (never_text field.now) text.old text.new result }
-{
-    write_text(text, "Never: no ")?;
-    write_text(text, field)?;
-    write_text(text, " is named")
-}
-
 /// Writes the days, the months and the years.
-#[tactic(auto, unfolding(crate::specs::DayWords::date_text))]
-fn write_date(text: &mut String, summary: &Summary) -> Result<(), CronError>
-    ensures { Appends (date_text summary.now) text.old text.new result }
+#[tactic(auto, unfolding(crate::specs::Texts::date_text))]
+fn write_date(text: &mut String, style: Style, summary: &Summary) -> Result<(), CronError>
+    ensures { Appends (date_text style summary.now) text.old text.new result }
 {
-    write_days(text, &summary.days)?;
-    write_months(text, &summary.months.pieces)?;
-    write_years(text, &summary.years.pieces)
+    write_days(text, style, &summary.days)?;
+    write_months(text, style, &summary.months.pieces)?;
+    write_years(text, style, &summary.years.pieces)
 }
 
 /// Writes the times and the dates.
-#[tactic(auto, unfolding(crate::specs::DayWords::some_text))]
-fn write_some(text: &mut String, summary: &Summary) -> Result<(), CronError>
-    ensures { Appends (some_text summary.now) text.old text.new result }
+#[tactic(auto, unfolding(crate::specs::Texts::some_text))]
+fn write_some(text: &mut String, style: Style, summary: &Summary) -> Result<(), CronError>
+    ensures { Appends (some_text style summary.now) text.old text.new result }
 {
     write_time(
         text,
+        style,
         &summary.seconds.pieces,
         &summary.minutes.pieces,
         &summary.hours.pieces,
     )?;
-    write_date(text, summary)
+    write_date(text, style, summary)
 }
 
 /// Writes the text.
-#[tactic(auto, unfolding(crate::specs::DayWords::english_text))]
-fn write_english(text: &mut String, summary: &Summary) -> Result<(), CronError>
-    ensures { Appends (english_text summary.now) text.old text.new result }
+#[tactic(auto, unfolding(crate::specs::Texts::styled_text))]
+fn write_styled(text: &mut String, style: Style, summary: &Summary) -> Result<(), CronError>
+    ensures { Appends (styled_text style summary.now) text.old text.new result }
 {
     match nothing(summary) {
-        Some(field) => write_never(text, field),
-        None => write_some(text, summary),
+        Some(term) => write_term(text, style.language, term),
+        None => write_some(text, style, summary),
     }
 }
 
-/// Whether a phrase has no more pieces than are told.
-#[tactic(auto, unfolding(crate::specs::DayWords::is_told))]
+/// The text in a style.
+fn styled_text(alloc: Global, style: Style, summary: &Summary) -> Result<String, CronError>
+    ensures { Writes (styled_text style summary.now) result }
+{
+    let mut text = String::with_capacity(alloc, TEXT_ROOM)?;
+    write_styled(&mut text, style, summary)?;
+    Ok(text)
+}
+
+/// The style of a text that tells all.
+fn whole_style(language: SummaryLanguage) -> Style
+    ensures { result ≡ whole_style language }
+{
+    Style {
+        language,
+        most: MOST_BYTES,
+    }
+}
+
+/// The style of a text that is cut.
+fn cut_style(language: SummaryLanguage) -> Style
+    ensures { result ≡ cut_style language }
+{
+    Style {
+        language,
+        most: CUT_PIECES,
+    }
+}
+
+/// Whether a phrase has no more pieces than a cut text tells.
+#[tactic(auto, unfolding(crate::specs::Texts::is_told))]
 fn is_told(phrase: &Phrase) -> bool
     ensures { result ≡ is_told phrase.now }
 {
-    phrase.pieces.len() <= MOST_TOLD
+    phrase.pieces.len() <= usize::from(CUT_PIECES)
 }
 
-/// Whether each list of weekdays is told.
-#[tactic(auto, unfolding(crate::specs::DayWords::is_week_told))]
+/// Whether no list of weekdays has more.
+#[tactic(auto, unfolding(crate::specs::Texts::is_week_told))]
 fn is_week_told(week: &Weekdays) -> bool
     ensures { result ≡ is_week_told week.now }
 {
@@ -137,16 +166,16 @@ fn is_week_told(week: &Weekdays) -> bool
         && is_told(&week.last)
 }
 
-/// Whether each list of days of the month is told.
-#[tactic(auto, unfolding(crate::specs::DayWords::is_month_told))]
+/// Whether no list of days of the month has more.
+#[tactic(auto, unfolding(crate::specs::Texts::is_month_told))]
 fn is_month_told(month: &MonthDays) -> bool
     ensures { result ≡ is_month_told month.now }
 {
     is_told(&month.numbers) && is_told(&month.nearest)
 }
 
-/// Whether each list of days is told.
-#[tactic(auto, unfolding(crate::specs::DayWords::are_days_told))]
+/// Whether no list of days has more.
+#[tactic(auto, unfolding(crate::specs::Texts::are_days_told))]
 fn are_days_told(days: &Days) -> bool
     ensures { result ≡ are_days_told days.now }
 {
@@ -159,34 +188,71 @@ fn are_days_told(days: &Days) -> bool
     }
 }
 
+/// Whether no list has more pieces than a cut text tells.
+#[tactic(auto, unfolding(crate::specs::Texts::are_all_told))]
+fn are_all_told(summary: &Summary) -> bool
+    ensures { result ≡ are_all_told summary.now }
+{
+    is_told(&summary.seconds)
+        && is_told(&summary.minutes)
+        && is_told(&summary.hours)
+        && are_days_told(&summary.days)
+        && is_told(&summary.months)
+        && is_told(&summary.years)
+}
+
 impl Summary {
-    /// The summary in English words, as a line without a full stop. It is known exactly from the phrases. Of a list of more than 12
-    /// pieces it tells the first 12, and how many more there are; [`is_whole`](Self::is_whole) says whether it tells all.
+    /// The summary in words, as a line without a full stop. It is known exactly from the phrases.
+    ///
+    /// A text of more than 400 bytes is cut: of a list of more than three pieces it tells the first three, and how many more there
+    /// are. [`is_whole`](Self::is_whole) says whether it tells all.
     ///
     /// The only error is `OutOfMemory`.
     ///
     /// ```
     /// let job = Cron::from_str(alloc, "0-20/3 9 * * MON-FRI")?;
-    /// let text = Summary::of(alloc, &job)?.text(alloc)?; // Every 3 minutes from 09:00 to 09:18, Monday to Friday
+    /// let summary = Summary::of(alloc, &job)?;
+    /// let text = summary.text(alloc, &SummaryLanguage::English)?; // Every 3 minutes from 09:00 to 09:18, Monday to Friday
     /// ```
-    pub fn text(&self, alloc: Global) -> Result<String, CronError>
-        ensures { Writes (english_text self.now) result }
+    #[tactic(auto, unfolding(crate::specs::Texts::text_of, crate::specs::Texts::is_short))]
+    pub fn text(&self, alloc: Global, language: &SummaryLanguage) -> Result<String, CronError>
+        ensures { Writes (text_of language.now self.now) result }
     {
-        let mut text = String::with_capacity(alloc, TEXT_ROOM)?;
-        write_english(&mut text, self)?;
-        Ok(text)
+        let whole = styled_text(alloc, whole_style(*language), self)?;
+        if whole.len() <= usize::from(MOST_BYTES) {
+            return Ok(whole);
+        }
+        styled_text(alloc, cut_style(*language), self)
     }
 
-    /// Whether the text tells each piece of each phrase: no list has more than 12.
-    #[tactic(auto, unfolding(crate::specs::DayWords::is_whole))]
-    pub fn is_whole(&self) -> bool
-        ensures { result ≡ is_whole self.now }
+    /// Whether the text in a language leaves nothing out: it isn't cut, or no list has more than three pieces.
+    ///
+    /// The only error is `OutOfMemory`.
+    #[tactic(auto, unfolding(crate::specs::Texts::is_whole, crate::specs::Texts::is_short))]
+    pub fn is_whole(&self, alloc: Global, language: &SummaryLanguage) -> Result<bool, CronError>
+        ensures { MatchResult result (λ whole. whole ≡ is_whole language.now self.now) (λ e. e ≡ CronError.OutOfMemory) }
     {
-        is_told(&self.seconds)
-            && is_told(&self.minutes)
-            && is_told(&self.hours)
-            && are_days_told(&self.days)
-            && is_told(&self.months)
-            && is_told(&self.years)
+        if are_all_told(self) {
+            return Ok(true);
+        }
+        let whole = styled_text(alloc, whole_style(*language), self)?;
+        Ok(whole.len() <= usize::from(MOST_BYTES))
+    }
+}
+
+/// The English text.
+impl fmt::Display for Summary {
+    ghost use Rattle.std.specs.Prelude.{Some};
+    ghost use Rattle.croner_summary.specs.declared.language.SummaryLanguage.TheVariants.{English};
+    ghost use Rattle.croner_summary.specs.Texts.{text_of};
+
+    ghost output = { λ s. Some (text_of English s) };
+
+    fn fmt<W: fmt::Write>(&self, f: &mut fmt::Formatter<W>) -> fmt::Result {
+        let alloc = *self.seconds.pieces.allocator();
+        match self.text(alloc, &SummaryLanguage::English) {
+            Ok(text) => f.write_str(text.as_str()),
+            Err(_) => Err(fmt::Error),
+        }
     }
 }

@@ -1,12 +1,17 @@
-//! The times of a day in English words.
+//! The times of a day in words.
 
-ghost use Rattle.std.specs.Prelude.{◌≡◌, ◌<◌, length, IsSome};
+ghost use Rattle.std.specs.Prelude.{◌≡◌, ◌<◌, ◌++◌, true, length, IsSome};
 ghost use Rattle.std.specs.List.{list_all};
 ghost use Rattle.croner_summary.specs.Private.Appended.{Appends};
-ghost use Rattle.croner_summary.specs.TimeWords.{at_step, beside_text, by_hours, by_minutes, each_hour_text, ends_text, head_step, headed, hour_case, in_hour, in_hours, is_every, is_one, is_sole, is_whole_day, listed_minutes, many_seconds, minute_case, minutes_and_hours, minutes_of, minutes_text, part_text, parts_text, second_case, seconds_text, steps_text, stretch_of, stretch_text, stretched, time_text, times_text, unit_of, untimed, value_of};
+ghost use Rattle.croner_summary.specs.Words.{every_text, span_text, term_text, unit_text};
+ghost use Rattle.croner_summary.specs.TimeWords.{are_times, at_second, at_step, beside_text, by_hours, by_minutes, each_hour_text, ends_text, head_step, hour_case, in_hour, in_hours, is_every, is_one, is_sole, is_whole_day, listed_minutes, many_seconds, minute_case, minutes_and_hours, minutes_head, minutes_text, of_hours, part_text, parts_text, second_case, seconds_text, stretch_of, stretch_text, stretched, time_text, times_text, unit_of, untimed, value_of};
 
+use crate::language::{Style, SummaryLanguage, Term, TimeUnit};
 use crate::phrase::Piece;
-use crate::words::{Kind, sole, write_clock, write_list, write_text, write_unit};
+use crate::words::{
+    Kind, sole, write_clock, write_every, write_list, write_number, write_span, write_term,
+    write_unit,
+};
 use croner_base::errors::CronError;
 
 /// The last minute of an hour.
@@ -17,6 +22,9 @@ const MINUTES: u16 = 60;
 
 /// The hours of a day.
 const HOURS: u16 = 24;
+
+/// So many single values at most are told as times of day.
+const MOST_TIMES: usize = 6;
 
 /// A part of the day that is stepped through, by minutes or by hours.
 #[derive(Debug, Clone, Copy)]
@@ -113,22 +121,15 @@ fn stretch_of(minutes: Option<Piece>, hours: Option<Piece>) -> Option<Stretch>
     }
 }
 
-/// Writes so many units.
-#[tactic(auto, unfolding(crate::specs::TimeWords::steps_text))]
-fn write_steps(text: &mut String, n: u16, unit: &str) -> Result<(), CronError>
-    ensures { Appends (steps_text n unit.now) text.old text.new result }
-{
-    if n == 1 {
-        return write_text(text, unit);
-    }
-    Ok(write!(text, "{n} {unit}s")?)
-}
-
 /// The unit of a stretch.
-fn unit_of(by_hours: bool) -> &'static str
-    ensures { result.now ≡ unit_of by_hours }
+fn unit_of(by_hours: bool) -> TimeUnit
+    ensures { result ≡ unit_of by_hours }
 {
-    if by_hours { "hour" } else { "minute" }
+    if by_hours {
+        TimeUnit::Hour
+    } else {
+        TimeUnit::Minute
+    }
 }
 
 /// Whether a stretch is the full hours of the whole day, at a step.
@@ -143,42 +144,119 @@ fn is_whole_day(stretch: Stretch) -> bool
 
 /// Writes from when to when.
 #[tactic(auto, unfolding(crate::specs::TimeWords::ends_text))]
-fn write_ends(text: &mut String, stretch: Stretch) -> Result<(), CronError>
-    ensures { Appends (ends_text stretch) text.old text.new result }
+fn write_ends(
+    text: &mut String,
+    language: SummaryLanguage,
+    stretch: Stretch,
+) -> Result<(), CronError>
+    ensures { Appends (ends_text language stretch) text.old text.new result }
 {
-    write_text(text, " from ")?;
+    write_term(text, language, Term::FromTime)?;
     write_clock(text, stretch.from_hour, stretch.from_minute, 0)?;
-    write_text(text, " to ")?;
+    write_term(text, language, Term::To)?;
     write_clock(text, stretch.to_hour, stretch.to_minute, 0)
 }
 
 /// Writes the ends of a stretch, unless it is the whole day.
 #[tactic(auto, unfolding(crate::specs::TimeWords::part_text))]
-fn write_part(text: &mut String, stretch: Stretch) -> Result<(), CronError>
-    ensures { Appends (part_text stretch) text.old text.new result }
+fn write_part(
+    text: &mut String,
+    language: SummaryLanguage,
+    stretch: Stretch,
+) -> Result<(), CronError>
+    ensures { Appends (part_text language stretch) text.old text.new result }
 {
     if is_whole_day(stretch) {
         return Ok(());
     }
-    write_ends(text, stretch)
+    write_ends(text, language, stretch)
 }
 
 /// Writes a stretch.
 #[tactic(auto, unfolding(crate::specs::TimeWords::stretch_text))]
-fn write_stretch(text: &mut String, stretch: Stretch) -> Result<(), CronError>
-    ensures { Appends (stretch_text stretch) text.old text.new result }
+fn write_stretch(
+    text: &mut String,
+    language: SummaryLanguage,
+    stretch: Stretch,
+) -> Result<(), CronError>
+    ensures { Appends (stretch_text language stretch) text.old text.new result }
 {
-    write_text(text, "Every ")?;
-    write_steps(text, stretch.step, unit_of(stretch.by_hours))?;
-    write_part(text, stretch)
+    write_every(
+        text,
+        language,
+        true,
+        stretch.step,
+        unit_of(stretch.by_hours),
+    )?;
+    write_part(text, language, stretch)
 }
 
 /// Writes minutes by their numbers.
-#[tactic(auto, unfolding(crate::specs::TimeWords::minutes_of))]
-fn write_minutes_of(text: &mut String, minutes: &[Piece]) -> Result<(), CronError>
-    ensures { Appends (minutes_of minutes.now) text.old text.new result }
+fn write_at_minutes(text: &mut String, style: Style, minutes: &[Piece]) -> Result<(), CronError>
+    ensures { Appends (term_text style.language Term.At ++ unit_text style TimeUnit.Minute minutes.now) text.old text.new result }
 {
-    write_unit(text, "minute", Kind::Number, minutes)
+    write_term(text, style.language, Term::At)?;
+    write_unit(text, style, TimeUnit::Minute, minutes)
+}
+
+/// Writes every so many minutes of some.
+fn write_stepped_minutes(
+    text: &mut String,
+    language: SummaryLanguage,
+    first: u16,
+    last: u16,
+    n: u16,
+) -> Result<(), CronError>
+    ensures { Appends (every_text language true n TimeUnit.Minute ++ (term_text language Term.FromMinute ++ span_text language Kind.Number first last)) text.old text.new result }
+{
+    write_every(text, language, true, n, TimeUnit::Minute)?;
+    write_term(text, language, Term::FromMinute)?;
+    write_span(text, language, Kind::Number, first, last)
+}
+
+/// Writes minutes at the head of a text.
+#[tactic(auto, unfolding(crate::specs::TimeWords::minutes_head))]
+fn write_minutes_head(
+    text: &mut String,
+    style: Style,
+    minutes: &[Piece],
+    one: Option<Piece>,
+) -> Result<(), CronError>
+    ensures { Appends (minutes_head style minutes.now one) text.old text.new result }
+{
+    match one {
+        Some(Piece::Every) => write_every(text, style.language, true, 1, TimeUnit::Minute),
+        Some(Piece::EveryNth(n)) => write_every(text, style.language, true, n, TimeUnit::Minute),
+        Some(Piece::RangeNth(first, last, n)) => {
+            write_stepped_minutes(text, style.language, first, last, n)
+        }
+        Some(Piece::One(_)) => write_at_minutes(text, style, minutes),
+        Some(Piece::Range(_, _)) => write_at_minutes(text, style, minutes),
+        None => write_at_minutes(text, style, minutes),
+    }
+}
+
+/// Writes the hours behind minutes.
+#[tactic(auto, unfolding(crate::specs::TimeWords::of_hours))]
+fn write_of_hours(text: &mut String, style: Style, hours: &[Piece]) -> Result<(), CronError>
+    ensures { Appends (of_hours style hours.now) text.old text.new result }
+{
+    write_term(text, style.language, Term::Of)?;
+    write_unit(text, style, TimeUnit::Hour, hours)
+}
+
+/// Writes minutes of hours that have no form of their own.
+#[tactic(auto, unfolding(crate::specs::TimeWords::minutes_and_hours))]
+fn write_minutes_and_hours(
+    text: &mut String,
+    style: Style,
+    minutes: &[Piece],
+    hours: &[Piece],
+) -> Result<(), CronError>
+    ensures { Appends (minutes_and_hours style minutes.now hours.now) text.old text.new result }
+{
+    write_minutes_head(text, style, minutes, sole(minutes))?;
+    write_of_hours(text, style, hours)
 }
 
 /// The step that a list of more than one piece begins with.
@@ -197,89 +275,72 @@ fn head_step(pieces: &[Piece]) -> Option<u16>
 
 /// Writes a step with others beside.
 #[tactic(auto, unfolding(crate::specs::TimeWords::beside_text))]
-fn write_beside(text: &mut String, n: u16) -> Result<(), CronError>
-    ensures { Appends (beside_text n) text.old text.new result }
+fn write_beside(text: &mut String, style: Style, n: u16, minutes: &[Piece]) -> Result<(), CronError>
+    requires { 0 < length minutes.now }
+    ensures { Appends (beside_text style n minutes.now) text.old text.new result }
 {
-    Ok(write!(text, "Every {n} minutes, and at ")?)
+    write_every(text, style.language, true, n, TimeUnit::Minute)?;
+    write_term(text, style.language, Term::AndAt)?;
+    write_unit(text, style, TimeUnit::Minute, &minutes[1..])
 }
 
-/// Writes a list of minutes, which may begin with a step.
-#[tactic(auto, unfolding(crate::specs::TimeWords::headed))]
-fn write_headed(text: &mut String, minutes: &[Piece], head: Option<u16>) -> Result<(), CronError>
+/// Writes a list of minutes of each hour, which may begin with a step.
+#[tactic(auto, unfolding(crate::specs::TimeWords::listed_minutes))]
+fn write_listed_minutes(
+    text: &mut String,
+    style: Style,
+    minutes: &[Piece],
+    hours: &[Piece],
+    head: Option<u16>,
+) -> Result<(), CronError>
     requires { IsSome head → 0 < length minutes.now }
-    ensures { Appends (headed minutes.now head) text.old text.new result }
+    ensures { Appends (listed_minutes style minutes.now hours.now head) text.old text.new result }
 {
     match head {
-        None => {
-            write_text(text, "At ")?;
-            write_minutes_of(text, minutes)
-        }
+        None => write_minutes_and_hours(text, style, minutes, hours),
         Some(n) => {
-            write_beside(text, n)?;
-            write_minutes_of(text, &minutes[1..])
+            write_beside(text, style, n, minutes)?;
+            write_of_hours(text, style, hours)
         }
     }
-}
-
-/// Writes a list of minutes of each hour.
-#[tactic(auto, unfolding(crate::specs::TimeWords::listed_minutes))]
-fn write_listed_minutes(text: &mut String, minutes: &[Piece]) -> Result<(), CronError>
-    ensures { Appends (listed_minutes minutes.now) text.old text.new result }
-{
-    write_headed(text, minutes, head_step(minutes))?;
-    write_text(text, " of each hour")
 }
 
 /// Writes minutes of each hour.
 #[tactic(auto, unfolding(crate::specs::TimeWords::each_hour_text))]
 fn write_each_hour(
     text: &mut String,
-    minutes: &[Piece],
-    one: Option<Piece>,
-) -> Result<(), CronError>
-    ensures { Appends (each_hour_text minutes.now one) text.old text.new result }
-{
-    match one {
-        Some(Piece::Every) => write_text(text, "Every minute"),
-        Some(Piece::EveryNth(n)) => Ok(write!(text, "Every {n} minutes")?),
-        Some(Piece::One(0)) => write_text(text, "Every hour"),
-        Some(Piece::One(_)) => write_listed_minutes(text, minutes),
-        Some(Piece::Range(_, _)) => write_listed_minutes(text, minutes),
-        Some(Piece::RangeNth(_, _, _)) => write_listed_minutes(text, minutes),
-        None => write_listed_minutes(text, minutes),
-    }
-}
-
-/// Writes minutes of hours that have no form of their own.
-#[tactic(auto, unfolding(crate::specs::TimeWords::minutes_and_hours))]
-fn write_minutes_and_hours(
-    text: &mut String,
+    style: Style,
     minutes: &[Piece],
     hours: &[Piece],
+    one: Option<Piece>,
 ) -> Result<(), CronError>
-    ensures { Appends (minutes_and_hours minutes.now hours.now) text.old text.new result }
+    ensures { Appends (each_hour_text style minutes.now hours.now one) text.old text.new result }
 {
-    write_minutes_of(text, minutes)?;
-    write_text(text, " of ")?;
-    write_unit(text, "hour", Kind::Number, hours)
+    match one {
+        Some(Piece::Every) => write_every(text, style.language, true, 1, TimeUnit::Minute),
+        Some(Piece::EveryNth(n)) => write_every(text, style.language, true, n, TimeUnit::Minute),
+        Some(Piece::One(0)) => write_every(text, style.language, true, 1, TimeUnit::Hour),
+        Some(Piece::One(_)) => write_minutes_and_hours(text, style, minutes, hours),
+        Some(Piece::Range(_, _)) => write_minutes_and_hours(text, style, minutes, hours),
+        Some(Piece::RangeNth(_, _, _)) => write_minutes_and_hours(text, style, minutes, hours),
+        None => write_listed_minutes(text, style, minutes, hours, head_step(minutes)),
+    }
 }
 
 /// Writes a stretch, or the minutes and hours where there is none.
 #[tactic(auto, unfolding(crate::specs::TimeWords::stretched))]
 fn write_stretched(
     text: &mut String,
+    style: Style,
     minutes: &[Piece],
     hours: &[Piece],
     stretch: Option<Stretch>,
 ) -> Result<(), CronError>
-    ensures { Appends (stretched minutes.now hours.now stretch) text.old text.new result }
+    ensures { Appends (stretched style minutes.now hours.now stretch) text.old text.new result }
 {
     match stretch {
-        Some(stretch) => write_stretch(text, stretch),
-        None => {
-            write_text(text, "At ")?;
-            write_minutes_and_hours(text, minutes, hours)
-        }
+        Some(stretch) => write_stretch(text, style.language, stretch),
+        None => write_minutes_and_hours(text, style, minutes, hours),
     }
 }
 
@@ -295,13 +356,24 @@ pub(crate) fn is_every(one: Option<Piece>) -> bool
 
 /// Writes minutes and hours, at second 0.
 #[tactic(auto, unfolding(crate::specs::TimeWords::minutes_text))]
-fn write_minutes(text: &mut String, minutes: &[Piece], hours: &[Piece]) -> Result<(), CronError>
-    ensures { Appends (minutes_text minutes.now hours.now) text.old text.new result }
+fn write_minutes(
+    text: &mut String,
+    style: Style,
+    minutes: &[Piece],
+    hours: &[Piece],
+) -> Result<(), CronError>
+    ensures { Appends (minutes_text style minutes.now hours.now) text.old text.new result }
 {
     if is_every(sole(hours)) {
-        return write_each_hour(text, minutes, sole(minutes));
+        return write_each_hour(text, style, minutes, hours, sole(minutes));
     }
-    write_stretched(text, minutes, hours, stretch_of(sole(minutes), sole(hours)))
+    write_stretched(
+        text,
+        style,
+        minutes,
+        hours,
+        stretch_of(sole(minutes), sole(hours)),
+    )
 }
 
 /// Whether a piece is one value.
@@ -341,68 +413,97 @@ pub(crate) fn value_of(one: Option<Piece>) -> u16
     }
 }
 
+/// Whether the values are single, and few enough to be told as times of day.
+#[tactic(auto, unfolding(crate::specs::TimeWords::are_times))]
+fn are_times(pieces: &[Piece]) -> bool
+    ensures { result ≡ are_times pieces.now }
+{
+    pieces.len() <= MOST_TIMES && are_ones(pieces)
+}
+
 /// Writes a time that has no form of its own.
 #[tactic(auto, unfolding(crate::specs::TimeWords::parts_text))]
 fn write_parts(
     text: &mut String,
+    style: Style,
     seconds: &[Piece],
     minutes: &[Piece],
     hours: &[Piece],
 ) -> Result<(), CronError>
-    ensures { Appends (parts_text seconds.now minutes.now hours.now) text.old text.new result }
+    ensures { Appends (parts_text style seconds.now minutes.now hours.now) text.old text.new result }
 {
-    write_text(text, "At ")?;
-    write_unit(text, "second", Kind::Number, seconds)?;
-    write_text(text, " of ")?;
-    write_minutes_and_hours(text, minutes, hours)
+    write_term(text, style.language, Term::At)?;
+    write_unit(text, style, TimeUnit::Second, seconds)?;
+    write_term(text, style.language, Term::Of)?;
+    write_unit(text, style, TimeUnit::Minute, minutes)?;
+    write_of_hours(text, style, hours)
+}
+
+/// Writes the second behind minutes and hours, where it isn't 0.
+#[tactic(auto, unfolding(crate::specs::TimeWords::at_second))]
+fn write_at_second(
+    text: &mut String,
+    language: SummaryLanguage,
+    second: u16,
+) -> Result<(), CronError>
+    ensures { Appends (at_second language second) text.old text.new result }
+{
+    if second == 0 {
+        return Ok(());
+    }
+    write_term(text, language, Term::AtSecond)?;
+    write_number(text, second)
 }
 
 /// Writes minutes and hours at a second that are no times of day.
 #[tactic(auto, unfolding(crate::specs::TimeWords::untimed))]
 fn write_untimed(
     text: &mut String,
+    style: Style,
     second: u16,
-    seconds: &[Piece],
     minutes: &[Piece],
     hours: &[Piece],
 ) -> Result<(), CronError>
-    ensures { Appends (untimed second seconds.now minutes.now hours.now) text.old text.new result }
+    ensures { Appends (untimed style second minutes.now hours.now) text.old text.new result }
 {
-    if second == 0 {
-        return write_minutes(text, minutes, hours);
-    }
-    write_parts(text, seconds, minutes, hours)
+    write_minutes(text, style, minutes, hours)?;
+    write_at_second(text, style.language, second)
 }
 
 /// Writes times of day.
 #[tactic(auto, unfolding(crate::specs::TimeWords::times_text))]
-fn write_times(text: &mut String, kind: Kind, pieces: &[Piece]) -> Result<(), CronError>
-    ensures { Appends (times_text kind pieces.now) text.old text.new result }
+fn write_times(
+    text: &mut String,
+    style: Style,
+    kind: Kind,
+    pieces: &[Piece],
+) -> Result<(), CronError>
+    ensures { Appends (times_text style kind pieces.now) text.old text.new result }
 {
-    write_text(text, "At ")?;
-    write_list(text, kind, pieces)
+    write_term(text, style.language, Term::AtTime)?;
+    write_list(text, style, kind, pieces)
 }
 
 /// Writes single minutes of one hour as times of day.
 #[tactic(auto, unfolding(crate::specs::TimeWords::hour_case))]
 fn write_hour_case(
     text: &mut String,
+    style: Style,
     second: u16,
-    seconds: &[Piece],
     minutes: &[Piece],
     hours: &[Piece],
     one: Option<Piece>,
 ) -> Result<(), CronError>
-    ensures { Appends (hour_case second seconds.now minutes.now hours.now one) text.old text.new result }
+    ensures { Appends (hour_case style second minutes.now hours.now one) text.old text.new result }
 {
     match one {
         Some(Piece::One(hour)) => {
-            if are_ones(minutes) {
-                return write_times(text, Kind::MinuteOf(hour, second), minutes);
+            if are_times(minutes) {
+                return write_times(text, style, Kind::MinuteOf(hour, second), minutes);
             }
-            write_untimed(text, second, seconds, minutes, hours)
+            write_untimed(text, style, second, minutes, hours)
         }
-        _ => write_untimed(text, second, seconds, minutes, hours),
+        _ => write_untimed(text, style, second, minutes, hours),
     }
 }
 
@@ -410,22 +511,22 @@ fn write_hour_case(
 #[tactic(auto, unfolding(crate::specs::TimeWords::minute_case))]
 fn write_minute_case(
     text: &mut String,
+    style: Style,
     second: u16,
-    seconds: &[Piece],
     minutes: &[Piece],
     hours: &[Piece],
     one: Option<Piece>,
 ) -> Result<(), CronError>
-    ensures { Appends (minute_case second seconds.now minutes.now hours.now one) text.old text.new result }
+    ensures { Appends (minute_case style second minutes.now hours.now one) text.old text.new result }
 {
     match one {
         Some(Piece::One(minute)) => {
-            if are_ones(hours) {
-                return write_times(text, Kind::HourAt(minute, second), hours);
+            if are_times(hours) {
+                return write_times(text, style, Kind::HourAt(minute, second), hours);
             }
-            write_hour_case(text, second, seconds, minutes, hours, sole(hours))
+            write_hour_case(text, style, second, minutes, hours, sole(hours))
         }
-        _ => write_hour_case(text, second, seconds, minutes, hours, sole(hours)),
+        _ => write_hour_case(text, style, second, minutes, hours, sole(hours)),
     }
 }
 
@@ -433,17 +534,18 @@ fn write_minute_case(
 #[tactic(auto, unfolding(crate::specs::TimeWords::seconds_text))]
 fn write_seconds(
     text: &mut String,
+    style: Style,
     seconds: &[Piece],
     minutes: &[Piece],
     hours: &[Piece],
     one: Option<Piece>,
 ) -> Result<(), CronError>
-    ensures { Appends (seconds_text seconds.now minutes.now hours.now one) text.old text.new result }
+    ensures { Appends (seconds_text style seconds.now minutes.now hours.now one) text.old text.new result }
 {
     match one {
-        Some(Piece::Every) => write_text(text, "Every second"),
-        Some(Piece::EveryNth(n)) => Ok(write!(text, "Every {n} seconds")?),
-        _ => write_parts(text, seconds, minutes, hours),
+        Some(Piece::Every) => write_every(text, style.language, true, 1, TimeUnit::Second),
+        Some(Piece::EveryNth(n)) => write_every(text, style.language, true, n, TimeUnit::Second),
+        _ => write_parts(text, style, seconds, minutes, hours),
     }
 }
 
@@ -451,35 +553,37 @@ fn write_seconds(
 #[tactic(auto, unfolding(crate::specs::TimeWords::many_seconds))]
 fn write_many_seconds(
     text: &mut String,
+    style: Style,
     seconds: &[Piece],
     minutes: &[Piece],
     hours: &[Piece],
     one: Option<Piece>,
 ) -> Result<(), CronError>
-    ensures { Appends (many_seconds seconds.now minutes.now hours.now one) text.old text.new result }
+    ensures { Appends (many_seconds style seconds.now minutes.now hours.now one) text.old text.new result }
 {
     if is_every(sole(minutes)) && is_every(sole(hours)) {
-        return write_seconds(text, seconds, minutes, hours, one);
+        return write_seconds(text, style, seconds, minutes, hours, one);
     }
-    write_parts(text, seconds, minutes, hours)
+    write_parts(text, style, seconds, minutes, hours)
 }
 
 /// Writes the times of a day, by the one piece of the seconds.
 #[tactic(auto, unfolding(crate::specs::TimeWords::second_case))]
 fn write_second_case(
     text: &mut String,
+    style: Style,
     seconds: &[Piece],
     minutes: &[Piece],
     hours: &[Piece],
     one: Option<Piece>,
 ) -> Result<(), CronError>
-    ensures { Appends (second_case seconds.now minutes.now hours.now one) text.old text.new result }
+    ensures { Appends (second_case style seconds.now minutes.now hours.now one) text.old text.new result }
 {
     match one {
         Some(Piece::One(second)) => {
-            write_minute_case(text, second, seconds, minutes, hours, sole(minutes))
+            write_minute_case(text, style, second, minutes, hours, sole(minutes))
         }
-        _ => write_many_seconds(text, seconds, minutes, hours, one),
+        _ => write_many_seconds(text, style, seconds, minutes, hours, one),
     }
 }
 
@@ -487,11 +591,12 @@ fn write_second_case(
 #[tactic(auto, unfolding(crate::specs::TimeWords::time_text))]
 pub(crate) fn write_time(
     text: &mut String,
+    style: Style,
     seconds: &[Piece],
     minutes: &[Piece],
     hours: &[Piece],
 ) -> Result<(), CronError>
-    ensures { Appends (time_text seconds.now minutes.now hours.now) text.old text.new result }
+    ensures { Appends (time_text style seconds.now minutes.now hours.now) text.old text.new result }
 {
-    write_second_case(text, seconds, minutes, hours, sole(seconds))
+    write_second_case(text, style, seconds, minutes, hours, sole(seconds))
 }

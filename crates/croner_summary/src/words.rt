@@ -1,14 +1,20 @@
-//! Values, pieces and lists in English words.
+//! Values, pieces and lists in words.
 
-ghost use Rattle.std.specs.Prelude.{◌≡◌, ◌<◌, ◌++◌, codes, length};
-ghost use Rattle.croner_summary.specs.English.{clock_text, every_text, least_of, list_text, month_name, more_text, ordinal, ordinal_end, piece_text, second_text, separator, sole, sole_text, span_text, step_text, two_places, unit_text, value_text, weekday_name};
+ghost use Rattle.std.specs.Prelude.{◌≡◌, ◌<◌, ◌++◌, true, decimal, length};
+ghost use Rattle.croner_summary.specs.Words.{clock_text, every_text, is_year, least_of, left_text, list_text, month_name, nth_text, ordinal, ordinal_end, piece_text, second_text, separator, sole, sole_text, span_text, step_text, term_text, two_places, unit_name, unit_text, units_text, value_text, weekday_name};
 ghost use Rattle.croner_summary.specs.Private.Appended.{Appends, BeginsList};
 
+use crate::english::{
+    english_month, english_ordinal_end, english_term, english_unit, english_weekday,
+    write_english_every, write_english_nth,
+};
+use crate::language::{Style, SummaryLanguage, Term, TimeUnit};
 use crate::phrase::Piece;
+use crate::swedish::{
+    swedish_month, swedish_ordinal_end, swedish_term, swedish_unit, swedish_weekday,
+    write_swedish_every, write_swedish_nth,
+};
 use croner_base::errors::CronError;
-
-/// So many pieces of a list are told. Of more the text says how many there are.
-pub const MOST_TOLD: usize = 12;
 
 /// How values are written.
 #[derive(Debug, Clone, Copy)]
@@ -21,6 +27,10 @@ pub enum Kind {
     Ordinal,
     /// By the names of weekdays.
     Weekday,
+    /// The same behind the nth.
+    NthWeekday,
+    /// The same where days are narrowed to them.
+    OnlyWeekday,
     /// By the names of months.
     Month,
     /// As hours, at a minute and a second: 09:30.
@@ -29,53 +39,91 @@ pub enum Kind {
     MinuteOf(u16, u16),
 }
 
-/// The end of an ordinal.
-fn ordinal_end(n: u16) -> &'static str
-    ensures { result.now ≡ ordinal_end n }
+/// A term.
+#[tactic(auto, unfolding(crate::specs::Words::term_text))]
+fn term_of(language: SummaryLanguage, term: Term) -> &'static str
+    ensures { result.now ≡ term_text language term }
 {
-    if n / 10 % 10 == 1 {
-        return "th";
+    match language {
+        SummaryLanguage::English => english_term(term),
+        SummaryLanguage::Swedish => swedish_term(term),
     }
-    match n % 10 {
-        1 => "st",
-        2 => "nd",
-        3 => "rd",
-        _ => "th",
+}
+
+/// The name of a unit.
+#[tactic(auto, unfolding(crate::specs::Words::unit_name))]
+fn unit_name(language: SummaryLanguage, unit: TimeUnit) -> &'static str
+    ensures { result.now ≡ unit_name language unit }
+{
+    match language {
+        SummaryLanguage::English => english_unit(unit),
+        SummaryLanguage::Swedish => swedish_unit(unit),
+    }
+}
+
+/// The end of an ordinal.
+#[tactic(auto, unfolding(crate::specs::Words::ordinal_end))]
+fn ordinal_end(language: SummaryLanguage, n: u16) -> &'static str
+    ensures { result.now ≡ ordinal_end language n }
+{
+    match language {
+        SummaryLanguage::English => english_ordinal_end(n),
+        SummaryLanguage::Swedish => swedish_ordinal_end(n),
     }
 }
 
 /// The name of a weekday.
-fn weekday_name(weekday: u16) -> &'static str
-    ensures { result.now ≡ weekday_name weekday }
+#[tactic(auto, unfolding(crate::specs::Words::weekday_name))]
+fn weekday_name(language: SummaryLanguage, weekday: u16) -> &'static str
+    ensures { result.now ≡ weekday_name language weekday }
 {
-    match weekday {
-        0 => "Sunday",
-        1 => "Monday",
-        2 => "Tuesday",
-        3 => "Wednesday",
-        4 => "Thursday",
-        5 => "Friday",
-        _ => "Saturday",
+    match language {
+        SummaryLanguage::English => english_weekday(weekday),
+        SummaryLanguage::Swedish => swedish_weekday(weekday),
     }
 }
 
 /// The name of a month.
-fn month_name(month: u16) -> &'static str
-    ensures { result.now ≡ month_name month }
+#[tactic(auto, unfolding(crate::specs::Words::month_name))]
+fn month_name(language: SummaryLanguage, month: u16) -> &'static str
+    ensures { result.now ≡ month_name language month }
 {
-    match month {
-        1 => "January",
-        2 => "February",
-        3 => "March",
-        4 => "April",
-        5 => "May",
-        6 => "June",
-        7 => "July",
-        8 => "August",
-        9 => "September",
-        10 => "October",
-        11 => "November",
-        _ => "December",
+    match language {
+        SummaryLanguage::English => english_month(month),
+        SummaryLanguage::Swedish => swedish_month(month),
+    }
+}
+
+/// Writes every so many units, at the head of a text or within it.
+#[tactic(auto, unfolding(crate::specs::Words::every_text))]
+pub(crate) fn write_every(
+    text: &mut String,
+    language: SummaryLanguage,
+    is_head: bool,
+    n: u16,
+    unit: TimeUnit,
+) -> Result<(), CronError>
+    ensures { Appends (every_text language is_head n unit) text.old text.new result }
+{
+    match language {
+        SummaryLanguage::English => write_english_every(text, is_head, n, unit),
+        SummaryLanguage::Swedish => write_swedish_every(text, is_head, n, unit),
+    }
+}
+
+/// Writes every nth, before what it is, which may be a year.
+#[tactic(auto, unfolding(crate::specs::Words::nth_text))]
+fn write_nth(
+    text: &mut String,
+    language: SummaryLanguage,
+    is_year: bool,
+    n: u16,
+) -> Result<(), CronError>
+    ensures { Appends (nth_text language is_year n) text.old text.new result }
+{
+    match language {
+        SummaryLanguage::English => write_english_nth(text, n),
+        SummaryLanguage::Swedish => write_swedish_nth(text, false, is_year, n),
     }
 }
 
@@ -86,28 +134,50 @@ pub(crate) fn write_text(text: &mut String, more: &str) -> Result<(), CronError>
     Ok(text.push_str(more)?)
 }
 
-/// Writes an ordinal.
-#[tactic(auto, unfolding(crate::specs::English::ordinal))]
-pub(crate) fn write_ordinal(text: &mut String, n: u16) -> Result<(), CronError>
-    ensures { Appends (ordinal n) text.old text.new result }
+/// Writes a term.
+pub(crate) fn write_term(
+    text: &mut String,
+    language: SummaryLanguage,
+    term: Term,
+) -> Result<(), CronError>
+    ensures { Appends (term_text language term) text.old text.new result }
 {
-    let end = ordinal_end(n);
+    write_text(text, term_of(language, term))
+}
+
+/// Writes a number.
+pub(crate) fn write_number(text: &mut String, n: u16) -> Result<(), CronError>
+    ensures { Appends (decimal n) text.old text.new result }
+{
+    Ok(write!(text, "{n}")?)
+}
+
+/// Writes an ordinal.
+#[tactic(auto, unfolding(crate::specs::Words::ordinal))]
+pub(crate) fn write_ordinal(
+    text: &mut String,
+    language: SummaryLanguage,
+    n: u16,
+) -> Result<(), CronError>
+    ensures { Appends (ordinal language n) text.old text.new result }
+{
+    let end = ordinal_end(language, n);
     Ok(write!(text, "{n}{end}")?)
 }
 
 /// Writes a number in two places.
-#[tactic(auto, unfolding(crate::specs::English::two_places))]
+#[tactic(auto, unfolding(crate::specs::Words::two_places))]
 fn write_two(text: &mut String, n: u16) -> Result<(), CronError>
     ensures { Appends (two_places n) text.old text.new result }
 {
     if n < 10 {
         return Ok(write!(text, "0{n}")?);
     }
-    Ok(write!(text, "{n}")?)
+    write_number(text, n)
 }
 
 /// Writes the seconds of a time of day, where they aren't 0.
-#[tactic(auto, unfolding(crate::specs::English::second_text))]
+#[tactic(auto, unfolding(crate::specs::Words::second_text))]
 fn write_second(text: &mut String, second: u16) -> Result<(), CronError>
     ensures { Appends (second_text second) text.old text.new result }
 {
@@ -119,7 +189,7 @@ fn write_second(text: &mut String, second: u16) -> Result<(), CronError>
 }
 
 /// Writes a time of day.
-#[tactic(auto, unfolding(crate::specs::English::clock_text))]
+#[tactic(auto, unfolding(crate::specs::Words::clock_text))]
 pub(crate) fn write_clock(
     text: &mut String,
     hour: u16,
@@ -134,23 +204,43 @@ pub(crate) fn write_clock(
     write_second(text, second)
 }
 
+/// Writes a weekday with an end.
+fn write_weekday(
+    text: &mut String,
+    language: SummaryLanguage,
+    weekday: u16,
+    end: Term,
+) -> Result<(), CronError>
+    ensures { Appends (weekday_name language weekday ++ term_text language end) text.old text.new result }
+{
+    write_text(text, weekday_name(language, weekday))?;
+    write_term(text, language, end)
+}
+
 /// Writes a value.
-pub(crate) fn write_value(text: &mut String, kind: Kind, value: u16) -> Result<(), CronError>
-    ensures { Appends (value_text kind value) text.old text.new result }
+pub(crate) fn write_value(
+    text: &mut String,
+    language: SummaryLanguage,
+    kind: Kind,
+    value: u16,
+) -> Result<(), CronError>
+    ensures { Appends (value_text language kind value) text.old text.new result }
 {
     match kind {
-        Kind::Number => Ok(write!(text, "{value}")?),
-        Kind::Year => Ok(write!(text, "{value}")?),
-        Kind::Ordinal => write_ordinal(text, value),
-        Kind::Weekday => write_text(text, weekday_name(value)),
-        Kind::Month => write_text(text, month_name(value)),
+        Kind::Number => write_number(text, value),
+        Kind::Year => write_number(text, value),
+        Kind::Ordinal => write_ordinal(text, language, value),
+        Kind::Weekday => write_text(text, weekday_name(language, value)),
+        Kind::NthWeekday => write_weekday(text, language, value, Term::NthEnd),
+        Kind::OnlyWeekday => write_weekday(text, language, value, Term::OnlyEnd),
+        Kind::Month => write_text(text, month_name(language, value)),
         Kind::HourAt(minute, second) => write_clock(text, value, minute, second),
         Kind::MinuteOf(hour, second) => write_clock(text, hour, value, second),
     }
 }
 
 /// The least value of a kind.
-fn least_of(kind: Kind) -> u16
+pub(crate) fn least_of(kind: Kind) -> u16
     ensures { result ≡ least_of kind }
 {
     match kind {
@@ -158,113 +248,165 @@ fn least_of(kind: Kind) -> u16
         Kind::Year => 1,
         Kind::Ordinal => 1,
         Kind::Weekday => 0,
+        Kind::NthWeekday => 0,
+        Kind::OnlyWeekday => 0,
         Kind::Month => 1,
         Kind::HourAt(_, _) => 0,
         Kind::MinuteOf(_, _) => 0,
     }
 }
 
+/// Whether the values are years.
+fn is_year(kind: Kind) -> bool
+    ensures { result ≡ is_year kind }
+{
+    match kind {
+        Kind::Number => false,
+        Kind::Year => true,
+        Kind::Ordinal => false,
+        Kind::Weekday => false,
+        Kind::NthWeekday => false,
+        Kind::OnlyWeekday => false,
+        Kind::Month => false,
+        Kind::HourAt(_, _) => false,
+        Kind::MinuteOf(_, _) => false,
+    }
+}
+
 /// Writes from which value to which.
+#[tactic(auto, unfolding(crate::specs::Words::span_text))]
 pub(crate) fn write_span(
     text: &mut String,
+    language: SummaryLanguage,
     kind: Kind,
     first: u16,
     last: u16,
 ) -> Result<(), CronError>
-    ensures { Appends (span_text kind first last) text.old text.new result }
+    ensures { Appends (span_text language kind first last) text.old text.new result }
 {
-    write_value(text, kind, first)?;
-    write_text(text, " to ")?;
-    write_value(text, kind, last)
+    write_value(text, language, kind, first)?;
+    write_term(text, language, Term::To)?;
+    write_value(text, language, kind, last)
 }
 
-/// Writes `every 5th from `.
-fn write_every(text: &mut String, n: u16) -> Result<(), CronError>
-    ensures { Appends (every_text n) text.old text.new result }
+/// Writes a step of a list, before its first value.
+fn write_nth_from(
+    text: &mut String,
+    language: SummaryLanguage,
+    kind: Kind,
+    n: u16,
+) -> Result<(), CronError>
+    ensures { Appends (nth_text language (is_year kind) n ++ term_text language Term.FromValue) text.old text.new result }
 {
-    write_text(text, "every ")?;
-    write_ordinal(text, n)?;
-    write_text(text, " from ")
+    write_nth(text, language, is_year(kind), n)?;
+    write_term(text, language, Term::FromValue)
 }
 
 /// Writes a piece of a list.
-fn write_piece(text: &mut String, kind: Kind, piece: Piece) -> Result<(), CronError>
-    ensures { Appends (piece_text kind piece) text.old text.new result }
+fn write_piece(
+    text: &mut String,
+    language: SummaryLanguage,
+    kind: Kind,
+    piece: Piece,
+) -> Result<(), CronError>
+    ensures { Appends (piece_text language kind piece) text.old text.new result }
 {
     match piece {
-        Piece::Every => write_text(text, "each"),
+        Piece::Every => write_term(text, language, Term::EachOne),
         Piece::EveryNth(n) => {
-            write_every(text, n)?;
-            write_value(text, kind, least_of(kind))
+            write_nth_from(text, language, kind, n)?;
+            write_value(text, language, kind, least_of(kind))
         }
-        Piece::One(value) => write_value(text, kind, value),
-        Piece::Range(first, last) => write_span(text, kind, first, last),
+        Piece::One(value) => write_value(text, language, kind, value),
+        Piece::Range(first, last) => write_span(text, language, kind, first, last),
         Piece::RangeNth(first, last, n) => {
-            write_every(text, n)?;
-            write_span(text, kind, first, last)
+            write_nth_from(text, language, kind, n)?;
+            write_span(text, language, kind, first, last)
         }
     }
 }
 
 /// Writes what goes before an item of a list.
-fn write_separator(text: &mut String, place: usize, is_last: bool) -> Result<(), CronError>
-    ensures { Appends (separator place is_last) text.old text.new result }
+fn write_separator(
+    text: &mut String,
+    language: SummaryLanguage,
+    place: usize,
+    is_last: bool,
+) -> Result<(), CronError>
+    ensures { Appends (separator language place is_last) text.old text.new result }
 {
     if place == 0 {
         return Ok(());
     }
-    write_text(text, if is_last { " and " } else { ", " })
+    if is_last {
+        return write_term(text, language, Term::And);
+    }
+    write_text(text, ", ")
 }
 
 /// Writes an item of a list with what goes before it.
 fn write_item(
     text: &mut String,
+    language: SummaryLanguage,
     kind: Kind,
     place: usize,
     is_last: bool,
     piece: Piece,
 ) -> Result<(), CronError>
-    ensures { Appends (separator place is_last ++ piece_text kind piece) text.old text.new result }
+    ensures { Appends (separator language place is_last ++ piece_text language kind piece) text.old text.new result }
 {
-    write_separator(text, place, is_last)?;
-    write_piece(text, kind, piece)
+    write_separator(text, language, place, is_last)?;
+    write_piece(text, language, kind, piece)
 }
 
 /// Writes the first pieces of a list that has so many items.
 fn write_items(
     text: &mut String,
+    language: SummaryLanguage,
     kind: Kind,
     pieces: &[Piece],
     count: usize,
 ) -> Result<(), CronError>
     requires { length pieces.now < usize.MAX }
-    ensures { BeginsList kind pieces.now count text.old text.new result }
+    ensures { BeginsList language kind pieces.now count text.old text.new result }
 {
     for (place, piece) in pieces.iter().enumerate() {
-        write_item(text, kind, place, place + 1 == count, *piece)?;
+        write_item(text, language, kind, place, place + 1 == count, *piece)?;
     }
     Ok(())
 }
 
 /// Writes how many items of a list are left.
-fn write_left(text: &mut String, left: usize) -> Result<(), CronError>
-    ensures { Appends (codes " and " ++ more_text left) text.old text.new result }
+fn write_left(
+    text: &mut String,
+    language: SummaryLanguage,
+    place: usize,
+    left: usize,
+) -> Result<(), CronError>
+    ensures { Appends (separator language place true ++ left_text language left) text.old text.new result }
 {
-    write_text(text, " and ")?;
-    Ok(write!(text, "{left} more")?)
+    write_separator(text, language, place, true)?;
+    let more = term_of(language, Term::More);
+    Ok(write!(text, "{left}{more}")?)
 }
 
 /// Writes pieces as a list.
-#[tactic(auto, unfolding(crate::specs::English::list_text))]
-pub(crate) fn write_list(text: &mut String, kind: Kind, pieces: &[Piece]) -> Result<(), CronError>
-    ensures { Appends (list_text kind pieces.now) text.old text.new result }
+#[tactic(auto, unfolding(crate::specs::Words::list_text))]
+pub(crate) fn write_list(
+    text: &mut String,
+    style: Style,
+    kind: Kind,
+    pieces: &[Piece],
+) -> Result<(), CronError>
+    ensures { Appends (list_text style kind pieces.now) text.old text.new result }
 {
-    if pieces.len() <= MOST_TOLD {
-        return write_items(text, kind, pieces, pieces.len());
+    let most = usize::from(style.most);
+    if pieces.len() <= most {
+        return write_items(text, style.language, kind, pieces, pieces.len());
     }
-    let left = pieces.len() - MOST_TOLD;
-    write_items(text, kind, &pieces[..MOST_TOLD], MOST_TOLD + 1)?;
-    write_left(text, left)
+    let left = pieces.len() - most;
+    write_items(text, style.language, kind, &pieces[..most], most + 1)?;
+    write_left(text, style.language, most, left)
 }
 
 /// The one piece of a phrase, where there is one.
@@ -278,75 +420,96 @@ pub(crate) fn sole(pieces: &[Piece]) -> Option<Piece>
     }
 }
 
-/// Writes `every 5th minute from `.
-#[tactic(auto, unfolding(crate::specs::English::step_text))]
-fn write_step(text: &mut String, unit: &str, n: u16) -> Result<(), CronError>
-    ensures { Appends (step_text unit.now n) text.old text.new result }
+/// Writes the name of a unit.
+pub(crate) fn write_unit_name(
+    text: &mut String,
+    language: SummaryLanguage,
+    unit: TimeUnit,
+) -> Result<(), CronError>
+    ensures { Appends (unit_name language unit) text.old text.new result }
 {
-    write_text(text, "every ")?;
-    write_ordinal(text, n)?;
-    write_text(text, " ")?;
-    write_text(text, unit)?;
-    write_text(text, " from ")
+    write_text(text, unit_name(language, unit))
 }
 
-/// Writes `minutes `.
-fn write_units(text: &mut String, unit: &str) -> Result<(), CronError>
-    ensures { Appends (unit.now ++ codes "s ") text.old text.new result }
+/// Writes a step of a unit, before its first value.
+#[tactic(auto, unfolding(crate::specs::Words::step_text))]
+fn write_step(
+    text: &mut String,
+    language: SummaryLanguage,
+    unit: TimeUnit,
+    n: u16,
+) -> Result<(), CronError>
+    ensures { Appends (step_text language unit n) text.old text.new result }
 {
-    write_text(text, unit)?;
-    write_text(text, "s ")
+    write_nth(text, language, false, n)?;
+    write_unit_name(text, language, unit)?;
+    write_term(text, language, Term::From)
+}
+
+/// Writes a unit before several numbers.
+#[tactic(auto, unfolding(crate::specs::Words::units_text))]
+fn write_units(
+    text: &mut String,
+    language: SummaryLanguage,
+    unit: TimeUnit,
+) -> Result<(), CronError>
+    ensures { Appends (units_text language unit) text.old text.new result }
+{
+    write_unit_name(text, language, unit)?;
+    write_term(text, language, Term::Plural)?;
+    write_text(text, " ")
 }
 
 /// Writes one piece of a unit, or the list.
-#[tactic(auto, unfolding(crate::specs::English::sole_text))]
-pub(crate) fn write_sole(
+#[tactic(auto, unfolding(crate::specs::Words::sole_text))]
+fn write_sole(
     text: &mut String,
-    unit: &str,
-    kind: Kind,
+    style: Style,
+    unit: TimeUnit,
     pieces: &[Piece],
     one: Option<Piece>,
 ) -> Result<(), CronError>
-    ensures { Appends (sole_text unit.now kind pieces.now one) text.old text.new result }
+    ensures { Appends (sole_text style unit pieces.now one) text.old text.new result }
 {
+    let language = style.language;
     match one {
         Some(Piece::Every) => {
-            write_text(text, "each ")?;
-            write_text(text, unit)
+            write_term(text, language, Term::Each)?;
+            write_unit_name(text, language, unit)
         }
         Some(Piece::EveryNth(n)) => {
-            write_step(text, unit, n)?;
-            write_value(text, kind, least_of(kind))
+            write_step(text, language, unit, n)?;
+            write_number(text, 0)
         }
         Some(Piece::One(value)) => {
-            write_text(text, unit)?;
+            write_unit_name(text, language, unit)?;
             write_text(text, " ")?;
-            write_value(text, kind, value)
+            write_number(text, value)
         }
         Some(Piece::Range(first, last)) => {
-            write_units(text, unit)?;
-            write_span(text, kind, first, last)
+            write_units(text, language, unit)?;
+            write_span(text, language, Kind::Number, first, last)
         }
         Some(Piece::RangeNth(first, last, n)) => {
-            write_step(text, unit, n)?;
-            write_span(text, kind, first, last)
+            write_step(text, language, unit, n)?;
+            write_span(text, language, Kind::Number, first, last)
         }
         None => {
-            write_units(text, unit)?;
-            write_list(text, kind, pieces)
+            write_units(text, language, unit)?;
+            write_list(text, style, Kind::Number, pieces)
         }
     }
 }
 
-/// Writes pieces of a unit.
-#[tactic(auto, unfolding(crate::specs::English::unit_text))]
+/// Writes pieces of a unit whose values are numbers from 0.
+#[tactic(auto, unfolding(crate::specs::Words::unit_text))]
 pub(crate) fn write_unit(
     text: &mut String,
-    unit: &str,
-    kind: Kind,
+    style: Style,
+    unit: TimeUnit,
     pieces: &[Piece],
 ) -> Result<(), CronError>
-    ensures { Appends (unit_text unit.now kind pieces.now) text.old text.new result }
+    ensures { Appends (unit_text style unit pieces.now) text.old text.new result }
 {
-    write_sole(text, unit, kind, pieces, sole(pieces))
+    write_sole(text, style, unit, pieces, sole(pieces))
 }
