@@ -1,0 +1,61 @@
+-- Worked rows, computed from the definitions: a day from 00:00 on to 24:00, with starts at 02:00 of two jobs, and at 04:30.
+use Rattle.std.proofs.Common.{◌≡◌, ℕ, ℤ, pos, true, false, Bool, Option, Some, None, List, [], ◌∷◌, filter, int_lt, refl}
+use Rattle.cronplan.specs.declared.counts.Unit.TheVariants as units
+use Rattle.cronplan.specs.declared.start.JobStart.{JobStart}
+use Rattle.cronplan.specs.declared.windows.Bound.TheVariants as bounds
+use Rattle.cronplan.specs.declared.windows.Edge.{Edge}
+use Rattle.cronplan.specs.declared.windows.Window.{Window}
+use Rattle.cronplan.specs.Counts.{key_of, starts_at}
+use Rattle.cronplan.specs.Jobs.{Seen, count_of, shown_of, named_of, end_with}
+use Rattle.cronplan.specs.Private.Gaps.{gaps}
+use Rattle.cronplan.specs.Spans.{is_span}
+use Rattle.cronplan.specs.Starts.{second_at, earlier}
+use Rattle.cronplan.specs.Windows.{seconds_in}
+
+-- a start of a job so many times, on a clock that shows UTC
+abbrev start : ℕ → ℕ → ℕ → JobStart
+start second job count = record { second = pos second; job = job; count = count; wall = pos second }
+
+abbrev day : List JobStart
+day = start 7_200 0 1 ∷ start 7_200 1 2 ∷ start 16_200 0 1 ∷ []
+
+abbrev side : ℤ → Edge
+side i = record { second = i; bound = bounds.Span }
+
+abbrev at : ℤ → Edge
+at i = record { second = i; bound = bounds.Start }
+
+-- of two hours or more: up to 02:00, where it may be longer; from 02:00 to 04:30; from there on, where it may be longer. Between the two starts
+-- at 02:00 there is none
+windows : gaps 7_200 (side (pos 86_400)) (side (pos 0)) day
+    ≡ record { from = side (pos 0); until = at (pos 7_200) } ∷ record { from = at (pos 7_200); until = at (pos 16_200) } ∷ record { from = at (pos 16_200); until = side (pos 86_400) } ∷ []
+windows = refl
+
+-- of more than two and a half hours: the last one alone; it has 19 and a half
+long_windows : (gaps 9_001 (side (pos 86_400)) (side (pos 0)) day ≡ record { from = at (pos 16_200); until = side (pos 86_400) } ∷ [])
+    × (seconds_in (record { from = at (pos 16_200); until = side (pos 86_400) }) ≡ 70_200)
+long_windows = (refl, refl)
+
+-- a start at the first second of the span leaves no window before it
+begins_with_a_start : gaps 1 (side (pos 60)) (side (pos 0)) (start 0 0 1 ∷ []) ≡ record { from = at (pos 0); until = side (pos 60) } ∷ []
+begins_with_a_start = refl
+
+-- three starts at 02:00, one at 04:30; four on the day; none at 03:00
+counts : (starts_at units.Second (pos 7_200) day ≡ 3) × (starts_at units.HourOfDay (pos 4) day ≡ 1) × (starts_at units.Day (pos 0) day ≡ 4) × (starts_at units.Hour (pos 3) day ≡ 0)
+counts = (refl, refl, refl, refl)
+
+-- a span of one second, and one that ends before it begins
+spans : (is_span (pos 0) (pos 1) ≡ true) × (is_span (pos 1) (pos 0) ≡ false)
+spans = (refl, refl)
+
+-- of two starts at most the third is too many: the span ends at it, or earlier
+cut : (earlier (pos 86_400) (second_at day 2) ≡ pos 16_200) × (earlier (pos 86_400) (second_at day 3) ≡ pos 86_400)
+cut = (refl, refl)
+
+-- a job that is shown, and one that is named with its four starts
+abbrev seen : Bool → Seen
+seen frequent = record { place = 3; starts = day; end = pos 80_000; is_frequent = frequent }
+
+shown_or_named : (shown_of (seen false) ≡ day) × (named_of (seen false) ≡ []) × (shown_of (seen true) ≡ []) × (named_of (seen true) ≡ record { job = 3; starts = 4 } ∷ [])
+    × (end_with (pos 86_400) (seen false) ≡ pos 80_000) × (end_with (pos 86_400) (seen true) ≡ pos 86_400)
+shown_or_named = (refl, refl, refl, refl, refl, refl)

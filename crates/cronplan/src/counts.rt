@@ -1,0 +1,102 @@
+//! Counts of starts: at a second, in an hour, on a day.
+ghost use Rattle.std.specs.Prelude.{◌≡◌, ◌+◌, ◌<◌, ◌≤◌, ◌^◌, ◌↔◌, ℤ, IsTrue, IfOk, OnOk, length, unwrap_or};
+ghost use Rattle.std.specs.BTreeMap.{get};
+ghost use Rattle.std.specs.Ordering.{int_cmp};
+ghost use Rattle.cronplan.specs.Counts.{key_of, starts_at, added_at, IsFrequent};
+
+use crate::start::JobStart;
+use std::alloc::{AllocError, Global};
+use std::collections::BTreeMap;
+
+/// What starts are counted by. Hours and days are those that the clock shows.
+#[derive(Debug, Clone, Copy, PartialEq, Eq)]
+pub enum Unit {
+    /// The second, counted from 1970-01-01T00:00:00 UTC.
+    Second,
+    /// The hour of its date, counted from 1970-01-01T00:00:00.
+    Hour,
+    /// The date, counted from 1970-01-01.
+    Day,
+    /// The hour of whatever day, from 0 to 23.
+    HourOfDay,
+}
+
+const SECONDS_PER_HOUR: i64 = 3_600;
+
+const SECONDS_PER_DAY: i64 = 86_400;
+
+const HOURS_PER_DAY: i64 = 24;
+
+// The second, hour or day of a start.
+fn key_of(start: &JobStart, unit: Unit) -> i64
+    ensures { result ≡ key_of unit start.now }
+{
+    match unit {
+        Unit::Second => start.second,
+        Unit::Hour => start.wall.div_euclid(SECONDS_PER_HOUR),
+        Unit::Day => start.wall.div_euclid(SECONDS_PER_DAY),
+        Unit::HourOfDay => start
+            .wall
+            .div_euclid(SECONDS_PER_HOUR)
+            .rem_euclid(HOURS_PER_DAY),
+    }
+}
+
+// Counts a start in its second, hour or day, and answers how many are counted there now.
+#[tactic(auto, using(crate::proofs::CountedStarts::added_at_small))]
+fn add_start(
+    counts: &mut BTreeMap<i64, u64>,
+    start: &JobStart,
+    unit: Unit,
+) -> Result<u64, AllocError>
+    requires { (q : ℤ) → unwrap_or (get int_cmp counts.old q) 0 ≤ 2 ^ 63 }
+    ensures added { OnOk result ((q : ℤ) → unwrap_or (get int_cmp counts.new q) 0 ≡ unwrap_or (get int_cmp counts.old q) 0 + added_at unit q start.now) }
+    ensures few { OnOk result ((q : ℤ) → unwrap_or (get int_cmp counts.new q) 0 ≤ unwrap_or (get int_cmp counts.old q) 0 + 2 ^ 32) }
+    ensures count { IfOk result (λ n. n ≡ unwrap_or (get int_cmp counts.new (key_of unit start.now)) 0) }
+{
+    let key = key_of(start, unit);
+    let had = counts.get(&key).copied().unwrap_or(0);
+    let count = had + u64::from(start.count);
+    counts.insert(key, count)?;
+    Ok(count)
+}
+
+/// How many starts there are at each second, in each hour or on each day that has one.
+///
+/// There may be 2^31 starts at most. The only error is want of memory.
+#[tactic(auto, using(crate::proofs::CountedStarts::counted))]
+pub(crate) fn counts_by(
+    alloc: Global,
+    starts: &[JobStart],
+    unit: Unit,
+) -> Result<BTreeMap<i64, u64>, AllocError>
+    requires { length starts.now ≤ 2 ^ 31 }
+    ensures { IfOk result (λ m. (q : ℤ) → unwrap_or (get int_cmp m q) 0 ≡ starts_at unit q starts.now) }
+{
+    let mut counts = BTreeMap::new(alloc);
+    for start in starts {
+        add_start(&mut counts, start, unit)?;
+    }
+    Ok(counts)
+}
+
+/// Whether these are more than so many on some day that the clock shows.
+///
+/// There may be 2^31 starts at most. The only error is want of memory.
+#[tactic(auto, using(crate::proofs::CountedStarts::counted))]
+pub(crate) fn is_frequent(
+    alloc: Global,
+    starts: &[JobStart],
+    most_a_day: u64,
+) -> Result<bool, AllocError>
+    requires { length starts.now ≤ 2 ^ 31 }
+    ensures { IfOk result (λ b. IsTrue b ↔ IsFrequent most_a_day starts.now) }
+{
+    let mut counts = BTreeMap::new(alloc);
+    for start in starts {
+        if add_start(&mut counts, start, Unit::Day)? > most_a_day {
+            return Ok(true);
+        }
+    }
+    Ok(false)
+}

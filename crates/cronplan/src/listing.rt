@@ -1,0 +1,212 @@
+//! The starts of one job in a span.
+ghost use Rattle.std.specs.Prelude.{◌≡◌, ◌≤ℤ◌, ◌-ℤ◌, pos, false, true, IfOk, map};
+ghost use Rattle.std.specs.List.{All};
+ghost use Rattle.croner_base.specs.Table.{is_table_second};
+ghost use Rattle.croner_base.specs.TableZone.{table_zone, table_moment};
+ghost use Rattle.croner_base.specs.Zone.{reading};
+ghost use Rattle.croner_base.specs.declared.time.Direction.{Direction};
+ghost use Rattle.croner_base.specs.declared.time.table.TableTime.{TableTime};
+ghost use Rattle.croner.specs.declared.job.Cron.{Cron};
+ghost use Rattle.croner.specs.iterator.Listing.{standing_of, new_standing};
+ghost use Rattle.croner.specs.Views.{job_of};
+ghost use Rattle.cronplan.specs.Listed.{ListsJob};
+ghost use Rattle.cronplan.specs.Private.Placed.{placed, placed_run, IsCronEnd, IsPatternEnd};
+
+use crate::plan::MOST_STARTS;
+use crate::span::Span;
+use crate::start::JobStart;
+use croner::errors::CronError;
+use croner::laws::listing::{ListingEnd, next_runs_until};
+use croner::time::CronDateTime;
+use croner::time::table::{ClockTable, TableTime};
+use croner::{Cron, CronIterator};
+use crontab_runs::{CrontabJob, Start, StartsEnd, next_starts_until};
+use std::alloc::{AllocError, Global};
+
+/// When a job of a plan starts.
+#[derive(Drop)]
+pub enum Schedule {
+    /// It is the job of a crontab: as Debian's cron starts it.
+    Crontab(CrontabJob),
+    /// It is a pattern: at each of its runs, once.
+    Pattern(Cron),
+}
+
+/// The most starts that are listed of one job: one more than a plan keeps.
+const MOST_LISTED: u32 = MOST_STARTS as u32 + 1;
+
+/// The starts of a job in a span, in order, and the second up to which none is left out: the end of the span, or that of the last of them where
+/// there are more than a plan keeps.
+///
+/// It takes the room of `MOST_STARTS` starts. The only error is `OutOfMemory`, but for a pattern whose search was refused: no search is, in the
+/// years that are searched.
+pub(crate) fn starts_in(
+    alloc: Global,
+    schedule: &Schedule,
+    table: &ClockTable,
+    span: Span,
+    place: usize,
+) -> Result<(Vec<JobStart>, i64), CronError>
+    ensures { IfOk result (λ r. ListsJob schedule.now (table_zone table.now) span place r.0.items r.1) }
+{
+    let after = second_before(table, span);
+    match schedule {
+        Schedule::Crontab(job) => cron_starts(alloc, job, after, span, place),
+        Schedule::Pattern(cron) => pattern_starts(alloc, cron, after, span, place),
+    }
+}
+
+// The second before a span, on the clock of a table.
+fn second_before<'t>(table: &'t ClockTable, span: Span) -> TableTime<'t>
+    ensures second { result.second ≡ span.first -ℤ pos 1 }
+    ensures table { result.table.now ≡ table.now }
+{
+    match TableTime::new(table, span.first - 1) {
+        Ok(time) => time,
+        Err(_) => unreachable!(),
+    }
+}
+
+// The starts of a crontab's job.
+fn cron_starts(
+    alloc: Global,
+    job: &CrontabJob,
+    after: TableTime<'_>,
+    span: Span,
+    place: usize,
+) -> Result<(Vec<JobStart>, i64), CronError>
+    requires { after.second ≡ span.first -ℤ pos 1 }
+    ensures { IfOk result (λ r. ListsJob (Schedule.Crontab job.now) (table_zone after.entry.table.now) span place r.0.items r.1) }
+{
+    let (starts, ending) = next_starts_until(alloc, job, after, span.until(), MOST_LISTED)?;
+    let end = cron_end(starts.as_slice(), ending, span);
+    let starts = placed_starts(alloc, after, starts.as_slice(), place)?;
+    Ok((starts, end))
+}
+
+// Up to where none is left out of the starts of a job in a span, whose listing ended so.
+fn cron_end(starts: &[Start], ending: StartsEnd, span: Span) -> i64
+    ensures { IsCronEnd starts.now ending span result }
+{
+    match (ending, starts.last()) {
+        (StartsEnd::Full, Some(last)) => last.second,
+        (StartsEnd::Full, None) | (StartsEnd::Past(_) | StartsEnd::Over, _) => span.end,
+    }
+}
+
+// Starts of a job at a place, on the clock of a time.
+fn placed_starts(
+    alloc: Global,
+    time: TableTime<'_>,
+    starts: &[Start],
+    place: usize,
+) -> Result<Vec<JobStart>, AllocError>
+    requires { All (λ s. is_table_second s.second ≡ true) starts.now }
+    ensures { IfOk result (λ placed_ones. placed_ones.items ≡ map (placed (table_zone time.entry.table.now) place) starts.now) }
+{
+    let mut placed_ones = Vec::new(alloc);
+    for start in starts {
+        placed_ones.push(placed_start(time, *start, place))?;
+    }
+    Ok(placed_ones)
+}
+
+// A start of a job at a place, on the clock of a time.
+fn placed_start(time: TableTime<'_>, start: Start, place: usize) -> JobStart
+    requires { is_table_second start.second ≡ true }
+    ensures { result ≡ placed (table_zone time.entry.table.now) place start }
+{
+    match TableTime::new(time.table(), start.second) {
+        Ok(at) => JobStart {
+            second: start.second,
+            job: place,
+            count: start.count,
+            wall: wall_of(&at),
+        },
+        Err(_) => unreachable!(),
+    }
+}
+
+// What the clock shows at a time, as a wall second.
+fn wall_of(time: &TableTime<'_>) -> i64
+    ensures { result ≡ reading (table_moment time.now) }
+{
+    time.to_civil().wall_second()
+}
+
+// The runs of a pattern.
+fn pattern_starts(
+    alloc: Global,
+    cron: &Cron,
+    after: TableTime<'_>,
+    span: Span,
+    place: usize,
+) -> Result<(Vec<JobStart>, i64), CronError>
+    requires { after.second ≡ span.first -ℤ pos 1 }
+    ensures { IfOk result (λ r. ListsJob (Schedule.Pattern cron.now) (table_zone after.entry.table.now) span place r.0.items r.1) }
+{
+    let mut runs = cron.iter_after(after)?;
+    runs_from(alloc, &mut runs, span, place)
+}
+
+// The runs of a pattern that an iterator gives which is new at the second before the span.
+fn runs_from(
+    alloc: Global,
+    runs: &mut CronIterator<TableTime<'_>>,
+    span: Span,
+    place: usize,
+) -> Result<(Vec<JobStart>, i64), CronError>
+    ensures { (cron : Cron) (after : TableTime) → after.second ≡ span.first -ℤ pos 1
+        → standing_of table_moment runs.old ≡ new_standing (job_of cron) (table_moment after) false Direction.Forward
+        → IfOk result (λ r. ListsJob (Schedule.Pattern cron) (table_zone after.table.now) span place r.0.items r.1) }
+{
+    let (times, ending) = next_runs_until(alloc, runs, span.until(), MOST_LISTED)?;
+    if let ListingEnd::Refused = ending {
+        return Err(fault_of(runs.fault()));
+    }
+    let end = pattern_end(times.as_slice(), ending, span);
+    let starts = placed_runs(alloc, times.as_slice(), place)?;
+    Ok((starts, end))
+}
+
+// What refused a search, which may be want of memory.
+fn fault_of(fault: Option<&CronError>) -> CronError {
+    match fault {
+        Some(fault) => match fault.clone() {
+            Ok(fault) => fault,
+            Err(_) => CronError::OutOfMemory,
+        },
+        None => CronError::OutOfMemory,
+    }
+}
+
+// Up to where none is left out of the runs of a pattern in a span, whose listing ended so.
+fn pattern_end(times: &[TableTime<'_>], ending: ListingEnd, span: Span) -> i64
+    ensures { IsPatternEnd times.now ending span result }
+{
+    match (ending, times.last()) {
+        (ListingEnd::Full, Some(last)) => last.second(),
+        (ListingEnd::Full, None)
+        | (ListingEnd::Past(_) | ListingEnd::Over | ListingEnd::Refused, _) => span.end,
+    }
+}
+
+// Runs of the pattern at a place.
+fn placed_runs(
+    alloc: Global,
+    times: &[TableTime<'_>],
+    place: usize,
+) -> Result<Vec<JobStart>, AllocError>
+    ensures { IfOk result (λ starts. starts.items ≡ map (placed_run place) times.now) }
+{
+    let mut starts = Vec::new(alloc);
+    for time in times {
+        starts.push(JobStart {
+            second: time.second(),
+            job: place,
+            count: 1,
+            wall: wall_of(time),
+        })?;
+    }
+    Ok(starts)
+}
