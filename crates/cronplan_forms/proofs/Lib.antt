@@ -1,0 +1,4 @@
+pub mod EscapedTexts
+pub mod Events
+pub mod FoldedLines
+mod ExamplesEscapes

@@ -1,0 +1,3 @@
+pub mod Calendars
+pub mod ContentLines
+pub mod Escapes

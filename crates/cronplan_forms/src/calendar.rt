@@ -1,0 +1,167 @@
+//! The starts of jobs as a calendar (RFC 5545).
+ghost use Rattle.std.specs.Prelude.{◌≡◌, ◌++◌, codes, take, IfOk, OnOk, string_bytes};
+ghost use Rattle.cronplan_forms.specs.Calendars.{property_line, text_line, most_events, cut_text, left_out_text, calendar_begin, calendar_names, calendar_head, events_text, calendar_text};
+
+mod event;
+mod moment;
+mod uid;
+
+use crate::content_line::push_content_line;
+use crate::escapes::{Form, escaped};
+use croner_base::time::CivilDateTime;
+pub use event::Event;
+use event::push_event;
+use std::alloc::{AllocError, Global};
+
+/// The most events of a calendar.
+pub const MOST_EVENTS: usize = 2_000;
+
+/// What a calendar tells beside its events.
+#[derive(Clone, Copy)]
+pub struct Calendar<'c> {
+    pub name: &'c str,
+    /// What it leaves out, in words.
+    pub left_out: &'c str,
+    /// When it is made, in UTC, in the years 0 to 9999.
+    pub stamp: CivilDateTime,
+    /// How long each event lasts, in seconds, where that is told.
+    pub lasts: Option<u64>,
+}
+
+/// The file of a calendar: an event for each start, at most `MOST_EVENTS`. Where there are more, its description says how many.
+///
+/// Each line ends with a carriage return and a line feed, and is folded. No text of a job ends its property. The only error is want of memory.
+pub fn calendar_text(
+    alloc: Global,
+    calendar: Calendar<'_>,
+    events: &[Event<'_>],
+) -> Result<String, AllocError>
+    ensures { IfOk result (λ t. string_bytes t ≡ calendar_text calendar.entry events.now) }
+{
+    let mut text = String::new(alloc);
+    push_calendar(alloc, &mut text, calendar, events)?;
+    Ok(text)
+}
+
+// Puts the file of a calendar behind a text.
+#[tactic(auto, unfolding(crate::specs::Calendars::calendar_text))]
+fn push_calendar(
+    alloc: Global,
+    text: &mut String,
+    calendar: Calendar<'_>,
+    events: &[Event<'_>],
+) -> Result<(), AllocError>
+    ensures { OnOk result (string_bytes text.new ≡ string_bytes text.old ++ calendar_text calendar.entry events.now) }
+{
+    push_head(alloc, text, calendar, events.len())?;
+    push_events(alloc, text, calendar, first_events(events))?;
+    push_property(alloc, text, "END", "VCALENDAR")
+}
+
+// Puts some events behind a text.
+#[tactic(auto, using(crate::proofs::Events::events_step), unfolding(crate::specs::Calendars::events_text))]
+fn push_events(
+    alloc: Global,
+    text: &mut String,
+    calendar: Calendar<'_>,
+    events: &[Event<'_>],
+) -> Result<(), AllocError>
+    ensures { OnOk result (string_bytes text.new ≡ string_bytes text.old ++ events_text calendar.entry events.now) }
+{
+    for event in events {
+        push_event(alloc, text, calendar, *event)?;
+    }
+    Ok(())
+}
+
+// The first of some events, as many as a calendar has.
+fn first_events<'s, 'e>(events: &'s [Event<'e>]) -> &'s [Event<'e>]
+    ensures { result.now ≡ take most_events events.now }
+{
+    if events.len() > MOST_EVENTS {
+        return events.split_at(MOST_EVENTS).0;
+    }
+    events
+}
+
+// Puts the head of a calendar of so many starts behind a text.
+#[tactic(auto, unfolding(crate::specs::Calendars::calendar_head))]
+fn push_head(
+    alloc: Global,
+    text: &mut String,
+    calendar: Calendar<'_>,
+    count: usize,
+) -> Result<(), AllocError>
+    ensures { OnOk result (string_bytes text.new ≡ string_bytes text.old ++ calendar_head calendar.entry count) }
+{
+    push_begin(alloc, text)?;
+    push_names(alloc, text, calendar.name)?;
+    push_left_out(alloc, text, calendar, count)
+}
+
+fn push_left_out(
+    alloc: Global,
+    text: &mut String,
+    calendar: Calendar<'_>,
+    count: usize,
+) -> Result<(), AllocError>
+    ensures { OnOk result (string_bytes text.new ≡ string_bytes text.old ++ text_line (codes "DESCRIPTION") (left_out_text calendar.entry count)) }
+{
+    let left_out = left_out_text(alloc, calendar, count)?;
+    push_text(alloc, text, "DESCRIPTION", left_out.as_str())
+}
+
+#[tactic(auto, unfolding(crate::specs::Calendars::calendar_begin))]
+fn push_begin(alloc: Global, text: &mut String) -> Result<(), AllocError>
+    ensures { OnOk result (string_bytes text.new ≡ string_bytes text.old ++ calendar_begin) }
+{
+    push_property(alloc, text, "BEGIN", "VCALENDAR")?;
+    push_property(alloc, text, "VERSION", "2.0")?;
+    push_property(alloc, text, "PRODID", "-//croncheck//plan//EN")
+}
+
+#[tactic(auto, unfolding(crate::specs::Calendars::calendar_names))]
+fn push_names(alloc: Global, text: &mut String, name: &str) -> Result<(), AllocError>
+    ensures { OnOk result (string_bytes text.new ≡ string_bytes text.old ++ calendar_names name.now) }
+{
+    push_text(alloc, text, "NAME", name)?;
+    push_text(alloc, text, "X-WR-CALNAME", name)
+}
+
+// What a calendar of so many starts leaves out.
+#[tactic(auto, unfolding(crate::specs::Calendars::left_out_text))]
+fn left_out_text(alloc: Global, calendar: Calendar<'_>, count: usize) -> Result<String, AllocError>
+    ensures { IfOk result (λ t. string_bytes t ≡ left_out_text calendar.entry count) }
+{
+    let mut text = String::from_str(alloc, calendar.left_out)?;
+    push_cut(&mut text, count)?;
+    Ok(text)
+}
+
+// What is said where a calendar of so many starts has not all.
+fn push_cut(text: &mut String, count: usize) -> Result<(), AllocError>
+    ensures { OnOk result (string_bytes text.new ≡ string_bytes text.old ++ cut_text count) }
+{
+    if count <= MOST_EVENTS {
+        return Ok(());
+    }
+    write!(text, " These are the first 2000 of {count} starts.")
+}
+
+// Puts a property of type TEXT behind a text.
+#[tactic(auto, unfolding(crate::specs::Calendars::text_line))]
+fn push_text(alloc: Global, out: &mut String, name: &str, text: &str) -> Result<(), AllocError>
+    ensures { OnOk result (string_bytes out.new ≡ string_bytes out.old ++ text_line name.now text.now) }
+{
+    let value = escaped(alloc, text, Form::Text)?;
+    push_property(alloc, out, name, value.as_str())
+}
+
+// Puts a property with a value that stands as it is behind a text.
+#[tactic(auto, unfolding(crate::specs::Calendars::property_line))]
+fn push_property(alloc: Global, out: &mut String, name: &str, value: &str) -> Result<(), AllocError>
+    ensures { OnOk result (string_bytes out.new ≡ string_bytes out.old ++ property_line name.now value.now) }
+{
+    let line = format!(in alloc; "{name}:{value}")?;
+    push_content_line(out, line.as_str())
+}

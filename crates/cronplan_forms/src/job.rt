@@ -1,0 +1,18 @@
+//! The jobs of a plan.
+
+/// What the forms show of a job. Its texts are shown as they are, but for the escapes of the form.
+#[derive(Clone, Copy)]
+pub struct Job<'j> {
+    pub title: &'j str,
+    /// Its times in words.
+    pub words: &'j str,
+    pub file: &'j str,
+    /// The number of its line there, from 1.
+    pub line: u64,
+    pub user: &'j str,
+    /// Its times as the crontab has them.
+    pub times: &'j str,
+    pub command: &'j [u8],
+    /// Which of the jobs of this user with these times and this command it is, from 0.
+    pub equal: u32,
+}

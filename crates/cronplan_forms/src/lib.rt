@@ -1,0 +1,12 @@
+//! The forms of a plan of jobs, each a function of values: nothing here reads a clock or a file.
+#![tactic(auto)]
+
+mod calendar;
+mod content_line;
+mod escapes;
+mod job;
+
+pub use calendar::{Calendar, Event, MOST_EVENTS, calendar_text};
+pub use content_line::push_content_line;
+pub use escapes::{Form, escaped, push_escaped};
+pub use job::Job;
