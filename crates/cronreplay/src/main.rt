@@ -15,6 +15,7 @@ mod narrow;
 mod question;
 mod replay;
 mod schedulers;
+mod starts;
 mod tables;
 mod values;
 mod writer;

@@ -10,6 +10,7 @@ use crate::json::{json_again, reread};
 use crate::laws::law;
 use crate::narrow::as_bounds_move;
 use crate::schedulers::scheduler;
+use crate::starts::starts;
 use crate::{tables, values};
 use croner::crontable::CronTable;
 use croner::time::Direction;
@@ -37,6 +38,7 @@ pub fn answer(alloc: Global, question: &Value) -> Result<Value> {
         "law" => law(alloc, question),
         "table_change" => tables::change(alloc, question),
         "scheduler" => scheduler(alloc, question),
+        "starts" => starts(alloc, question),
         op => match op.strip_prefix("table_") {
             Some(op) => answer_on_table(alloc, question, op, &Table::read(alloc, question)?.jobs),
             None => answer_of_job(alloc, question, op),
