@@ -6,17 +6,23 @@ _croncheck_zones() {
     sed -n 's/^[^#\t]*\t[^\t]*\t\([^\t]*\).*/\1/p' "${TZDIR:-/usr/share/zoneinfo}/zone.tab" 2>/dev/null
 }
 
+# The names of warnings that may be allowed.
+_croncheck_warnings() {
+    printf '%s\n' 'either-day uneven-step step-beyond range-down passed-over large-number whole-hour short-months gone never no-command
+        looks-like-field user percent continued control-byte carriage-return empty-item other-name no-zone not-expanded gap twice same-job'
+}
+
 # The options of a command; without one those of check.
 _croncheck_options() {
-    local clock='--zone --from' span='--runs --until' output='--json --strict --same-job' kinds='--system --user --patterns --stdin-name'
+    local clock='--zone --from' span='--runs --until' output='--json --strict --same-job --allow' look='--width --color' kinds='--system --user --patterns --stdin-name --users'
     local settings='--alternative-weekdays --dom-and-dow --sloppy-ranges --seconds --year'
     case $1 in
-        check) printf '%s\n' "$clock -f --format $output $kinds --language $settings -h --help" ;;
-        show) printf '%s\n' "$clock $span $output $kinds --language $settings -h --help" ;;
-        plan) printf '%s\n' "$clock $span $kinds $settings -h --help" ;;
-        next) printf '%s\n' "$clock $span --language $settings -h --help" ;;
-        describe) printf '%s\n' "--language $settings -h --help" ;;
-        *) printf '%s\n' "$clock -f --format $output $kinds --language $settings -h --help -V --version" ;;
+        check) printf '%s\n' "$clock -f --format $output $kinds --language $settings $look -h --help" ;;
+        show) printf '%s\n' "$clock $span --show-zone $output $kinds --language $settings $look -h --help" ;;
+        plan) printf '%s\n' "$clock $span $kinds $settings $look -h --help" ;;
+        next) printf '%s\n' "$clock $span --show-zone --language $settings $look -h --help" ;;
+        describe) printf '%s\n' "--language $settings $look -h --help" ;;
+        *) printf '%s\n' "$clock -f --format $output $kinds --language $settings $look -h --help -V --version" ;;
     esac
 }
 
@@ -30,11 +36,13 @@ _croncheck() {
         option=${COMP_WORDS[COMP_CWORD - 2]}
     fi
     case $option in
-        --zone) words="local UTC $(_croncheck_zones)" ;;
-        --from) words=now ;;
-        --runs | --until | --stdin-name) ;;
+        --zone | --show-zone) words="local UTC $(_croncheck_zones)" ;;
+        --from | --until) words=now ;;
+        --runs | --stdin-name | --width) ;;
         --language) words='en sv' ;;
-        -f | --format) words='text gcc github json' ;;
+        -f | --format) words='text gcc github sarif json' ;;
+        --allow) words=$(_croncheck_warnings) ;;
+        --color) words='auto always never' ;;
         --seconds | --year) words='optional required disallowed' ;;
         help) words='check show plan next describe' ;;
         *)

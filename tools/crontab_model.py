@@ -625,7 +625,8 @@ ORDER = [
 # These stand behind the others: what is told of a gap, and then what of a repeated range.
 CHANGES = ["gap", "twice"]
 FIELD_NAMES = ["seconds", "minutes", "hours", "days of the month", "months", "weekdays", "years"]
-MOST_LINES = 10_000
+# The most lines of a user's crontab, and the last one of the system's at which cron takes a job or a setting.
+MOST_LINES, LAST_TAKEN = 10_000, 10_003
 HALF_DAY, BESIDE = DAY // 2, 3 * 3600
 
 
@@ -773,17 +774,22 @@ def is_carried_to(times, before, after):
 
 def warnings_of_changes(times, zone, start):
     """What is told of the first change behind the start that puts the clock forward over a scheduled second, and of the first that
-    repeats one: that a run is left out, or made twice, of a job that isn't due beside it. Nothing of a change of half a day or more."""
+    repeats one: that a run is left out, or made twice, of a job that isn't due beside it; of one with all hours, that cron starts
+    nothing of it while the clock shows minutes again. Nothing of a change of half a day or more."""
     found = {}
-    if len(times.hours) == 24:
+    has_all_hours = len(times.hours) == 24
+    if has_all_hours and times.is_pattern:
         return []
     for instant, before, after in Clock(zone, start, start + WATCHED).changes():
         name = "gap" if before < after else "twice"
         if name in found or not start < instant <= start + WATCHED:
             continue
+        if has_all_hours and name == "gap":
+            continue
         second = times.second_in(min(before, after), max(before, after))
         if second is not None:
-            found[name] = warnings_of_change(times, name, instant, before, after, second)
+            told = warnings_of_pause if has_all_hours else warnings_of_change
+            found[name] = told(times, name, instant, before, after, second)
     return found.get("gap", []) + found.get("twice", [])
 
 
@@ -797,6 +803,13 @@ def warnings_of_change(times, name, instant, before, after, second):
         made = made_by_cron(times.job, instant, before, after, second)
         harmed = made == 0 if name == "gap" else made > 1
     return [name] if harmed else []
+
+
+def warnings_of_pause(times, name, instant, before, after, second):
+    """The same of one that shows a second again, of a job with all hours: whether cron starts it for that only once."""
+    if abs(after - before) >= HALF_DAY:
+        return []
+    return ["gap"] if made_by_cron(times.job, instant, before, after, second) == 1 else []
 
 
 def is_due_beside(times, first, end):
@@ -960,23 +973,37 @@ def warnings_of_file(data, is_system, is_pattern, zone, start):
             found.append(warnings_of_pattern(text, zone, start))
         else:
             found.append(warnings_of_line(text, is_fed, is_system, zone, start))
-    return found, ["many-lines"] if len(lines) > MOST_LINES and not is_pattern else []
+    return found, [] if is_pattern or first_too_many(lines, is_system) is None else ["many-lines"]
+
+
+def first_too_many(lines, is_system):
+    """The first line for which cron ignores a crontab as too long, from 0: of the system's it is a job or a setting."""
+    if not is_system:
+        return MOST_LINES if len(lines) > MOST_LINES else None
+    late = (at for at, (text, _) in enumerate(lines) if at >= LAST_TAKEN and line_of(text, True)[0] not in ("blank", "comment"))
+    return next(late, None)
+
+
+def data_of_row(row):
+    """The file of a row: its text so many times, and what stands in front of these and behind them."""
+    return (row.get("front", "") + row["text"] * row.get("times", 1) + row.get("behind", "")).encode("latin-1")
 
 
 def told_of_row(row):
     """The warnings of the lines of a row of crontab_warnings.txt."""
-    data = row["text"].encode("latin-1") * row.get("times", 1)
+    data = data_of_row(row)
     lines, file = warnings_of_file(data, row.get("system", False), row.get("patterns", False), row["zone"], row["from"])
     return [said for found in lines for said in found] + file
 
 
 def counts_of_row(row):
-    """How many lines of a row are refused, and how many are warned of. A file's own warning stands at the first line too many."""
-    data, is_system, is_pattern = row["text"].encode("latin-1") * row.get("times", 1), row.get("system", False), row.get("patterns", False)
+    """How many lines of a row are refused, and how many are warned of. That of a file's length stands at the first line too many."""
+    data, is_system, is_pattern = data_of_row(row), row.get("system", False), row.get("patterns", False)
     lines, file = warnings_of_file(data, is_system, is_pattern, row["zone"], row["from"])
     warned = {at for at, found in enumerate(lines) if found}
+    too_many = first_too_many(lines_of(data), is_system)
     refused = sum(not is_pattern and line_of(text, is_system)[0] == "refused" for text, _ in lines_of(data))
-    return refused, len(warned | ({MOST_LINES} if file else set()))
+    return refused, len(warned | ({too_many} if file else set()))
 
 
 # ---- the program

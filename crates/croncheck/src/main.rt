@@ -9,7 +9,8 @@ use croncheck_command::files::{Sources, tell_files};
 use croncheck_command::form::Form;
 use croncheck_command::json_checker::JsonChecker;
 use croncheck_command::json_reporter::JsonReporter;
-use croncheck_command::moment::second_of;
+use croncheck_command::look::Look;
+use croncheck_command::moment::{Moment, last_up_to, second_of, start_from};
 use croncheck_command::names::STANDARD_INPUT;
 use croncheck_command::output::Output;
 use croncheck_command::patterns::{Answer, tell_patterns};
@@ -18,21 +19,30 @@ use croncheck_command::problem::Problem;
 use croncheck_command::progress::{Terms, TermsByKind};
 use croncheck_command::reporter::Reporter;
 use croncheck_command::runs::Listing;
+use croncheck_command::sarif::Sarif;
+use croncheck_command::sarif::rules::RULES;
 use croncheck_command::settings::{Settings, SettingsByKind};
 use croncheck_command::shown::Shared;
 use croncheck_command::sink::Sink;
-use croncheck_command::words::{Call, Format, NoCall, Span, USAGE, Verb, read_call};
+use croncheck_command::users::Users;
+use croncheck_command::words::{
+    Call, Color, Format, LEAST_WIDTH, MOST_WIDTH, NoCall, Span, USAGE, Verb, read_call, version,
+};
 use croncheck_command::zone::{note_of, refusal_of};
 use crontab::line::Dialect;
 use either::{Either, Left, Right};
 use jiff::Timestamp;
 use jiff::tz::{SystemTimeZone, TimeZone, TimeZoneDatabase};
+use std::alloc::AllocError;
 use std::fs::File;
 use std::io::{BufReader, BufWriter, ErrorKind, IsTerminal, Stdin};
 use std::process::ExitCode;
 use std::{env, fs, io};
 
 const MISUSED: u8 = 2;
+
+/// How wide lines are on a terminal of which nothing is said.
+const USUAL_WIDTH: usize = 80;
 
 fn main(rt: HostRuntime) -> ExitCode {
     let status = match words(&rt) {
@@ -117,34 +127,176 @@ fn no_zone(rt: &HostRuntime, word: &str) -> Problem {
     }
 }
 
+// Checks with the clock of the zone that is to be shown too, if there is one.
 fn check(rt: &HostRuntime, call: &Call<'_>, zone: TimeZone<'_>) -> Result<u8, Problem> {
+    let Some(word) = call.show_zone else {
+        return check_in(rt, call, zone, None);
+    };
+    if let Ok(other) = TimeZone::posix(word) {
+        return check_in(rt, call, zone, Some(other));
+    }
+    let zones = TimeZoneDatabase::from_env(rt).map_err(Problem::Zone)?;
+    if word == "local" {
+        let system = SystemTimeZone::read(rt).map_err(Problem::Zone)?;
+        let other = system.time_zone(&zones).map_err(Problem::Zone)?;
+        return check_in(rt, call, zone, Some(other));
+    }
+    match zones.get(word) {
+        Ok(other) => check_in(rt, call, zone, Some(other)),
+        Err(jiff::Error::TimeZoneNotFound) => Err(no_zone(rt, word)),
+        Err(error) => Err(Problem::Zone(error)),
+    }
+}
+
+fn is_now(moment: Moment) -> bool {
+    match moment {
+        Moment::Now => true,
+        Moment::Second(_) | Moment::Civil(_) | Moment::Date(_) => false,
+    }
+}
+
+fn check_in<'z>(
+    rt: &HostRuntime,
+    call: &Call<'_>,
+    zone: TimeZone<'z>,
+    other_zone: Option<TimeZone<'z>>,
+) -> Result<u8, Problem> {
     let now = Timestamp::now(rt).map_err(Problem::Now)?.as_second();
-    let Some(start) = second_of(call.from, &zone, now) else {
+    let Some(first) = second_of(call.from, &zone, now) else {
         return Err(Problem::SkippedFrom);
     };
     let listing = match call.span {
         Span::Count(count) => Listing::Count(count),
-        Span::Until(moment) => match second_of(moment, &zone, now) {
-            Some(second) => Listing::Until(second),
+        Span::Until(moment) => match last_up_to(moment, &zone, now) {
+            Some(last) if last < first => return Err(Problem::UntilBeforeFrom),
+            Some(last) => Listing::Until(last),
             None => return Err(Problem::SkippedUntil),
         },
     };
+    let start = start_from(call.from, first);
     let clock = Clock::of(rt.alloc(), &zone, start).map_err(Problem::Clock)?;
     let Ok(changes) = Changes::of(rt.alloc(), &clock, start) else {
         return Err(Problem::OutOfMemory);
     };
-    let settings = SettingsByKind::new(Settings {
+    let users = users_text(rt, call.users).map_err(Problem::Users)?;
+    let Ok(names) = copies_of(rt, call.allowed.as_slice()) else {
+        return Err(Problem::OutOfMemory);
+    };
+    let Ok(allowed) = texts_of(rt, names.as_slice()) else {
+        return Err(Problem::OutOfMemory);
+    };
+    let settings = settings_of(
+        call,
+        &changes,
+        listing,
+        look_of(rt, call),
+        allowed.as_slice(),
+        known_users(&users),
+    );
+    let shared = Shared::of(zone, settings.of(Dialect::User));
+    let shared = match other_zone {
+        Some(other) => shared.with_other_zone(other),
+        None => shared,
+    };
+    let kinds = TermsByKind::new(rt.alloc(), &settings, &shared);
+    tell(rt, call, &kinds).map_err(Problem::Unwritten)
+}
+
+// What reports are made by.
+fn settings_of<'t>(
+    call: &Call<'_>,
+    changes: &'t Changes<'t>,
+    listing: Listing,
+    look: Look,
+    allowed: &'t [&'t str],
+    users: Option<Users<'t>>,
+) -> SettingsByKind<'t> {
+    SettingsByKind::new(Settings {
         dialect: Dialect::User,
         parser: call.parser,
         language: call.language,
-        changes: &changes,
+        changes,
         listing,
+        is_from_now: is_now(call.from),
         is_strict: call.is_strict,
         compares_jobs: call.compares_jobs,
-    });
-    let shared = Shared::of(zone, settings.of(Dialect::User));
-    let kinds = TermsByKind::new(rt.alloc(), &settings, &shared);
-    tell(rt, call, &kinds).map_err(Problem::Unwritten)
+        look,
+        allowed,
+        users,
+    })
+}
+
+// Copies of names, so that settings borrow from one place alone.
+fn copies_of(rt: &HostRuntime, names: &[&str]) -> Result<Vec<String>, AllocError> {
+    let mut copies = Vec::new(rt.alloc());
+    for name in names.iter() {
+        copies.push(String::from_str(rt.alloc(), name)?)?;
+    }
+    Ok(copies)
+}
+
+// The texts of names.
+fn texts_of<'n>(rt: &HostRuntime, names: &'n [String]) -> Result<Vec<&'n str>, AllocError> {
+    let mut texts = Vec::new(rt.alloc());
+    for name in names.iter() {
+        texts.push(name.as_str())?;
+    }
+    Ok(texts)
+}
+
+// How texts are shown on standard output.
+fn look_of(rt: &HostRuntime, call: &Call<'_>) -> Look {
+    let is_terminal = rt.stdout().is_terminal();
+    let width = if is_terminal {
+        Some(call.width.unwrap_or(terminal_width(rt)))
+    } else {
+        None
+    };
+    let has_color = match call.color {
+        Color::Auto => is_terminal && !has_no_color(rt),
+        Color::Always => true,
+        Color::Never => false,
+    };
+    Look { width, has_color }
+}
+
+// How wide the lines of a terminal are, as the environment says.
+fn terminal_width(rt: &HostRuntime) -> usize {
+    match env::var(rt, "COLUMNS") {
+        Ok(word) => word
+            .as_str()
+            .parse::<usize>()
+            .unwrap_or(USUAL_WIDTH)
+            .max(LEAST_WIDTH)
+            .min(MOST_WIDTH),
+        Err(_) => USUAL_WIDTH,
+    }
+}
+
+// Whether the environment asks for no colours.
+fn has_no_color(rt: &HostRuntime) -> bool {
+    match env::var(rt, "NO_COLOR") {
+        Ok(word) => !word.is_empty(),
+        Err(_) => false,
+    }
+}
+
+// The text of the file of the users, if one is named.
+fn users_text(rt: &HostRuntime, name: Option<&str>) -> io::Result<Option<Vec<u8>>> {
+    match name {
+        Some(name) => Ok(Some(fs::read(rt, name)?)),
+        None => Ok(None),
+    }
+}
+
+// The users of a text, if there is one.
+fn known_users(text: &Option<Vec<u8>>) -> Option<Users<'_>> {
+    match text {
+        Some(text) => Some(Users {
+            text: text.as_slice(),
+        }),
+        None => None,
+    }
 }
 
 // The files of the machine, and its standard input.
@@ -227,6 +379,10 @@ fn check_in_format(
                 style: Style::Github,
             },
         ),
+        Format::Sarif => {
+            let sarif = Sarif::new(rt.alloc(), version(), &RULES)?;
+            tell_in(rt, call, kinds, sarif)
+        }
         Format::Json => tell_in(rt, call, kinds, JsonChecker),
     }
 }
@@ -239,7 +395,9 @@ fn show_in_format(
 ) -> io::Result<u8> {
     match call.format {
         Format::Json => tell_in(rt, call, kinds, JsonReporter),
-        Format::Text | Format::Gcc | Format::Github => tell_in(rt, call, kinds, Reporter),
+        Format::Text | Format::Gcc | Format::Github | Format::Sarif => tell_in(
+            rt, call, kinds, Reporter,
+        ),
     }
 }
 

@@ -7,7 +7,8 @@ use Rattle.croncheck_command.specs.declared.changes.Fate.TheVariants as fates
 use Rattle.croncheck_command.specs.declared.changes.Meeting.{Meeting}
 use Rattle.croncheck_command.specs.declared.changes.Range.TheVariants as ranges
 use Rattle.croncheck_command.specs.declared.changes.meetings.Met.{Met}
-use Rattle.croncheck_command.specs.Changes.{fate_in_cron, is_warned}
+use Rattle.croncheck_command.specs.Changes.{fate_in_cron, with_all_hours, waits_for_new, is_warned, name_of}
+use Rattle.croncheck_command.specs.declared.runs.Runner.TheVariants as runners
 use Rattle.croncheck_command.specs.Starred.{is_starred}
 
 -- */15 1-3 * * *: the minutes begin with a star; 0 */2 * * *: the hours do; of the nicknames @hourly has a star there
@@ -64,6 +65,18 @@ a_run_left_out_of_many = refl
 
 a_run_made_twice_of_many : is_warned (around (in_autumn fates.Twice)) ≡ false
 a_run_made_twice_of_many = refl
+
+-- 0 0-23 * * *: all hours are named, so it is due beside the range; cron waits for a new minute with it, and with 0 * * * * it doesn't
+a_job_of_all_hours : (with_all_hours true (fate_in_cron false ranges.Repeated back (pos 1_761_444_000)) ≡ fates.Paused)
+    × (is_warned (around (in_autumn fates.Paused)) ≡ true) × (name_of ranges.Repeated fates.Paused ≡ codes "gap")
+a_job_of_all_hours = (refl, refl, refl)
+
+a_job_of_some_hours : with_all_hours false (fate_in_cron false ranges.Repeated back (pos 1_761_444_000)) ≡ fates.Once
+a_job_of_some_hours = refl
+
+who_waits : (waits_for_new (runners.Cron false) ranges.Repeated ≡ true) × (waits_for_new (runners.Cron true) ranges.Repeated ≡ false)
+    × (waits_for_new (runners.Cron false) ranges.Gap ≡ false) × (waits_for_new runners.Croner ranges.Repeated ≡ false)
+who_waits = (refl, refl, refl, refl)
 
 less_than_half_a_day : is_warned (alone (in_spring 43_199 fates.LeftOut)) ≡ true
 less_than_half_a_day = refl

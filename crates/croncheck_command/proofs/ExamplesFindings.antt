@@ -9,6 +9,7 @@ use Rattle.croncheck_command.specs.declared.findings.Extent.{Extent}
 use Rattle.croncheck_command.specs.declared.report.Report.TheVariants as reports
 use Rattle.croncheck_command.specs.declared.report.SettingReport.{SettingReport}
 use Rattle.croncheck_command.specs.declared.report.Why.TheVariants as whys
+use Rattle.croncheck_command.specs.FileSeen.{File, unread}
 use Rattle.croncheck_command.specs.Findings.{Found, named, place_of, findings_of_line, findings_of_file, Said}
 
 abbrev extent : ℕ → ℕ → Extent
@@ -71,13 +72,24 @@ a_refused_line = refl
 abbrev names_of : List Said → List (List ℕ)
 names_of all = map (λ s. s.found.name) all
 
-a_good_file : findings_of_file dialects.User 3 (record { name = codes "f"; has_refused = false; is_unfed = false; is_passed_over = false }) ≡ []
+-- one with a refused line, and whose last line has no line feed
+abbrev broken : File
+broken = record (unread (codes "f")) { has_refused = true; is_unfed = true }
+
+a_good_file : findings_of_file dialects.User 3 (unread (codes "f")) ≡ []
 a_good_file = refl
 
-all_of_a_file : names_of (findings_of_file dialects.User 10_001 (record { name = codes "f"; has_refused = true; is_unfed = true; is_passed_over = false }))
+all_of_a_file : names_of (findings_of_file dialects.User 10_001 broken)
     ≡ codes "refused-line" ∷ codes "no-newline" ∷ codes "many-lines" ∷ []
 all_of_a_file = refl
 
+-- of the system the number of the lines says nothing
+many_comments_of_the_system : findings_of_file dialects.System 30_000 (unread (codes "f")) ≡ []
+many_comments_of_the_system = refl
+
+a_late_job_of_the_system : names_of (findings_of_file dialects.System 10_004 (record (unread (codes "f")) { has_late = true })) ≡ codes "many-lines" ∷ []
+a_late_job_of_the_system = refl
+
 -- cron doesn't read a file of patterns
-a_file_of_patterns : findings_of_file dialects.Patterns 3 (record { name = codes "f"; has_refused = true; is_unfed = true; is_passed_over = false }) ≡ []
+a_file_of_patterns : findings_of_file dialects.Patterns 3 broken ≡ []
 a_file_of_patterns = refl

@@ -49,7 +49,7 @@ a_refused_line : (m : Bor (List ℕ)) (s : String Global) (why : Why) → m.now 
 a_refused_line m s why m_is s_is = rw (m_is, s_is) refl
 
 -- a job in a zone an hour ahead of UTC, with two runs
-a_job : (hour : Offset) (schedule command : Bor (List ℕ)) (found : Vec Warning Global) (text : String Global) (runs : Runs) (first second : Run)
+a_job : (hour : Offset) (schedule command : Bor (List ℕ)) (found : Vec Warning Global) (unneeded : Vec (Bor (List ℕ)) Global) (text : String Global) (runs : Runs) (first second : Run)
     → hour.seconds ≡ pos 3_600 → runs.items.items ≡ first ∷ second ∷ [] → runs.end ≡ ends.More
     → first.time.second ≡ pos 1_731_279_600 → first.count ≡ 1 → second.time.second ≡ pos 1_732_489_200 → second.count ≡ 2
     → object_of (record (line_of (codes "job") 8) { zone = zones.Fixed hour }) (reports.Job (record {
@@ -61,6 +61,7 @@ a_job : (hour : Offset) (schedule command : Bor (List ℕ)) (found : Vec Warning
       warnings = found;
       meetings = none_met;
       dates = None;
+      unneeded = unneeded;
     })) []
     ≡ object
     (member (codes "file") (string (codes "f"))
@@ -82,5 +83,5 @@ a_job : (hour : Offset) (schedule command : Bor (List ℕ)) (found : Vec Warning
     (member (codes "line") (number (unsigned 8))
     (member (codes "version") (number (unsigned 2)) no_members))))))
 unfolding offset_at digits
-a_job hour schedule command found text runs first second hour_is runs_are more first_is once second_is twice =
+a_job hour schedule command found unneeded text runs first second hour_is runs_are more first_is once second_is twice =
     rw (runs_are, more, first_is, once, second_is, twice, hour_is) refl

@@ -4,6 +4,7 @@ use Rattle.std.specs.Fmt.{digits}
 use Rattle.std.specs.Prelude.{codes, neg_ℤ}
 use Rattle.crontab.specs.declared.line.Dialect.TheVariants as dialects
 use Rattle.croncheck_command.specs.declared.runs.Listing.TheVariants as listings
+use Rattle.croncheck_command.specs.declared.settings.Tongue.TheVariants as tongues
 use Rattle.croncheck_command.specs.FileSeen.{File, unread, ending_of}
 use Rattle.croncheck_command.specs.Planner.{over_text, more_text}
 use Rattle.croncheck_command.specs.Shown.{ahead_text, weekday_text, start_at, cut_at}
@@ -22,11 +23,20 @@ with_seconds : ahead_text (pos 20_708) ≡ codes "+05:45:08"
 unfolding digits
 with_seconds = refl
 
-first_day : weekday_text 0 ≡ codes "Sun"
+first_day : weekday_text tongues.English 0 ≡ codes "Sun"
 first_day = refl
 
-last_day : weekday_text 6 ≡ codes "Sat"
+last_day : weekday_text tongues.English 6 ≡ codes "Sat"
 last_day = refl
+
+first_day_in_swedish : weekday_text tongues.Swedish 0 ≡ 115 ∷ 195 ∷ 182 ∷ 110 ∷ []
+first_day_in_swedish = refl
+
+last_day_in_swedish : weekday_text tongues.Swedish 6 ≡ 108 ∷ 195 ∷ 182 ∷ 114 ∷ []
+last_day_in_swedish = refl
+
+thursday_in_swedish : weekday_text tongues.Swedish 4 ≡ codes "tor"
+thursday_in_swedish = refl
 
 -- ---- the front of a text
 
@@ -61,6 +71,10 @@ too_many_lines = refl
 
 as_many_lines_as_cron_takes : ending_of dialects.User 10_000 (unread (codes "backup")) ≡ []
 as_many_lines_as_cron_takes = refl
+
+a_late_job : ending_of dialects.System 10_004 (record (unread (codes "backup")) { has_late = true })
+    ≡ codes "backup: cron ignores the whole file: a job or a setting stands behind line 10003\n"
+a_late_job = refl
 
 patterns_are_read_whole : ending_of dialects.Patterns 10_001 refused ≡ []
 patterns_are_read_whole = refl

@@ -17,9 +17,10 @@ use Rattle.croner.specs.search.Limit.{InSpan}
 use Rattle.croner.specs.search.PatternJob.{timetable_of, pattern_job}
 use Rattle.croner.specs.search.Runs.{job_in, Run, CarriedRun, Counts}
 use Rattle.croner.specs.search.Searches.{IsFound, IsRefused}
-use Rattle.croncheck_command.specs.Changes.{IsJump, IsWatched, AreChanges, AreChangesFrom, LiesIn, Meets, MeetsFirst, names_all_hours}
+use Rattle.croncheck_command.specs.Changes.{IsJump, IsWatched, AreChanges, AreChangesFrom, LiesIn, Meets, MeetsFirst, is_never_met}
 use Rattle.croncheck_command.specs.declared.changes.Change.{Change}
 use Rattle.croncheck_command.specs.declared.changes.Range.{Range}
+use Rattle.croncheck_command.specs.declared.runs.Runner.{Runner}
 use Rattle.croncheck_command.specs.declared.changes.Range.TheVariants as ranges
 use Rattle.croncheck_command.specs.Private.Level.{IsNoneWithin, IsLeastWithin}
 use Rattle.croncheck_command.specs.Private.Met.{IsToldOf, IsNoneIn, IsFirstIn}
@@ -148,14 +149,14 @@ none_more m range changes n none here = λ k d before. elim (cases_lt k n) [
 ]
 
 -- a change that meets a job is another than each of these
-others : (z : Zone) (start : ℤ) (m : Meaning) (range : Range) (changes : List Change) (n : ℕ) (c : Change) (w : ℤ) → AreChanges z start changes → IsNoneOf m range changes n → Meets z start m range c w
+others : (z : Zone) (start : ℤ) (runner : Runner) (m : Meaning) (range : Range) (changes : List Change) (n : ℕ) (c : Change) (w : ℤ) → AreChanges z start changes → IsNoneOf m range changes n → Meets z start runner m range c w
     → (k : ℕ) (d : Change) → k < n → k < length changes → ¬ ((get_or changes k d).instant ≡ c.instant)
-others z start m range changes n c w are none meets = λ k d before inside same.
+others z start runner m range changes n c w are none meets = λ k d before inside same.
     none k d before w (same_lies z (get_or changes k d) c range w (are.each k d inside).0 meets.change same meets.lies) meets.scheduled
 
-pub none_meets : (z : Zone) (start : ℤ) (m : Meaning) (range : Range) (changes : List Change) → AreChanges z start changes → IsNoneOf m range changes (length changes) → (c : Change) (w : ℤ) → ¬ (Meets z start m range c w)
-none_meets z start m range changes are none c w meets =
-    are.every c.instant meets.change.changes meets.watched (λ k d inside. others z start m range changes (length changes) c w are none meets k d inside inside)
+pub none_meets : (z : Zone) (start : ℤ) (runner : Runner) (m : Meaning) (range : Range) (changes : List Change) → AreChanges z start changes → IsNoneOf m range changes (length changes) → (c : Change) (w : ℤ) → ¬ (Meets z start runner m range c w)
+none_meets z start runner m range changes are none c w meets =
+    are.every c.instant meets.change.changes meets.watched (λ k d inside. others z start runner m range changes (length changes) c w are none meets k d inside inside)
 
 -- those behind the first that meets it come later
 later : (z : Zone) (start : ℤ) (changes : List Change) (n : ℕ) (i : ℤ) → AreChanges z start changes → n < length changes → ((d : Change) → i <ℤ (get_or changes n d).instant)
@@ -169,16 +170,16 @@ later z start changes n i are inside before k d from within same = elim (cases_l
       omega (arith, ints, b, here)
 ]
 
-pub first_meets : (z : Zone) (start : ℤ) (m : Meaning) (range : Range) (changes : List Change) (n : ℕ) (c : Change) (w : ℤ) → names_all_hours m ≡ false → AreChanges z start changes
-    → IsNoneOf m range changes n → n < length changes → ((d : Change) → get_or changes n d ≡ c) → IsFirstIn m range c w → MeetsFirst z start m range c w
-first_meets z start m range changes n c w hours are none inside at first =
+pub first_meets : (z : Zone) (start : ℤ) (runner : Runner) (m : Meaning) (range : Range) (changes : List Change) (n : ℕ) (c : Change) (w : ℤ) → is_never_met runner m range ≡ false → AreChanges z start changes
+    → IsNoneOf m range changes n → n < length changes → ((d : Change) → get_or changes n d ≡ c) → IsFirstIn m range c w → MeetsFirst z start runner m range c w
+first_meets z start runner m range changes n c w hours are none inside at first =
     let told = subst (λ (d : Change). IsJump z d × IsWatched start d.instant) (at c) (are.each n c inside) in
     record {
       meets = record { hours = hours; change = told.0; watched = told.1; lies = first.lies; scheduled = first.scheduled };
       first = λ d v meets. by_lt_z d.instant c.instant
           (λ earlier. absurd (are.every d.instant meets.change.changes meets.watched
           (λ k e within. elim (cases_lt k n) [
-            | inl old ↦ others z start m range changes n d v are none meets k e old within
+            | inl old ↦ others z start runner m range changes n d v are none meets k e old within
             | inr from ↦ later z start changes n d.instant are inside (λ f. let here : (get_or changes n f).instant ≡ c.instant = ap (λ (g : Change). g.instant) (at f) in omega (arith, ints, here, earlier)) k e (omega (arith, from)) within
           ])))
           (λ not_earlier. not_earlier);

@@ -6,11 +6,12 @@ use Rattle.std.proofs.lemmas.Slice.Eq.{bytes_eq-Decides}
 use Rattle.std.specs.Fmt.{signed_decimal}
 use Rattle.std.specs.Str.Parse.{ParsesSigned}
 use Rattle.jiff.specs.Names.{iso_datetime_text}
-use Rattle.jiff.specs.Words.{date_parts, time_parts, parse_datetime, datetime_view}
-use Rattle.jiff.proofs.Family.{civil_nanos-parts, same_datetime, parse_datetime-datetime_text}
+use Rattle.jiff.specs.Words.{date_parts, date_text, date_view, time_parts, parse_date, parse_datetime, datetime_view}
+use Rattle.jiff.proofs.Family.{civil_nanos-parts, same_datetime, parse_date-date_text, parse_datetime-datetime_text}
 use Rattle.jiff_core.specs.Calendar.{days_from_civil}
 use Rattle.jiff_core.specs.Date.{epoch_day}
 use Rattle.jiff_core.specs.Time.{time_nanos}
+use Rattle.jiff_core.specs.declared.civil.date.Date.{Date}
 use Rattle.jiff_core.specs.declared.civil.datetime.DateTime.{DateTime}
 use Rattle.jiff_core.specs.declared.error.Error.{Error}
 use Rattle.jiff_core.specs.declared.Offset.{Offset}
@@ -81,7 +82,31 @@ pub civil_back : (word : List ℕ) (r : Result DateTime Error) → datetime_view
     × ((civil : DateTime) → iso_datetime_text civil ≡ word → (iso_datetime_text civil ≡ word) × ((read : DateTime) × (r ≡ Ok read) × (iso_datetime_text read ≡ word)))
 civil_back word r view = (view, λ civil is. (is, read_as word r civil view is))
 
+-- dates of the same parts are printed in the same way
+same_text : (a b : Date) → date_view (Ok a) ≡ date_view (Ok b) → date_text a ≡ date_text b
+same_text a b h =
+    let same = ap (ok_value (date_parts a)) h in
+    let year : a.year ≡ b.year = ap (λ p. p.year) same in
+    let month : a.month ≡ b.month = ap (λ p. p.month) same in
+    let day : a.day ≡ b.day = ap (λ p. p.day) same in cc
+
+date_read_as : (word : List ℕ) (r : Result Date Error) (date : Date) → date_view r ≡ parse_date word → date_text date ≡ word
+    → (read : Date) × (r ≡ Ok read) × (date_text read ≡ word)
+date_read_as word (Ok a) date view is =
+    let same : date_view (Ok a) ≡ date_view (Ok date) = view ∙ subst (λ (bytes : List ℕ). parse_date bytes ≡ date_view (Ok date)) is (parse_date-date_text date) in
+    (a, refl, same_text a date same ∙ is)
+date_read_as word (Err e) date view is =
+    absurd (ok_no_err e (date_parts date) (date_view (Err e)) refl (view ∙ subst (λ (bytes : List ℕ). parse_date bytes ≡ date_view (Ok date)) is (parse_date-date_text date)))
+
+-- a date that prints as a word is read from it, or one that prints so too; the first parts show `grind` what to match
+pub date_back : (word : List ℕ) (r : Result Date Error) → date_view r ≡ parse_date word
+    → (date_view r ≡ parse_date word)
+    × ((date : Date) → date_text date ≡ word → (date_text date ≡ word) × ((read : Date) × (r ≡ Ok read) × (date_text read ≡ word)))
+date_back word r view = (view, λ date is. (is, date_read_as word r date view is))
+
 -- a word is compared with what is printed
 pub ruleset printed_seconds = (second_back, bytes_eq-Decides)
 
 pub ruleset printed_civils = (civil_back, bytes_eq-Decides)
+
+pub ruleset printed_dates = (date_back, bytes_eq-Decides)

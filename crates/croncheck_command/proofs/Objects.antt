@@ -71,6 +71,7 @@ job_whole zone j =
 
 data_whole : (zone : TimeZone) (report : Report) → has_float (job_data zone report) ≡ false
 data_whole zone reports.Silent = refl
+data_whole zone (reports.Misnamed name) = refl
 data_whole zone (reports.Setting seen is_fed) = refl
 data_whole zone (reports.Job j) = job_whole zone j
 data_whole zone (reports.Refused start end why) = refl

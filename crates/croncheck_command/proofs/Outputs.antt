@@ -1,9 +1,9 @@
 -- Texts that are written one behind the other.
-use Rattle.std.proofs.Common.{◌≡◌, ◌∙◌, ◌<◌, ◌&&◌, ◌||◌, ℕ, Bool, true, false, List, [], ◌∷◌, Option, length, sym, subst, refl, arith}
+use Rattle.std.proofs.Common.{◌≡◌, ◌∙◌, ◌<◌, ◌&&◌, ◌||◌, ℕ, Bool, true, false, List, [], ◌∷◌, ◌++◌, Option, length, sym, subst, refl, arith}
 use Rattle.std.specs.Prelude.{if◌then◌else◌}
 use Rattle.std.specs.Io.KnownBytes.{Appends}
 use Rattle.std.proofs.KnownBytes.{Appends-nil, Appends-trans}
-use Rattle.croncheck_command.specs.Output.{Written, WritesText, WritesApart}
+use Rattle.croncheck_command.specs.Output.{Written, WritesText, WritesApart, WritesItem}
 
 none_added : (is_begun : Bool) (a : Option (List ℕ)) → Appends a a (if is_begun && false then 10 ∷ [] else [])
 none_added true a = Appends-nil a
@@ -42,3 +42,21 @@ pub text_behind : (text : List ℕ) (old between new : Written) → WritesText (
     → WritesText (10 ∷ text) old new
 text_behind text old between new first next =
     (Appends-trans old.contents between.contents new.contents (10 ∷ []) text first.0 next.0, next.1 ∙ first.1)
+
+-- a text behind another
+pub both_texts : (front text : List ℕ) (old between new : Written) → WritesText front old between → WritesText text between new
+    → WritesText (front ++ text) old new
+both_texts front text old between new first next =
+    (Appends-trans old.contents between.contents new.contents front text first.0 next.0, next.1 ∙ first.1)
+
+-- the first item of a list
+pub first_item : (head between text : List ℕ) (old new : Written) → old.is_begun ≡ false → WritesText (head ++ text) (record old { is_begun = true }) new
+    → WritesItem head between text old new
+first_item head between text old new first writes =
+    let P : Bool → Type 0 = λ b. Appends old.contents new.contents ((if b then between else head) ++ text) in (subst P (sym first) writes.0, writes.1)
+
+-- the next one
+pub next_item : (head between text : List ℕ) (old new : Written) → old.is_begun ≡ true → WritesText (between ++ text) old new
+    → WritesItem head between text old new
+next_item head between text old new next writes =
+    let P : Bool → Type 0 = λ b. Appends old.contents new.contents ((if b then between else head) ++ text) in (subst P (sym next) writes.0, writes.1 ∙ next)

@@ -60,6 +60,7 @@ ends_no_line b = not (b == 10) && not (b == 13)
 abbrev pub ends_no_value : ℕ → Bool
 ends_no_value b = (not (b == 58) && not (b == 44)) && ends_no_line b
 
+-- a byte ends no value of a property, or no line of a command
 abbrev pub ends_nothing : Bool → ℕ → Bool
 ends_nothing is_property b = if is_property then ends_no_value b else ends_no_line b
 
@@ -88,6 +89,7 @@ abbrev pub line_of : Style → List ℕ → ℕ → Finding → List ℕ
 line_of styles.Gcc file number f = gcc_line file number f
 line_of styles.Github file number f = github_line file number f
 
+-- the line of a finding was written
 abbrev pub WritesLine : Style → List ℕ → ℕ → Written → Finding → Written → Type 0
 WritesLine style file number old f new = WritesText (line_of style file number f) old new
 

@@ -80,18 +80,28 @@ LiesIn ranges.Repeated c w = (c.after ≤ℤ w) × (w <ℤ c.before)
 abbrev pub names_all_hours : Meaning → Bool
 names_all_hours m = length (marked_values 1 m.hours) == 24
 
--- a change meets a job at a wall second: not all hours are named, and the second is scheduled and lies in the range
-pub record Meets (z : Zone) (start : ℤ) (m : Meaning) (range : Range) (c : Change) (w : ℤ) : Type 0 where
-  pub hours : names_all_hours m ≡ false
+-- cron waits for a new minute with the job, where the clock shows a range of minutes again: it isn't starred
+abbrev pub waits_for_new : Runner → Range → Bool
+waits_for_new (runners.Cron is_starred) ranges.Repeated = not is_starred
+waits_for_new (runners.Cron is_starred) ranges.Gap = false
+waits_for_new runners.Croner range = false
+
+-- changes don't meet a job of which all hours are named, but where cron waits with it: then it isn't started for so long
+abbrev pub is_never_met : Runner → Meaning → Range → Bool
+is_never_met runner m range = names_all_hours m && not (waits_for_new runner range)
+
+-- a change meets a job at a wall second: the second is scheduled and lies in the range
+pub record Meets (z : Zone) (start : ℤ) (runner : Runner) (m : Meaning) (range : Range) (c : Change) (w : ℤ) : Type 0 where
+  pub hours : is_never_met runner m range ≡ false
   pub change : IsJump z c
   pub watched : IsWatched start c.instant
   pub lies : LiesIn range c w
   pub scheduled : IsScheduled m w
 
 -- the first change that meets the job so, at its first such second
-pub record MeetsFirst (z : Zone) (start : ℤ) (m : Meaning) (range : Range) (c : Change) (w : ℤ) : Type 0 where
-  pub meets : Meets z start m range c w
-  pub first : (d : Change) (v : ℤ) → Meets z start m range d v → c.instant ≤ℤ d.instant
+pub record MeetsFirst (z : Zone) (start : ℤ) (runner : Runner) (m : Meaning) (range : Range) (c : Change) (w : ℤ) : Type 0 where
+  pub meets : Meets z start runner m range c w
+  pub first : (d : Change) (v : ℤ) → Meets z start runner m range d v → c.instant ≤ℤ d.instant
   pub least : (v : ℤ) → LiesIn range c v → IsScheduled m v → w ≤ℤ v
 
 -- ---- what becomes of the job's seconds
@@ -103,10 +113,12 @@ IsFate z m ranges.Gap c fates.Moved = CarriedRun (pattern_job m z) c.instant
 IsFate z m ranges.Gap c fates.LeftOut = ¬ (CarriedRun (pattern_job m z) c.instant)
 IsFate z m ranges.Gap c fates.Once = ⊥
 IsFate z m ranges.Gap c fates.Twice = ⊥
+IsFate z m ranges.Gap c fates.Paused = ⊥
 IsFate z m ranges.Repeated c fates.Moved = ⊥
 IsFate z m ranges.Repeated c fates.LeftOut = ⊥
 IsFate z m ranges.Repeated c fates.Once = is_fixed_time m ≡ true
 IsFate z m ranges.Repeated c fates.Twice = is_fixed_time m ≡ false
+IsFate z m ranges.Repeated c fates.Paused = ⊥
 
 -- ---- in cron
 
@@ -124,16 +136,21 @@ abbrev pub fate_in_cron : Bool → Range → Change → ℤ → Fate
 fate_in_cron is_starred ranges.Gap c w = if is_started_there is_starred ranges.Gap c w then fates.Moved else fates.LeftOut
 fate_in_cron is_starred ranges.Repeated c w = if is_started_there is_starred ranges.Repeated c w then fates.Twice else fates.Once
 
+-- the same of a job, of which all hours may be named: one that is started once then isn't, for as long as the clock shows minutes again
+abbrev pub with_all_hours : Bool → Fate → Fate
+with_all_hours true fates.Once = fates.Paused
+with_all_hours all fate = fate
+
 -- ---- by what runs the line
 
 abbrev pub IsFateBy : Runner → Zone → Meaning → Range → Change → ℤ → Fate → Type 0
 IsFateBy runners.Croner z m range c w fate = IsFate z m range c fate
-IsFateBy (runners.Cron is_starred) z m range c w fate = fate ≡ fate_in_cron is_starred range c w
+IsFateBy (runners.Cron is_starred) z m range c w fate = fate ≡ with_all_hours (names_all_hours m) (fate_in_cron is_starred range c w)
 
 -- the first change that meets a job, at its first such second, and what becomes of it
 pub record IsMeeting (z : Zone) (start : ℤ) (runner : Runner) (m : Meaning) (range : Range) (g : Meeting) : Type 0 where
   pub range_is : g.range ≡ range
-  pub first : MeetsFirst z start m range g.change g.second
+  pub first : MeetsFirst z start runner m range g.change g.second
   pub fate : IsFateBy runner z m range g.change g.second g.fate
 
 -- ---- beside a change
@@ -167,28 +184,37 @@ is_harmed fates.LeftOut = true
 is_harmed fates.Moved = false
 is_harmed fates.Once = false
 is_harmed fates.Twice = true
+is_harmed fates.Paused = true
+
+-- all hours of it are named: that it is due beside the range makes no difference
+abbrev pub is_pause : Fate → Bool
+is_pause fates.LeftOut = false
+is_pause fates.Moved = false
+is_pause fates.Once = false
+is_pause fates.Twice = false
+is_pause fates.Paused = true
 
 -- the first change that meets a job in a range, and whether the job is due beside it
 pub record IsMet (z : Zone) (start : ℤ) (runner : Runner) (m : Meaning) (range : Range) (c : Met) : Type 0 where
   pub meeting : IsMeeting z start runner m range c.meeting
   pub beside : IsTrue c.is_due_beside ↔ IsDueBeside m c.meeting.range c.meeting.change
 
--- there is a warning of it, if a run is left out or made twice, and the job isn't due beside the range
+-- there is a warning of it, if a run is left out or made twice, and the job isn't due beside the range; or if all hours are named, and it pauses
 abbrev pub is_warned : Met → Bool
-is_warned c = is_within_a_date c.meeting.change && (is_harmed c.meeting.fate && not c.is_due_beside)
+is_warned c = is_within_a_date c.meeting.change && (is_pause c.meeting.fate || (is_harmed c.meeting.fate && not c.is_due_beside))
 
--- the name of the warning
-abbrev pub name_of : Range → List ℕ
-name_of ranges.Gap = codes "gap"
-name_of ranges.Repeated = codes "twice"
+-- the name of the warning: a pause is a gap between two starts
+abbrev pub name_of : Range → Fate → List ℕ
+name_of ranges.Gap fate = codes "gap"
+name_of ranges.Repeated fate = if is_pause fate then codes "gap" else codes "twice"
 
 -- no change meets the job in the range
-abbrev pub IsMetByNone : Zone → ℤ → Meaning → Range → Type 0
-IsMetByNone z start m range = (c : Change) (w : ℤ) → ¬ (Meets z start m range c w)
+abbrev pub IsMetByNone : Zone → ℤ → Runner → Meaning → Range → Type 0
+IsMetByNone z start runner m range = (c : Change) (w : ℤ) → ¬ (Meets z start runner m range c w)
 
 -- what is told of the first change that meets a job in a range
 abbrev pub TellsFirst : Zone → ℤ → Runner → Meaning → Range → Option Met → Type 0
-TellsFirst z start runner m range None = IsMetByNone z start m range
+TellsFirst z start runner m range None = IsMetByNone z start runner m range
 TellsFirst z start runner m range (Some c) = IsMet z start runner m range c
 
 -- what is told of the changes of a start's own clock behind it

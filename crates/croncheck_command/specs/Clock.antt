@@ -15,6 +15,7 @@ use Rattle.croncheck_command.specs.declared.clock.stop.Stop.{Stop}
 abbrev pub seconds_before : ℕ
 seconds_before = 259_200
 
+-- the first second of the window of a clock from a start on: three days before the start
 abbrev pub first_of : ℤ → ℤ
 first_of start = start -ℤ pos seconds_before
 

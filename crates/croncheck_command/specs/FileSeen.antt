@@ -6,7 +6,7 @@ use Rattle.crontab.specs.declared.line.Dialect.TheVariants as dialects
 use Rattle.croncheck_command.specs.declared.report.Report.{Report}
 use Rattle.croncheck_command.specs.declared.report.Report.TheVariants as reports
 use Rattle.crontab.specs.Line.{Line, blank, comment, setting, job, pattern, refused}
-use Rattle.croncheck_command.specs.Warnings.{are_many_lines}
+use Rattle.croncheck_command.specs.Warnings.{are_many_lines, is_behind_last}
 
 -- a line counts for cron where no line feed ends it: it is neither blank nor a comment
 abbrev pub counts : Line → Bool
@@ -17,36 +17,50 @@ counts (job task) = true
 counts (pattern text) = true
 counts (refused fault) = true
 
+-- the line is refused
 abbrev pub is_refused : Report → Bool
 is_refused reports.Silent = false
+is_refused (reports.Misnamed name) = false
 is_refused (reports.Setting seen has_feed) = false
 is_refused (reports.Job j) = false
 is_refused (reports.Refused start end why) = true
 
 -- ---- the file
 
--- what contracts see of a file: its name as it is shown, that a line of it is refused, that its last line has no line feed and counts, and that
--- cron passes over it for its name
+-- what contracts see of a file: its name as it is shown, that a line of it is refused, that its last line has no line feed and counts, that
+-- cron passes over it for its name, and that a line which counts stands behind the last one that cron takes in a crontab of the system
 pub record File : Type 0 where
   pub name : List ℕ
   pub has_refused : Bool
   pub is_unfed : Bool
   pub is_passed_over : Bool
+  pub has_late : Bool
 
+-- what contracts see of a file
 abbrev pub file_seen : FileSeen → File
-file_seen f = record { name = string_bytes f.name; has_refused = f.has_refused; is_unfed = f.is_unfed; is_passed_over = f.is_passed_over }
+file_seen f = record {
+  name = string_bytes f.name;
+  has_refused = f.has_refused;
+  is_unfed = f.is_unfed;
+  is_passed_over = f.is_passed_over;
+  has_late = f.has_late;
+}
 
 -- a file of this name, of which no line was read
 abbrev pub unread : List ℕ → File
-unread name = record { name = name; has_refused = false; is_unfed = false; is_passed_over = false }
+unread name = record { name = name; has_refused = false; is_unfed = false; is_passed_over = false; has_late = false }
 
 -- the same, where cron passes over it for its name
 abbrev pub passed_over : List ℕ → File
 passed_over name = record (unread name) { is_passed_over = true }
 
--- with one more line, which has its line feed or hasn't
-abbrev pub with_line : Line → Bool → File → File
-with_line line is_fed f = record f { is_unfed = not is_fed && counts line }
+-- a job or a setting at this line, counted from 1, stands behind the last one that cron takes in a crontab of the system
+abbrev pub is_late : ℕ → Line → Bool
+is_late number line = counts line && is_behind_last number
+
+-- with one more line, the one of this number, which has its line feed or hasn't
+abbrev pub with_line : ℕ → Line → Bool → File → File
+with_line number line is_fed f = record f { is_unfed = not is_fed && counts line; has_late = f.has_late || is_late number line }
 
 -- with the report of one more line
 abbrev pub with_report : Report → File → File
@@ -62,27 +76,39 @@ ignored name reason = name ++ (codes ": cron ignores the whole file: " ++ reason
 abbrev pub if_so : Bool → List ℕ → List ℕ
 if_so holds text = if holds then text else []
 
+-- `many-lines`: a file of so many lines has too many: a user's counts its lines, the system's has to end its jobs and settings in time
+abbrev pub has_many_lines : Dialect → ℕ → File → Bool
+has_many_lines dialects.User lines f = are_many_lines lines
+has_many_lines dialects.System lines f = f.has_late
+has_many_lines dialects.Patterns lines f = false
+
+-- what is said of it
+abbrev pub many_lines_text : Dialect → List ℕ
+many_lines_text dialects.User = codes "it has more than 10000 lines"
+many_lines_text dialects.System = codes "a job or a setting stands behind line 10003"
+many_lines_text dialects.Patterns = []
+
 -- cron ignores a crontab of so many lines as a whole: a line is refused, the last one has no line feed, or there are too many
-abbrev pub has_reason : ℕ → File → Bool
-has_reason lines f = (f.has_refused || f.is_unfed) || are_many_lines lines
+abbrev pub has_reason : Dialect → ℕ → File → Bool
+has_reason dialect lines f = (f.has_refused || f.is_unfed) || has_many_lines dialect lines f
 
 -- the same of a file, which may be one of patterns: cron doesn't read it
 abbrev pub is_ignored : Dialect → ℕ → File → Bool
-is_ignored dialects.User lines f = has_reason lines f
-is_ignored dialects.System lines f = has_reason lines f
+is_ignored dialects.User lines f = has_reason dialects.User lines f
+is_ignored dialects.System lines f = has_reason dialects.System lines f
 is_ignored dialects.Patterns lines f = false
 
 -- the reasons for which cron ignores a crontab of so many lines
-abbrev pub reasons_of : ℕ → File → List ℕ
-reasons_of lines f =
+abbrev pub reasons_of : Dialect → ℕ → File → List ℕ
+reasons_of dialect lines f =
     (if_so f.has_refused (ignored f.name (codes "a line is refused\n"))
     ++ if_so f.is_unfed (ignored f.name (codes "its last line has no line feed\n")))
-    ++ if_so (are_many_lines lines) (ignored f.name (codes "it has more than 10000 lines\n"))
+    ++ if_so (has_many_lines dialect lines f) (ignored f.name (many_lines_text dialect ++ codes "\n"))
 
 -- the same of a file, which may be one of patterns: cron doesn't read it
 abbrev pub whole_of : Dialect → ℕ → File → List ℕ
-whole_of dialects.User lines f = reasons_of lines f
-whole_of dialects.System lines f = reasons_of lines f
+whole_of dialects.User lines f = reasons_of dialects.User lines f
+whole_of dialects.System lines f = reasons_of dialects.System lines f
 whole_of dialects.Patterns lines f = []
 
 -- `file-name`: what is said of a file of this name, which cron passes over

@@ -1,5 +1,6 @@
 -- What is found of a line and of a file, each thing with its place. Source: this crate's documentation of `Finding`.
 use Rattle.std.specs.Prelude.{◌≡◌, ℕ, ◌+◌, ◌-◌, ◌==◌, ◌&&◌, ◌||◌, Bool, true, false, not, List, [], ◌∷◌, ◌++◌, length, map, filter, codes, Option, Some, None, option_map, is_some, string_bytes, if◌then◌else◌}
+use Rattle.std.specs.Borrow.{Bor}
 use Rattle.std.specs.List.{list_all}
 use Rattle.croner.specs.declared.parser.fault.PatternField.{PatternField}
 use Rattle.croner.specs.declared.parser.fault.PatternField.TheVariants as fields
@@ -28,11 +29,11 @@ use Rattle.croncheck_command.specs.declared.warnings.OtherWarning.{OtherWarning}
 use Rattle.croncheck_command.specs.declared.warnings.OtherWarning.TheVariants as others
 use Rattle.croncheck_command.specs.declared.warnings.Warning.{Warning}
 use Rattle.croncheck_command.specs.Changes.{is_warned, name_of}
-use Rattle.croncheck_command.specs.FileSeen.{File}
+use Rattle.croncheck_command.specs.FileSeen.{File, has_many_lines, many_lines_text}
 use Rattle.croncheck_command.specs.Found.{is_told_below}
 use Rattle.croncheck_command.specs.Report.{blanks_of, notes_of_job, notes_of_refusal}
 use Rattle.croncheck_command.specs.Shown.{is_printed}
-use Rattle.croncheck_command.specs.Warnings.{are_many_lines, warning_name, other_name, field_name, field_of}
+use Rattle.croncheck_command.specs.Warnings.{warning_name, other_name, field_name, field_of}
 
 -- ---- values
 
@@ -53,6 +54,7 @@ severity_name severities.Note = codes "note"
 abbrev pub finding_seen : Finding → Found
 finding_seen f = record { severity = f.severity; name = f.name.now; field = option_map (λ field. field.now) f.field; extent = f.extent }
 
+-- the same of several findings
 abbrev pub findings_seen : List Finding → List Found
 findings_seen all = map finding_seen all
 
@@ -134,6 +136,7 @@ refusal_kind (whys.Cron fault) = fault_kind fault
 refusal_kind (whys.Pattern fault) = codes "pattern"
 refusal_kind (whys.Crate e) = codes "text"
 refusal_kind whys.NotText = codes "not-utf-8"
+refusal_kind whys.NoUser = codes "unknown-user"
 
 -- a warning of a line with these times, at the place of its field, if it has one
 abbrev pub of_warning : List ℕ → List ℕ → Warning → Found
@@ -150,7 +153,7 @@ of_note extent note = named severities.Note (note_name note) extent
 
 -- the warning of a change of the clock
 abbrev pub of_change : Extent → Met → Found
-of_change extent c = named severities.Warning (name_of c.meeting.range) extent
+of_change extent c = named severities.Warning (name_of c.meeting.range c.meeting.fate) extent
 
 -- the same, where a change meets the job and there is one
 abbrev pub of_range : Extent → Option Met → List Found
@@ -161,13 +164,23 @@ of_range extent (Some c) = only_if (is_warned c) (of_change extent c)
 abbrev pub of_meetings : Extent → Meetings → List Found
 of_meetings extent met = of_range extent met.gap ++ of_range extent met.repeated
 
--- what is found of the line of a job: its notes, its own warnings, those of changes of the clock, and an earlier job that is the same
+-- `not-needed`: a name that is allowed and doesn't stand at the job
+abbrev pub of_unneeded : Extent → Bor (List ℕ) → Found
+of_unneeded extent name = named severities.Warning (codes "not-needed") extent
+
+-- `unknown-name`: a comment allows a name that no warning has
+abbrev pub of_unknown_name : List ℕ → Found
+of_unknown_name line = named severities.Warning (codes "unknown-name") (content_extent line)
+
+-- what is found of the line of a job: its notes, its own warnings, those of changes of the clock, an earlier job that is the same, and the names
+-- that are allowed in vain
 abbrev pub findings_of_job : List ℕ → JobReport → List Found
 findings_of_job line j =
     map (of_note (times_extent line j.schedule.now)) (notes_of_job (option_map (λ c. c.now) j.command) line)
     ++ (map (of_warning line j.schedule.now) (filter is_told_below j.warnings.items)
     ++ (of_meetings (times_extent line j.schedule.now) j.meetings
-    ++ only_if (is_some j.same) (named severities.Warning (codes "same-job") (times_extent line j.schedule.now))))
+    ++ (only_if (is_some j.same) (named severities.Warning (codes "same-job") (times_extent line j.schedule.now))
+    ++ map (of_unneeded (times_extent line j.schedule.now)) j.unneeded.items)))
 
 -- a warning of a setting, at the place of its text
 abbrev pub of_setting : List ℕ → OtherWarning → Found
@@ -182,6 +195,7 @@ findings_of_setting line s =
 -- what is found of a line with a report: nothing of a good one. Where it is refused that stands first, and its notes behind it
 abbrev pub findings_of_line : List ℕ → Report → List Found
 findings_of_line line reports.Silent = []
+findings_of_line line (reports.Misnamed name) = of_unknown_name line ∷ []
 findings_of_line line (reports.Setting seen is_fed) = findings_of_setting line seen
 findings_of_line line (reports.Job j) = findings_of_job line j
 findings_of_line line (reports.Refused start end why) =
@@ -212,16 +226,16 @@ abbrev pub said_if : Bool → Said → List Said
 said_if is_so s = if is_so then s ∷ [] else []
 
 -- what is found of a crontab of so many lines as a whole
-abbrev pub findings_of_crontab : ℕ → File → List Said
-findings_of_crontab lines f =
+abbrev pub findings_of_crontab : Dialect → ℕ → File → List Said
+findings_of_crontab dialect lines f =
     said_if f.has_refused (reason (codes "refused-line") (codes "a line is refused"))
     ++ (said_if f.is_unfed (reason (codes "no-newline") (codes "its last line has no line feed"))
-    ++ said_if (are_many_lines lines) (reason (codes "many-lines") (codes "it has more than 10000 lines")))
+    ++ said_if (has_many_lines dialect lines f) (reason (codes "many-lines") (many_lines_text dialect)))
 
 -- the same of a file that may be one of patterns, which cron doesn't read
 abbrev pub findings_of_lines : Dialect → ℕ → File → List Said
-findings_of_lines dialects.User lines f = findings_of_crontab lines f
-findings_of_lines dialects.System lines f = findings_of_crontab lines f
+findings_of_lines dialects.User lines f = findings_of_crontab dialects.User lines f
+findings_of_lines dialects.System lines f = findings_of_crontab dialects.System lines f
 findings_of_lines dialects.Patterns lines f = []
 
 -- `file-name`: cron passes over a file for its name

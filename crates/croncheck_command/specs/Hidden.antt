@@ -30,5 +30,6 @@ has_hidden (b ∷ bs) = begins_hidden (b ∷ bs) || has_hidden bs
 abbrev pub without_return : List ℕ → List ℕ
 without_return text = if ends_with_byte 13 text then take (length text - 1) text else text
 
+-- a byte or a character of a text hides others, but for a carriage return at its end
 abbrev pub has_hidden_within : List ℕ → Bool
 has_hidden_within text = has_hidden (without_return text)

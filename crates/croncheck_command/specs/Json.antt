@@ -44,6 +44,7 @@ kind_of_line (refused fault) = codes "refused"
 -- the kind of a line with a report
 abbrev pub kind_of : List ℕ → Report → List ℕ
 kind_of kind reports.Silent = kind
+kind_of kind (reports.Misnamed name) = kind
 kind_of kind (reports.Setting seen has_feed) = kind
 kind_of kind (reports.Job j) = kind
 kind_of kind (reports.Refused start end why) = codes "refused"
@@ -99,6 +100,7 @@ fate_name fates.LeftOut = codes "left-out"
 fate_name fates.Moved = codes "moved"
 fate_name fates.Once = codes "once"
 fate_name fates.Twice = codes "twice"
+fate_name fates.Paused = codes "paused"
 
 -- a change of the clock that meets a job: its second; the wall second that the clock would have shown there, and the one that it shows; the
 -- first that the job is due at in between, and what becomes of it
@@ -132,6 +134,7 @@ job_object zone j = object
 -- the job of a report, or null
 abbrev pub job_data : TimeZone → Report → Data
 job_data zone reports.Silent = null
+job_data zone (reports.Misnamed name) = null
 job_data zone (reports.Setting seen is_fed) = null
 job_data zone (reports.Job j) = job_object zone j
 job_data zone (reports.Refused start end why) = null
@@ -177,6 +180,7 @@ abbrev pub WritesIfFound : Origin → Report → List Finding → Written → Wr
 WritesIfFound o report [] old new = new ≡ old
 WritesIfFound o report (f ∷ fs) old new = WritesObject o report (f ∷ fs) old.contents new.contents
 
+-- what a line leaves that is checked: its report was counted, and its object written where something is found of it
 pub record WritesFound (s : Settings) (zone : TimeZone) (old : Stand) (before : Written) (y : LineRead) (new : Stand) (after : Written) : Type 0 where
   pub report : Report
   pub reported : Reports s old y report new

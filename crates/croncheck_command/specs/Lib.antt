@@ -1,3 +1,4 @@
+pub mod Allowed
 pub mod Annotations
 pub mod Changes
 pub mod Clock
@@ -9,8 +10,10 @@ pub mod Found
 pub mod Hidden
 pub mod Json
 pub mod Length
+pub mod Look
 pub mod Moment
 pub mod Names
+pub mod Off
 pub mod Output
 pub mod Patterns
 pub mod Plan
@@ -21,6 +24,8 @@ pub mod Report
 pub mod Reported
 pub mod Runs
 pub mod Same
+pub mod Sarif
+pub mod SarifForm
 pub mod Settings
 pub mod Shown
 pub mod Sink
@@ -28,6 +33,8 @@ pub mod Stand
 pub mod Starred
 pub mod Tally
 pub mod Told
+pub mod Users
 pub mod Warnings
 pub mod Words
+pub mod Wrapped
 pub mod Zone

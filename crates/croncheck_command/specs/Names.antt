@@ -25,6 +25,7 @@ abbrev pub is_of_system : List ℕ → Bool
 is_of_system path =
     is_text (codes "cron.d") (folder_name path) || (is_text (codes "etc") (folder_name path) && is_text (codes "crontab") (path_file_name path))
 
+-- without an option a crontab is the system's by its name, and else a user's
 abbrev pub dialect_by_name : List ℕ → Dialect
 dialect_by_name path = if is_of_system path then dialects.System else dialects.User
 
@@ -36,6 +37,7 @@ pub record Options : Type 0 where
   pub system : List ℕ
   pub patterns : List ℕ
 
+-- what contracts see of the places of the options
 abbrev pub places_seen : Places → Options
 places_seen p = record { user = p.user.now; system = p.system.now; patterns = p.patterns.now }
 
@@ -67,6 +69,7 @@ pub record File : Type 0 where
   pub name : List ℕ
   pub kind : Option Dialect
 
+-- what contracts see of a file that is asked for
 abbrev pub asked_seen : Asked → File
 asked_seen f = record { word = f.word.now; name = f.name.now; kind = f.kind }
 

@@ -1,5 +1,5 @@
 -- What reaches a writer, text by text. Source: this crate's documentation of `Output`.
-use Rattle.std.specs.Prelude.{◌≡◌, ◌&&◌, ◌||◌, ℕ, Bool, true, false, List, [], ◌∷◌, Option, if◌then◌else◌}
+use Rattle.std.specs.Prelude.{◌≡◌, ◌&&◌, ◌||◌, ℕ, Bool, true, false, List, [], ◌∷◌, ◌++◌, Option, if◌then◌else◌}
 use Rattle.std.specs.Io.KnownBytes.{Appends, Keeps}
 use Rattle.croncheck_command.specs.declared.output.Output.{Output}
 
@@ -33,3 +33,14 @@ WritesApart text old new =
 -- what was written was passed on, and is as it was
 abbrev pub IsFlushed : Written → Written → Type 0
 IsFlushed old new = Keeps old.contents new.contents × (new.is_begun ≡ old.is_begun)
+
+-- ---- items of a list
+
+-- a text was written as the next item of a list: this head in front of the first, and this between it and the one before
+abbrev pub WritesItem : List ℕ → List ℕ → List ℕ → Written → Written → Type 0
+WritesItem head between text old new =
+    Appends old.contents new.contents ((if old.is_begun then between else head) ++ text) × (new.is_begun ≡ true)
+
+-- the end of a list was written: the head in front of it, where there is no item
+abbrev pub EndsItems : List ℕ → List ℕ → Written → Written → Type 0
+EndsItems head tail old new = WritesText (if old.is_begun then tail else head ++ tail) old new

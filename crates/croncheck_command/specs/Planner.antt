@@ -1,5 +1,5 @@
 -- What a planner takes of files, and what it writes. Source: this crate's documentation of `Planner`.
-use Rattle.std.specs.Prelude.{◌≡◌, ◌==◌, ◌||◌, ℕ, Bool, true, List, [], ◌∷◌, ◌++◌, codes, length, map, slice_get, Option, Some, None, string_bytes, if◌then◌else◌}
+use Rattle.std.specs.Prelude.{◌≡◌, ◌==◌, ◌||◌, ℕ, Bool, true, false, List, [], ◌∷◌, ◌++◌, codes, length, map, slice_get, Option, Some, None, string_bytes, if◌then◌else◌}
 use Rattle.std.specs.Fmt.{decimal}
 use Rattle.std.specs.declared.alloc.Global.{Global}
 use Rattle.std.specs.declared.vec.Vec.{Vec}
@@ -35,6 +35,7 @@ use Rattle.croncheck_command.specs.Reported.{WritesReport}
 use Rattle.croncheck_command.specs.Runs.{most_runs}
 use Rattle.croncheck_command.specs.Shown.{front_text, IsClockText, place_text, IsWindowEnd}
 use Rattle.croncheck_command.specs.Stand.{Stand, at_line}
+use Rattle.croncheck_command.specs.Users.{users_seen, is_unknown}
 
 -- ---- the jobs
 
@@ -45,6 +46,7 @@ pub record Seen : Type 0 where
   pub stand : Stand
   pub written : Written
 
+-- what contracts see of a planner
 abbrev pub seen : CronTable → Vec Planned Global → Stand → Written → Seen
 seen table jobs stand written = record {
   patterns = patterns_of table;
@@ -71,17 +73,30 @@ pub record Passes (s : Settings) (text : List ℕ) (entry : Entry) (old new : Se
   pub patterns : new.patterns ≡ old.patterns
   pub places : new.places ≡ old.places
   pub stand : new.stand ≡ record old.stand { tally = counted old.stand.tally report; file = with_report report old.stand.file }
-  pub written : WritesReport old.stand.file.name old.stand.lines text report old.written new.written
+  pub written : WritesReport s.look old.stand.file.name old.stand.lines text report old.written new.written
 
 -- what a line with that meaning leaves
 abbrev pub PlansMeaning : Settings → LineRead → Option Meaning → Seen → Seen → Type 0
 PlansMeaning s y (Some m) old new = Adds m old new
 PlansMeaning s y None old new = (entry : Entry) × IsEntryOf y entry × Passes s y.bytes entry old new
 
+-- the user of a line is none of those that are known
+abbrev pub is_refused_by_user : Settings → Line → Bool
+is_refused_by_user s blank = false
+is_refused_by_user s comment = false
+is_refused_by_user s (setting is_zone) = false
+is_refused_by_user s (job task) = is_unknown (users_seen s.users) task.user
+is_refused_by_user s (pattern text) = false
+is_refused_by_user s (refused fault) = false
+
+-- what is planned of a line of which the parser makes this: nothing where its user is refused
+abbrev pub meaning_planned : Settings → LineRead → Outcome → Option Meaning
+meaning_planned s y found = if is_refused_by_user s y.is then None else meaning_found found
+
 -- the job of a line that has one is added, with the place of the line
 abbrev pub Plans : Settings → Seen → LineRead → Seen → Type 0
 Plans s old y new =
-    (found : Outcome) × IsOutcome s.parser y.is found × PlansMeaning s y (meaning_found found) (record old { stand = at_line y.is y.is_fed old.stand }) new
+    (found : Outcome) × IsOutcome s.parser y.is found × PlansMeaning s y (meaning_planned s y found) (record old { stand = at_line y.is y.is_fed old.stand }) new
 
 -- ---- the text
 

@@ -1,6 +1,7 @@
--- The ends of listings and their items, watched changes of a clock, and a job's seconds at one of them. Private contracts alone cite these definitions.
+-- The ends of listings and their items, watched changes of a clock, a job's seconds at one of them, and lines word by word. Private contracts alone cite these definitions.
 pub mod Ends
 pub mod Level
 pub mod Listed
 pub mod Met
 pub mod Watched
+pub mod Wrapping

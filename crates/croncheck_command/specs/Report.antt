@@ -35,10 +35,12 @@ use Rattle.croncheck_command.specs.declared.told.Told.TheVariants as tolds
 use Rattle.croncheck_command.specs.declared.told.Told.{Told}
 use Rattle.croncheck_command.specs.declared.warnings.Warning.{Warning}
 use Rattle.croncheck_command.specs.declared.warnings.sides.Dates.{Dates}
+use Rattle.croncheck_command.specs.Allowed.{unknown_in}
 use Rattle.croncheck_command.specs.Changes.{AreMeetings, none_met, are_warned}
 use Rattle.croncheck_command.specs.Hidden.{has_hidden}
 use Rattle.croncheck_command.specs.Settings.{start_of}
 use Rattle.croncheck_command.specs.Told.{TellsMeaning, TellsTiming, cron_of, is_at_window_end, is_never, is_told_past, is_idle}
+use Rattle.croncheck_command.specs.Users.{users_seen, is_unknown, user_start, user_end}
 use Rattle.croncheck_command.specs.Warnings.{fields_of_schedule, AreFieldsOfPattern, is_either_day, IsMonthOf, NamesDates, Subject, warnings_of}
 
 -- ---- warnings
@@ -132,6 +134,10 @@ abbrev pub DatesOf : Option Meaning → Told → Option Dates → Type 0
 DatesOf None told dates = dates ≡ None
 DatesOf (Some m) told dates = TellsDates m told dates
 
+-- how many blanks stand in front of a line
+abbrev pub blanks_of : List ℕ → ℕ
+blanks_of line = length (front kinds.Blank line)
+
 -- ---- the report of a job
 
 -- a job's report has these texts, its times are told so, these are its warnings, and this is told of changes of the clock and of its dates.
@@ -158,6 +164,7 @@ IsJobRefused task (whys.Cron fault) = ⊥
 IsJobRefused task (whys.Pattern fault) = ⊥
 IsJobRefused task (whys.Crate e) = IsUnreadTiming task.times e
 IsJobRefused task whys.NotText = ⊥
+IsJobRefused task whys.NoUser = ⊥
 
 -- a place is the whole of a text behind so many blanks
 abbrev pub IsWholeBehind : ℕ → List ℕ → ℕ → ℕ → Type 0
@@ -170,11 +177,21 @@ IsFaultBehind blanks fault start end = (start ≡ blanks + fault.start) × (end 
 -- the report of a job of a crontab, behind so many blanks; the place of a refusal is that of its times
 abbrev pub IsReportOfJob : Bool → Settings → ℕ → Task → Report → Type 0
 IsReportOfJob is_fed s blanks task reports.Silent = ⊥
+IsReportOfJob is_fed s blanks task (reports.Misnamed name) = ⊥
 IsReportOfJob is_fed s blanks task (reports.Setting seen has_feed) = ⊥
 IsReportOfJob is_fed s blanks task (reports.Job j) =
     IsJobTold task.schedule task.user (Some task.command) (TellsTiming s task.schedule task.times) (WarnsJob is_fed task) (MeetsJob s task)
     (DatesOf (meaning_of_timing task.times)) j
 IsReportOfJob is_fed s blanks task (reports.Refused start end why) = IsWholeBehind blanks task.schedule start end × IsJobRefused task why
+
+-- the user of a job is refused, at its name
+abbrev pub refused_user : List ℕ → Task → Report
+refused_user line task = reports.Refused (user_start line task.command task.user) (user_end line task.command) whys.NoUser
+
+-- the report of the job of a line, whose user may be none
+abbrev pub IsReportBy : Bool → Bool → Settings → List ℕ → Task → Report → Type 0
+IsReportBy true is_fed s line task r = r ≡ refused_user line task
+IsReportBy false is_fed s line task r = IsReportOfJob is_fed s (blanks_of line) task r
 
 -- ---- a pattern
 
@@ -186,10 +203,12 @@ IsPatternRefused s blanks text start end (whys.Pattern fault) =
     IsFaultOf s.parser text fault × IsFaultBehind blanks fault start end
 IsPatternRefused s blanks text start end (whys.Crate e) = ⊥
 IsPatternRefused s blanks text start end whys.NotText = ¬ (IsUtf8 text) × IsWholeBehind blanks text start end
+IsPatternRefused s blanks text start end whys.NoUser = ⊥
 
 -- the report of a pattern behind so many blanks
 abbrev pub IsReportOfPattern : Bool → Settings → ℕ → List ℕ → Report → Type 0
 IsReportOfPattern is_fed s blanks text reports.Silent = ⊥
+IsReportOfPattern is_fed s blanks text (reports.Misnamed name) = ⊥
 IsReportOfPattern is_fed s blanks text (reports.Setting seen has_feed) = ⊥
 IsReportOfPattern is_fed s blanks text (reports.Job j) =
     IsJobTold text None None (TellsMeaning s runners.Croner (outcome s.parser text)) (WarnsPattern is_fed text (meaning_read (outcome s.parser text)))
@@ -212,16 +231,21 @@ is_setting_found s = s.is_zone || (s.is_not_expanded || s.is_hiding)
 
 -- ---- a line
 
--- how many blanks stand in front of a line
-abbrev pub blanks_of : List ℕ → ℕ
-blanks_of line = length (front kinds.Blank line)
+-- the report of a comment, whose first name that it allows and that no warning has is this one, if there is one
+abbrev pub IsReportOfComment : Option (List ℕ) → Report → Type 0
+IsReportOfComment None r = r ≡ reports.Silent
+IsReportOfComment (Some name) reports.Silent = ⊥
+IsReportOfComment (Some name) (reports.Misnamed found) = found.now ≡ name
+IsReportOfComment (Some name) (reports.Setting seen has_feed) = ⊥
+IsReportOfComment (Some name) (reports.Job j) = ⊥
+IsReportOfComment (Some name) (reports.Refused start end why) = ⊥
 
 -- the report of the entry of a line, which has its line feed or hasn't
 abbrev pub IsReportOfLine : Bool → Settings → List ℕ → Entry → Report → Type 0
 IsReportOfLine is_fed s line entries.Blank r = r ≡ reports.Silent
-IsReportOfLine is_fed s line entries.Comment r = r ≡ reports.Silent
+IsReportOfLine is_fed s line entries.Comment r = IsReportOfComment (unknown_in line) r
 IsReportOfLine is_fed s line (entries.Setting is_zone) r = r ≡ reports.Setting (setting_found is_zone line) is_fed
-IsReportOfLine is_fed s line (entries.Job j) r = IsReportOfJob is_fed s (blanks_of line) (job_seen j) r
+IsReportOfLine is_fed s line (entries.Job j) r = IsReportBy (is_unknown (users_seen s.users) (job_seen j).user) is_fed s line (job_seen j) r
 IsReportOfLine is_fed s line (entries.Pattern text) r = IsReportOfPattern is_fed s (blanks_of line) text.now r
 IsReportOfLine is_fed s line (entries.Refused fault start end) r = r ≡ reports.Refused start end (whys.Cron fault)
 
@@ -234,6 +258,7 @@ file_and_line same = (string_bytes same.file, same.line)
 -- the place of an earlier job that is the same, where the report has one
 abbrev pub earlier_of : Report → Option (List ℕ × ℕ)
 earlier_of reports.Silent = None
+earlier_of (reports.Misnamed name) = None
 earlier_of (reports.Setting seen has_feed) = None
 earlier_of (reports.Job j) = option_map file_and_line j.same
 earlier_of (reports.Refused start end why) = None
@@ -242,19 +267,26 @@ earlier_of (reports.Refused start end why) = None
 -- that is read, and else none
 abbrev pub place_for : Report → Option (List ℕ × ℕ) → Option (List ℕ × ℕ)
 place_for reports.Silent found = None
+place_for (reports.Misnamed name) found = None
 place_for (reports.Setting seen has_feed) found = None
 place_for (reports.Job j) found = found
 place_for (reports.Refused start end why) found = None
 
+-- it has none, whatever was found
+abbrev pub HasNoPlace : Report → Type 0
+HasNoPlace r = (found : Option (List ℕ × ℕ)) → earlier_of r ≡ place_for r found
+
 -- ---- lines with a warning
 
--- a job or a pattern has a warning, or is the same as an earlier one
+-- a job or a pattern has a warning, or is the same as an earlier one, or a name is allowed in vain
 abbrev pub has_job_warnings : JobReport → Bool
-has_job_warnings j = (not (length j.warnings.items == 0) || are_warned j.meetings) || is_some j.same
+has_job_warnings j =
+    ((not (length j.warnings.items == 0) || are_warned j.meetings) || is_some j.same) || not (length j.unneeded.items == 0)
 
--- a line has a warning. Those of a setting are what is found of it, and that it has no line feed
+-- a line has a warning. Those of a setting are what is found of it, and that it has no line feed; that of a comment is a name that no warning has
 abbrev pub has_warnings : Report → Bool
 has_warnings reports.Silent = false
+has_warnings (reports.Misnamed name) = true
 has_warnings (reports.Setting seen has_feed) = is_setting_found seen || not has_feed
 has_warnings (reports.Job j) = has_job_warnings j
 has_warnings (reports.Refused start end why) = false
@@ -272,10 +304,12 @@ notes_of_refusal (whys.Cron fault) line = notes_of (Some fault) line
 notes_of_refusal (whys.Pattern fault) line = []
 notes_of_refusal (whys.Crate e) line = []
 notes_of_refusal whys.NotText line = []
+notes_of_refusal whys.NoUser line = []
 
 -- the notes of a line with a report
 abbrev pub notes_of_report : List ℕ → Report → List Note
 notes_of_report line reports.Silent = []
+notes_of_report line (reports.Misnamed name) = []
 notes_of_report line (reports.Setting seen is_fed) = []
 notes_of_report line (reports.Job j) = notes_of_job (option_map (λ c. c.now) j.command) line
 notes_of_report line (reports.Refused start end why) = notes_of_refusal why line

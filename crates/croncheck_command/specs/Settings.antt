@@ -1,22 +1,12 @@
 -- What reports are made by. Source: this crate's documentation of `Settings`.
-use Rattle.std.specs.Prelude.{ℤ, Option}
+use Rattle.std.specs.Prelude.{ℤ, Option, Some, None, if◌then◌else◌}
 use Rattle.croner_base.specs.declared.time.table.TableTime.{TableTime}
-use Rattle.croner_words.specs.English.{english}
-use Rattle.croner_words.specs.Swedish.{swedish}
-use Rattle.croner_words.specs.Wording.{Wording}
 use Rattle.crontab.specs.declared.line.Dialect.{Dialect}
 use Rattle.crontab.specs.declared.line.Dialect.TheVariants as dialects
 use Rattle.croncheck_command.specs.declared.clock.stop.Stop.{Stop}
 use Rattle.croncheck_command.specs.declared.settings.Settings.{Settings}
 use Rattle.croncheck_command.specs.declared.settings.SettingsByKind.{SettingsByKind}
-use Rattle.croncheck_command.specs.declared.settings.Tongue.TheVariants as tongues
-use Rattle.croncheck_command.specs.declared.settings.Tongue.{Tongue}
 use Rattle.croncheck_command.specs.Clock.{last_before}
-
--- what a language is made of
-abbrev pub wording_of : Tongue → Wording
-wording_of tongues.English = english
-wording_of tongues.Swedish = swedish
 
 -- where runs are listed from: the start whose changes of the clock are told
 abbrev pub start_of : Settings → TableTime
@@ -29,6 +19,10 @@ stop_of s = s.changes.now.clock.now.stop
 -- the last second of that window, where it stops so
 abbrev pub window_end : Settings → Option ℤ
 window_end s = last_before (stop_of s)
+
+-- the second from which on it is said how far off a run is: the start, where that is the call's own
+abbrev pub off_from : Settings → Option ℤ
+off_from s = if s.is_from_now then Some (start_of s).second else None
 
 -- these settings, for files of a dialect
 abbrev pub in_dialect : Dialect → Settings → Settings

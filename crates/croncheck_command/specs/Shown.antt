@@ -5,6 +5,7 @@ use Rattle.std.specs.Str.{encode_utf8_all}
 use Rattle.bstr.specs.Escape.{escaped}
 use Rattle.bstr.specs.Utf8.{decoded}
 use Rattle.jiff_tz.specs.declared.timezone.TimeZone.{TimeZone}
+use Rattle.croner_words.specs.Swedish.{a_with_ring, o_with_dots}
 use Rattle.croner_base.specs.declared.time.civil.CivilDateTime.{CivilDateTime}
 use Rattle.croner_base.specs.declared.time.table.TableTime.{TableTime}
 use Rattle.croner_base.specs.Civil.{wall_second, weekday_of_second}
@@ -17,6 +18,8 @@ use Rattle.croner_base.specs.ZonedZone.{is_timestamp_second}
 use Rattle.croncheck_command.specs.declared.clock.stop.Stop.{Stop}
 use Rattle.croncheck_command.specs.declared.report.Report.{Report}
 use Rattle.croncheck_command.specs.declared.report.Report.TheVariants as reports
+use Rattle.croncheck_command.specs.declared.settings.Tongue.{Tongue}
+use Rattle.croncheck_command.specs.declared.settings.Tongue.TheVariants as tongues
 use Rattle.croncheck_command.specs.Report.{is_setting_found}
 
 -- what is shown of the front of some bytes: the character that it is, or where there is none its first byte as `\xFF`
@@ -105,8 +108,8 @@ offset_of zone second = if is_timestamp_second second then ahead_at zone second 
 -- ---- the clock
 
 -- the front of a weekday's name, by how many days it comes behind Sunday
-abbrev pub weekday_text : ℕ → List ℕ
-weekday_text n =
+abbrev pub english_weekday : ℕ → List ℕ
+english_weekday n =
     if n == 0 then codes "Sun"
     else if n == 1 then codes "Mon"
     else if n == 2 then codes "Tue"
@@ -114,6 +117,22 @@ weekday_text n =
     else if n == 4 then codes "Thu"
     else if n == 5 then codes "Fri"
     else codes "Sat"
+
+-- the same in Swedish
+abbrev pub swedish_weekday : ℕ → List ℕ
+swedish_weekday n =
+    if n == 0 then codes "s" ++ (o_with_dots ++ codes "n")
+    else if n == 1 then codes "m" ++ (a_with_ring ++ codes "n")
+    else if n == 2 then codes "tis"
+    else if n == 3 then codes "ons"
+    else if n == 4 then codes "tor"
+    else if n == 5 then codes "fre"
+    else codes "l" ++ (o_with_dots ++ codes "r")
+
+-- the same in a language
+abbrev pub weekday_text : Tongue → ℕ → List ℕ
+weekday_text tongues.English n = english_weekday n
+weekday_text tongues.Swedish n = swedish_weekday n
 
 -- seconds behind hours and minutes: nothing where there are none
 abbrev pub odd_seconds : ℕ → List ℕ
@@ -137,17 +156,23 @@ clock_text weekday c ahead second =
     weekday ++ (32 ∷ (date_text c.date.year c.date.month c.date.day ++ (32 ∷ (time_text c.time.hour c.time.minute c.time.second
     ++ (32 ∷ (ahead_text ahead ++ (codes "  @" ++ signed_decimal second)))))))
 
--- what is shown of a run: the date and time that its clock reads, and how far the zone's clock is ahead of UTC then
-abbrev pub IsClockText : TimeZone → TableTime → List ℕ → Type 0
-IsClockText zone run text =
+-- what is shown of a run: the date and time that its clock reads, and how far the zone's clock is ahead of UTC then; the weekday in a language
+abbrev pub IsClockTextIn : Tongue → TimeZone → TableTime → List ℕ → Type 0
+IsClockTextIn language zone run text =
     (civil : CivilDateTime) × (wall_second civil ≡ reading (table_moment run))
-    × (text ≡ clock_text (weekday_text (weekday_of_second (reading (table_moment run)))) civil (offset_of zone run.second) run.second)
+    × (text ≡ clock_text (weekday_text language (weekday_of_second (reading (table_moment run)))) civil (offset_of zone run.second) run.second)
+
+-- the same, with the weekday in English
+abbrev pub IsClockText : TimeZone → TableTime → List ℕ → Type 0
+IsClockText zone run text = IsClockTextIn tongues.English zone run text
 
 -- ---- the text of a report
 
--- there is something to tell of a line: it is a job, is refused, or sets a variable and something is found of that
+-- there is something to tell of a line: it is a job, is refused, sets a variable and something is found of that, or allows a name that no
+-- warning has
 abbrev pub is_told : Report → Bool
 is_told reports.Silent = false
+is_told (reports.Misnamed name) = true
 is_told (reports.Setting seen has_feed) = is_setting_found seen
 is_told (reports.Job j) = true
 is_told (reports.Refused start end why) = true

@@ -32,11 +32,13 @@ pub record StandsAtBegin (s : Stand) : Type 0 where
 
 -- ---- a form, with what was read and written in it
 
+-- a form, how far the reading has come, and what was written
 pub record State (F : Type 0) : Type 0 where
   pub form : F
   pub stand : Stand
   pub written : Written
 
+-- what contracts see of these
 abbrev pub state_of : {F W : Type 0} → (W → Option (List ℕ)) → F → Progress → Output W → State F
 state_of contents form progress output = record { form = form; stand = stand_of progress; written = written_of contents output }
 

@@ -6,22 +6,28 @@ use Rattle.croner_base.specs.declared.time.civil.CivilDateTime.{CivilDateTime}
 use Rattle.croner_base.specs.Civil.{wall_second}
 use Rattle.croner_base.specs.TableZone.{table_moment}
 use Rattle.croner_base.specs.Zone.{reading}
-use Rattle.croner_pattern.specs.Description.{description}
 use Rattle.croner_pattern.specs.Meaning.{Meaning}
 use Rattle.croner_pattern.specs.Schedule.{is_year_matching}
 use Rattle.croner.specs.parser.Grammar.{Refusal, outcome}
+use Rattle.croner_summary.specs.declared.summary.Summary.{Summary}
+use Rattle.croner_summary.specs.declared.language.SummaryLanguage.{SummaryLanguage}
+use Rattle.croner_summary.specs.declared.language.SummaryLanguage.TheVariants as languages
+use Rattle.croner_summary.specs.Texts.{text_of}
+use Rattle.croner_summary.specs.Summaries.{SaysTheSchedule}
 use Rattle.croncheck_command.specs.declared.runs.End.TheVariants as ends
 use Rattle.croncheck_command.specs.declared.runs.End.{End}
 use Rattle.croncheck_command.specs.declared.runs.Runner.{Runner}
 use Rattle.croncheck_command.specs.declared.runs.Runner.TheVariants as runners
 use Rattle.croncheck_command.specs.declared.runs.Runs.{Runs}
 use Rattle.croncheck_command.specs.declared.settings.Settings.{Settings}
+use Rattle.croncheck_command.specs.declared.settings.Tongue.TheVariants as tongues
+use Rattle.croncheck_command.specs.declared.settings.Tongue.{Tongue}
 use Rattle.croncheck_command.specs.declared.told.Told.TheVariants as tolds
 use Rattle.croncheck_command.specs.declared.told.Told.{Told}
 use Rattle.crontab.specs.Line.{Timing, reboot, never, named}
 use Rattle.crontab.specs.Parsed.{crontab_settings}
 use Rattle.croncheck_command.specs.Runs.{listed_by, IsListed}
-use Rattle.croncheck_command.specs.Settings.{wording_of, start_of, window_end}
+use Rattle.croncheck_command.specs.Settings.{start_of, window_end}
 use Rattle.croncheck_command.specs.Starred.{is_starred}
 
 -- the pattern names no year from this one on
@@ -34,9 +40,18 @@ pub record IsPastAt (m : Meaning) (w : ℤ) (is_past : Bool) : Type 0 where
   pub shows : wall_second shown ≡ w
   pub none : IsTrue is_past ↔ NamesNoneFrom m shown.date.year
 
--- a meaning is told as its description, what is listed of it behind the start by what runs the line, and whether its years are past
+-- the language in which a summary is told
+abbrev pub summary_language : Tongue → SummaryLanguage
+summary_language tongues.English = languages.English
+summary_language tongues.Swedish = languages.Swedish
+
+-- the words for a meaning: in a language those of a summary that says exactly what is scheduled
+abbrev pub IsDescription : Tongue → Meaning → List ℕ → Type 0
+IsDescription l m text = (s : Summary) × SaysTheSchedule s m × (text ≡ text_of (summary_language l) s)
+
+-- a meaning is told in words, and by what is listed of it behind the start by what runs the line, and whether its years are past
 pub record IsTold (s : Settings) (runner : Runner) (m : Meaning) (text : String Global) (runs : Runs) (is_past : Bool) : Type 0 where
-  pub described : string_bytes text ≡ description (wording_of s.language) m
+  pub described : IsDescription s.language m (string_bytes text)
   pub listed : IsListed (listed_by runner m (start_of s)) (window_end s) s.listing runs
   pub past : IsPastAt m (reading (table_moment (start_of s))) is_past
 
@@ -58,6 +73,7 @@ TellsTiming s schedule (named text both) told = TellsMeaning s (cron_of schedule
 
 -- ---- never
 
+-- no run is left behind the listing
 abbrev pub is_over : End → Bool
 is_over ends.More = false
 is_over ends.Over = true

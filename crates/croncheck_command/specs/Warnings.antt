@@ -139,6 +139,7 @@ has_empty_items t =
 abbrev pub names_each_day : Meaning → Bool
 names_each_day m = length (marked_values 1 m.days) == 31
 
+-- each weekday is named by itself
 abbrev pub names_each_weekday : Meaning → Bool
 names_each_weekday m = list_all (is_plain m.days_of_week) (0 ∷ 1 ∷ 2 ∷ 3 ∷ 4 ∷ 5 ∷ 6 ∷ [])
 
@@ -189,9 +190,11 @@ has_short_months m =
 abbrev pub with_star_day : Bool → Meaning → Meaning
 with_star_day star m = record m { star_day = star; star_weekday = not star; and = false }
 
+-- the meaning with a star for the weekday
 abbrev pub by_day_alone : Meaning → Meaning
 by_day_alone m = with_star_day false m
 
+-- the meaning with a star for the day of the month
 abbrev pub by_weekday_alone : Meaning → Meaning
 by_weekday_alone m = with_star_day true m
 
@@ -221,6 +224,7 @@ looks_like_field text = nat_lt 0 (length (front kinds.Word text)) && (not (begin
 abbrev pub is_no_user_sign : ℕ → Bool
 is_no_user_sign b = b == 47 || (b == 61 || (b == 36 || (b == 42 || b == 44)))
 
+-- a word has one of these signs
 abbrev pub has_no_user_sign : List ℕ → Bool
 has_no_user_sign name = list_any is_no_user_sign name
 
@@ -253,17 +257,25 @@ has_carriage_return command = ends_with_byte 13 command
 
 -- ---- the file
 
--- the most lines that cron(8) takes
+-- the most lines that crontab(1) takes of a user's crontab
 abbrev pub most_lines : ℕ
 most_lines = 10_000
 
--- `many-lines`: a crontab has more
+-- the last line at which cron(8) takes a job or a setting of a crontab of the system
+abbrev pub last_line_taken : ℕ
+last_line_taken = 10_003
+
+-- `many-lines`: a user's crontab has more
 abbrev pub are_many_lines : ℕ → Bool
 are_many_lines lines = nat_lt most_lines lines
 
--- the line behind so many is the first that is too many
+-- the line behind so many of it is the first that is too many
 abbrev pub is_first_too_many : ℕ → Bool
 is_first_too_many lines = lines == most_lines
+
+-- the line of this number stands behind the last one of the system
+abbrev pub is_behind_last : ℕ → Bool
+is_behind_last number = nat_lt last_line_taken number
 
 -- ---- the job
 
@@ -410,6 +422,7 @@ warnings_of s = filter (holds s) all_warnings
 
 -- ---- what contracts see
 
+-- what contracts see of the texts of fields
 abbrev pub fields_seen : Fields → Texts
 fields_seen f = record {
   seconds = f.seconds.now;
@@ -421,6 +434,7 @@ fields_seen f = record {
   years = f.years.now;
 }
 
+-- what contracts see of what is looked at
 abbrev pub subject_seen : GivenSubject → Subject
 subject_seen s = record {
   fields = option_map fields_seen s.fields;

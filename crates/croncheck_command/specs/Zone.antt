@@ -191,6 +191,7 @@ refusal_text word = codes "--zone: " ++ (quote_text word ++ fault_of_word word)
 abbrev pub is_utc_name : List ℕ → Bool
 is_utc_name name = bytes_eq (str_to_ascii_lowercase name) (codes "gmt") || bytes_eq (str_to_ascii_lowercase name) (codes "utc")
 
+-- no letter of ASCII
 abbrev pub is_no_letter : ℕ → Bool
 is_no_letter byte = not (is_ascii_alphabetic byte)
 
@@ -204,6 +205,7 @@ behind_text name hours digits length =
     codes "--zone " ++ (name ++ (hours ++ (codes ": this clock is " ++ (length ++ (codes " behind UTC, as POSIX has it; "
     ++ (length ++ (codes " ahead of UTC is " ++ (name ++ (codes "-" ++ digits)))))))))
 
+-- how a rule ahead of UTC is meant, and how the other way is written
 abbrev pub ahead_text : List ℕ → List ℕ → List ℕ → List ℕ → List ℕ
 ahead_text name hours digits length =
     codes "--zone " ++ (name ++ (hours ++ (codes ": this clock is " ++ (length ++ (codes " ahead of UTC, as POSIX has it; "

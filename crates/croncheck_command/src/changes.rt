@@ -4,7 +4,7 @@ ghost use Rattle.croner_base.specs.TableZone.{table_moment};
 ghost use Rattle.croner_base.specs.Zone.{at_instant};
 ghost use Rattle.croner_pattern.specs.Schedule.{is_fixed_time};
 ghost use Rattle.croner.specs.Views.{job_of};
-ghost use Rattle.croncheck_command.specs.Changes.{AreChangesFrom, IsNoStart, names_all_hours, Meets, IsMeeting, IsFate, IsFateBy};
+ghost use Rattle.croncheck_command.specs.Changes.{AreChangesFrom, IsNoStart, names_all_hours, waits_for_new, is_never_met, Meets, IsMeeting, IsFate, IsFateBy, with_all_hours};
 ghost use Rattle.croncheck_command.specs.Private.Met.{IsToldOf, IsInYears, IsNoneIn, IsFirstIn};
 
 mod cron;
@@ -57,6 +57,9 @@ pub enum Fate {
     Once,
     /// It is shown twice, and a run is made at both instants.
     Twice,
+    /// It is shown twice, and the run is made at the earlier instant alone, though the job names all hours: for as long as the clock shows
+    /// minutes again, it isn't started.
+    Paused,
 }
 
 /// A change that meets a job.
@@ -105,14 +108,14 @@ impl<'t> Changes<'t> {
         })
     }
 
-    /// The first of them that meets a job: not all hours are named, and a scheduled second lies in such a range of the change. `None` where none
-    /// does.
+    /// The first of them that meets a job: a scheduled second lies in such a range of the change. `None` where none does. Those of which all hours
+    /// are named no change meets, but one that shows minutes again, where cron waits for a new one.
     pub fn first_meeting(&self, job: &Cron, runner: Runner, range: Range) -> Option<Meeting>
         ensures { MatchOption result
-            ((c : Change) (w : ℤ) → ¬ (Meets (table_moment self.now.start).zone (table_moment self.now.start).instant (job_of job.now) range c w))
+            ((c : Change) (w : ℤ) → ¬ (Meets (table_moment self.now.start).zone (table_moment self.now.start).instant runner (job_of job.now) range c w))
             (IsMeeting (table_moment self.now.start).zone (table_moment self.now.start).instant runner (job_of job.now) range) }
     {
-        if names_all_hours(job) {
+        if is_never_met(job, runner, range) {
             return None;
         }
         for change in self.items.iter() {
@@ -153,7 +156,12 @@ impl<'t> Changes<'t> {
     {
         match runner {
             Runner::Croner => self.fate_in_croner(job, range, change, second),
-            Runner::Cron { is_starred } => fate_in_cron(is_starred, range, change, second),
+            Runner::Cron { is_starred } => {
+                with_all_hours(
+                    names_all_hours(job),
+                    fate_in_cron(is_starred, range, change, second),
+                )
+            }
         }
     }
 
@@ -205,6 +213,34 @@ fn fate_by(run: TableTime<'_>, change: Change) -> Fate
         Fate::Moved
     } else {
         Fate::LeftOut
+    }
+}
+
+// Whether changes don't meet a job: all hours are named, and cron doesn't wait for a new minute with it.
+fn is_never_met(job: &Cron, runner: Runner, range: Range) -> bool
+    ensures { result ≡ is_never_met runner (job_of job.now) range }
+{
+    names_all_hours(job) && !waits_for_new(runner, range)
+}
+
+// Whether cron waits for a new minute with the job.
+fn waits_for_new(runner: Runner, range: Range) -> bool
+    ensures { result ≡ waits_for_new runner range }
+{
+    match (runner, range) {
+        (Runner::Cron { is_starred }, Range::Repeated) => !is_starred,
+        (Runner::Cron { .. }, Range::Gap) => false,
+        (Runner::Croner, _) => false,
+    }
+}
+
+// What becomes of a job's second, where all hours may be named.
+fn with_all_hours(names_all: bool, fate: Fate) -> Fate
+    ensures { result ≡ with_all_hours names_all fate }
+{
+    match (names_all, fate) {
+        (true, Fate::Once) => Fate::Paused,
+        _ => fate,
     }
 }
 

@@ -61,8 +61,8 @@ fn write_finding<W: Write>(
     report: &Report<'_, '_>,
     output: &mut Output<W>,
 ) -> io::Result<()>
-    ensures { OnOk result (WritesFinding place.entry.file.now place.entry.line line.now report.now (written_of W.contents output.old) (written_of W.contents output.new)) }
+    ensures { OnOk result (WritesFinding terms.now.settings.now.look place.entry.file.now place.entry.line line.now report.now (written_of W.contents output.old) (written_of W.contents output.new)) }
 {
-    let text = finding_of(terms.alloc, place, line, report)?;
+    let text = finding_of(terms.alloc, terms.settings.look, place, line, report)?;
     output.write_apart(text.as_str())
 }

@@ -231,7 +231,7 @@ fn stop_of(alloc: Global, zone: &TimeZone<'_>, first: i64) -> Result<Stop, Alloc
 }
 
 // How many seconds a zone's clock is ahead of UTC at a second.
-fn ahead_at(zone: &TimeZone<'_>, second: i64) -> i32
+pub(crate) fn ahead_at(zone: &TimeZone<'_>, second: i64) -> i32
     requires { IsHeldSecond second }
     ensures { result ≡ ahead_at (plain_zone zone.now) second }
 {

@@ -1,10 +1,10 @@
 //! What was seen of the file that is read, and what cron makes of it as a whole.
-ghost use Rattle.std.specs.Prelude.{◌≡◌, ◌++◌, IfOk, OnOk, string_bytes};
+ghost use Rattle.std.specs.Prelude.{◌≡◌, ◌++◌, codes, IfOk, OnOk, string_bytes};
 ghost use Rattle.crontab.specs.Entries.{entry_seen};
-ghost use Rattle.croncheck_command.specs.FileSeen.{file_seen, unread, passed_over, with_line, with_report, counts, is_refused, if_so, ignored, is_ignored, name_text, reasons_of, whole_of, ending_of};
+ghost use Rattle.croncheck_command.specs.FileSeen.{file_seen, unread, passed_over, with_line, with_report, counts, is_refused, if_so, ignored, is_ignored, name_text, reasons_of, whole_of, ending_of, is_late, has_many_lines, many_lines_text};
 
 use crate::report::Report;
-use crate::warnings::are_many_lines;
+use crate::warnings::{are_many_lines, is_behind_last};
 use crontab::line::{Dialect, Entry};
 use std::alloc::{AllocError, Global};
 
@@ -18,6 +18,8 @@ pub struct FileSeen {
     is_unfed: bool,
     // Cron passes over it for its name, so that none of its lines is read.
     is_passed_over: bool,
+    // A job or a setting stands behind the last line at which cron takes one in a crontab of the system.
+    has_late: bool,
 }
 
 impl FileSeen {
@@ -30,6 +32,7 @@ impl FileSeen {
             has_refused: false,
             is_unfed: false,
             is_passed_over: false,
+            has_late: false,
         }
     }
 
@@ -42,6 +45,7 @@ impl FileSeen {
             has_refused: false,
             is_unfed: false,
             is_passed_over: true,
+            has_late: false,
         }
     }
 
@@ -66,11 +70,19 @@ impl FileSeen {
         self.is_unfed
     }
 
-    /// Takes up one more line, and whether a line feed ends it.
-    pub fn add_line(&mut self, entry: &Entry<'_>, is_fed: bool)
-        ensures { file_seen self.new ≡ with_line (entry_seen entry.now) is_fed (file_seen self.old) }
+    /// A job or a setting stands behind the last line at which cron takes one in a crontab of the system.
+    pub fn has_late(&self) -> bool
+        ensures { result ≡ (file_seen self.now).has_late }
+    {
+        self.has_late
+    }
+
+    /// Takes up one more line, the one of this number, counted from 1, and whether a line feed ends it.
+    pub fn add_line(&mut self, number: u64, entry: &Entry<'_>, is_fed: bool)
+        ensures { file_seen self.new ≡ with_line number (entry_seen entry.now) is_fed (file_seen self.old) }
     {
         self.is_unfed = !is_fed && counts(entry);
+        self.has_late = self.has_late || is_late(number, entry);
     }
 
     /// Takes up the report of a line.
@@ -99,7 +111,8 @@ impl FileSeen {
     {
         match dialect {
             Dialect::Patterns => Ok(String::new(alloc)),
-            Dialect::User | Dialect::System => self.reasons(alloc, lines),
+            Dialect::User => self.reasons(alloc, Dialect::User, lines),
+            Dialect::System => self.reasons(alloc, Dialect::System, lines),
         }
     }
 
@@ -117,16 +130,28 @@ impl FileSeen {
         match dialect {
             Dialect::Patterns => false,
             Dialect::User | Dialect::System => {
-                self.has_refused || self.is_unfed || are_many_lines(lines)
+                self.has_refused || self.is_unfed || self.has_many_lines(dialect, lines)
             }
         }
     }
 
+    /// Whether cron ignores the file of so many lines as too long.
+    pub fn has_many_lines(&self, dialect: Dialect, lines: u64) -> bool
+        ensures { result ≡ has_many_lines dialect lines (file_seen self.now) }
+    {
+        match dialect {
+            Dialect::User => are_many_lines(lines),
+            Dialect::System => self.has_late,
+            Dialect::Patterns => false,
+        }
+    }
+
     // A line for each reason for which cron ignores a crontab of so many lines.
-    fn reasons(&self, alloc: Global, lines: u64) -> Result<String, AllocError>
-        ensures { IfOk result (λ text. string_bytes text ≡ reasons_of lines (file_seen self.now)) }
+    fn reasons(&self, alloc: Global, dialect: Dialect, lines: u64) -> Result<String, AllocError>
+        ensures { IfOk result (λ text. string_bytes text ≡ reasons_of dialect lines (file_seen self.now)) }
     {
         let name = self.name.as_str();
+        let has_many = self.has_many_lines(dialect, lines);
         let mut text = String::new(alloc);
         push_if(&mut text, self.has_refused, name, "a line is refused\n")?;
         push_if(
@@ -135,13 +160,30 @@ impl FileSeen {
             name,
             "its last line has no line feed\n",
         )?;
-        push_if(
-            &mut text,
-            are_many_lines(lines),
-            name,
-            "it has more than 10000 lines\n",
-        )?;
+        push_if(&mut text, has_many, name, many_lines_line(dialect))?;
         Ok(text)
+    }
+}
+
+/// What is said of a file that cron ignores as too long.
+pub fn many_lines_text(dialect: Dialect) -> &'static str
+    ensures { result.now ≡ many_lines_text dialect }
+{
+    match dialect {
+        Dialect::User => "it has more than 10000 lines",
+        Dialect::System => "a job or a setting stands behind line 10003",
+        Dialect::Patterns => "",
+    }
+}
+
+// The same, as a line.
+fn many_lines_line(dialect: Dialect) -> &'static str
+    ensures { result.now ≡ many_lines_text dialect ++ codes "\n" }
+{
+    match dialect {
+        Dialect::User => "it has more than 10000 lines\n",
+        Dialect::System => "a job or a setting stands behind line 10003\n",
+        Dialect::Patterns => "\n",
     }
 }
 
@@ -178,8 +220,15 @@ pub(crate) fn is_refused(report: &Report<'_, '_>) -> bool
 {
     match report {
         Report::Refused { .. } => true,
-        Report::Silent | Report::Setting { .. } | Report::Job(_) => false,
+        Report::Silent | Report::Misnamed(_) | Report::Setting { .. } | Report::Job(_) => false,
     }
+}
+
+// Whether the line of this number, counted from 1, is a job or a setting behind the last one that cron takes in a crontab of the system.
+pub(crate) fn is_late(number: u64, entry: &Entry<'_>) -> bool
+    ensures { result ≡ is_late number (entry_seen entry.now) }
+{
+    counts(entry) && is_behind_last(number)
 }
 
 // Whether the line of an entry counts for cron where no line feed ends it.

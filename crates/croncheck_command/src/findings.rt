@@ -1,6 +1,6 @@
 //! What is found of a line and of a file: each thing with how grave it is, its name, its place and what it says.
-ghost use Rattle.std.specs.Prelude.{◌≡◌, ◌∷◌, ◌++◌, map, filter, option_map, is_some, IfOk, OnOk};
-ghost use Rattle.croncheck_command.specs.Findings.{severity_name, content_extent, finding_seen, findings_seen, named, only_if, fault_kind, refusal_kind, of_warning, of_note, of_change, of_range, of_meetings, findings_of_job, of_setting, findings_of_setting, findings_of_line};
+ghost use Rattle.std.specs.Prelude.{◌≡◌, [], ◌∷◌, ◌++◌, map, filter, option_map, is_some, IfOk, OnOk};
+ghost use Rattle.croncheck_command.specs.Findings.{severity_name, content_extent, finding_seen, findings_seen, named, only_if, fault_kind, refusal_kind, of_warning, of_note, of_change, of_range, of_meetings, of_unneeded, findings_of_job, of_setting, findings_of_setting, findings_of_line};
 ghost use Rattle.croncheck_command.specs.Found.{is_told_below};
 ghost use Rattle.croncheck_command.specs.Report.{notes_of_refusal};
 ghost use Rattle.croncheck_command.specs.Warnings.{field_name, other_name};
@@ -8,6 +8,7 @@ ghost use Rattle.croncheck_command.specs.Warnings.{field_name, other_name};
 pub mod of_file;
 mod places;
 
+use crate::allowed::{NOT_NEEDED, UNKNOWN_NAME, push_unknown};
 use crate::changes::meetings::{Meetings, Met};
 use crate::report::{JobReport, Report, SettingReport, Why};
 use crate::shown::{SAME_JOB, at_fault, field_name, push_same, push_why};
@@ -77,7 +78,8 @@ impl Drop for Finding {
 }
 
 /// What is found of a line with this report, which is given without its line feed. Of a job these are in this order its notes, its own
-/// warnings, those of changes of the clock, and an earlier job that is the same; of a refused line why it is refused, and its notes.
+/// warnings, those of changes of the clock, an earlier job that is the same, and the names that are allowed in vain; of a refused line why
+/// it is refused, and its notes; of a comment the first name that it allows and that no warning has.
 ///
 /// That the last line has no line feed, or that there are too many, is found of the file. The only error is want of memory.
 pub fn findings_of(
@@ -102,6 +104,7 @@ fn push_findings(
 {
     match report {
         Report::Silent => Ok(()),
+        Report::Misnamed(name) => push_unknown_name(alloc, found, line, name),
         Report::Setting { setting, .. } => push_setting(alloc, found, line, *setting),
         Report::Job(job) => push_job(alloc, found, line, job),
         Report::Refused { start, end, why } => push_refused(
@@ -181,6 +184,7 @@ fn kind_of_why(why: &Why) -> &'static str
         Why::Pattern(_) => "pattern",
         Why::Crate(_) => "text",
         Why::NotText => "not-utf-8",
+        Why::NoUser => "unknown-user",
     }
 }
 
@@ -267,7 +271,8 @@ fn push_job(
     push_notes(alloc, found, extent, noted.as_slice())?;
     push_warnings(alloc, found, line, job)?;
     push_meetings(alloc, found, extent, &job.meetings)?;
-    push_same_job(alloc, found, extent, job)
+    push_same_job(alloc, found, extent, job)?;
+    push_unneeded(alloc, found, extent, job.unneeded.as_slice())
 }
 
 // The job's own warnings that are told below its line.
@@ -375,6 +380,47 @@ fn name_of_field(field: Option<PatternField>) -> Option<&'static str>
         Some(field) => Some(field_name(field)),
         None => None,
     }
+}
+
+// ---- names that are allowed
+
+fn push_unknown_name(
+    alloc: Global,
+    found: &mut Vec<Finding>,
+    line: &[u8],
+    name: &[u8],
+) -> Result<(), AllocError>
+    ensures { OnOk result (findings_seen found.new.items
+        ≡ findings_seen found.old.items ++ named Severity.Warning UNKNOWN_NAME.now (content_extent line.now) ∷ []) }
+{
+    let mut text = String::new(alloc);
+    push_unknown(alloc, &mut text, name)?;
+    let extent = content_extent(line);
+    found.push(named(Severity::Warning, UNKNOWN_NAME, extent, text))?;
+    Ok(())
+}
+
+fn push_unneeded(
+    alloc: Global,
+    found: &mut Vec<Finding>,
+    extent: Extent,
+    names: &[&'static str],
+) -> Result<(), AllocError>
+    ensures { OnOk result (findings_seen found.new.items ≡ findings_seen found.old.items ++ map (of_unneeded extent) names.now) }
+{
+    for name in names {
+        found.push(of_unneeded(alloc, extent, name)?)?;
+    }
+    Ok(())
+}
+
+fn of_unneeded(alloc: Global, extent: Extent, name: &str) -> Result<Finding, AllocError>
+    ensures { IfOk result (λ f. finding_seen f ≡ named Severity.Warning NOT_NEEDED.now extent) }
+{
+    let text = format!(in alloc;
+        "The comment above allows {name}, which isn't found here. Take the name out, or look for a line that was changed."
+    )?;
+    Ok(named(Severity::Warning, NOT_NEEDED, extent, text))
 }
 
 // ---- changes of the clock, and an earlier job

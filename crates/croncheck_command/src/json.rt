@@ -46,7 +46,7 @@ fn kind_of<'k>(kind: &'k str, report: &Report<'_, '_>) -> &'k str
 {
     match report {
         Report::Refused { .. } => "refused",
-        Report::Silent | Report::Setting { .. } | Report::Job(_) => kind,
+        Report::Silent | Report::Misnamed(_) | Report::Setting { .. } | Report::Job(_) => kind,
     }
 }
 
@@ -86,7 +86,8 @@ fn job_of(alloc: Global, shared: &Shared<'_>, report: &Report<'_, '_>) -> Result
 {
     match report {
         Report::Job(job) => job_object(alloc, shared, job),
-        Report::Silent | Report::Setting { .. } | Report::Refused { .. } => Ok(Value::Null),
+        Report::Silent | Report::Misnamed(_) | Report::Setting { .. } | Report::Refused { .. } =>
+            Ok(Value::Null),
     }
 }
 
@@ -149,6 +150,7 @@ fn fate_name(fate: Fate) -> &'static str
         Fate::Moved => "moved",
         Fate::Once => "once",
         Fate::Twice => "twice",
+        Fate::Paused => "paused",
     }
 }
 

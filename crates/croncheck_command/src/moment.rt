@@ -1,20 +1,27 @@
 //! The moments that the words of a call name.
 ghost use Rattle.std.specs.Prelude.{◌≡◌, ◌↔◌, ℤ, None, IsTrue, IfOk, IfSome};
+ghost use Rattle.jiff.specs.Words.{date_text};
+ghost use Rattle.jiff_core.specs.declared.civil.date.Date.{Date as Plain};
+ghost use Rattle.croncheck_command.specs.Clock.{IsHeldSecond};
 ghost use Rattle.std.proofs.Common.{w64, FitsSigned};
 ghost use Rattle.std.specs.Fmt.{signed_decimal};
 ghost use Rattle.jiff.specs.Names.{iso_datetime_text};
 ghost use Rattle.jiff.specs.ZoneView.{plain_zone};
 ghost use Rattle.jiff_core.specs.declared.Offset.{Offset};
 ghost use Rattle.jiff_tz.specs.Ambiguous.{IsInstantAt, instant_of};
-ghost use Rattle.croncheck_command.specs.Moment.{moment_text, IsNamed, IsRead, IsShownAt, IsShownIn, IsSecondOf};
+ghost use Rattle.croncheck_command.specs.Moment.{moment_text, IsNamed, IsRead, IsReadShown, IsShownAt, IsShownIn, IsSecondOf, IsLastUpTo, start_from};
 
-use jiff::civil::DateTime;
+use crate::date::{first_second_of, last_second_of};
+use jiff::civil::{Date, DateTime};
 use jiff::tz::TimeZone;
 use jiff::{Error, Timestamp};
 use std::alloc::{AllocError, Global};
 
 /// How many bytes `YYYY-MM-DDTHH:MM:SS` has.
 const DATETIME_LENGTH: usize = 19;
+
+/// And `YYYY-MM-DD`.
+const DATE_LENGTH: usize = 10;
 
 /// A moment that a word names.
 #[derive(Clone, Copy, Drop)]
@@ -25,10 +32,12 @@ pub enum Moment {
     Second(i64),
     /// A date and time of a zone's clock, in whole seconds of the years 0000 to 9999.
     Civil(DateTime),
+    /// A date of a zone's clock, of these years: the seconds from where it begins to where the next one does.
+    Date(Date),
 }
 
-/// The moment that a word names: of one of the forms `now`, `@SECONDS`, `YYYY-MM-DDTHH:MM:SS`, where the second fits 64 bits and the date
-/// and time exists. There is none exactly where the word is of none of these forms. The only error is want of memory.
+/// The moment that a word names: of one of the forms `now`, `@SECONDS`, `YYYY-MM-DDTHH:MM:SS`, `YYYY-MM-DD`, where the second fits 64 bits and
+/// the date and time exists. There is none exactly where the word is of none of these forms. The only error is want of memory.
 pub fn read_moment(alloc: Global, word: &str) -> Result<Option<Moment>, AllocError>
     ensures { IfOk result (IsRead word.now) }
 {
@@ -37,8 +46,18 @@ pub fn read_moment(alloc: Global, word: &str) -> Result<Option<Moment>, AllocErr
     }
     match read_second(alloc, word)? {
         Some(second) => Ok(Some(Moment::Second(second))),
-        None => match read_civil(alloc, word)? {
-            Some(civil) => Ok(Some(Moment::Civil(civil))),
+        None => read_shown(alloc, word),
+    }
+}
+
+// The moment of a word that is a date and time, or a date.
+fn read_shown(alloc: Global, word: &str) -> Result<Option<Moment>, AllocError>
+    ensures { IfOk result (IsReadShown word.now) }
+{
+    match read_civil(alloc, word)? {
+        Some(civil) => Ok(Some(Moment::Civil(civil))),
+        None => match read_date(alloc, word)? {
+            Some(date) => Ok(Some(Moment::Date(date))),
             None => Ok(None),
         },
     }
@@ -92,6 +111,26 @@ fn read_civil(alloc: Global, word: &str) -> Result<Option<DateTime>, AllocError>
     }
 }
 
+// A date as it is printed, with no sign.
+#[tactic(auto, using(crate::proofs::Moments::printed_dates))]
+fn read_date(alloc: Global, word: &str) -> Result<Option<Date>, AllocError>
+    ensures found { IfOk result (λ found. IfSome found (λ date. IsNamed (Moment.Date date) × (date_text date ≡ word.now))) }
+    ensures none { IfOk result (λ found. found ≡ None → (date : Plain) → IsNamed (Moment.Date date) → ¬ (date_text date ≡ word.now)) }
+{
+    if word.len() != DATE_LENGTH {
+        return Ok(None);
+    }
+    let Ok(date) = word.parse::<Date>() else {
+        return Ok(None);
+    };
+    let printed = format!(in alloc; "{date}")?;
+    if is_same(printed.as_str(), word) {
+        Ok(Some(date))
+    } else {
+        Ok(None)
+    }
+}
+
 fn is_same(text: &str, other: &str) -> bool
     ensures { IsTrue result ↔ (text.now ≡ other.now) }
 {
@@ -99,8 +138,9 @@ fn is_same(text: &str, other: &str) -> bool
 }
 
 /// The second of a moment in a zone, counted from 1970-01-01T00:00:00 UTC; that of `now` is handed in. Of two seconds at which the zone's
-/// clock shows a date and time it is the earlier one. There is none exactly where the clock shows it at neither of the two instants that
-/// the zone's rules give it: the clock skips it, or no timestamp holds it.
+/// clock shows a date and time it is the earlier one, of a date the one with which it begins. There is none exactly where the clock shows a
+/// date and time at neither of the two instants that the zone's rules give it, or a date not where it begins: the clock skips it, or no
+/// timestamp holds it.
 pub fn second_of(moment: Moment, zone: &TimeZone<'_>, now: i64) -> Option<i64>
     ensures { IsSecondOf (plain_zone zone.now) now moment result }
 {
@@ -108,10 +148,35 @@ pub fn second_of(moment: Moment, zone: &TimeZone<'_>, now: i64) -> Option<i64>
         Moment::Now => Some(now),
         Moment::Second(second) => Some(second),
         Moment::Civil(civil) => second_shown(civil, zone),
+        Moment::Date(date) => first_second_of(date, zone),
     }
 }
 
-fn second_shown(civil: DateTime, zone: &TimeZone<'_>) -> Option<i64>
+/// The last second up to a moment in a zone: its second, and of a date the last before the next one begins. There is none where the clock
+/// never shows the moment.
+pub fn last_up_to(moment: Moment, zone: &TimeZone<'_>, now: i64) -> Option<i64>
+    ensures { IsLastUpTo (plain_zone zone.now) now moment result }
+{
+    match moment {
+        Moment::Now => Some(now),
+        Moment::Second(second) => Some(second),
+        Moment::Civil(civil) => second_shown(civil, zone),
+        Moment::Date(date) => last_second_of(date, zone),
+    }
+}
+
+/// Behind which second runs come from a moment on, whose second is this: of a date its first second counts, of another moment its second
+/// doesn't.
+pub fn start_from(moment: Moment, second: i64) -> i64
+    ensures { IsHeldSecond second → result ≡ start_from moment second }
+{
+    match moment {
+        Moment::Now | Moment::Second(_) | Moment::Civil(_) => second,
+        Moment::Date(_) => second.saturating_sub(1),
+    }
+}
+
+pub(crate) fn second_shown(civil: DateTime, zone: &TimeZone<'_>) -> Option<i64>
     ensures { IsShownIn (plain_zone zone.now) civil result }
 {
     let found = zone.to_ambiguous_timestamp(civil);

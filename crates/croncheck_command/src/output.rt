@@ -1,6 +1,6 @@
 //! Texts that are written one behind the other.
-ghost use Rattle.std.specs.Prelude.{◌≡◌, ◌∷◌, OnOk, is_err, true, false, if◌then◌else◌};
-ghost use Rattle.croncheck_command.specs.Output.{WritesText, WritesApart, IsFlushed, written_of};
+ghost use Rattle.std.specs.Prelude.{◌≡◌, ◌∷◌, ◌++◌, OnOk, is_err, true, false, if◌then◌else◌};
+ghost use Rattle.croncheck_command.specs.Output.{WritesText, WritesApart, WritesItem, EndsItems, IsFlushed, written_of};
 
 use std::io;
 use std::io::Write;
@@ -82,6 +82,43 @@ impl<W: Write> Output<W> {
         ensures refused { self.new.is_refused ≡ (if is_err result then true else self.old.is_refused) }
     {
         match self.write("\n") {
+            Ok(()) => self.write(text),
+            Err(error) => Err(error),
+        }
+    }
+
+    /// Writes a text as the next item of a list: `head` in front of the first, and `between` in front of any other.
+    ///
+    /// The error is the writer's. It isn't known then how much of the text was written.
+    #[tactic(auto, using(crate::proofs::Outputs::first_item, crate::proofs::Outputs::next_item))]
+    pub fn write_item(&mut self, head: &str, between: &str, text: &str) -> io::Result<()>
+        ensures { OnOk result (WritesItem head.now between.now text.now (written_of W.contents self.old) (written_of W.contents self.new)) }
+    {
+        if self.is_begun {
+            return self.write_both(between, text);
+        }
+        self.is_begun = true;
+        self.write_both(head, text)
+    }
+
+    /// Writes what ends a list of items: `head` in front of it where there is none.
+    ///
+    /// The error is as that of `write_item`.
+    pub fn end_items(&mut self, head: &str, tail: &str) -> io::Result<()>
+        ensures { OnOk result (EndsItems head.now tail.now (written_of W.contents self.old) (written_of W.contents self.new)) }
+    {
+        if self.is_begun {
+            return self.write(tail);
+        }
+        self.write_both(head, tail)
+    }
+
+    // Writes a text with another in front.
+    #[tactic(auto, using(crate::proofs::Outputs::both_texts))]
+    fn write_both(&mut self, front: &str, text: &str) -> io::Result<()>
+        ensures { OnOk result (WritesText (front.now ++ text.now) (written_of W.contents self.old) (written_of W.contents self.new)) }
+    {
+        match self.write(front) {
             Ok(()) => self.write(text),
             Err(error) => Err(error),
         }

@@ -108,7 +108,19 @@ fn text_of(
     ensures { IfOk result (λ text. AreLines (string_bytes text)) }
 {
     match answer {
-        Answer::Runs => runs_text(terms.alloc, terms.shared, pattern, report),
-        Answer::Description => description_text(terms.alloc, terms.shared, pattern, report),
+        Answer::Runs => runs_text(
+            terms.alloc,
+            terms.settings.look,
+            terms.shared,
+            pattern,
+            report,
+        ),
+        Answer::Description => description_text(
+            terms.alloc,
+            terms.settings.look,
+            terms.shared,
+            pattern,
+            report,
+        ),
     }
 }

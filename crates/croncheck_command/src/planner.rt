@@ -9,7 +9,7 @@ ghost use Rattle.crontab.specs.Entries.{entry_seen};
 ghost use Rattle.crontab.specs.Line.{are_patterns};
 ghost use Rattle.croncheck_command.specs.Output.{Written, written_of};
 ghost use Rattle.croncheck_command.specs.Plan.{IsPlanned};
-ghost use Rattle.croncheck_command.specs.Planner.{seen, with_job, Adds, Passes, labels, labels_at, command_text, label_text, WritesMoment, plan_head, over_text, more_text, IsPlanEnd};
+ghost use Rattle.croncheck_command.specs.Planner.{seen, is_refused_by_user, with_job, Adds, Passes, labels, labels_at, command_text, label_text, WritesMoment, plan_head, over_text, more_text, IsPlanEnd};
 ghost use Rattle.croncheck_command.specs.Settings.{start_of, window_end};
 ghost use Rattle.croncheck_command.specs.Shown.{IsWindowEnd};
 ghost use Rattle.croncheck_command.specs.Stand.{stand_of};
@@ -21,8 +21,10 @@ use crate::progress::{Line, Progress, Terms};
 use crate::report::report_of_line;
 use crate::reporter::{write_ending, write_report};
 use crate::runs::{End, Listing, MOST_RUNS};
+use crate::settings::Settings;
 use crate::shown::{COMMAND_BYTES, Place, Shared, push_clock, push_front, window_end};
 use crate::tally::{Tally, one_more};
+use crate::users::is_unknown;
 use croner::Cron;
 use croner::crontable::CronTable;
 use croner::errors::CronError;
@@ -160,6 +162,9 @@ impl Form for Planner {
         } = line;
         progress.next_line(&entry, is_fed);
         let outcome = outcome_of(terms.alloc, terms.settings.parser, &entry)?;
+        if is_refused_by_user(terms.settings, &entry) {
+            return self.pass(terms, progress, text, entry, outcome, output);
+        }
         match outcome {
             Outcome::Job(job) => self.add(terms.alloc, progress, job, &entry),
             Outcome::NoText
@@ -187,6 +192,20 @@ impl Form for Planner {
         write_moments(terms, self.jobs.as_slice(), plan.items.as_slice(), output)?;
         let text = end_text(terms.alloc, terms.shared, &plan)?;
         output.write_apart(text.as_str())
+    }
+}
+
+// Whether the user of an entry is none of those that are known.
+fn is_refused_by_user(settings: &Settings<'_>, entry: &Entry<'_>) -> bool
+    ensures { result ≡ is_refused_by_user settings.now (entry_seen entry.now) }
+{
+    match entry {
+        Entry::Job(job) => is_unknown(settings.users, job.user),
+        Entry::Blank
+        | Entry::Comment
+        | Entry::Setting { .. }
+        | Entry::Pattern(_)
+        | Entry::Refused { .. } => false,
     }
 }
 

@@ -17,10 +17,14 @@ pub enum Problem {
     Clock(NoClock),
     /// The machine's clock isn't read.
     Now(jiff::Error),
+    /// The file of the users isn't read.
+    Users(io::Error),
     /// The zone's clock never shows the date and time of `--from`.
     SkippedFrom,
     /// The same for `--until`.
     SkippedUntil,
+    /// `--until` lies before `--from`.
+    UntilBeforeFrom,
     /// The reports are not written.
     Unwritten(io::Error),
     /// Memory was asked for and not found.
@@ -31,17 +35,18 @@ impl Problem {
     ghost use Rattle.croncheck_command.specs.Problem.{status_of_problem};
     ghost use Rattle.std.specs.Prelude.{◌≡◌};
 
-    /// The status of the process: 2 where a word names no moment, else 3.
+    /// The status of the process: 2 where a word names no moment, or an end before the start; else 3.
     pub fn status(&self) -> u8
         ensures { result ≡ status_of_problem self.now }
     {
         match self {
-            Problem::SkippedFrom | Problem::SkippedUntil => 2,
+            Problem::SkippedFrom | Problem::SkippedUntil | Problem::UntilBeforeFrom => 2,
             Problem::Words(_)
             | Problem::Zone(_)
             | Problem::NoZone(_)
             | Problem::Clock(_)
             | Problem::Now(_)
+            | Problem::Users(_)
             | Problem::Unwritten(_)
             | Problem::OutOfMemory => 3,
         }
@@ -59,12 +64,14 @@ impl fmt::Display for Problem {
             Problem::NoZone(text) => f.write_str(text.as_str()),
             Problem::Clock(reason) => write_reason(f, *reason),
             Problem::Now(error) => write!(f, "the machine's clock: {error}"),
+            Problem::Users(error) => write!(f, "the file of --users: {error}"),
             Problem::SkippedFrom => {
-                f.write_str("--from: the zone's clock never shows this date and time")
+                f.write_str("--from: the zone's clock never shows this date or time")
             }
             Problem::SkippedUntil => {
-                f.write_str("--until: the zone's clock never shows this date and time")
+                f.write_str("--until: the zone's clock never shows this date or time")
             }
+            Problem::UntilBeforeFrom => f.write_str("--until lies before --from"),
             Problem::Unwritten(error) => write!(f, "the output: {error}"),
             Problem::OutOfMemory => f.write_str("out of memory"),
         }

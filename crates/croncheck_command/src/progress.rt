@@ -6,12 +6,14 @@ ghost use Rattle.croncheck_command.specs.Settings.{of_kind};
 ghost use Rattle.croncheck_command.specs.Sink.{StandsAtBegin, terms_of};
 ghost use Rattle.croncheck_command.specs.Stand.{stand_of, begin_of_file, begin_passed_over, at_line, line_taken};
 
+use crate::allowed::comment::names_by;
+use crate::allowed::take_away;
 use crate::file_seen::FileSeen;
 use crate::report::{Report, report_of_line};
 use crate::same::Seen;
 use crate::settings::{Settings, SettingsByKind};
 use crate::shown::{Place, Shared};
-use crate::tally::{Tally, one_more};
+use crate::tally::{Tally, is_too_many, one_more};
 use crontab::content::outcome_of;
 use crontab::line::{Dialect, Entry};
 use std::alloc::Global;
@@ -95,6 +97,8 @@ pub struct Progress {
     pub files: u64,
     /// How many of its lines were read.
     pub lines: u64,
+    /// The names of warnings that comments allow to the next line.
+    pub allowed: Vec<&'static str>,
 }
 
 // By hand, so that a function that lets one go calls this one: its proof doesn't go through the fields at each exit.
@@ -106,6 +110,7 @@ impl Drop for Progress {
             file: _,
             files: _,
             lines: _,
+            allowed: _,
         } = self;
     }
 }
@@ -121,6 +126,7 @@ impl Progress {
             file: FileSeen::new(String::new(alloc)),
             files: 0,
             lines: 0,
+            allowed: Vec::new(alloc),
         }
     }
 
@@ -131,6 +137,7 @@ impl Progress {
         self.file = FileSeen::new(name);
         self.files = one_more(self.files);
         self.lines = 0;
+        self.allowed.clear();
     }
 
     /// Begins the next file, which cron passes over for its name, by that name as it is shown.
@@ -140,14 +147,15 @@ impl Progress {
         self.file = FileSeen::passed_over(name);
         self.files = one_more(self.files);
         self.lines = 0;
+        self.allowed.clear();
     }
 
     /// Comes to the next line of the file.
     pub fn next_line(&mut self, entry: &Entry<'_>, is_fed: bool)
         ensures { stand_of self.new ≡ at_line (entry_seen entry.now) is_fed (stand_of self.old) }
     {
-        self.file.add_line(entry, is_fed);
         self.lines = one_more(self.lines);
+        self.file.add_line(self.lines, entry, is_fed);
     }
 
     /// The place of the line that was read last.
@@ -161,8 +169,8 @@ impl Progress {
         }
     }
 
-    /// The report of the next line of the file, which is counted with its warnings. A job is told where the first one
-    /// stands that is the same, if the settings compare jobs.
+    /// The report of the next line of the file, without what the words of the call and the comment above it allow. It is
+    /// counted with its warnings. A job is told where the first one stands that is the same, if the settings compare jobs.
     ///
     /// The error says that memory is lacking.
     pub fn report<'l, 't>(
@@ -177,17 +185,18 @@ impl Progress {
             entry,
             is_fed,
         } = line;
-        let before = self.lines;
+        let is_too_many = is_too_many(terms.settings.dialect, self.lines, &entry, &self.file);
         self.next_line(&entry, is_fed);
         let place = Place {
             file: self.file.name(),
             line: self.lines,
         };
+        let names = names_by(terms.alloc, &entry, text)?;
         let outcome = outcome_of(terms.alloc, terms.settings.parser, &entry)?;
         let same = self
             .seen
             .earlier(terms.alloc, terms.settings, &entry, &outcome, place)?;
-        let Ok(report) = report_of_line(
+        let Ok(mut report) = report_of_line(
             terms.alloc,
             terms.settings,
             text,
@@ -198,7 +207,12 @@ impl Progress {
         ) else {
             return Err(io::Error::from(ErrorKind::OutOfMemory));
         };
-        self.tally.add(terms.settings.dialect, before, &report);
+        let allowed = self.allowed.as_slice();
+        take_away(terms.alloc, terms.settings, allowed, &mut report)?;
+        if let Some(names) = names {
+            self.allowed = names;
+        }
+        self.tally.add(is_too_many, &report);
         self.file.add_report(&report);
         Ok(report)
     }

@@ -5,16 +5,20 @@ ghost use Rattle.croner.specs.Views.{job_of as meaning_of_job};
 ghost use Rattle.crontab.specs.Content.{IsOutcome, IsOutcomeOfTimes, IsOutcomeOfPattern};
 ghost use Rattle.crontab.specs.Entries.{entry_seen, job_seen, times_seen};
 ghost use Rattle.croncheck_command.specs.declared.settings.Settings.{Settings as Made};
-ghost use Rattle.croncheck_command.specs.Report.{IsReportOfJob, IsReportOfPattern, blanks_of, IsReportOfLine, TellsChanges, subject_of, IsWarned, WarnsPattern, TellsDates, file_and_line, earlier_of, place_for, setting_found, is_setting_found, has_job_warnings, has_warnings, notes_of_job, notes_of_refusal, notes_of_report};
+ghost use Rattle.croncheck_command.specs.Allowed.{unknown_in};
+ghost use Rattle.croncheck_command.specs.Report.{IsReportOfJob, IsReportOfPattern, blanks_of, IsReportOfLine, IsReportOfComment, TellsChanges, subject_of, IsWarned, WarnsPattern, TellsDates, file_and_line, earlier_of, place_for, HasNoPlace, setting_found, is_setting_found, has_job_warnings, has_warnings, notes_of_job, notes_of_refusal, notes_of_report, refused_user, IsReportBy};
+ghost use Rattle.croncheck_command.specs.Users.{users_seen, is_unknown};
 ghost use Rattle.croncheck_command.specs.Starred.{is_starred};
 ghost use Rattle.croncheck_command.specs.Told.{TellsTiming};
 ghost use Rattle.croncheck_command.specs.Warnings.{fields_seen, subject_seen};
 
+use crate::allowed::comment::unknown_in;
 use crate::changes::meetings::Meetings;
 use crate::runs::Runner;
 use crate::settings::Settings;
 use crate::starred::is_starred;
 use crate::told::{Told, is_idle, told_of, told_of_crontab};
+use crate::users::{is_unknown, user_end, user_start};
 use crate::warnings::{
     Dates, Fields, Subject, Warning, dates_in_month_of, fields_of_pattern, fields_of_schedule,
     has_hidden, runs_on_either_day, warnings_of,
@@ -35,6 +39,8 @@ use std::alloc::{AllocError, Global};
 pub enum Report<'l, 't> {
     /// Nothing: it is blank or a comment.
     Silent,
+    /// It is a comment that allows this name, which no warning has.
+    Misnamed(&'l [u8]),
     /// It sets a variable.
     Setting {
         setting: SettingReport,
@@ -56,6 +62,7 @@ impl Drop for Report<'_, '_> {
     fn drop(self) {
         match self {
             Report::Silent => {}
+            Report::Misnamed(_) => {}
             Report::Setting {
                 setting: _,
                 is_fed: _,
@@ -108,6 +115,8 @@ pub struct JobReport<'l, 't> {
     pub meetings: Meetings,
     /// Of a job that runs on either day: the days of the month of its first listed run by each day field.
     pub dates: Option<Dates>,
+    /// The names of warnings that the comment above it allows, and that don't stand here: none, unless the call is strict.
+    pub unneeded: Vec<&'static str>,
 }
 
 /// The place of a job.
@@ -136,6 +145,8 @@ pub enum Why {
     Crate(CronError),
     /// The pattern isn't UTF-8.
     NotText,
+    /// The user is none of those that are known.
+    NoUser,
 }
 
 impl Report<'_, '_> {
@@ -146,6 +157,7 @@ impl Report<'_, '_> {
         match self {
             Report::Setting { setting, is_fed } => setting.is_found() || !*is_fed,
             Report::Job(job) => job.has_warnings(),
+            Report::Misnamed(_) => true,
             Report::Silent | Report::Refused { .. } => false,
         }
     }
@@ -159,7 +171,7 @@ impl Report<'_, '_> {
         match self {
             Report::Job(job) => job.notes(alloc, line),
             Report::Refused { why, .. } => why.notes(alloc, line),
-            Report::Silent | Report::Setting { .. } => Ok(Vec::new(alloc)),
+            Report::Silent | Report::Misnamed(_) | Report::Setting { .. } => Ok(Vec::new(alloc)),
         }
     }
 }
@@ -169,7 +181,10 @@ impl JobReport<'_, '_> {
     pub fn has_warnings(&self) -> bool
         ensures { result ≡ has_job_warnings self.now }
     {
-        !self.warnings.is_empty() || self.meetings.are_warned() || self.same.is_some()
+        !self.warnings.is_empty()
+            || self.meetings.are_warned()
+            || self.same.is_some()
+            || !self.unneeded.is_empty()
     }
 
     // The notes of its line: a pattern, which has no command, has none.
@@ -190,7 +205,7 @@ impl Why {
     {
         match self {
             Why::Cron(fault) => notes_of(alloc, Some(*fault), line),
-            Why::Pattern(_) | Why::Crate(_) | Why::NotText => Ok(Vec::new(alloc)),
+            Why::Pattern(_) | Why::Crate(_) | Why::NotText | Why::NoUser => Ok(Vec::new(alloc)),
         }
     }
 }
@@ -198,14 +213,14 @@ impl Why {
 /// The report of the entry of a line, which has its line feed or hasn't, and is given without it. The outcome is what the
 /// parser makes of the line's times, and an earlier job was looked for that is the same.
 ///
-/// A job is refused exactly where the crate's parser refuses the text of its times, and a pattern where the parser
-/// refuses it or it is no UTF-8. The place of such a refusal lies behind the blanks in front of the line. The place that
-/// was found of an earlier job stands in the report, if that is of a job or a pattern that is read. The only error is
-/// `OutOfMemory`.
+/// A job is refused exactly where its user is none of those that are known, at the user's name, or where the crate's parser
+/// refuses the text of its times; and a pattern where the parser refuses it or it is no UTF-8. The place of such a refusal
+/// lies behind the blanks in front of the line. The place that was found of an earlier job stands in the report, if that is
+/// of a job or a pattern that is read. The only error is `OutOfMemory`.
 pub fn report_of_line<'l, 't>(
     alloc: Global,
     settings: &Settings<'t>,
-    line: &[u8],
+    line: &'l [u8],
     entry: Entry<'l>,
     outcome: Outcome,
     is_fed: bool,
@@ -216,7 +231,8 @@ pub fn report_of_line<'l, 't>(
     ensures err { IfErr result (λ e. e ≡ CronError.OutOfMemory) }
 {
     match entry {
-        Entry::Blank | Entry::Comment => Ok(Report::Silent),
+        Entry::Blank => Ok(Report::Silent),
+        Entry::Comment => Ok(report_of_comment(line)),
         Entry::Setting { is_zone } => Ok(Report::Setting {
             setting: setting_of(is_zone, line),
             is_fed,
@@ -226,10 +242,21 @@ pub fn report_of_line<'l, 't>(
             end,
             why: Why::Cron(fault),
         }),
-        Entry::Job(job) => report_of_job(alloc, settings, line, job, outcome, is_fed, same),
+        Entry::Job(job) => report_of_owned(alloc, settings, line, job, outcome, is_fed, same),
         Entry::Pattern(text) => report_of_pattern(
             alloc, settings, line, text, outcome, is_fed, same,
         ),
+    }
+}
+
+// The report of a comment: the first name that it allows and that no warning has, if there is one.
+fn report_of_comment<'l, 't>(line: &'l [u8]) -> Report<'l, 't>
+    ensures report { IsReportOfComment (unknown_in line.now) result }
+    ensures passed { HasNoPlace result }
+{
+    match unknown_in(line) {
+        Some(name) => Report::Misnamed(name),
+        None => Report::Silent,
     }
 }
 
@@ -251,6 +278,38 @@ fn blanks(line: &[u8]) -> &[u8]
 {
     let (blanks, _) = cut(line, Kind::Blank);
     blanks
+}
+
+// The report of the job of a line, whose user may be none of those that are known.
+fn report_of_owned<'l, 't>(
+    alloc: Global,
+    settings: &Settings<'t>,
+    line: &[u8],
+    job: Job<'l>,
+    outcome: Outcome,
+    is_fed: bool,
+    same: Option<Same>,
+) -> Result<Report<'l, 't>, CronError>
+    ensures report { IsOutcomeOfTimes (job_seen job.entry).times outcome
+        → IfOk result (IsReportBy (is_unknown (users_seen settings.now.users) (job_seen job.entry).user) is_fed settings.now line.now (job_seen job.entry)) }
+    ensures passed { IfOk result (λ r. earlier_of r ≡ place_for r (option_map file_and_line same)) }
+    ensures err { IfErr result (λ e. e ≡ CronError.OutOfMemory) }
+{
+    if is_unknown(settings.users, job.user) {
+        return Ok(user_refused(line, &job));
+    }
+    report_of_job(alloc, settings, line, job, outcome, is_fed, same)
+}
+
+// The user of a job is refused.
+fn user_refused<'l, 't>(line: &[u8], job: &Job<'_>) -> Report<'l, 't>
+    ensures { result ≡ refused_user line.now (job_seen job.now) }
+{
+    Report::Refused {
+        start: user_start(line, job.command, job.user),
+        end: user_end(line, job.command),
+        why: Why::NoUser,
+    }
 }
 
 // The report of the job of a line, of whose times the parser makes this.
@@ -316,6 +375,7 @@ fn told_of_job<'l, 't>(
         warnings,
         meetings,
         dates,
+        unneeded: Vec::new(alloc),
     }))
 }
 
@@ -342,6 +402,7 @@ fn told_of_no_text<'l, 't>(
         warnings,
         meetings: Meetings::none(),
         dates: None,
+        unneeded: Vec::new(alloc),
     }))
 }
 
@@ -510,6 +571,7 @@ fn told_of_pattern<'l, 't>(
         warnings,
         meetings,
         dates,
+        unneeded: Vec::new(alloc),
     }))
 }
 

@@ -60,9 +60,10 @@ pub(crate) fn write_report<W: Write>(
     report: &Report<'_, '_>,
     output: &mut Output<W>,
 ) -> io::Result<()>
-    ensures { OnOk result (WritesReport place.entry.file.now place.entry.line line.now report.now (written_of W.contents output.old) (written_of W.contents output.new)) }
+    ensures { OnOk result (WritesReport terms.now.settings.now.look place.entry.file.now place.entry.line line.now report.now (written_of W.contents output.old) (written_of W.contents output.new)) }
 {
-    let text = text_of(terms.alloc, terms.shared, place, line, report)?;
+    let look = terms.settings.look;
+    let text = text_of(terms.alloc, look, terms.shared, place, line, report)?;
     output.write_apart(text.as_str())
 }
 

@@ -4,7 +4,9 @@ ghost use Rattle.croncheck_command.specs.Settings.{stop_of, window_end, in_diale
 
 use crate::changes::Changes;
 use crate::clock::stop::Stop;
+use crate::look::Look;
 use crate::runs::Listing;
+use crate::users::Users;
 use croner::parser::CronParser;
 use crontab::line::Dialect;
 
@@ -26,10 +28,18 @@ pub struct Settings<'t> {
     /// behind the clock's window.
     pub changes: &'t Changes<'t>,
     pub listing: Listing,
+    /// The start is the second at which the call is made: behind each run stands how far off it is.
+    pub is_from_now: bool,
     /// The status is 1 where a line has a warning, too.
     pub is_strict: bool,
     /// Each job is compared with those before it, for `same-job`.
     pub compares_jobs: bool,
+    /// How texts are shown.
+    pub look: Look,
+    /// The names of warnings that the words of the call allow.
+    pub allowed: &'t [&'t str],
+    /// The users that are known, if any are: a job of another one is refused.
+    pub users: Option<Users<'t>>,
 }
 
 impl Settings<'_> {

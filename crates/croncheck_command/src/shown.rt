@@ -1,25 +1,28 @@
 //! The text of a report.
-ghost use Rattle.std.specs.Prelude.{◌≡◌, ◌≤◌, ◌<◌, ◌++◌, ℕ, List, [], length, true, false, codes, IfOk, OnOk, IsTrue, string_bytes};
+ghost use Rattle.std.specs.Prelude.{◌≡◌, ◌≤◌, ◌<◌, ◌++◌, ℕ, List, [], length, true, false, None, Some, codes, IfOk, OnOk, IsTrue, string_bytes};
 ghost use Rattle.jiff.specs.ZoneView.{plain_zone};
 ghost use Rattle.croner_base.specs.Civil.{weekday_index};
 ghost use Rattle.crontab.specs.Setting.{has};
 ghost use Rattle.croncheck_command.specs.Reported.{AreLinesFound};
-ghost use Rattle.croncheck_command.specs.Settings.{stop_of};
-ghost use Rattle.croncheck_command.specs.Shown.{spaced, continues, start_at, cut_at, left_out_text, front_text, weekday_text, IsClockText, is_told, place_text, offset_of, IsWindowEnd};
+ghost use Rattle.croncheck_command.specs.Settings.{off_from, stop_of};
+ghost use Rattle.croncheck_command.specs.Shown.{spaced, continues, start_at, cut_at, left_out_text, front_text, weekday_text, IsClockText, IsClockTextIn, english_weekday, swedish_weekday, is_told, place_text, offset_of, IsWindowEnd};
 ghost use Rattle.croncheck_command.specs.Warnings.{field_name};
 
 mod below;
 mod changes;
 pub mod found;
+mod hints;
 pub mod pattern;
 
 use crate::ahead::Ahead;
 use crate::clock::stop::Stop;
 use crate::escaped::push_replaced;
 use crate::findings::findings_of;
+use crate::look::Look;
+use crate::off::Off;
 use crate::report::{JobReport, Report, Why};
 use crate::runs::{End, Listing, MOST_RUNS, Run, Runs};
-use crate::settings::Settings;
+use crate::settings::{Settings, Tongue};
 use crate::shown::changes::{push_made_up, push_next_changes};
 use crate::told::Told;
 use below::below;
@@ -30,6 +33,8 @@ use crontab::bytes::{Kind, begins_with, cut, is_quote, rest_of, trimmed};
 use crontab::line::{Fault, WEEKDAYS};
 use crontab::notes::{is_nickname, takes};
 use crontab::setting::has;
+use hints::{push_hint, push_nickname_hint};
+use jiff::Timestamp;
 use jiff::tz::TimeZone;
 use std::alloc::{AllocError, Global};
 use std::fmt;
@@ -53,6 +58,12 @@ pub(crate) const SAME_JOB: &str = "same-job";
 /// What stands where something is left out.
 const LEFT_OUT: &str = "..";
 
+/// The bytes of that in front of what is shown, and behind it.
+const BOTH_LEFT_OUT: usize = 4;
+
+/// How many bytes of a line with a fault are shown at least, however narrow the lines are.
+const LEAST_SHOWN: usize = 40;
+
 /// What all reports share.
 #[derive(Clone, Copy)]
 pub struct Shared<'z> {
@@ -61,6 +72,12 @@ pub struct Shared<'z> {
     // Where the clock's window ends before year 5000 does.
     pub(crate) stop: Option<Stop>,
     pub(crate) listing: Listing,
+    // The language of weekdays.
+    pub(crate) language: Tongue,
+    // The second from which on it is said how far off a run is, if that is said.
+    pub(crate) off_from: Option<i64>,
+    // Another zone, whose clock is shown too.
+    pub(crate) other_zone: Option<TimeZone<'z>>,
 }
 
 impl<'z> Shared<'z> {
@@ -69,12 +86,39 @@ impl<'z> Shared<'z> {
         ensures zone { result.zone ≡ zone.entry }
         ensures stop { result.stop ≡ stop_of settings.now }
         ensures listing { result.listing ≡ settings.now.listing }
+        ensures language { result.language ≡ settings.now.language }
+        ensures off_from { result.off_from ≡ off_from settings.now }
+        ensures other_zone { result.other_zone ≡ None }
     {
         Shared {
             zone,
             stop: settings.stop(),
             listing: settings.listing,
+            language: settings.language,
+            off_from: off_from(settings),
+            other_zone: None,
         }
+    }
+
+    /// The same, with the clock of another zone beside each run.
+    pub fn with_other_zone(self, other: TimeZone<'z>) -> Shared<'z>
+        ensures { result ≡ record self.entry { other_zone = Some other.entry } }
+    {
+        Shared {
+            other_zone: Some(other),
+            ..self
+        }
+    }
+}
+
+// From which second on it is said how far off a run is.
+fn off_from(settings: &Settings<'_>) -> Option<i64>
+    ensures { result ≡ off_from settings.now }
+{
+    if settings.is_from_now {
+        Some(settings.changes.start.second())
+    } else {
+        None
     }
 }
 
@@ -93,16 +137,17 @@ pub struct Place<'n> {
 /// The line is given without its line feed. The error comes where memory is lacking.
 pub fn text_of(
     alloc: Global,
+    look: Look,
     shared: &Shared<'_>,
     place: Place<'_>,
     line: &[u8],
     report: &Report<'_, '_>,
 ) -> Result<String, AllocError>
     ensures silent { is_told report.now ≡ false → IfOk result (λ text. string_bytes text ≡ []) }
-    ensures told { is_told report.now ≡ true → IfOk result (λ text. AreLinesFound place.entry.file.now place.entry.line line.now report.now (string_bytes text)) }
+    ensures told { is_told report.now ≡ true → IfOk result (λ text. AreLinesFound look place.entry.file.now place.entry.line line.now report.now (string_bytes text)) }
 {
     if is_told(report) {
-        told_text(alloc, shared, place, line, report)
+        told_text(alloc, look, shared, place, line, report)
     } else {
         Ok(String::new(alloc))
     }
@@ -111,19 +156,20 @@ pub fn text_of(
 #[tactic(auto, using(crate::proofs::Found::lines_found))]
 fn told_text(
     alloc: Global,
+    look: Look,
     shared: &Shared<'_>,
     place: Place<'_>,
     line: &[u8],
     report: &Report<'_, '_>,
 ) -> Result<String, AllocError>
-    ensures { IfOk result (λ text. AreLinesFound place.entry.file.now place.entry.line line.now report.now (string_bytes text)) }
+    ensures { IfOk result (λ text. AreLinesFound look place.entry.file.now place.entry.line line.now report.now (string_bytes text)) }
 {
     let found = findings_of(alloc, line, report)?;
     let place = text_of_place(alloc, place)?;
     let mut head = String::new(alloc);
     let column = place.as_str().width();
-    push_report(alloc, &mut head, shared, column, line, report)?;
-    let below = below(alloc, found.as_slice())?;
+    push_report(alloc, look, &mut head, shared, column, line, report)?;
+    let below = below(alloc, look, found.as_slice())?;
     format!(in alloc; "{place}{head}{below}\n")
 }
 
@@ -141,6 +187,7 @@ fn is_told(report: &Report<'_, '_>) -> bool
 {
     match report {
         Report::Silent => false,
+        Report::Misnamed(_) => true,
         Report::Setting { setting, .. } => setting.is_found(),
         Report::Job(_) | Report::Refused { .. } => true,
     }
@@ -150,6 +197,7 @@ fn is_told(report: &Report<'_, '_>) -> bool
 // many columns to the right.
 fn push_report(
     alloc: Global,
+    look: Look,
     text: &mut String,
     shared: &Shared<'_>,
     column: usize,
@@ -158,10 +206,10 @@ fn push_report(
 ) -> Result<(), AllocError> {
     match report {
         Report::Silent => Ok(()),
-        Report::Setting { .. } => push_setting(text, line),
+        Report::Misnamed(_) | Report::Setting { .. } => push_setting(text, line),
         Report::Job(job) => push_job(alloc, text, shared, job),
         Report::Refused { start, end, .. } => {
-            push_view(text, View::of(line, *start, *end), column)
+            push_view(text, View::of(look, column, line, *start, *end), column)
         }
     }
 }
@@ -251,14 +299,15 @@ struct View<'l> {
 }
 
 impl<'l> View<'l> {
-    // What is shown of a line around a fault.
-    fn of(line: &'l [u8], start: usize, end: usize) -> View<'l> {
+    // What is shown of a line around a fault. It stands so many columns to the right.
+    fn of(look: Look, column: usize, line: &'l [u8], start: usize, end: usize) -> View<'l> {
+        let most = shown_bytes(look, column);
         let (front, from) = line.split_at(start.min(line.len()));
         let (piece, rest) = from.split_at(end.saturating_sub(start).min(from.len()));
         let (_, front) = cut(front, Kind::Blank);
-        let front_at = front_at(front, piece);
+        let front_at = front_at(front, piece, most);
         let (_, front) = front.split_at(front_at);
-        let left = SHOWN_BYTES.saturating_sub(front.len());
+        let left = most.saturating_sub(front.len());
         let (piece, cut_off) = piece.split_at(cut_at(piece, left));
         let left = left.saturating_sub(piece.len());
         let left = if cut_off.is_empty() { left } else { 0 };
@@ -273,11 +322,22 @@ impl<'l> View<'l> {
     }
 }
 
+// How many bytes of a line with a fault are shown at most: so many that the line isn't wider than the others, and its mark stands below it.
+fn shown_bytes(look: Look, column: usize) -> usize {
+    match look.width {
+        Some(width) => {
+            let room = width.saturating_sub(column).saturating_sub(BOTH_LEFT_OUT);
+            room.max(LEAST_SHOWN).min(SHOWN_BYTES)
+        }
+        None => SHOWN_BYTES,
+    }
+}
+
 // From where on the bytes in front of a fault are shown.
-fn front_at(front: &[u8], piece: &[u8]) -> usize
+fn front_at(front: &[u8], piece: &[u8], most: usize) -> usize
     ensures { result ≤ length front.now }
 {
-    if front.len().saturating_add(piece.len()) <= SHOWN_BYTES || front.len() <= BYTES_BEFORE {
+    if front.len().saturating_add(piece.len()) <= most || front.len() <= BYTES_BEFORE {
         return 0;
     }
     cut_at(front, front.len().saturating_sub(BYTES_BEFORE))
@@ -325,6 +385,9 @@ pub(crate) fn push_why(
         Why::Pattern(fault) => write!(text, "{fault}"),
         Why::Crate(refusal) => write!(text, "{refusal}"),
         Why::NotText => text.push_str("a pattern is text in UTF-8"),
+        Why::NoUser => text.push_str(
+            "bad username: no user of this name is known; a user's name stands here, then one blank and the command",
+        ),
     }
 }
 
@@ -342,8 +405,17 @@ fn push_reason(
         Fault::Nickname if is_cut_nickname(piece) => text.push_str(
             "bad time specifier: a carriage return ends the word: save the file with Unix line ends",
         ),
+        Fault::Nickname => push_nickname_reason(text, line, piece),
         _ => text.push_str(reason_of(fault)),
     }
+}
+
+// Why cron refuses a nickname.
+fn push_nickname_reason(text: &mut String, line: &[u8], piece: &[u8]) -> Result<(), AllocError> {
+    if push_nickname_hint(text, line, rest_of(piece))? {
+        return Ok(());
+    }
+    text.push_str(reason_of(Fault::Nickname))
 }
 
 // Why cron refuses a field.
@@ -367,19 +439,24 @@ fn push_field_reason(
         return text.push_str(": cron takes the byte 255 for the end of the file");
     }
     match fault {
-        Fault::Minutes => push_minute_reason(text, line),
+        Fault::Minutes => push_minute_reason(alloc, text, line, piece),
         Fault::Weekdays if takes(alloc, WEEKDAYS, piece)? => {
             text.push_str(said)?;
             text.push_str(
                 ": the command begins with the byte 255, which cron takes for the end of the file",
             )
         }
-        _ => text.push_str(reason_of(fault)),
+        _ => push_hint(alloc, text, fault, line, piece),
     }
 }
 
 // Why cron refuses the first word of a line, which it takes for minutes.
-fn push_minute_reason(text: &mut String, line: &[u8]) -> Result<(), AllocError> {
+fn push_minute_reason(
+    alloc: Global,
+    text: &mut String,
+    line: &[u8],
+    piece: &[u8],
+) -> Result<(), AllocError> {
     let (_, content) = cut(line, Kind::Blank);
     if is_carriage_return(content) {
         return text.push_str(
@@ -391,7 +468,7 @@ fn push_minute_reason(text: &mut String, line: &[u8]) -> Result<(), AllocError> 
         Some([first, ..]) if is_quote(*first) => text.push_str(
             "bad minute: this is no setting to cron: a value that begins with a quote ends with the same one, and only spaces follow",
         ),
-        _ => text.push_str(reason_of(Fault::Minutes)),
+        _ => push_hint(alloc, text, Fault::Minutes, line, piece),
     }
 }
 
@@ -567,7 +644,8 @@ fn push_told(
     }
 }
 
-// A run; how many times the job is started then, where that is more than once; and what it makes up for.
+// A run; the same on the clock of another zone, and how far off it is, where these are told; how many times the job is started then, where
+// that is more than once; and what it makes up for.
 fn push_run(
     text: &mut String,
     shared: &Shared<'_>,
@@ -575,7 +653,9 @@ fn push_run(
     run: &Run<'_>,
 ) -> Result<(), AllocError> {
     text.push_str("\n  ")?;
-    push_clock(text, shared, &run.time)?;
+    push_clock_in(shared.language, text, shared, &run.time)?;
+    push_other_clock(text, shared, run.time.second())?;
+    push_off(text, shared, run.time.second())?;
     if 1 < run.count {
         let count = run.count;
         write!(text, "  {count} times")?;
@@ -583,7 +663,36 @@ fn push_run(
     push_made_up(text, job, run)
 }
 
-// Puts what the zone's clock shows at a run behind a text, and its second.
+// Puts what another zone's clock shows at a second behind a text, if it is to be shown.
+fn push_other_clock(text: &mut String, shared: &Shared<'_>, second: i64) -> Result<(), AllocError> {
+    let (Some(zone), Ok(instant)) = (&shared.other_zone, Timestamp::from_second(second)) else {
+        return Ok(());
+    };
+    let (civil, ahead) = (
+        zone.to_datetime(instant),
+        Ahead {
+            seconds: zone.to_offset(instant).seconds(),
+        },
+    );
+    let (date, time) = (civil.date(), civil.time());
+    write!(text, "  = {date} {time} {ahead}")
+}
+
+// Puts how far off a second is behind a text, if that is to be told.
+fn push_off(text: &mut String, shared: &Shared<'_>, second: i64) -> Result<(), AllocError> {
+    match shared.off_from {
+        Some(from) if from <= second => {
+            let off = Off {
+                language: shared.language,
+                seconds: second.abs_diff(from),
+            };
+            write!(text, "  {off}")
+        }
+        _ => Ok(()),
+    }
+}
+
+// Puts what the zone's clock shows at a run behind a text, and its second. The weekday is in English.
 pub(crate) fn push_clock(
     text: &mut String,
     shared: &Shared<'_>,
@@ -592,8 +701,21 @@ pub(crate) fn push_clock(
     ensures { OnOk result ((said : List ℕ) × IsClockText (plain_zone shared.now.zone) run.now said
         × (string_bytes text.new ≡ string_bytes text.old ++ said)) }
 {
+    push_clock_in(Tongue::English, text, shared, run)
+}
+
+// The same with the weekday in a language.
+fn push_clock_in(
+    language: Tongue,
+    text: &mut String,
+    shared: &Shared<'_>,
+    run: &TableTime<'_>,
+) -> Result<(), AllocError>
+    ensures { OnOk result ((said : List ℕ) × IsClockTextIn language (plain_zone shared.now.zone) run.now said
+        × (string_bytes text.new ≡ string_bytes text.old ++ said)) }
+{
     let shown = ShownSecond {
-        weekday: weekday_text(run.civil_weekday()),
+        weekday: weekday_text(language, run.civil_weekday()),
         civil: run.to_civil(),
         ahead: Ahead {
             seconds: ahead_of(shared, run),
@@ -625,8 +747,17 @@ impl fmt::Display for ShownSecond {
     }
 }
 
-fn weekday_text(weekday: Weekday) -> &'static str
-    ensures { result.now ≡ weekday_text (weekday_index weekday) }
+fn weekday_text(language: Tongue, weekday: Weekday) -> &'static str
+    ensures { result.now ≡ weekday_text language (weekday_index weekday) }
+{
+    match language {
+        Tongue::English => english_weekday(weekday),
+        Tongue::Swedish => swedish_weekday(weekday),
+    }
+}
+
+fn english_weekday(weekday: Weekday) -> &'static str
+    ensures { result.now ≡ english_weekday (weekday_index weekday) }
 {
     match weekday {
         Weekday::Sunday => "Sun",
@@ -636,6 +767,20 @@ fn weekday_text(weekday: Weekday) -> &'static str
         Weekday::Thursday => "Thu",
         Weekday::Friday => "Fri",
         Weekday::Saturday => "Sat",
+    }
+}
+
+fn swedish_weekday(weekday: Weekday) -> &'static str
+    ensures { result.now ≡ swedish_weekday (weekday_index weekday) }
+{
+    match weekday {
+        Weekday::Sunday => "sön",
+        Weekday::Monday => "mån",
+        Weekday::Tuesday => "tis",
+        Weekday::Wednesday => "ons",
+        Weekday::Thursday => "tor",
+        Weekday::Friday => "fre",
+        Weekday::Saturday => "lör",
     }
 }
 

@@ -1,10 +1,13 @@
 //! What was told of lines so far, and the status of a call.
 ghost use Rattle.std.specs.Prelude.{◌≡◌};
+ghost use Rattle.crontab.specs.Entries.{entry_seen};
+ghost use Rattle.croncheck_command.specs.FileSeen.{file_seen};
 ghost use Rattle.croncheck_command.specs.Tally.{one_more, none_counted, counted, is_too_many, is_line_warned, one_more_if, added, with_file, status_of};
 
+use crate::file_seen::{FileSeen, is_late};
 use crate::report::Report;
 use crate::warnings::is_first_too_many;
-use crontab::line::Dialect;
+use crontab::line::{Dialect, Entry};
 
 /// What was told of the lines so far.
 #[derive(Clone, Copy, Default, Drop)]
@@ -35,12 +38,11 @@ impl Tally {
         }
     }
 
-    /// Counts the line behind so many of a file, and whether it has a warning, or is the first that a crontab has too many. No count
-    /// passes 2^64 - 1.
-    pub fn add(&mut self, dialect: Dialect, lines: u64, report: &Report<'_, '_>)
-        ensures { self.new ≡ added dialect lines self.old report.now }
+    /// Counts one more line, and whether it has a warning, or is the first that a crontab has too many. No count passes 2^64 - 1.
+    pub fn add(&mut self, is_too_many: bool, report: &Report<'_, '_>)
+        ensures { self.new ≡ added is_too_many self.old report.now }
     {
-        let is_warned = is_line_warned(dialect, lines, report);
+        let is_warned = is_line_warned(is_too_many, report);
         self.count(report);
         self.warned = one_more_if(is_warned, self.warned);
     }
@@ -53,7 +55,7 @@ impl Tally {
         match report {
             Report::Job(_) => self.jobs = one_more(self.jobs),
             Report::Refused { .. } => self.refused = one_more(self.refused),
-            Report::Silent | Report::Setting { .. } => {}
+            Report::Silent | Report::Misnamed(_) | Report::Setting { .. } => {}
         }
     }
 
@@ -79,19 +81,20 @@ impl Tally {
     }
 }
 
-// Whether the line behind so many of a file is warned of.
-fn is_line_warned(dialect: Dialect, lines: u64, report: &Report<'_, '_>) -> bool
-    ensures { result ≡ is_line_warned dialect lines report.now }
+// Whether a line is warned of, which may be the first that is too many.
+fn is_line_warned(is_too_many: bool, report: &Report<'_, '_>) -> bool
+    ensures { result ≡ is_line_warned is_too_many report.now }
 {
-    report.has_warnings() || is_too_many(dialect, lines)
+    report.has_warnings() || is_too_many
 }
 
-// Whether the line behind so many is the first that a crontab has too many.
-pub(crate) fn is_too_many(dialect: Dialect, lines: u64) -> bool
-    ensures { result ≡ is_too_many dialect lines }
+/// Whether the line behind so many of a file is the first for which cron ignores it as too long.
+pub fn is_too_many(dialect: Dialect, lines: u64, entry: &Entry<'_>, file: &FileSeen) -> bool
+    ensures { result ≡ is_too_many dialect lines (entry_seen entry.now) (file_seen file.now) }
 {
     match dialect {
-        Dialect::User | Dialect::System => is_first_too_many(lines),
+        Dialect::User => is_first_too_many(lines),
+        Dialect::System => !file.has_late() && is_late(one_more(lines), entry),
         Dialect::Patterns => false,
     }
 }

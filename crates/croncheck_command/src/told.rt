@@ -1,23 +1,19 @@
 //! When a job runs, as it is told.
-ghost use Rattle.std.specs.Prelude.{◌≡◌, ◌↔◌, ◌&&◌, ◌≤◌, Ok, pos, int_le, IsTrue, IfOk, IfErr};
+ghost use Rattle.std.specs.Prelude.{◌≡◌, ◌↔◌, ◌&&◌, ◌≤◌, Ok, pos, int_le, IsTrue, IfOk, IfErr, string_bytes};
 ghost use Rattle.croner_base.specs.Limits.{last_year};
 ghost use Rattle.croner_base.specs.Zone.{reading};
 ghost use Rattle.croner_base.specs.TableZone.{table_moment};
-ghost use Rattle.croner_pattern.specs.Description.{description};
 ghost use Rattle.croner_pattern.specs.Schedule.{is_year_matching};
-ghost use Rattle.croner_words.specs.Writes.{Writes};
 ghost use Rattle.croner.specs.Views.{job_of as meaning_of_job};
-ghost use Rattle.croncheck_command.specs.Settings.{wording_of};
-ghost use Rattle.croncheck_command.specs.Told.{NamesNoneFrom, IsPastAt, TellsMeaning, is_over, is_at_end_of_window, is_at_window_end, is_never, is_told_past, is_idle};
+ghost use Rattle.croncheck_command.specs.Told.{IsDescription, summary_language, NamesNoneFrom, IsPastAt, TellsMeaning, is_over, is_at_end_of_window, is_at_window_end, is_never, is_told_past, is_idle};
 
 use crate::runs::{End, Runner, Runs, runs_of, starts_of};
 use crate::settings::{Settings, Tongue};
 use croner::Cron;
-use croner::describe::lang::english::English;
-use croner::describe::lang::swedish::Swedish;
 use croner::errors::CronError;
 use croner::time::table::TableTime;
 use croner::time::{CivilDateTime, CronDateTime};
+use croner_summary::{Summary, SummaryLanguage};
 use crontab_runs::CrontabJob;
 use std::alloc::Global;
 
@@ -33,7 +29,7 @@ pub enum Told<'t> {
     /// At no time, since a field names nothing.
     Nothing,
     Runs {
-        /// The meaning of its times, as a sentence.
+        /// What its times mean, in words, as a line without a full stop: the text of its summary.
         description: String,
         /// Those of a pattern, or what cron starts of a crontab's job.
         runs: Runs<'t>,
@@ -121,7 +117,7 @@ pub(crate) fn told_of<'t>(
     ensures told { IfOk result (TellsMeaning settings.now Runner.Croner (Ok (meaning_of_job job.now))) }
     ensures err { IfErr result (λ e. e ≡ CronError.OutOfMemory) }
 {
-    let description = description_of(job, settings.language)?;
+    let description = description_of(alloc, job, settings.language)?;
     let runs = runs_of(
         alloc,
         job,
@@ -146,7 +142,7 @@ pub(crate) fn told_of_crontab<'t>(
     ensures told { IfOk result (TellsMeaning settings.now (Runner.Cron job.now.is_starred) (Ok (meaning_of_job job.now.cron))) }
     ensures err { IfErr result (λ e. e ≡ CronError.OutOfMemory) }
 {
-    let description = description_of(&job.cron, settings.language)?;
+    let description = description_of(alloc, &job.cron, settings.language)?;
     let runs = starts_of(
         alloc,
         job,
@@ -162,12 +158,22 @@ pub(crate) fn told_of_crontab<'t>(
     })
 }
 
-fn description_of(job: &Cron, language: Tongue) -> Result<String, CronError>
-    ensures { Writes (description (wording_of language) (meaning_of_job job.now)) result }
+// What a job's times mean, in the words of a language.
+fn description_of(alloc: Global, job: &Cron, language: Tongue) -> Result<String, CronError>
+    ensures told { IfOk result (λ text. IsDescription language (meaning_of_job job.now) (string_bytes text)) }
+    ensures err { IfErr result (λ e. e ≡ CronError.OutOfMemory) }
+{
+    let summary = Summary::of(alloc, job)?;
+    summary.text(alloc, &summary_language(language))
+}
+
+// The language in which a summary is told.
+fn summary_language(language: Tongue) -> SummaryLanguage
+    ensures { result ≡ summary_language language }
 {
     match language {
-        Tongue::English => job.describe_lang(English),
-        Tongue::Swedish => job.describe_lang(Swedish),
+        Tongue::English => SummaryLanguage::English,
+        Tongue::Swedish => SummaryLanguage::Swedish,
     }
 }
 

@@ -2,7 +2,7 @@
 ghost use Rattle.std.specs.Prelude.{◌≡◌, IfOk, IfErr, filter, length, ◌++◌, ◌&&◌, false, option_map};
 ghost use Rattle.croner.specs.Views.{job_of as meaning_of_job};
 ghost use Rattle.crontab.specs.Bytes.{begins_with};
-ghost use Rattle.croncheck_command.specs.Warnings.{is_either_day, is_whole_hour, has_short_months, has_uneven_step, has_step_beyond, has_hours_in_range, is_last_field, has_command_within, has_hidden_field, has_empty_items, has_no_command, looks_like_field, begins_with_root, has_sixth_field, has_no_user, has_percent, is_continued, has_carriage_return, are_many_lines, is_first_too_many, is_some_so, behind_times, holds, all_warnings, fields_seen, subject_seen};
+ghost use Rattle.croncheck_command.specs.Warnings.{is_either_day, is_whole_hour, has_short_months, has_uneven_step, has_step_beyond, has_hours_in_range, is_last_field, has_command_within, has_hidden_field, has_empty_items, has_no_command, looks_like_field, begins_with_root, has_sixth_field, has_no_user, has_percent, is_continued, has_carriage_return, are_many_lines, is_first_too_many, is_behind_last, is_some_so, behind_times, holds, all_warnings, fields_seen, subject_seen};
 ghost use Rattle.croncheck_command.specs.Hidden.{has_hidden, has_hidden_within};
 ghost use Rattle.croncheck_command.specs.Warnings as Spec;
 
@@ -24,8 +24,11 @@ pub use sides::{Dates, Month, Sides, dates_in_month_of, month_of, sides_of};
 use std::alloc::Global;
 pub use texts::push_warning_text;
 
-/// The most lines that cron takes.
+/// The most lines that `crontab` takes of a user's crontab.
 const MOST_LINES: u64 = 10_000;
+
+/// The last line at which cron takes a job or a setting of a crontab of the system.
+const LAST_LINE_TAKEN: u64 = 10_003;
 
 /// What is to be said of a job or a pattern. Its [`name`](Warning::name) and [`text`](Warning::text) say it in words.
 #[derive(Clone, Copy, Drop)]
@@ -84,7 +87,7 @@ pub enum OtherWarning {
     NoZone,
     /// The setting's value has what cron takes as it stands, and a shell doesn't.
     NotExpanded,
-    /// The file has more than 10,000 lines.
+    /// The file is longer than cron takes it.
     ManyLines,
 }
 
@@ -510,16 +513,23 @@ fn has_carriage_return(command: Option<&[u8]>) -> bool
     }
 }
 
-/// Whether a crontab of so many lines has more than cron takes.
+/// Whether a user's crontab of so many lines has more than `crontab` takes.
 pub fn are_many_lines(lines: u64) -> bool
     ensures { result ≡ are_many_lines lines }
 {
     MOST_LINES < lines
 }
 
-/// Whether the line behind so many of a crontab is the first that cron doesn't take.
+/// Whether the line behind so many of a user's crontab is the first that is too many.
 pub fn is_first_too_many(lines: u64) -> bool
     ensures { result ≡ is_first_too_many lines }
 {
     lines == MOST_LINES
+}
+
+/// Whether the line of a number stands behind the last one at which cron takes a job or a setting of a crontab of the system.
+pub fn is_behind_last(number: u64) -> bool
+    ensures { result ≡ is_behind_last number }
+{
+    LAST_LINE_TAKEN < number
 }

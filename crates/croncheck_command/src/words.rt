@@ -5,6 +5,7 @@ ghost use Rattle.croncheck_command.specs.Words.{IsInRange, TellsRuns};
 
 mod options;
 
+use crate::allowed::{ALLOWABLE, nearest_to};
 use crate::escaped::push_shown;
 use crate::moment::{Moment, read_moment};
 use crate::names::{Asked, Places, STANDARD_INPUT, asked_at, asked_files, last_before};
@@ -12,6 +13,7 @@ use crate::settings::Tongue;
 use clap::ArgMatches;
 use clap::error::ErrorKind;
 use croner::parser::{CronParser, Seconds, Year};
+use jiff::civil::Date;
 use options::{program, verb_of, verbs_with};
 use std::alloc::{AllocError, Global};
 
@@ -23,13 +25,23 @@ pub const USAGE: &str =
 const VERSION: &str = "0.4.0, patterns of croner 4.0.3
 MIT licence, in the file LICENSE";
 
-/// How the options of moments are written.
-const FROM: &str = "--from <DATETIME|@SECONDS|now>";
+/// The version of this program.
+pub fn version() -> &'static str {
+    VERSION.split(',').next().unwrap_or(VERSION)
+}
 
-const UNTIL: &str = "--until <DATETIME|@SECONDS>";
+/// How the options of moments are written.
+const FROM: &str = "--from <DATETIME|DATE|@SECONDS|now>";
+
+const UNTIL: &str = "--until <DATETIME|DATE|@SECONDS|now>";
 
 /// The most runs of a line that are asked for.
 const MOST_RUNS: u32 = 1_000;
+
+/// The least and the greatest width of lines.
+pub const LEAST_WIDTH: usize = 20;
+
+pub const MOST_WIDTH: usize = 1_000;
 
 /// How many runs of a line are searched where none is told: the first, whose month is that of the days which `either-day` tells.
 const CHECKED_RUNS: u32 = 1;
@@ -38,7 +50,13 @@ const CHECKED_RUNS: u32 = 1;
 const NO_ZONE: &str = "UTC0";
 
 /// How the word of a moment is written.
-const MOMENT_FORM: &str = "write 2024-10-27T00:00:00 or @1729980000";
+const MOMENT_FORM: &str = "write 2024-10-27T00:00:00, 2024-10-27, @1729980000 or now";
+
+/// What is told of a date that the calendar hasn't.
+const NO_DATE: &str = "there is no such date: look at its month and its day";
+
+/// How many bytes the form of a date has.
+const DATE_LENGTH: usize = 10;
 
 /// The place of standard input where no file is named: it stands behind all words.
 const BEHIND_ALL: usize = usize::MAX;
@@ -53,6 +71,8 @@ pub struct Call<'w> {
     pub verb: Verb,
     /// `local`, a POSIX rule, or the name of a zone. UTC with [`Verb::Describe`].
     pub zone: &'w str,
+    /// The same of the zone whose clock is shown too, if there is one. Only with [`Verb::Show`] and [`Verb::Next`], in texts.
+    pub show_zone: Option<&'w str>,
     /// Where runs are listed from.
     pub from: Moment,
     /// One run with [`Verb::Check`], and none with [`Verb::Describe`], which tell none.
@@ -62,10 +82,17 @@ pub struct Call<'w> {
     pub language: Tongue,
     /// The form in which is told. Only with [`Verb::Check`]; [`Verb::Show`] has texts and JSON alone.
     pub format: Format,
+    /// How wide lines are on a terminal, if the words say that.
+    pub width: Option<usize>,
+    pub color: Color,
     /// The status is 1 where a line has a warning, too. Only with these two.
     pub is_strict: bool,
     /// Each job is compared with those before it. Only with these two.
     pub compares_jobs: bool,
+    /// The names of warnings that are allowed. Only with these two.
+    pub allowed: Vec<&'w str>,
+    /// The file of the users that there are, if one is named. Only with those two and [`Verb::Plan`].
+    pub users: Option<&'w str>,
     /// The files, in order: standard input where none is named. None with [`Verb::Next`] and [`Verb::Describe`].
     pub files: Vec<Asked<'w>>,
     /// The patterns, with these two alone.
@@ -96,8 +123,19 @@ pub enum Format {
     Gcc,
     /// A command of a GitHub workflow for each finding.
     Github,
+    /// One object of SARIF with all findings.
+    Sarif,
     /// An object for each line.
     Json,
+}
+
+/// Where texts have colours.
+#[derive(Clone, Copy, Drop)]
+pub enum Color {
+    /// On a terminal, unless the environment's `NO_COLOR` says otherwise.
+    Auto,
+    Always,
+    Never,
 }
 
 /// Up to where runs are listed.
@@ -216,16 +254,51 @@ fn call_of<'w>(alloc: Global, verb: Verb, matches: &ArgMatches<'w>) -> Result<Ca
     Ok(Call {
         verb,
         zone: matches.get_str("zone").unwrap_or(NO_ZONE),
+        show_zone: matches.get_str("show-zone"),
         from,
         span,
         parser: parser(matches),
         language: language(matches),
         format: format_of(matches),
+        width: width(alloc, matches)?,
+        color: color_asked(matches),
         is_strict: matches.get_flag("strict"),
         compares_jobs: matches.get_flag("same-job"),
+        allowed: allowed(alloc, matches)?,
+        users: matches.get_str("users"),
         files,
         patterns: patterns(alloc, matches)?,
     })
+}
+
+// The names of warnings that are allowed.
+fn allowed<'w>(alloc: Global, matches: &ArgMatches<'w>) -> Result<Vec<&'w str>, NoCall> {
+    let mut names = Vec::new(alloc);
+    if let Some(given) = matches.get_strs("allow") {
+        for name in given {
+            if !ALLOWABLE.contains(name) {
+                return Err(not_allowed(alloc, name));
+            }
+        }
+        names.extend_from_slice(given)?;
+    }
+    Ok(names)
+}
+
+// What is told of a name that no warning has which may be allowed.
+fn not_allowed(alloc: Global, name: &str) -> NoCall {
+    told_misuse(not_allowed_text(alloc, name))
+}
+
+fn not_allowed_text(alloc: Global, name: &str) -> Result<String, AllocError> {
+    let nearest = nearest_to(alloc, name.as_bytes())?;
+    let mut text = String::from_str(alloc, "error: invalid value '")?;
+    push_shown(&mut text, name.as_bytes())?;
+    write!(
+        &mut text,
+        "' for '--allow <NAME,..>': no warning that may be allowed has this name; the nearest is {nearest}\n"
+    )?;
+    Ok(text)
 }
 
 // The patterns.
@@ -337,7 +410,6 @@ fn read_span(alloc: Global, matches: &ArgMatches<'_>) -> Result<Span, NoCall>
     ensures { IfOk result IsInRange }
 {
     match matches.get_str("until") {
-        Some("now") => Err(misused(alloc, UNTIL, "now", MOMENT_FORM)),
         Some(word) => {
             let until = moment(alloc, UNTIL, word)?;
             Ok(Span::Until(until))
@@ -363,7 +435,38 @@ fn moment(alloc: Global, option: &str, word: &str) -> Result<Moment, NoCall>
 {
     match read_moment(alloc, word)? {
         Some(moment) => Ok(moment),
-        None => Err(misused(alloc, option, word, MOMENT_FORM)),
+        None => Err(misused(alloc, option, word, form_of_moment(word))),
+    }
+}
+
+// What is told of a word that names no moment: that the date doesn't exist, where it has the form of one.
+fn form_of_moment(word: &str) -> &'static str {
+    let date = word.split('T').next().unwrap_or(word);
+    if has_form_of_date(date.as_bytes()) && date.parse::<Date>().is_err() {
+        NO_DATE
+    } else {
+        MOMENT_FORM
+    }
+}
+
+// Whether a text has the form `YYYY-MM-DD`, of any digits.
+fn has_form_of_date(text: &[u8]) -> bool {
+    if text.len() != DATE_LENGTH {
+        return false;
+    }
+    for k in 0..DATE_LENGTH {
+        if !fits_at(k, text[k]) {
+            return false;
+        }
+    }
+    true
+}
+
+// Whether a byte may stand at a place of that form.
+fn fits_at(place: usize, byte: u8) -> bool {
+    match place {
+        4 | 7 => byte == b'-',
+        _ => byte.is_ascii_digit(),
     }
 }
 
@@ -386,8 +489,28 @@ fn format_of(matches: &ArgMatches<'_>) -> Format {
     match matches.get_str("format") {
         Some("gcc") => Format::Gcc,
         Some("github") => Format::Github,
+        Some("sarif") => Format::Sarif,
         Some("json") => Format::Json,
         _ => Format::Text,
+    }
+}
+
+// How wide lines are, if a word says that.
+fn width(alloc: Global, matches: &ArgMatches<'_>) -> Result<Option<usize>, NoCall> {
+    match matches.get_str("width") {
+        Some(word) => match word.parse::<usize>() {
+            Ok(width) if LEAST_WIDTH <= width && width <= MOST_WIDTH => Ok(Some(width)),
+            _ => Err(misused(alloc, "--width <N>", word, "write a number from 20 to 1000")),
+        },
+        None => Ok(None),
+    }
+}
+
+fn color_asked(matches: &ArgMatches<'_>) -> Color {
+    match matches.get_str("color") {
+        Some("always") => Color::Always,
+        Some("never") => Color::Never,
+        _ => Color::Auto,
     }
 }
 

@@ -21,10 +21,6 @@ pub record IsInYears (c : Change) : Type 0 where
   pub after_from : (first_searched +ℤ pos seconds_beside) ≤ℤ c.after
   pub after_to : (c.after +ℤ pos seconds_beside) ≤ℤ year_5000
 
--- so many minutes from 1970 no clock shows
-abbrev pub far_minutes : ℕ
-far_minutes = 100_000_000_000
-
 -- nothing is scheduled there
 abbrev pub IsNoneIn : Meaning → Range → Change → Type 0
 IsNoneIn m range c = (w : ℤ) → LiesIn range c w → ¬ (IsScheduled m w)

@@ -2,7 +2,7 @@
 ghost use Rattle.std.specs.Prelude.{◌≡◌, ◌↔◌, IsTrue};
 ghost use Rattle.croner_base.specs.TableZone.{table_moment};
 ghost use Rattle.croner.specs.Views.{job_of};
-ghost use Rattle.croncheck_command.specs.Changes.{IsDueBeside, is_within_a_date, is_harmed, is_warned, has_warning, are_warned, TellsFirst, AreMeetings, none_met};
+ghost use Rattle.croncheck_command.specs.Changes.{IsDueBeside, is_within_a_date, is_harmed, is_pause, is_warned, has_warning, are_warned, TellsFirst, AreMeetings, none_met};
 ghost use Rattle.croncheck_command.specs.Private.Level.{TellsDueBeside};
 ghost use Rattle.croncheck_command.specs.Private.Met.{IsInYears};
 
@@ -60,18 +60,20 @@ fn has_warning(met: &Option<Met>) -> bool
 }
 
 impl Met {
-    /// Whether there is a warning of it: the clock is moved by less than twelve hours, a run is left out or made twice, and the job isn't due
-    /// beside the range.
+    /// Whether there is a warning of it: the clock is moved by less than twelve hours, and a run is left out or made twice, with the job not due
+    /// beside the range, or the job pauses.
     pub fn is_warned(&self) -> bool
         ensures { result ≡ is_warned self.now }
     {
-        is_within_a_date(self.meeting.change) && is_harmed(self.meeting.fate) && !self.is_due_beside
+        let fate = self.meeting.fate;
+        is_within_a_date(self.meeting.change)
+            && (fate.is_pause() || is_harmed(fate) && !self.is_due_beside)
     }
 }
 
 impl Changes<'_> {
     /// What is told of these changes to a job, by what runs it: of the first that skips one of its scheduled seconds, and of the first that shows
-    /// one twice. A job whose hours are all named is told nothing.
+    /// one twice. A job whose hours are all named is told of the latter alone, and where cron makes it pause.
     pub fn meetings_of(&self, job: &Cron, runner: Runner) -> Meetings
         ensures { AreMeetings self.now.start runner (job_of job.now) result }
     {
@@ -123,12 +125,24 @@ fn is_within_a_date(change: Change) -> bool
     change.before.abs_diff(change.after) < SECONDS_PER_HALF_DAY
 }
 
-// Whether a run is left out or made twice.
+impl Fate {
+    /// Whether the job pauses: all its hours are named, so that it makes no difference that it is due beside the range.
+    pub(crate) fn is_pause(self) -> bool
+        ensures { result ≡ is_pause self }
+    {
+        match self {
+            Fate::Paused => true,
+            Fate::LeftOut | Fate::Moved | Fate::Once | Fate::Twice => false,
+        }
+    }
+}
+
+// Whether a run is left out or made twice, or the job pauses.
 fn is_harmed(fate: Fate) -> bool
     ensures { result ≡ is_harmed fate }
 {
     match fate {
-        Fate::LeftOut | Fate::Twice => true,
+        Fate::LeftOut | Fate::Twice | Fate::Paused => true,
         Fate::Moved | Fate::Once => false,
     }
 }

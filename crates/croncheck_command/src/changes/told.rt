@@ -9,10 +9,11 @@ use std::alloc::AllocError;
 impl Meeting {
     /// The name of the warning: `gap` or `twice`.
     pub fn name(&self) -> &'static str
-        ensures { result.now ≡ name_of self.now.range }
+        ensures { result.now ≡ name_of self.now.range self.now.fate }
     {
         match self.range {
             Range::Gap => "gap",
+            Range::Repeated if self.fate.is_pause() => "gap",
             Range::Repeated => "twice",
         }
     }
@@ -36,7 +37,7 @@ impl Meeting {
                 push_date(text, self.second)?;
                 text.push_str(" not at ")?;
             }
-            Fate::Once => {
+            Fate::Once | Fate::Paused => {
                 push_date(text, self.second)?;
                 text.push_str(" once, at the first ")?;
             }
@@ -79,6 +80,9 @@ fn push_fate(text: &mut String, second: i64, fate: Fate) -> Result<(), AllocErro
         Fate::LeftOut => ", is left out. Name an hour that isn't skipped, if it may not be missed.",
         Fate::Moved => ", runs as soon as the clock has gone on.",
         Fate::Once => ", runs the first time alone.",
+        Fate::Paused => {
+            ", runs the first time alone: nothing is started while the clock shows these minutes again. Write * for the hours, if that does harm."
+        }
         Fate::Twice => ", runs twice. Name an hour that comes once, if that does harm.",
     })
 }

@@ -4,8 +4,7 @@ ghost use Rattle.croncheck_command.specs.FileSeen.{file_seen};
 ghost use Rattle.croncheck_command.specs.Findings.{finding_said, findings_said, reason, said_if, findings_of_crontab, findings_of_lines, file_name, findings_of_file, last_line};
 
 use super::{Extent, Finding, Severity};
-use crate::file_seen::FileSeen;
-use crate::warnings::are_many_lines;
+use crate::file_seen::{FileSeen, many_lines_text};
 use crontab::line::Dialect;
 use std::alloc::{AllocError, Global};
 
@@ -62,16 +61,17 @@ fn findings_of_lines(
 {
     match dialect {
         Dialect::Patterns => Ok(Vec::new(alloc)),
-        Dialect::User | Dialect::System => findings_of_crontab(alloc, lines, file),
+        Dialect::User | Dialect::System => findings_of_crontab(alloc, dialect, lines, file),
     }
 }
 
 fn findings_of_crontab(
     alloc: Global,
+    dialect: Dialect,
     lines: u64,
     file: &FileSeen,
 ) -> Result<Vec<Finding>, AllocError>
-    ensures { IfOk result (λ found. findings_said found.items ≡ findings_of_crontab lines (file_seen file.now)) }
+    ensures { IfOk result (λ found. findings_said found.items ≡ findings_of_crontab dialect lines (file_seen file.now)) }
 {
     let mut found = Vec::new(alloc);
     push_if(
@@ -91,9 +91,9 @@ fn findings_of_crontab(
     push_if(
         alloc,
         &mut found,
-        are_many_lines(lines),
+        file.has_many_lines(dialect, lines),
         "many-lines",
-        "it has more than 10000 lines",
+        many_lines_text(dialect),
     )?;
     Ok(found)
 }

@@ -5,6 +5,7 @@ ghost use Rattle.croncheck_command.specs.Reported.{IsTextOfFound, IsFinding};
 use super::below::below;
 use super::{Place, View, push_head, push_setting, push_view, text_of_place};
 use crate::findings::{Finding, findings_of};
+use crate::look::Look;
 use crate::report::Report;
 use std::alloc::{AllocError, Global};
 use unicode_width::UnicodeWidthStr;
@@ -16,50 +17,53 @@ use unicode_width::UnicodeWidthStr;
 #[tactic(auto, using(crate::proofs::Found::is_finding))]
 pub fn finding_of(
     alloc: Global,
+    look: Look,
     place: Place<'_>,
     line: &[u8],
     report: &Report<'_, '_>,
 ) -> Result<String, AllocError>
-    ensures { IfOk result (λ text. IsFinding place.entry.file.now place.entry.line line.now report.now (string_bytes text)) }
+    ensures { IfOk result (λ text. IsFinding look place.entry.file.now place.entry.line line.now report.now (string_bytes text)) }
 {
     let found = findings_of(alloc, line, report)?;
-    text_of_found(alloc, place, line, report, found.as_slice())
+    text_of_found(alloc, look, place, line, report, found.as_slice())
 }
 
 // The text of findings of a line.
 #[tactic(auto, using(crate::proofs::Found::some_text, crate::proofs::Found::no_text))]
 fn text_of_found(
     alloc: Global,
+    look: Look,
     place: Place<'_>,
     line: &[u8],
     report: &Report<'_, '_>,
     found: &[Finding],
 ) -> Result<String, AllocError>
-    ensures { IfOk result (λ text. IsTextOfFound place.entry.file.now place.entry.line found.now (string_bytes text)) }
+    ensures { IfOk result (λ text. IsTextOfFound look place.entry.file.now place.entry.line found.now (string_bytes text)) }
 {
     let mut head = String::new(alloc);
     if found.is_empty() {
         return Ok(head);
     }
     let place = text_of_place(alloc, place)?;
-    push_line(&mut head, place.as_str().width(), line, report)?;
-    let below = below(alloc, found)?;
+    push_line(&mut head, look, place.as_str().width(), line, report)?;
+    let below = below(alloc, look, found)?;
     format!(in alloc; "{place}{head}{below}\n")
 }
 
 // Puts a line of which something is found into an empty text. It stands so many columns to the right.
 fn push_line(
     text: &mut String,
+    look: Look,
     column: usize,
     line: &[u8],
     report: &Report<'_, '_>,
 ) -> Result<(), AllocError> {
     match report {
         Report::Silent => Ok(()),
-        Report::Setting { .. } => push_setting(text, line),
+        Report::Misnamed(_) | Report::Setting { .. } => push_setting(text, line),
         Report::Job(job) => push_head(text, job),
         Report::Refused { start, end, .. } => {
-            push_view(text, View::of(line, *start, *end), column)
+            push_view(text, View::of(look, column, line, *start, *end), column)
         }
     }
 }

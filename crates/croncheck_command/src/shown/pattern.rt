@@ -5,6 +5,7 @@ ghost use Rattle.croncheck_command.specs.Shown.{AreLines};
 use super::below::push_below;
 use super::{Shared, push_head, push_report};
 use crate::findings::findings_of;
+use crate::look::Look;
 use crate::report::{JobReport, Report};
 use crate::told::Told;
 use std::alloc::{AllocError, Global};
@@ -15,6 +16,7 @@ use std::alloc::{AllocError, Global};
 /// The error comes where memory is lacking.
 pub fn runs_text(
     alloc: Global,
+    look: Look,
     shared: &Shared<'_>,
     pattern: &[u8],
     report: &Report<'_, '_>,
@@ -22,7 +24,7 @@ pub fn runs_text(
     ensures { IfOk result (λ text. AreLines (string_bytes text)) }
 {
     let mut text = String::new(alloc);
-    push_found(alloc, &mut text, shared, pattern, report)?;
+    push_found(alloc, look, &mut text, shared, pattern, report)?;
     text.push('\n')?;
     Ok(text)
 }
@@ -30,6 +32,7 @@ pub fn runs_text(
 /// The same of what it means alone, or why it is refused.
 pub fn description_text(
     alloc: Global,
+    look: Look,
     shared: &Shared<'_>,
     pattern: &[u8],
     report: &Report<'_, '_>,
@@ -39,8 +42,8 @@ pub fn description_text(
     let mut text = String::new(alloc);
     match report {
         Report::Job(job) => push_description(&mut text, job)?,
-        Report::Silent | Report::Setting { .. } | Report::Refused { .. } => {
-            push_found(alloc, &mut text, shared, pattern, report)?;
+        Report::Silent | Report::Misnamed(_) | Report::Setting { .. } | Report::Refused { .. } => {
+            push_found(alloc, look, &mut text, shared, pattern, report)?;
         }
     }
     text.push('\n')?;
@@ -50,14 +53,15 @@ pub fn description_text(
 // What is told of a pattern, and what is found of it, in an empty text.
 fn push_found(
     alloc: Global,
+    look: Look,
     text: &mut String,
     shared: &Shared<'_>,
     pattern: &[u8],
     report: &Report<'_, '_>,
 ) -> Result<(), AllocError> {
-    push_report(alloc, text, shared, 0, pattern, report)?;
+    push_report(alloc, look, text, shared, 0, pattern, report)?;
     let found = findings_of(alloc, pattern, report)?;
-    push_below(alloc, text, found.as_slice())
+    push_below(alloc, look, text, found.as_slice())
 }
 
 // A pattern and its description.

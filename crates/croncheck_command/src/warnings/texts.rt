@@ -229,4 +229,4 @@ const OTHER_NAME: &str =
     "The name is one of another field, and its number counts here: `MON` among months is January. Write the number, or a name of this field.";
 
 const MANY_LINES: &str =
-    "The file has more than 10,000 lines, so cron ignores it. Write fewer lines.";
+    "The file is longer than cron takes it, so cron ignores it. Write fewer lines.";

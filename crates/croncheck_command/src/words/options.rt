@@ -10,7 +10,7 @@ const ABOUT: &str =
     "Checks crontabs as Debian's cron reads them, and says when their jobs and patterns run";
 
 const AFTER_HELP: &str =
-    "DATETIME is YYYY-MM-DDTHH:MM:SS on the zone's clock, SECONDS are since 1970-01-01T00:00:00 UTC.
+    "DATETIME is YYYY-MM-DDTHH:MM:SS on the zone's clock, DATE is YYYY-MM-DD, SECONDS are since 1970-01-01T00:00:00 UTC.
 With no FILE, or where FILE is -, standard input is read. Without a command, check is meant; a command stands in front of its options, and each tells of them with --help. A FILE that has the name of a command is written with its folder, as ./show.
 
 Status: 0 all jobs were read, 1 a line is refused or cron ignores a whole file (or a line has a warning, with --strict), 2 the words are not of this form, 3 a file, the zone or the output failed.";
@@ -48,8 +48,11 @@ pub(super) fn verbs_with(option: &str) -> Option<&'static str> {
     match option {
         "--zone" | "--from" => Some("check, show, plan and next"),
         "--runs" | "--until" => Some("show, plan and next"),
-        "--json" | "--strict" | "--same-job" => Some("check and show"),
-        "--system" | "--user" | "--patterns" | "--stdin-name" => Some("check, show and plan"),
+        "--show-zone" => Some("show and next"),
+        "--json" | "--strict" | "--same-job" | "--allow" | "--ignore" => Some("check and show"),
+        "--system" | "--user" | "--patterns" | "--stdin-name" | "--users" => Some(
+            "check, show and plan",
+        ),
         "--language" => Some("check, show, next and describe"),
         _ => None,
     }
@@ -114,6 +117,7 @@ fn with_checking<'w>(alloc: Global, command: Command<'w>) -> Result<Command<'w>,
     let command = with_kinds(alloc, command)?;
     let command = with_language(alloc, command)?;
     let command = with_settings_of_files(alloc, command)?;
+    let command = with_look(alloc, command)?;
     with_files(alloc, command)
 }
 
@@ -121,10 +125,10 @@ fn with_checking<'w>(alloc: Global, command: Command<'w>) -> Result<Command<'w>,
 fn with_format<'w>(alloc: Global, command: Command<'w>) -> Result<Command<'w>, AllocError> {
     let format = value(alloc, "format", "FORM")
         .short('f')
-        .value_parser(["text", "gcc", "github", "json"].as_slice())
+        .value_parser(["text", "gcc", "github", "sarif", "json"].as_slice())
         .default_value("text")
         .help(
-            "How findings are told: as texts, or one a line as compilers or GitHub workflows have them, or as JSON",
+            "How findings are told: as texts, or one a line as compilers or GitHub workflows have them, or as one object of SARIF, or as JSON",
         )
         .conflicts_with("json");
     add(command, format)
@@ -136,6 +140,7 @@ fn show<'w>(alloc: Global) -> Result<Command<'w>, AllocError> {
         .after_help(AFTER_HELP);
     let command = with_clock(alloc, command)?;
     let command = with_span(alloc, command, "How many runs of each line, 0 to 1000")?;
+    let command = with_show_zone(alloc, command)?;
     let command = with_output(
         alloc,
         command,
@@ -144,6 +149,7 @@ fn show<'w>(alloc: Global) -> Result<Command<'w>, AllocError> {
     let command = with_kinds(alloc, command)?;
     let command = with_language(alloc, command)?;
     let command = with_settings_of_files(alloc, command)?;
+    let command = with_look(alloc, command)?;
     with_files(alloc, command)
 }
 
@@ -159,6 +165,7 @@ fn plan<'w>(alloc: Global) -> Result<Command<'w>, AllocError> {
     )?;
     let command = with_kinds(alloc, command)?;
     let command = with_settings_of_files(alloc, command)?;
+    let command = with_look(alloc, command)?;
     with_files(alloc, command)
 }
 
@@ -168,8 +175,10 @@ fn next<'w>(alloc: Global) -> Result<Command<'w>, AllocError> {
         .after_help(AFTER_PATTERNS);
     let command = with_clock(alloc, command)?;
     let command = with_span(alloc, command, "How many runs of each pattern, 0 to 1000")?;
+    let command = with_show_zone(alloc, command)?;
     let command = with_language(alloc, command)?;
     let command = with_settings(alloc, command)?;
+    let command = with_look(alloc, command)?;
     with_patterns(alloc, command)
 }
 
@@ -179,6 +188,7 @@ fn describe<'w>(alloc: Global) -> Result<Command<'w>, AllocError> {
         .after_help(AFTER_PATTERNS);
     let command = with_language(alloc, command)?;
     let command = with_settings(alloc, command)?;
+    let command = with_look(alloc, command)?;
     with_patterns(alloc, command)
 }
 
@@ -211,9 +221,11 @@ fn with_clock<'w>(alloc: Global, command: Command<'w>) -> Result<Command<'w>, Al
                 .help("The zone: by its name, as a POSIX rule, or the machine's"),
         )?
         .arg(
-            value(alloc, "from", "DATETIME|@SECONDS|now")
+            value(alloc, "from", "DATETIME|DATE|@SECONDS|now")
                 .default_value("now")
-                .help("Looks at runs from here on, this second left out"),
+                .help(
+                    "Looks at runs from here on, this second left out; a date with its first second",
+                ),
         )
 }
 
@@ -225,10 +237,16 @@ fn with_span<'w>(
     let command = command.arg(value(alloc, "runs", "N").default_value("3").help(runs))?;
     add(
         command,
-        value(alloc, "until", "DATETIME|@SECONDS")
-            .help("In place of --runs: all runs up to here")
+        value(alloc, "until", "DATETIME|DATE|@SECONDS|now")
+            .help("In place of --runs: all runs up to here; of a date to its end")
             .conflicts_with("runs"),
     )
+}
+
+fn with_show_zone<'w>(alloc: Global, command: Command<'w>) -> Result<Command<'w>, AllocError> {
+    command.arg(value(alloc, "show-zone", "NAME|RULE|local").help(
+        "A second zone: beside each run stands what its clock shows then",
+    ))
 }
 
 fn with_output<'w>(
@@ -236,12 +254,26 @@ fn with_output<'w>(
     command: Command<'w>,
     json: &'w str,
 ) -> Result<Command<'w>, AllocError> {
-    command
+    let command = command
         .arg(flag(alloc, "json").help(json))?
         .arg(flag(alloc, "strict").help("A warning makes the status 1, as a refused line does"))?
         .arg(flag(alloc, "same-job").help(
             "Warns of a job that is the same as an earlier one; takes memory in proportion to the jobs",
-        ))
+        ))?;
+    add(command, allow(alloc))
+}
+
+// The names of warnings that are allowed.
+fn allow<'w>(alloc: Global) -> Result<Arg<'w>, AllocError> {
+    Arg::new(alloc, "allow")
+        .long("allow")
+        .value_name("NAME,..")
+        .action(ArgAction::Append)
+        .value_delimiter(',')
+        .help(
+            "Takes away the warnings of these names; a comment '# croncheck: allow NAME,..' above a line does it for that line",
+        )
+        .alias("ignore")
 }
 
 fn with_kinds<'w>(alloc: Global, command: Command<'w>) -> Result<Command<'w>, AllocError> {
@@ -257,6 +289,9 @@ fn with_kinds<'w>(alloc: Global, command: Command<'w>) -> Result<Command<'w>, Al
         ))?
         .arg(value(alloc, "stdin-name", "NAME").help(
             "The name of standard input: it is told under this name, and read as a file of this name",
+        ))?
+        .arg(value(alloc, "users", "FILE").help(
+            "The users there are, as /etc/passwd has them: a job of another one is refused, as cron does",
         ))
 }
 
@@ -276,6 +311,20 @@ fn with_language<'w>(alloc: Global, command: Command<'w>) -> Result<Command<'w>,
             .default_value("en")
             .help("The language of descriptions"),
     )
+}
+
+// With how texts are shown.
+fn with_look<'w>(alloc: Global, command: Command<'w>) -> Result<Command<'w>, AllocError> {
+    command
+        .arg(value(alloc, "width", "N").help(
+            "How wide lines are on a terminal, 20 to 1000; else as COLUMNS says, and else 80",
+        ))?
+        .arg(
+            value(alloc, "color", "WHEN")
+                .value_parser(["auto", "always", "never"].as_slice())
+                .default_value("auto")
+                .help("Whether texts have colours; auto: on a terminal, where NO_COLOR isn't set"),
+        )
 }
 
 // ---- the settings of the parser of patterns

@@ -12,7 +12,7 @@ returns-clause-told c =
       m,
       refl,
       record {
-        described = c.in_ok-description.ensures;
+        described = c.in_ok-description.ensures.told;
         listed = subst (λ (last : Option ℤ). IsListed (starts_listed (cron_job_of c.args.job.now) (start_of s)) last s.listing c.in_ok-runs.runs) c.last.ensures c.in_ok-runs.ensures.listed;
         past = c.is_past-is_past.ensures;
       },

@@ -42,11 +42,11 @@ returns-in-Some c =
     let item = get_or read n nothing in
     let inside : n < length items = subst (λ (xs : List Change). n < length xs) same c.loop-change-test.true in
     let fits : FitsSigned w64 c.in-Some.second = search rules in
-    let met = first_meets z me.start.second m c.args.range items n item c.in-Some.second (sym c.if-names_all_hours.ensures) me.all c.loop-change.invariant inside
+    let met = first_meets z me.start.second c.args.runner m c.args.range items n item c.in-Some.second (sym c.if-is_never_met.ensures) me.all c.loop-change.invariant inside
     (read_at items read n nothing same c.loop-change-test.true) c.in-Some.ensures in
     record {
       range_is = refl;
-      first = subst (λ (w : ℤ). MeetsFirst z me.start.second m c.args.range item w) (sym (to_z-of_z w64 c.in-Some.second fits)) met;
+      first = subst (λ (w : ℤ). MeetsFirst z me.start.second c.args.runner m c.args.range item w) (sym (to_z-of_z w64 c.in-Some.second fits)) met;
       fate = c.fate_of.ensures;
     }
 
@@ -65,5 +65,5 @@ returns c =
     let m = job_of c.args.job.now in
     let all : c.loop-change.change-index ≡ length me.items.items =
     subst (λ (xs : List Change). c.loop-change.change-index ≡ length xs) c.deref-change-items.ensures.value (omega (arith, c.loop-change-test.false, c.loop-change.auto.change-index-end)) in
-    none_meets (table_zone me.start.table.now) me.start.second m c.args.range me.items.items me.all
+    none_meets (table_zone me.start.table.now) me.start.second c.args.runner m c.args.range me.items.items me.all
     (subst (λ (k : ℕ). IsNoneOf m c.args.range me.items.items k) all c.loop-change.invariant)

@@ -8,4 +8,4 @@ loop-rest-preserved c = c.in_ok-rest.ensures.said ∙ c.loop-rest.invariant
 pub returns : goal.returns
 returns c =
     let none : length c.loop-rest.rest.now ≡ 0 = search rules in
-    none_below _ _ c.loop-rest.rest.now none c.loop-rest.invariant
+    none_below c.args.look _ _ c.loop-rest.rest.now none c.loop-rest.invariant

@@ -4,7 +4,7 @@ use Rattle.croncheck_command.specs.Reported.{below}
 use Rattle.croncheck_command.proofs.shown.below.push_below.Given as goal
 
 abbrev pub invariant-loop-rest : goal.invariant-loop-rest
-invariant-loop-rest l = string_bytes l.text ++ below l.rest ≡ string_bytes l.initial.text ++ below l.fn.found
+invariant-loop-rest l = string_bytes l.text ++ below l.fn.look l.rest ≡ string_bytes l.initial.text ++ below l.fn.look l.fn.found
 
 abbrev pub decreases-loop-rest : goal.decreases-loop-rest
 decreases-loop-rest l = length l.rest
