@@ -1,10 +1,11 @@
 -- Worked rows of the dialect of crontabs, computed from its definitions. Each was given to cron's own reader, which made the same of it.
-use Rattle.std.proofs.Common.{◌≡◌, ℕ, Bool, List, [], ◌∷◌, ◌++◌, true, false, Some, None, refl}
+use Rattle.std.proofs.Common.{◌≡◌, ℕ, Bool, List, [], ◌∷◌, ◌++◌, true, false, Option, Some, None, refl}
 use Rattle.std.specs.Prelude.{codes}
 use Rattle.std.specs.Fmt.{digits}
 use Rattle.crontab.specs.declared.line.Dialect.TheVariants as dialects
 use Rattle.crontab.specs.declared.line.Fault.TheVariants as faults
 use Rattle.crontab.specs.Line.{Line, reboot, never, named, blank, comment, setting, job, pattern, refused, entry_of}
+use Rattle.crontab.specs.Place.{place_of}
 use Rattle.crontab.specs.Setting.{is_not_expanded}
 
 -- a job of a user whose command is x
@@ -283,3 +284,23 @@ a_sign_in_quotes_behind_a_blank = refl
 
 a_value_as_it_stands : is_not_expanded (codes "PATH=/usr/bin:/bin") ≡ false
 a_value_as_it_stands = refl
+
+-- where a fault lies: of a list the first part that cron doesn't take, of one part the field, and no byte of an empty part
+abbrev place_in_line : List ℕ → Line → Option (ℕ × ℕ)
+place_in_line = place_of false
+
+a_part_of_a_list : place_in_line (codes "0 1,2,3,99,5 * * *") (refused faults.Hours) ≡ Some (8, 10)
+unfolding digits
+a_part_of_a_list = refl
+
+a_part_alone : place_in_line (codes " 60 * * * * x") (refused faults.Minutes) ≡ Some (1, 3)
+unfolding digits
+a_part_alone = refl
+
+no_byte_of_an_empty_part : place_in_line (codes "1,2,,3 * * * * x") (refused faults.Minutes) ≡ Some (4, 4)
+unfolding digits
+no_byte_of_an_empty_part = refl
+
+a_missing_field : place_in_line (codes "0 5") (refused faults.Days) ≡ Some (3, 3)
+unfolding digits
+a_missing_field = refl

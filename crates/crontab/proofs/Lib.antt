@@ -3,5 +3,6 @@ mod ExamplesContent
 mod NoteRows
 mod NotesFound
 mod Parts
+mod RefusedParts
 mod ReadLines
 pub mod TakenLines

@@ -1,5 +1,5 @@
 -- The list of parts of a field, and the text of a field that says the same to croner's parser.
-use Rattle.std.specs.Prelude.{ℕ, ◌%◌, Bool, false, not, ◌&&◌, ◌==◌, nat_lt, List, [], ◌∷◌, ◌++◌, length, fold, codes, Option, Some, None, option_map, if◌then◌else◌}
+use Rattle.std.specs.Prelude.{ℕ, ◌+◌, ◌%◌, Bool, false, not, ◌&&◌, ◌==◌, nat_lt, List, [], ◌∷◌, ◌++◌, length, fold, codes, Option, Some, None, option_map, if◌then◌else◌}
 use Rattle.std.specs.Fmt.{decimal}
 use Rattle.std.specs.List.{slice_split}
 use Rattle.crontab.specs.declared.field.Place.{Place}
@@ -25,6 +25,23 @@ parts_of_pieces place (piece ∷ pieces) = joined (part_of place piece) (parts_o
 -- the parts of a field, where cron takes it
 abbrev pub parts_of : Place → List ℕ → Option (List Part)
 parts_of place field = parts_of_pieces place (slice_split (λ b. b == 44) field)
+
+-- a part at the begin of a list: it is refused where it is none, or the byte 255 follows it; else it is taken, and the refused part of those
+-- behind it counts where a comma follows at once
+abbrev pub first_refused : ℕ → Option (Part × List ℕ) → Option (ℕ × ℕ) → Option (ℕ × ℕ)
+first_refused long None more = Some (0, long)
+first_refused long (Some read) more =
+    if begins_with 255 read.1 then Some (0, long)
+    else if length read.1 == 0 then option_map (λ place. (long + 1 + place.0, long + 1 + place.1)) more else None
+
+-- the same of a field that is cut at its commas: where its refused part begins, and where it ends
+abbrev pub refused_of_pieces : Place → List (List ℕ) → Option (ℕ × ℕ)
+refused_of_pieces place [] = None
+refused_of_pieces place (piece ∷ pieces) = first_refused (length piece) (part_of place piece) (refused_of_pieces place pieces)
+
+-- the place in a field of the part for which cron refuses it, from 0; there is none where cron takes it
+abbrev pub refused_in : Place → List ℕ → Option (ℕ × ℕ)
+refused_in place field = refused_of_pieces place (slice_split (λ b. b == 44) field)
 
 -- one part, which is a star with a step below this number that doesn't divide it
 abbrev pub is_uneven : ℕ → List Part → Bool

@@ -1,13 +1,15 @@
 -- Where in its line a fault lies. A place is that of two texts that both reach to the line's end: it begins where the first begins, and ends
 -- where the second does. Source: this repository's page on the lines of a crontab.
-use Rattle.std.specs.Prelude.{◌≡◌, ℕ, Bool, ◌-◌, List, [], length, Option, Some, None, ⊤, if◌then◌else◌}
+use Rattle.std.specs.Prelude.{◌≡◌, ℕ, Bool, ◌-◌, List, [], length, drop, Option, Some, None, unwrap_or, ⊤, if◌then◌else◌}
 use Rattle.crontab.specs.declared.bytes.Kind.TheVariants as kinds
 use Rattle.crontab.specs.declared.line.Entry.{Entry}
 use Rattle.crontab.specs.declared.line.Entry.TheVariants as entries
 use Rattle.crontab.specs.declared.line.Fault.{Fault}
 use Rattle.crontab.specs.declared.line.Fault.TheVariants as faults
-use Rattle.crontab.specs.Bytes.{behind, begins_with, rest_of}
-use Rattle.crontab.specs.Line.{next, Line, refused}
+use Rattle.crontab.specs.declared.field.Place.{Place}
+use Rattle.crontab.specs.Bytes.{front, behind, begins_with, rest_of}
+use Rattle.crontab.specs.Line.{next, minute_place, hour_place, day_place, month_place, weekday_place, Line, refused}
+use Rattle.crontab.specs.List.{refused_in}
 
 -- what stands behind the times: `@` and a word, or five words
 abbrev pub behind_times : List ℕ → List ℕ
@@ -17,25 +19,42 @@ behind_times text = if begins_with 64 text then next text else next (next (next 
 abbrev pub command_of : Bool → List ℕ → List ℕ
 command_of system rest = if system then rest_of (behind kinds.Word rest) else rest
 
--- the text from the first byte of a fault on: the first byte 0, a word, or the command
+-- the place in a field of the part for which cron refuses it; of a field that cron takes, the whole of it
+abbrev pub place_in : Place → List ℕ → ℕ × ℕ
+place_in place field = unwrap_or (refused_in place field) (0, length field)
+
+-- the text from the refused part of its first word on, and the text behind that part
+abbrev pub from_refused : Place → List ℕ → List ℕ
+from_refused place text = drop (place_in place (front kinds.Word text)).0 text
+
+abbrev pub behind_refused : Place → List ℕ → List ℕ
+behind_refused place text = drop (place_in place (front kinds.Word text)).1 text
+
+-- the text from the first byte of a fault on: the first byte 0, the refused part of a field, a word, or the command
 abbrev pub from_fault : Bool → List ℕ → Fault → List ℕ
 from_fault system text faults.Nul = behind (kinds.But 0) text
-from_fault system text faults.Minutes = text
-from_fault system text faults.Hours = next text
-from_fault system text faults.Days = next (next text)
-from_fault system text faults.Months = next (next (next text))
-from_fault system text faults.Weekdays = next (next (next (next text)))
+from_fault system text faults.Minutes = from_refused minute_place text
+from_fault system text faults.Hours = from_refused hour_place (next text)
+from_fault system text faults.Days = from_refused day_place (next (next text))
+from_fault system text faults.Months = from_refused month_place (next (next (next text)))
+from_fault system text faults.Weekdays = from_refused weekday_place (next (next (next (next text))))
 from_fault system text faults.Nickname = text
 from_fault system text faults.User = behind_times text
 from_fault system text faults.Command = command_of system (behind_times text)
 from_fault system text faults.LongCommand = command_of system (behind_times text)
 
--- the text behind its last byte: behind one byte, behind the word, or none
+-- the text behind its last byte: behind one byte, behind that part, behind the word, or none
 abbrev pub behind_fault : Bool → List ℕ → Fault → List ℕ
 behind_fault system text faults.Nul = rest_of (behind (kinds.But 0) text)
+behind_fault system text faults.Minutes = behind_refused minute_place text
+behind_fault system text faults.Hours = behind_refused hour_place (next text)
+behind_fault system text faults.Days = behind_refused day_place (next (next text))
+behind_fault system text faults.Months = behind_refused month_place (next (next (next text)))
+behind_fault system text faults.Weekdays = behind_refused weekday_place (next (next (next (next text))))
+behind_fault system text faults.Nickname = behind kinds.Word text
+behind_fault system text faults.User = behind kinds.Word (behind_times text)
 behind_fault system text faults.Command = []
 behind_fault system text faults.LongCommand = []
-behind_fault system text fault = behind kinds.Word (from_fault system text fault)
 
 -- a place in a line from where one text begins to where another does
 abbrev pub IsBetween : List ℕ → List ℕ → List ℕ → ℕ → ℕ → Type 0

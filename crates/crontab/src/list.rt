@@ -1,6 +1,6 @@
 //! The list of parts of a field, and the text that says the same to croner's parser.
-ghost use Rattle.std.specs.Prelude.{◌≡◌, fold, option_map, string_bytes, IfOk, OnOk};
-ghost use Rattle.crontab.specs.List.{parts_of, names_nothing, is_uneven, step_text, range_text, added, first_text, text_of, field_text};
+ghost use Rattle.std.specs.Prelude.{◌≡◌, ◌≤◌, length, fold, option_map, string_bytes, IfOk, IfSome, OnOk};
+ghost use Rattle.crontab.specs.List.{parts_of, refused_in, names_nothing, is_uneven, step_text, range_text, added, first_text, text_of, field_text};
 
 use crate::bytes::begins_with;
 use crate::field::{Part, Place, part_of};
@@ -33,6 +33,30 @@ pub fn parts_of(alloc: Global, place: Place, field: &[u8]) -> Result<Option<Vec<
         }
     }
     Ok(Some(parts))
+}
+
+/// The place in a field of the part for which cron refuses it: the byte at which it begins, from 0, and the byte behind its last
+/// one. Nothing where cron takes the field.
+pub(crate) fn refused_in(place: Place, field: &[u8]) -> Option<(usize, usize)>
+    ensures place { result ≡ refused_in place field.now }
+    ensures order { IfSome result (λ found. found.0 ≤ found.1) }
+    ensures within { IfSome result (λ found. found.1 ≤ length field.now) }
+{
+    let mut start = 0;
+    for piece in field.split(|byte| *byte == b',') {
+        let end = start + piece.len();
+        let Some((_, tail)) = part_of(place, piece) else {
+            return Some((start, end));
+        };
+        if begins_with(tail, END_OF_FILE) {
+            return Some((start, end));
+        }
+        if !tail.is_empty() {
+            return None;
+        }
+        start = end + 1;
+    }
+    None
 }
 
 /// Whether a part names no value: its range runs down.

@@ -3,10 +3,12 @@ ghost use Rattle.std.specs.Prelude.{◌≡◌, ◌≤◌, ◌+◌, [], length};
 ghost use Rattle.crontab.specs.declared.bytes.Kind.TheVariants as kinds;
 ghost use Rattle.crontab.specs.Bytes.{behind, rest_of};
 ghost use Rattle.crontab.specs.Line.{next};
-ghost use Rattle.crontab.specs.Place.{behind_times, command_of, IsBetween, IsPlaceOf};
+ghost use Rattle.crontab.specs.Place.{behind_times, command_of, place_in, from_refused, behind_refused, IsBetween, IsPlaceOf};
 
 use crate::bytes::{Kind, begins_with, cut, rest_of};
-use crate::line::{Fault, word};
+use crate::field::Place;
+use crate::line::{DAYS, Fault, HOURS, MINUTES, MONTHS, WEEKDAYS, word};
+use crate::list::refused_in;
 
 /// Some bytes of a line, from 0.
 pub struct Span {
@@ -37,6 +39,31 @@ fn word_at(line: &[u8], text: &[u8]) -> Span
 {
     let (_, behind) = cut(text, Kind::Word);
     between(line, text, behind)
+}
+
+// The part for which cron refuses the field that a text begins with; the whole of a field that cron takes.
+fn part_at(line: &[u8], text: &[u8], place: Place) -> Span
+    ensures place { IsBetween line.now (from_refused place text.now) (behind_refused place text.now) result.start result.end }
+    ensures order { result.start ≤ result.end }
+    ensures within { result.end ≤ length line.now }
+{
+    let (field, _) = cut(text, Kind::Word);
+    let (start, end) = place_in(place, field);
+    let (_, from) = text.split_at(start);
+    let (_, behind) = text.split_at(end);
+    between(line, from, behind)
+}
+
+// The place in a field of the part for which cron refuses it, or of the whole.
+fn place_in(place: Place, field: &[u8]) -> (usize, usize)
+    ensures place { result ≡ place_in place field.now }
+    ensures order { result.0 ≤ result.1 }
+    ensures within { result.1 ≤ length field.now }
+{
+    match refused_in(place, field) {
+        Some(found) => found,
+        None => (0, field.len()),
+    }
 }
 
 // What stands behind the first word and the blanks after it.
@@ -89,8 +116,9 @@ fn nul_at(line: &[u8], text: &[u8]) -> Span
 }
 
 /// The place of a fault in a line of a crontab of the system or of a user, which is given with its text from the first
-/// byte on that is no blank: the word of a field, of a nickname or of a user, the command, or the byte 0. It is empty,
-/// at the line's end, where that word is missing.
+/// byte on that is no blank: the first part of a field's list that cron doesn't take, the word of a nickname or of a user,
+/// the command, or the byte 0. It is empty, at the line's end, where that word is missing. A field that cron takes, behind
+/// which the byte 255 stands, is the whole place.
 pub fn place_of(line: &[u8], text: &[u8], system: bool, fault: Fault) -> Span
     ensures place { IsPlaceOf system line.now text.now fault result.start result.end }
     ensures order { result.start ≤ result.end }
@@ -98,11 +126,12 @@ pub fn place_of(line: &[u8], text: &[u8], system: bool, fault: Fault) -> Span
 {
     match fault {
         Fault::Nul => nul_at(line, text),
-        Fault::Nickname | Fault::Minutes => word_at(line, text),
-        Fault::Hours => word_at(line, next(text)),
-        Fault::Days => word_at(line, next(next(text))),
-        Fault::Months => word_at(line, next(next(next(text)))),
-        Fault::Weekdays => word_at(line, behind_four(text)),
+        Fault::Nickname => word_at(line, text),
+        Fault::Minutes => part_at(line, text, MINUTES),
+        Fault::Hours => part_at(line, next(text), HOURS),
+        Fault::Days => part_at(line, next(next(text)), DAYS),
+        Fault::Months => part_at(line, next(next(next(text))), MONTHS),
+        Fault::Weekdays => part_at(line, behind_four(text), WEEKDAYS),
         Fault::User => word_at(line, behind_times(text)),
         Fault::Command | Fault::LongCommand => command_at(line, system, behind_times(text)),
     }

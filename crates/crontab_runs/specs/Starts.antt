@@ -1,5 +1,5 @@
 -- What Debian's cron starts of a job, minute by minute, also where the clock changes: for a cron that runs all the while, looks at the clock
--- each second (a real one sleeps up to the next minute, which it may miss where the clock goes back within it), and whose starts take no time;
+-- each second (a real one sleeps up to the next minute, which it may miss where the clock changes within it), and whose starts take no time;
 -- in a calm zone, from 1970 on the wall clock. Where a clock shows a minute 180 or more below the greatest, which no calm one does, cron
 -- forgets that one, and this definition doesn't. Source: the main loop of cron 3.0pl1-162.
 use Rattle.std.specs.Prelude.{◌≡◌, ◌&&◌, ℕ, ◌+◌, ◌<◌, Bool, if◌then◌else◌, ℤ, pos, ◌-ℤ◌, ◌<ℤ◌, ◌≤ℤ◌, int_le, List, length}

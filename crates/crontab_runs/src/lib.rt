@@ -22,4 +22,4 @@ mod stretch;
 
 pub use due::due_after;
 pub use job::{CrontabJob, Start};
-pub use listing::{StartIterator, StartsEnd, next_starts_until};
+pub use listing::{StartIterator, StartsEnd, last_starts_until, next_starts_until};

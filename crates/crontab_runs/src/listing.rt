@@ -1,24 +1,29 @@
-//! The starts of a job after a time, in order, and a listing of them up to a second.
-ghost use Rattle.std.specs.Prelude.{◌≡◌, ◌<◌, ◌↔◌, IfOk, IsTrue, true, vec_len, vec_capacity};
+//! The starts of a job after a time, or up to it and backward, the nearest first, and a listing of them up to a second.
+ghost use Rattle.std.specs.Prelude.{◌≡◌, ◌<◌, ◌↔◌, ◌-ℤ◌, pos, IfOk, IfSome, IsTrue, MatchOption, true, vec_len, vec_capacity};
 ghost use Rattle.croner_base.specs.Table.{is_table_second};
 ghost use Rattle.croner_base.specs.TableZone.{table_moment};
 ghost use Rattle.croner_base.specs.declared.time.Direction.{Direction};
 ghost use Rattle.croner.specs.laws.Until.{ComesBy};
-ghost use Rattle.crontab_runs.specs.Listing.{Steps, ListsStarts};
+ghost use Rattle.crontab_runs.specs.Listing.{onward_from, Steps, ListsStartsIn, ListsStarts};
 ghost use Rattle.crontab_runs.specs.Private.Listings.{TakesUntil};
+ghost use Rattle.crontab_runs.specs.Searches.{IsStartFound, NoStartLeft};
 ghost use Rattle.crontab_runs.specs.Views.{cron_job_of};
 
 use crate::job::{CrontabJob, Start};
+use croner::Direction;
 use croner::time::table::TableTime;
 use std::alloc::{AllocError, Global};
 
-/// The starts of a job after a time, in order, each once and none left out.
+/// The starts of a job in a direction, each once and none left out: those after a time, in order; or those up to a time, which counts itself,
+/// the latest first.
 ///
-/// A call of `next` that gives none says that none is left in the searched years, which end where the clock first shows year 5000.
+/// A call of `next` that gives none says that none is left in the searched years, which end where the clock first shows year 5000, and begin
+/// where it has last shown year 1.
 #[derive(Debug, Clone, Copy)]
 pub struct StartIterator<'j, 't> {
     job: &'j CrontabJob,
     position: TableTime<'t>,
+    direction: Direction,
 }
 
 impl<'j, 't> StartIterator<'j, 't> {
@@ -33,10 +38,45 @@ impl<'j, 't> StartIterator<'j, 't> {
     pub fn new(job: &'j CrontabJob, after: TableTime<'t>) -> StartIterator<'j, 't>
         ensures job { result.job.now ≡ job.now }
         ensures position { result.position ≡ after.entry }
+        ensures direction { result.direction ≡ Direction.Forward }
     {
         StartIterator {
             job,
             position: after,
+            direction: Direction::Forward,
+        }
+    }
+
+    /// The starts of a job up to a time, which counts itself, the latest first. No search is made before the first call of `next`.
+    ///
+    /// ```
+    /// let job = CrontabJob { cron: Cron::from_str(alloc, "30 2 * * *")?, is_starred: false };
+    /// let mut starts = StartIterator::backward(&job, TableTime::new(&paris, 1_806_195_600)?); // 2027-03-28T03:00:00
+    /// let first = starts.next(); // Some: the second 1806195600, once
+    /// let second = starts.next(); // Some: the second 1806111000, once
+    /// ```
+    pub fn backward(job: &'j CrontabJob, until: TableTime<'t>) -> StartIterator<'j, 't>
+        ensures job { result.job.now ≡ job.now }
+        ensures position { result.position ≡ until.entry }
+        ensures direction { result.direction ≡ Direction.Backward }
+    {
+        StartIterator {
+            job,
+            position: until,
+            direction: Direction::Backward,
+        }
+    }
+
+    // The nearest start.
+    fn nearest(&self) -> Option<Start>
+        ensures found { MatchOption result
+            (NoStartLeft self.now.direction (cron_job_of self.now.job.now) (table_moment self.now.position))
+            (IsStartFound self.now.direction (cron_job_of self.now.job.now) (table_moment self.now.position)) }
+        ensures held { IfSome result (λ s. is_table_second (onward_from self.now.direction s.second) ≡ true) }
+    {
+        match self.direction {
+            Direction::Forward => self.job.next_after(&self.position),
+            Direction::Backward => self.job.last_until(&self.position),
         }
     }
 }
@@ -47,13 +87,25 @@ impl<'j, 't> Iterator for StartIterator<'j, 't> {
     ghost next_gives = { Steps };
 
     fn next(&mut self) -> Option<Start> {
-        match self.job.next_after(&self.position) {
+        match self.nearest() {
             Some(start) => {
-                self.position = time_at(&self.position, start.second);
+                let second = onward_from(self.direction, start.second);
+                self.position = time_at(&self.position, second);
                 Some(start)
             }
             None => None,
         }
+    }
+}
+
+// From where a search goes on behind a start: forward it leaves that second out, backward it counts the one before.
+fn onward_from(direction: Direction, second: i64) -> i64
+    requires { is_table_second second ≡ true }
+    ensures { result ≡ onward_from direction second }
+{
+    match direction {
+        Direction::Forward => second,
+        Direction::Backward => second - 1,
     }
 }
 
@@ -74,7 +126,7 @@ fn time_at<'t>(time: &TableTime<'t>, second: i64) -> TableTime<'t>
 pub enum StartsEnd {
     /// There are as many as were asked for at most. No search was made behind the last of them.
     Full,
-    /// The next start behind those of the listing, which lies past the second.
+    /// The next start behind those of the listing, in its direction, which lies past the second.
     Past(Start),
     /// No start is left in the searched years.
     Over,
@@ -102,8 +154,46 @@ pub fn next_starts_until(
 ) -> Result<(Vec<Start>, StartsEnd), AllocError>
     ensures { IfOk result (λ r. ListsStarts (cron_job_of job.now) (table_moment after.entry) until most r.0.items r.1) }
 {
+    starts_until(alloc, StartIterator::new(job, after), until, most)
+}
+
+/// The starts of a job up to a time, which counts itself, and no earlier than a second, where there is one, the latest first, and so many at
+/// most; and how their listing ended. The second is counted from 1970-01-01T00:00:00 UTC.
+///
+/// They go back in order, none is left out down to the last, and each counts how many times cron starts the job there. So each start is one of
+/// these, or one of [`next_starts_until`] after the same time, and none is both. Searches are made as there.
+///
+/// The only error is want of memory, for the room of `most` starts, which is taken first.
+///
+/// ```
+/// let job = CrontabJob { cron: Cron::from_str(alloc, "30 2 * * *")?, is_starred: false };
+/// let noon = TableTime::new(&paris, 1_806_228_000)?; // 2027-03-28T12:00:00
+/// let (starts, end) = last_starts_until(alloc, &job, noon, None, 2)?; // the seconds 1806195600 and 1806111000, and Full
+/// ```
+pub fn last_starts_until(
+    alloc: Global,
+    job: &CrontabJob,
+    time: TableTime<'_>,
+    until: Option<i64>,
+    most: u32,
+) -> Result<(Vec<Start>, StartsEnd), AllocError>
+    ensures { IfOk result (λ r. ListsStartsIn Direction.Backward (cron_job_of job.now) (table_moment time.entry) until most r.0.items r.1) }
+{
+    starts_until(alloc, StartIterator::backward(job, time), until, most)
+}
+
+// What an iterator gives up to a second, in its direction, and so many at most.
+fn starts_until(
+    alloc: Global,
+    iterator: StartIterator<'_, '_>,
+    until: Option<i64>,
+    most: u32,
+) -> Result<(Vec<Start>, StartsEnd), AllocError>
+    ensures { IfOk result (λ r. ListsStartsIn iterator.entry.direction (cron_job_of iterator.entry.job.now) (table_moment iterator.entry.position)
+        until most r.0.items r.1) }
+{
     let mut starts = Vec::with_capacity(alloc, most as usize)?;
-    let mut left = StartIterator::new(job, after);
+    let mut left = iterator;
     for _call in 0..most {
         if let Some(end) = take_next_until(&mut left, &mut starts, until) {
             return Ok((starts, end));
@@ -122,9 +212,10 @@ fn take_next_until(
     ensures takes { TakesUntil until left.old left.new starts.old.items starts.new.items result }
     ensures room { vec_capacity starts.new ≡ vec_capacity starts.old }
 {
+    let direction = left.direction;
     match left.next() {
         Some(start) => {
-            if !comes_by(until, start.second) {
+            if !comes_by(direction, until, start.second) {
                 return Some(StartsEnd::Past(start));
             }
             starts.push_reserved(start);
@@ -134,12 +225,13 @@ fn take_next_until(
     }
 }
 
-// Whether a second comes no later than another, where there is one.
-fn comes_by(until: Option<i64>, second: i64) -> bool
-    ensures { IsTrue result ↔ ComesBy Direction.Forward until second }
+// Whether a second comes no later in a direction than another, where there is one.
+fn comes_by(direction: Direction, until: Option<i64>, second: i64) -> bool
+    ensures { IsTrue result ↔ ComesBy direction until second }
 {
-    match until {
-        Some(until) => second <= until,
-        None => true,
+    match (until, direction) {
+        (None, _) => true,
+        (Some(until), Direction::Forward) => second <= until,
+        (Some(until), Direction::Backward) => until <= second,
     }
 }
