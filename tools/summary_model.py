@@ -11,8 +11,9 @@
 PROGRAM is the program `cronsummary`. Its lines have a pattern, its texts, whether these tell all, and with an argument the data.
 `judge` works out what the fields name from the pattern's own characters (`model.Field`), and what the data name from the
 meaning that the crate's documentation gives each phrase; the days of the 28 kinds of month, each by itself. It also looks at
-the data's form: a step of a whole field divides it, a list names no value twice, and three values in a row are a range. The last
-line says how many lines were read, and how many differ; the status is 0 where none does.
+the data's form: a step of a whole field divides it, a list names no value twice, three values in a row are a range, and values go
+up, but that Sunday stands behind other weekdays. The last line says how many lines were read, and how many differ; the status is 0
+where none does.
 """
 import functools
 import random
@@ -222,6 +223,11 @@ class Told:
             if set(flat) == set(range(least, most + 1)) and pieces != [("Every", [])]:
                 return f"each value, in other words: {pieces}"
             beside = [piece for piece in pieces if piece[0] != "EveryNth"]
+            sunday = ("One", [0])
+            if most == 6 and sunday in beside[:-1]:
+                return f"Sunday before another weekday: {pieces}"
+            if most == 6 and sunday in beside:
+                beside = [sunday, *beside[:-1]]
             ends = [(values_of(p, least, most)[0], values_of(p, least, most)[-1]) for p in beside]
             if any(left[1] >= right[0] for left, right in zip(ends, ends[1:])):
                 return f"values that don't go up: {pieces}"

@@ -12,7 +12,7 @@ use Rattle.croner_pattern.specs.Schedule.{is_named}
 use Rattle.croner_summary.specs.Says.{is_in_some}
 use Rattle.croner_summary.specs.Private.Exact.{AgreeBelow}
 
-or_false : (a : Bool) → (a || false) ≡ a
+pub or_false : (a : Bool) → (a || false) ≡ a
 or_false true = refl
 or_false false = refl
 
@@ -20,7 +20,7 @@ or_true : (a : Bool) → (a || true) ≡ true
 or_true true = refl
 or_true false = refl
 
-and_false : (a : Bool) → (a && false) ≡ false
+pub and_false : (a : Bool) → (a && false) ≡ false
 and_false true = refl
 and_false false = refl
 

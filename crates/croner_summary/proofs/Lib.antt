@@ -4,3 +4,8 @@ pub mod ExactDays
 pub mod Exactly
 pub mod Scheduled
 pub mod Lists
+pub mod Distances
+pub mod OnePiece
+pub mod Shortness
+pub mod NextValues
+pub mod NothingNamed

@@ -10,7 +10,7 @@ use Rattle.croner_summary.specs.declared.days.Weekdays.{Weekdays}
 use Rattle.croner_summary.specs.declared.language.Style.{Style}
 use Rattle.croner_summary.specs.declared.language.SummaryLanguage.{SummaryLanguage}
 use Rattle.croner_summary.specs.declared.language.Term.{Term}
-use Rattle.croner_summary.specs.declared.language.Term.TheVariants.{From, Each, On, AndOn, The, FromThe, ToThe, DatedThe, ButOnly, OnlyEach, FirstTime, SecondTime, ThirdTime, FourthTime, FifthTime, LastTime, OfTheMonth, TheLastDay, TheLastWorkingDay, TheFirstWorkingDay, Nearest, HavingOne, HavingOneEnd, HavingDays, InMonths, InYears}
+use Rattle.croner_summary.specs.declared.language.Term.TheVariants.{And, From, Each, EachFrom, On, AndOn, The, FromThe, ToThe, DatedThe, ButOnly, OnlyEach, FirstTime, SecondTime, ThirdTime, FourthTime, FifthTime, LastTime, OfTheMonth, TheLastDay, TheLastWorkingDay, TheFirstWorkingDay, Nearest, HavingOne, HavingOneEnd, HavingDays, InMonths, InYears}
 use Rattle.croner_summary.specs.declared.language.TimeUnit.{TimeUnit}
 use Rattle.croner_summary.specs.declared.language.TimeUnit.TheVariants.{Day, Month as MonthUnit, Year as YearUnit}
 use Rattle.croner_summary.specs.declared.phrase.Phrase.{Phrase}
@@ -18,7 +18,7 @@ use Rattle.croner_summary.specs.declared.phrase.Piece.{Piece}
 use Rattle.croner_summary.specs.declared.phrase.Piece.TheVariants.{Every, EveryNth, One, Range, RangeNth}
 use Rattle.croner_summary.specs.declared.words.Kind.{Kind}
 use Rattle.croner_summary.specs.declared.words.Kind.TheVariants.{Ordinal, Weekday, NthWeekday, OnlyWeekday, Month, Year}
-use Rattle.croner_summary.specs.Words.{every_text, least_of, list_text, ordinal, sole, span_text, term_text, unit_name, value_text, weekday_name}
+use Rattle.croner_summary.specs.Words.{is_year, least_of, list_text, nth_text, ordinal, sole, span_text, term_text, unit_name, value_text, weekday_name}
 use Rattle.croner_summary.specs.TimeWords.{is_sole, value_of}
 
 -- a phrase names something
@@ -31,55 +31,88 @@ on_text l told = if told then term_text l AndOn else term_text l On
 
 -- ---- weekdays
 
--- weekdays behind a term: ` on each Monday and Friday`
+-- values in a row
+abbrev pub is_range : Option Piece → Bool
+is_range (Some (Range first last)) = true
+is_range other = false
+
+-- all values
+abbrev pub is_all : Option Piece → Bool
+is_all (Some Every) = true
+is_all other = false
+
+-- weekdays behind a term: `each Monday and Friday`; all of them: `each day`
+unfoldable pub named_weekdays : Style → Kind → Term → List Piece → List ℕ
+named_weekdays style kind before pieces =
+    if is_all (sole pieces) then term_text style.language Each ++ unit_name style.language Day
+    else term_text style.language before ++ list_text style kind pieces
+
+-- those of a phrase, if it has any: ` on each Monday and Friday`
 unfoldable pub weekday_part : Style → Kind → Term → Bool → Phrase → List ℕ
 weekday_part style kind before told p =
-    if is_some p then on_text style.language told ++ (term_text style.language before ++ list_text style kind p.pieces.items) else []
+    if is_some p then on_text style.language told ++ named_weekdays style kind before p.pieces.items else []
 
--- weekdays of which one of a month is meant: ` on the first Monday of the month`
-unfoldable pub nth_part : Style → Term → Bool → Phrase → List ℕ
-nth_part style before told p =
-    if is_some p then weekday_part style NthWeekday before told p ++ term_text style.language OfTheMonth else []
+-- what goes before weekdays each time that they come
+abbrev pub each_term : Option Piece → Term
+each_term one = if is_range one then EachFrom else Each
 
-unfoldable pub from_fifth : Style → Bool → Weekdays → List ℕ
-from_fifth style told w = nth_part style FifthTime told w.fifth ++ nth_part style LastTime (told || is_some w.fifth) w.last
+-- what goes before nth weekdays: others of them were listed, or not
+abbrev pub nth_on_text : SummaryLanguage → Bool → Bool → List ℕ
+nth_on_text l told listed = if listed then term_text l And else on_text l told
 
-unfoldable pub from_fourth : Style → Bool → Weekdays → List ℕ
-from_fourth style told w = nth_part style FourthTime told w.fourth ++ from_fifth style (told || is_some w.fourth) w
+-- weekdays of which one of a month is meant: ` on the first Monday`
+unfoldable pub nth_part : Style → Term → Bool → Bool → Phrase → List ℕ
+nth_part style before told listed p =
+    if is_some p then nth_on_text style.language told listed ++ (term_text style.language before ++ list_text style NthWeekday p.pieces.items)
+    else []
 
-unfoldable pub from_third : Style → Bool → Weekdays → List ℕ
-from_third style told w = nth_part style ThirdTime told w.third ++ from_fourth style (told || is_some w.third) w
+unfoldable pub from_fifth : Style → Bool → Bool → Weekdays → List ℕ
+from_fifth style told listed w =
+    nth_part style FifthTime told listed w.fifth ++ nth_part style LastTime told (listed || is_some w.fifth) w.last
 
-unfoldable pub from_second : Style → Bool → Weekdays → List ℕ
-from_second style told w = nth_part style SecondTime told w.second ++ from_third style (told || is_some w.second) w
+unfoldable pub from_fourth : Style → Bool → Bool → Weekdays → List ℕ
+from_fourth style told listed w =
+    nth_part style FourthTime told listed w.fourth ++ from_fifth style told (listed || is_some w.fourth) w
+
+unfoldable pub from_third : Style → Bool → Bool → Weekdays → List ℕ
+from_third style told listed w =
+    nth_part style ThirdTime told listed w.third ++ from_fourth style told (listed || is_some w.third) w
+
+unfoldable pub from_second : Style → Bool → Bool → Weekdays → List ℕ
+from_second style told listed w =
+    nth_part style SecondTime told listed w.second ++ from_third style told (listed || is_some w.second) w
 
 unfoldable pub from_first : Style → Bool → Weekdays → List ℕ
-from_first style told w = nth_part style FirstTime told w.first ++ from_second style (told || is_some w.first) w
-
-unfoldable pub weekdays_text : Style → Bool → Weekdays → List ℕ
-weekdays_text style told w = weekday_part style Weekday Each told w.each ++ from_first style (told || is_some w.each) w
-
--- weekdays to which days are narrowed: `, but only on Mondays`
-unfoldable pub only_text : Style → Weekdays → List ℕ
-only_text style w =
-    term_text style.language ButOnly ++ (weekday_part style OnlyWeekday OnlyEach false w.each ++ from_first style (is_some w.each) w)
+from_first style told w = nth_part style FirstTime told false w.first ++ from_second style told (is_some w.first) w
 
 -- a weekday is named as the nth or the last of a month
 unfoldable pub has_nth : Weekdays → Bool
 has_nth w =
     is_some w.first || (is_some w.second || (is_some w.third || (is_some w.fourth || (is_some w.fifth || is_some w.last))))
 
+-- such weekdays: ` on the second Tuesday and the fourth Thursday of the month`
+unfoldable pub nth_weekdays : Style → Bool → Weekdays → List ℕ
+nth_weekdays style told w = if has_nth w then from_first style told w ++ term_text style.language OfTheMonth else []
+
+unfoldable pub weekdays_text : Style → Bool → Weekdays → List ℕ
+weekdays_text style told w =
+    weekday_part style Weekday (each_term (sole w.each.pieces.items)) told w.each ++ nth_weekdays style (told || is_some w.each) w
+
+-- weekdays to which days are narrowed: `, but only on Mondays`
+unfoldable pub only_text : Style → Weekdays → List ℕ
+only_text style w =
+    term_text style.language ButOnly ++ (weekday_part style OnlyWeekday OnlyEach false w.each ++ nth_weekdays style (is_some w.each) w)
+
 unfoldable pub names_weekday : Weekdays → Bool
 names_weekday w = is_some w.each || has_nth w
 
--- weekdays in a row
-abbrev pub is_range : Option Piece → Bool
-is_range (Some (Range first last)) = true
-is_range other = false
+-- weekdays in a row, with others beside or without
+unfoldable pub has_range : List Piece → Bool
+has_range pieces = list_any (λ piece. is_range (Some piece)) pieces
 
 unfoldable pub of_week_text : Style → Weekdays → List ℕ
 of_week_text style w =
-    if is_range (sole w.each.pieces.items) && not (has_nth w) then codes ", " ++ list_text style Weekday w.each.pieces.items
+    if has_range w.each.pieces.items && not (has_nth w) then codes ", " ++ list_text style Weekday w.each.pieces.items
     else weekdays_text style false w
 
 -- ---- days of the month
@@ -88,12 +121,16 @@ of_week_text style w =
 unfoldable pub between_days : SummaryLanguage → ℕ → ℕ → List ℕ
 between_days l first last = term_text l FromThe ++ (ordinal l first ++ (term_text l ToThe ++ ordinal l last))
 
+-- days at a step: ` on every 2nd day`
+unfoldable pub nth_day : SummaryLanguage → ℕ → List ℕ
+nth_day l n = term_text l On ++ (nth_text l false n ++ unit_name l Day)
+
 unfoldable pub numbered : Style → List Piece → Option Piece → List ℕ
 numbered style pieces (Some Every) = term_text style.language On ++ (term_text style.language Each ++ unit_name style.language Day)
 numbered style pieces (Some (EveryNth n)) =
-    codes " " ++ (every_text style.language false n Day ++ (term_text style.language FromThe ++ ordinal style.language 1))
+    nth_day style.language n ++ (term_text style.language FromThe ++ ordinal style.language 1)
 numbered style pieces (Some (RangeNth first last n)) =
-    codes " " ++ (every_text style.language false n Day ++ between_days style.language first last)
+    nth_day style.language n ++ between_days style.language first last
 numbered style pieces (Some (One day)) = term_text style.language On ++ (term_text style.language The ++ list_text style Ordinal pieces)
 numbered style pieces (Some (Range first last)) = term_text style.language On ++ (term_text style.language The ++ list_text style Ordinal pieces)
 numbered style pieces None = term_text style.language On ++ (term_text style.language The ++ list_text style Ordinal pieces)
@@ -178,28 +215,33 @@ days_text style (Both d w) = both_text style d w
 
 -- ---- months and years
 
--- every so many from the least on: `every 3 months from January`
-unfoldable pub stepped_all : SummaryLanguage → TimeUnit → Kind → ℕ → List ℕ
-stepped_all l unit kind n = every_text l false n unit ++ (term_text l From ++ value_text l kind (least_of kind))
+-- every nth: ` in every 3rd month from `
+unfoldable pub stepped : SummaryLanguage → TimeUnit → Kind → ℕ → List ℕ
+stepped l unit kind n = term_text l InMonths ++ (nth_text l (is_year kind) n ++ (unit_name l unit ++ term_text l From))
 
--- every so many from one to another: `every 2 years from 2020 to 2028`
+-- every nth from the least on: ` in every 3rd month from January`
+unfoldable pub stepped_all : SummaryLanguage → TimeUnit → Kind → ℕ → List ℕ
+stepped_all l unit kind n = stepped l unit kind n ++ value_text l kind (least_of kind)
+
+-- every nth from one to another: ` in every 2nd year from 2020 to 2028`
 unfoldable pub stepped_span : SummaryLanguage → TimeUnit → Kind → ℕ → ℕ → ℕ → List ℕ
-stepped_span l unit kind first last n = every_text l false n unit ++ (term_text l From ++ span_text l kind first last)
+stepped_span l unit kind first last n = stepped l unit kind n ++ span_text l kind first last
 
 unfoldable pub months_case : Style → List Piece → Option Piece → List ℕ
 months_case style pieces (Some Every) = []
-months_case style pieces (Some (EveryNth n)) = codes " " ++ stepped_all style.language MonthUnit Month n
-months_case style pieces (Some (RangeNth first last n)) = codes " " ++ stepped_span style.language MonthUnit Month first last n
+months_case style pieces (Some (EveryNth n)) = stepped_all style.language MonthUnit Month n
+months_case style pieces (Some (RangeNth first last n)) = stepped_span style.language MonthUnit Month first last n
 months_case style pieces (Some (One n)) = term_text style.language InMonths ++ list_text style Month pieces
-months_case style pieces (Some (Range first last)) = term_text style.language InMonths ++ list_text style Month pieces
+months_case style pieces (Some (Range first last)) = codes ", " ++ span_text style.language Month first last
 months_case style pieces None = term_text style.language InMonths ++ list_text style Month pieces
 
 unfoldable pub years_case : Style → List Piece → Option Piece → List ℕ
 years_case style pieces (Some Every) = []
-years_case style pieces (Some (EveryNth n)) = codes ", " ++ stepped_all style.language YearUnit Year n
-years_case style pieces (Some (RangeNth first last n)) = codes ", " ++ stepped_span style.language YearUnit Year first last n
+years_case style pieces (Some (EveryNth n)) = codes "," ++ stepped_all style.language YearUnit Year n
+years_case style pieces (Some (RangeNth first last n)) = codes "," ++ stepped_span style.language YearUnit Year first last n
 years_case style pieces (Some (One n)) = term_text style.language InYears ++ list_text style Year pieces
-years_case style pieces (Some (Range first last)) = term_text style.language InYears ++ list_text style Year pieces
+years_case style pieces (Some (Range first last)) =
+    codes "," ++ (term_text style.language From ++ span_text style.language Year first last)
 years_case style pieces None = term_text style.language InYears ++ list_text style Year pieces
 
 unfoldable pub months_text : Style → List Piece → List ℕ

@@ -1,7 +1,7 @@
 -- The terms of English, its units, numbers, weekdays and months.
 use Rattle.std.specs.Prelude.{ℕ, ◌/◌, ◌%◌, Bool, ◌==◌, List, [], ◌++◌, codes, decimal, if◌then◌else◌}
 use Rattle.croner_summary.specs.declared.language.Term.{Term}
-use Rattle.croner_summary.specs.declared.language.Term.TheVariants.{To, And, More, EachOne, FromValue, Each, Plural, From, AtTime, At, AndAt, Of, FromTime, FromMinute, AtSecond, On, AndOn, The, FromThe, ToThe, DatedThe, ButOnly, OnlyEach, OnlyEnd, NthEnd, FirstTime, SecondTime, ThirdTime, FourthTime, FifthTime, LastTime, OfTheMonth, TheLastDay, TheLastWorkingDay, TheFirstWorkingDay, Nearest, HavingOne, HavingOneEnd, HavingDays, InMonths, InYears, NoSecond, NoMinute, NoHour, NoMonth, NoYear, NoMonthDay, NoWeekday, NoDay}
+use Rattle.croner_summary.specs.declared.language.Term.TheVariants.{To, And, More, EachOne, FromValue, Each, EachFrom, Plural, From, AtTime, At, AndAt, Of, FromTime, FromMinute, AtSecond, On, AndOn, The, FromThe, ToThe, DatedThe, ButOnly, OnlyEach, OnlyEnd, NthEnd, FirstTime, SecondTime, ThirdTime, FourthTime, FifthTime, LastTime, OfTheMonth, TheLastDay, TheLastWorkingDay, TheFirstWorkingDay, Nearest, HavingOne, HavingOneEnd, HavingDays, InMonths, InYears, NoSecond, NoMinute, NoHour, NoMonth, NoYear, NoMonthDay, NoWeekday, NoDay}
 use Rattle.croner_summary.specs.declared.language.TimeUnit.{TimeUnit}
 use Rattle.croner_summary.specs.declared.language.TimeUnit.TheVariants.{Second, Minute, Hour, Day, Month, Year}
 
@@ -12,6 +12,7 @@ english_term More = codes " more"
 english_term EachOne = codes "each"
 english_term FromValue = codes "from "
 english_term Each = codes "each "
+english_term EachFrom = codes "each day from "
 english_term Plural = codes "s"
 english_term From = codes " from "
 english_term AtTime = codes "At "
@@ -85,9 +86,9 @@ english_month n =
 unfoldable pub english_units : ℕ → TimeUnit → List ℕ
 english_units n unit = if n == 1 then english_unit unit else decimal n ++ (codes " " ++ (english_unit unit ++ codes "s"))
 
--- every so many: `Every 5 minutes` at the head of a text, `every 2 months` within it
-unfoldable pub english_every : Bool → ℕ → TimeUnit → List ℕ
-english_every is_head n unit = (if is_head then codes "Every " else codes "every ") ++ english_units n unit
+-- every so many: `Every 5 minutes`
+unfoldable pub english_every : ℕ → TimeUnit → List ℕ
+english_every n unit = codes "Every " ++ english_units n unit
 
 -- every nth, before what it is: `every 5th `
 unfoldable pub english_nth : ℕ → List ℕ

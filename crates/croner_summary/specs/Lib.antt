@@ -1,4 +1,5 @@
 pub mod Says
+pub mod Lengths
 pub mod Summaries
 pub mod English
 pub mod Swedish

@@ -1,8 +1,8 @@
 -- The terms of Swedish, its units, numbers, weekdays and months. Letters past ASCII are written as the bytes of their UTF-8.
-use Rattle.std.specs.Prelude.{ℕ, ◌/◌, ◌%◌, Bool, true, false, ◌||◌, ◌==◌, List, [], ◌++◌, codes, decimal, if◌then◌else◌}
+use Rattle.std.specs.Prelude.{ℕ, ◌/◌, ◌%◌, Bool, true, false, ◌||◌, ◌==◌, List, [], ◌∷◌, ◌++◌, codes, decimal, if◌then◌else◌}
 use Rattle.croner_words.specs.Swedish.{a_with_ring, a_with_dots, o_with_dots}
 use Rattle.croner_summary.specs.declared.language.Term.{Term}
-use Rattle.croner_summary.specs.declared.language.Term.TheVariants.{To, And, More, EachOne, FromValue, Each, Plural, From, AtTime, At, AndAt, Of, FromTime, FromMinute, AtSecond, On, AndOn, The, FromThe, ToThe, DatedThe, ButOnly, OnlyEach, OnlyEnd, NthEnd, FirstTime, SecondTime, ThirdTime, FourthTime, FifthTime, LastTime, OfTheMonth, TheLastDay, TheLastWorkingDay, TheFirstWorkingDay, Nearest, HavingOne, HavingOneEnd, HavingDays, InMonths, InYears, NoSecond, NoMinute, NoHour, NoMonth, NoYear, NoMonthDay, NoWeekday, NoDay}
+use Rattle.croner_summary.specs.declared.language.Term.TheVariants.{To, And, More, EachOne, FromValue, Each, EachFrom, Plural, From, AtTime, At, AndAt, Of, FromTime, FromMinute, AtSecond, On, AndOn, The, FromThe, ToThe, DatedThe, ButOnly, OnlyEach, OnlyEnd, NthEnd, FirstTime, SecondTime, ThirdTime, FourthTime, FifthTime, LastTime, OfTheMonth, TheLastDay, TheLastWorkingDay, TheFirstWorkingDay, Nearest, HavingOne, HavingOneEnd, HavingDays, InMonths, InYears, NoSecond, NoMinute, NoHour, NoMonth, NoYear, NoMonthDay, NoWeekday, NoDay}
 use Rattle.croner_summary.specs.declared.language.TimeUnit.{TimeUnit}
 use Rattle.croner_summary.specs.declared.language.TimeUnit.TheVariants.{Second, Minute, Hour, Day, Month, Year}
 
@@ -37,6 +37,7 @@ swedish_term More = codes " till"
 swedish_term EachOne = codes "varje"
 swedish_term FromValue = from ++ codes " "
 swedish_term Each = codes "varje "
+swedish_term EachFrom = codes "varje dag " ++ (from ++ codes " ")
 swedish_term Plural = []
 swedish_term From = codes " " ++ (from ++ codes " ")
 swedish_term AtTime = codes "Kl. "
@@ -126,6 +127,6 @@ abbrev pub is_year_unit : TimeUnit → Bool
 is_year_unit Year = true
 is_year_unit unit = false
 
--- every so many: `Var 15:e minut` at the head of a text, `vartannat år` within it
-unfoldable pub swedish_every : Bool → ℕ → TimeUnit → List ℕ
-swedish_every is_head n unit = swedish_nth is_head (is_year_unit unit) n ++ swedish_unit unit
+-- every so many: `Var 15:e minut`
+unfoldable pub swedish_every : ℕ → TimeUnit → List ℕ
+swedish_every n unit = swedish_nth true (is_year_unit unit) n ++ swedish_unit unit

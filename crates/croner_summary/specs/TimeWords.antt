@@ -1,5 +1,5 @@
 -- The times of a day in words, by the first case that holds.
-use Rattle.std.specs.Prelude.{ℕ, ◌+◌, ◌-◌, nat_le, Bool, true, false, ◌&&◌, ◌==◌, List, [], ◌∷◌, ◌++◌, drop, length, decimal, Option, Some, None, if◌then◌else◌}
+use Rattle.std.specs.Prelude.{ℕ, ◌+◌, ◌-◌, nat_lt, nat_le, Bool, true, false, ◌&&◌, ◌==◌, List, [], ◌∷◌, ◌++◌, drop, length, decimal, Option, Some, None, if◌then◌else◌}
 use Rattle.std.specs.List.{list_all}
 use Rattle.croner_summary.specs.declared.language.Style.{Style}
 use Rattle.croner_summary.specs.declared.language.SummaryLanguage.{SummaryLanguage}
@@ -85,14 +85,14 @@ unfoldable pub part_text : SummaryLanguage → Stretch → List ℕ
 part_text l s = if is_whole_day s then [] else ends_text l s
 
 unfoldable pub stretch_text : SummaryLanguage → Stretch → List ℕ
-stretch_text l s = every_text l true s.step (unit_of s.by_hours) ++ part_text l s
+stretch_text l s = every_text l s.step (unit_of s.by_hours) ++ part_text l s
 
 -- the minutes at the head of a text: `Every 5 minutes`, `At minutes 0 and 5`
 unfoldable pub minutes_head : Style → List Piece → Option Piece → List ℕ
-minutes_head style minutes (Some Every) = every_text style.language true 1 Minute
-minutes_head style minutes (Some (EveryNth n)) = every_text style.language true n Minute
+minutes_head style minutes (Some Every) = every_text style.language 1 Minute
+minutes_head style minutes (Some (EveryNth n)) = every_text style.language n Minute
 minutes_head style minutes (Some (RangeNth first last n)) =
-    every_text style.language true n Minute ++ (term_text style.language FromMinute ++ span_text style.language Number first last)
+    every_text style.language n Minute ++ (term_text style.language FromMinute ++ span_text style.language Number first last)
 minutes_head style minutes (Some (One minute)) = term_text style.language At ++ unit_text style Minute minutes
 minutes_head style minutes (Some (Range first last)) = term_text style.language At ++ unit_text style Minute minutes
 minutes_head style minutes None = term_text style.language At ++ unit_text style Minute minutes
@@ -112,21 +112,34 @@ head_step other = None
 
 -- a step with others beside
 unfoldable pub beside_text : Style → ℕ → List Piece → List ℕ
-beside_text style n minutes = every_text style.language true n Minute ++ (term_text style.language AndAt ++ unit_text style Minute (drop 1 minutes))
+beside_text style n minutes = every_text style.language n Minute ++ (term_text style.language AndAt ++ unit_text style Minute (drop 1 minutes))
 
 -- a list of minutes of each hour, which may begin with a step
 unfoldable pub listed_minutes : Style → List Piece → List Piece → Option ℕ → List ℕ
 listed_minutes style minutes hours None = minutes_and_hours style minutes hours
 listed_minutes style minutes hours (Some n) = beside_text style n minutes ++ of_hours style hours
 
+-- a step goes on to the end of the hour: its next value lies beyond
+abbrev pub is_to_the_end : ℕ → ℕ → Bool
+is_to_the_end last n = nat_lt 59 (last + n)
+
+-- the minutes of a step: ` from minute 0`, or ` from minute 0 to 40`
+unfoldable pub from_minutes : SummaryLanguage → ℕ → ℕ → ℕ → List ℕ
+from_minutes l first last n = term_text l FromMinute ++ (if is_to_the_end last n then decimal first else span_text l Number first last)
+
+-- a step of minutes of each hour
+unfoldable pub stepped_hourly : Style → ℕ → ℕ → ℕ → List Piece → List ℕ
+stepped_hourly style first last n hours =
+    every_text style.language n Minute ++ (from_minutes style.language first last n ++ of_hours style hours)
+
 -- minutes of each hour
 unfoldable pub each_hour_text : Style → List Piece → List Piece → Option Piece → List ℕ
-each_hour_text style minutes hours (Some Every) = every_text style.language true 1 Minute
-each_hour_text style minutes hours (Some (EveryNth n)) = every_text style.language true n Minute
+each_hour_text style minutes hours (Some Every) = every_text style.language 1 Minute
+each_hour_text style minutes hours (Some (EveryNth n)) = every_text style.language n Minute
 each_hour_text style minutes hours (Some (One minute)) =
-    if minute == 0 then every_text style.language true 1 Hour else minutes_and_hours style minutes hours
+    if minute == 0 then every_text style.language 1 Hour else minutes_and_hours style minutes hours
 each_hour_text style minutes hours (Some (Range first last)) = minutes_and_hours style minutes hours
-each_hour_text style minutes hours (Some (RangeNth first last n)) = minutes_and_hours style minutes hours
+each_hour_text style minutes hours (Some (RangeNth first last n)) = stepped_hourly style first last n hours
 each_hour_text style minutes hours None = listed_minutes style minutes hours (head_step minutes)
 
 unfoldable pub stretched : Style → List Piece → List Piece → Option Stretch → List ℕ
@@ -195,8 +208,8 @@ minute_case style second minutes hours other = hour_case style second minutes ho
 
 -- seconds of each minute
 unfoldable pub seconds_text : Style → List Piece → List Piece → List Piece → Option Piece → List ℕ
-seconds_text style seconds minutes hours (Some Every) = every_text style.language true 1 Second
-seconds_text style seconds minutes hours (Some (EveryNth n)) = every_text style.language true n Second
+seconds_text style seconds minutes hours (Some Every) = every_text style.language 1 Second
+seconds_text style seconds minutes hours (Some (EveryNth n)) = every_text style.language n Second
 seconds_text style seconds minutes hours other = parts_text style seconds minutes hours
 
 unfoldable pub many_seconds : Style → List Piece → List Piece → List Piece → Option Piece → List ℕ

@@ -36,10 +36,10 @@ unfoldable pub month_name : SummaryLanguage → ℕ → List ℕ
 month_name English n = english_month n
 month_name Swedish n = swedish_month n
 
--- every so many units, at the head of a text or within it
-unfoldable pub every_text : SummaryLanguage → Bool → ℕ → TimeUnit → List ℕ
-every_text English is_head n unit = english_every is_head n unit
-every_text Swedish is_head n unit = swedish_every is_head n unit
+-- every so many units, at the head of a text
+unfoldable pub every_text : SummaryLanguage → ℕ → TimeUnit → List ℕ
+every_text English n unit = english_every n unit
+every_text Swedish n unit = swedish_every n unit
 
 -- every nth, before what it is, which may be a year
 unfoldable pub nth_text : SummaryLanguage → Bool → ℕ → List ℕ

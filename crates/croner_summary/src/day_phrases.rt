@@ -2,6 +2,7 @@
 
 ghost use Rattle.std.specs.Prelude.{◌≡◌, IsTrue, IfOk, IfErr};
 ghost use Rattle.croner_pattern.specs.Meaning.{meaning_of};
+ghost use Rattle.croner_summary.specs.Lengths.{AreShort, IsShort};
 ghost use Rattle.croner_summary.specs.Private.Exact.{IsExact};
 ghost use Rattle.croner_summary.specs.Private.ExactDays.{IsFromEnd, AreMonthDays, AreWeekdays, AreDays, HasAllWeek};
 
@@ -9,6 +10,7 @@ use crate::days::{Days, FromEnd, MonthDays, Weekdays};
 use crate::exact::has;
 use crate::field::{marked_phrase, plain_phrase};
 use crate::phrase::Phrase;
+use crate::pieces::SATURDAY;
 use croner_base::component::{
     ALL_BIT, CLOSEST_WEEKDAY_BIT, CronComponent, LAST_BIT, NTH_1ST_BIT, NTH_2ND_BIT, NTH_3RD_BIT,
     NTH_4TH_BIT, NTH_5TH_BIT,
@@ -19,9 +21,6 @@ use std::alloc::Global;
 
 /// The longest month, in days.
 const LONGEST_MONTH: u16 = 31;
-
-/// Saturday, the last day of the week.
-const SATURDAY: u16 = 6;
 
 /// The day that the field counts from the end of the month.
 fn from_end(days: &CronComponent) -> FromEnd
@@ -40,6 +39,7 @@ fn from_end(days: &CronComponent) -> FromEnd
 /// The days of the month that the field names.
 fn month_days(alloc: Global, days: &CronComponent) -> Result<MonthDays, CronError>
     ensures ok { IfOk result (AreMonthDays days.now) }
+    ensures short { IfOk result (λ month. IsShort 1 31 month.numbers) }
     ensures err { IfErr result (λ e. e ≡ CronError.OutOfMemory) }
 {
     let numbers = plain_phrase(alloc, 1, LONGEST_MONTH, days)?;
@@ -62,9 +62,10 @@ fn weekday_phrase(alloc: Global, bit: u8, weekdays: &CronComponent) -> Result<Ph
 /// The weekdays that the field names.
 fn weekdays(alloc: Global, weekdays: &CronComponent) -> Result<Weekdays, CronError>
     ensures ok { IfOk result (AreWeekdays weekdays.now) }
+    ensures short { IfOk result (λ week. IsShort 0 6 week.each) }
     ensures err { IfErr result (λ e. e ≡ CronError.OutOfMemory) }
 {
-    let each = weekday_phrase(alloc, ALL_BIT, weekdays)?;
+    let each = plain_phrase(alloc, 0, SATURDAY, weekdays)?;
     let first = weekday_phrase(alloc, NTH_1ST_BIT, weekdays)?;
     let second = weekday_phrase(alloc, NTH_2ND_BIT, weekdays)?;
     let third = weekday_phrase(alloc, NTH_3RD_BIT, weekdays)?;
@@ -98,6 +99,7 @@ fn has_all_week(weekdays: &CronComponent) -> bool
 fn joined_days(alloc: Global, pattern: &CronPattern) -> Result<Days, CronError>
     requires { (meaning_of pattern.now).star_day ≡ (meaning_of pattern.now).star_weekday }
     ensures ok { IfOk result (AreDays (meaning_of pattern.now)) }
+    ensures short { IfOk result AreShort }
     ensures err { IfErr result (λ e. e ≡ CronError.OutOfMemory) }
 {
     let month = month_days(alloc, &pattern.days)?;
@@ -112,6 +114,7 @@ fn joined_days(alloc: Global, pattern: &CronPattern) -> Result<Days, CronError>
 /// The days that fit a pattern.
 pub(crate) fn days_of(alloc: Global, pattern: &CronPattern) -> Result<Days, CronError>
     ensures ok { IfOk result (AreDays (meaning_of pattern.now)) }
+    ensures short { IfOk result AreShort }
     ensures err { IfErr result (λ e. e ≡ CronError.OutOfMemory) }
 {
     if pattern.is_dom_wildcard() && has_all_week(&pattern.days_of_week) {

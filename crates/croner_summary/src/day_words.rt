@@ -3,15 +3,15 @@
 ghost use Rattle.std.specs.Prelude.{◌≡◌, ◌++◌, false, codes};
 ghost use Rattle.std.specs.List.{list_any};
 ghost use Rattle.croner_summary.specs.Private.Appended.{Appends};
-ghost use Rattle.croner_summary.specs.Words.{every_text, list_text, term_text};
-ghost use Rattle.croner_summary.specs.DayWords.{behind_numbers, between_days, both_text, dated_weekday, days_text, from_end_text, from_fifth, from_first, from_fourth, from_second, from_third, has_nth, having_text, is_counted, is_dated_weekday, is_first_day, is_late, is_range, is_some, late_text, month_days_text, months_case, months_text, names_month_day, names_weekday, near_list, nearest, nearest_text, nth_part, numbered, numbers_text, of_week_text, on_text, only_text, stepped_all, stepped_span, weekday_part, weekdays_text, years_case, years_text};
+ghost use Rattle.croner_summary.specs.Words.{is_year, list_text, nth_text, span_text, term_text, unit_name};
+ghost use Rattle.croner_summary.specs.DayWords.{behind_numbers, between_days, both_text, dated_weekday, days_text, each_term, from_end_text, from_fifth, from_first, from_fourth, from_second, from_third, has_nth, has_range, having_text, is_all, is_counted, is_dated_weekday, is_first_day, is_late, is_range, is_some, late_text, month_days_text, months_case, months_text, names_month_day, named_weekdays, names_weekday, near_list, nearest, nearest_text, nth_day, nth_on_text, nth_part, nth_weekdays, numbered, numbers_text, of_week_text, on_text, only_text, stepped, stepped_all, stepped_span, weekday_part, weekdays_text, years_case, years_text};
 
 use crate::days::{Days, FromEnd, MonthDays, Weekdays};
 use crate::language::{Style, SummaryLanguage, Term, TimeUnit};
 use crate::phrase::{Phrase, Piece};
 use crate::time_words::{is_sole, value_of};
 use crate::words::{
-    Kind, least_of, sole, write_every, write_list, write_ordinal, write_span, write_term,
+    Kind, is_year, least_of, sole, write_list, write_nth, write_ordinal, write_span, write_term,
     write_text, write_unit_name, write_value,
 };
 use croner_base::errors::CronError;
@@ -34,6 +34,45 @@ fn write_on(text: &mut String, language: SummaryLanguage, told: bool) -> Result<
     write_term(text, language, if told { Term::AndOn } else { Term::On })
 }
 
+/// Whether it is a range.
+fn is_range(one: Option<Piece>) -> bool
+    ensures { result ≡ is_range one }
+{
+    match one {
+        Some(Piece::Range(_, _)) => true,
+        _ => false,
+    }
+}
+
+/// Whether it is each value.
+fn is_all(one: Option<Piece>) -> bool
+    ensures { result ≡ is_all one }
+{
+    match one {
+        Some(Piece::Every) => true,
+        _ => false,
+    }
+}
+
+/// Writes weekdays behind a term; all of them as days.
+#[tactic(auto, unfolding(crate::specs::DayWords::named_weekdays))]
+fn write_named(
+    text: &mut String,
+    style: Style,
+    kind: Kind,
+    before: Term,
+    pieces: &[Piece],
+) -> Result<(), CronError>
+    ensures { Appends (named_weekdays style kind before pieces.now) text.old text.new result }
+{
+    if is_all(sole(pieces)) {
+        write_term(text, style.language, Term::Each)?;
+        return write_unit_name(text, style.language, TimeUnit::Day);
+    }
+    write_term(text, style.language, before)?;
+    write_list(text, style, kind, pieces)
+}
+
 /// Writes the weekdays of a phrase behind a term, if there are any.
 #[tactic(auto, unfolding(crate::specs::DayWords::weekday_part))]
 fn write_weekday_part(
@@ -50,26 +89,53 @@ fn write_weekday_part(
         return Ok(());
     }
     write_on(text, style.language, told)?;
-    write_term(text, style.language, before)?;
-    write_list(text, style, kind, &phrase.pieces)
+    write_named(text, style, kind, before, &phrase.pieces)
 }
 
-/// Writes nth weekdays of the month, if there are any.
+/// What goes before weekdays each time that they come.
+fn each_term(one: Option<Piece>) -> Term
+    ensures { result ≡ each_term one }
+{
+    if is_range(one) {
+        Term::EachFrom
+    } else {
+        Term::Each
+    }
+}
+
+/// Writes what goes before nth weekdays.
+fn write_nth_on(
+    text: &mut String,
+    language: SummaryLanguage,
+    told: bool,
+    listed: bool,
+) -> Result<(), CronError>
+    ensures { Appends (nth_on_text language told listed) text.old text.new result }
+{
+    if listed {
+        return write_term(text, language, Term::And);
+    }
+    write_on(text, language, told)
+}
+
+/// Writes nth weekdays of a phrase, if there are any.
 #[tactic(auto, unfolding(crate::specs::DayWords::nth_part))]
 fn write_nth_part(
     text: &mut String,
     style: Style,
     before: Term,
     told: bool,
+    listed: bool,
     phrase: &Phrase,
 ) -> Result<(), CronError>
-    ensures { Appends (nth_part style before told phrase.now) text.old text.new result }
+    ensures { Appends (nth_part style before told listed phrase.now) text.old text.new result }
 {
     if !is_some(phrase) {
         return Ok(());
     }
-    write_weekday_part(text, style, Kind::NthWeekday, before, told, phrase)?;
-    write_term(text, style.language, Term::OfTheMonth)
+    write_nth_on(text, style.language, told, listed)?;
+    write_term(text, style.language, before)?;
+    write_list(text, style, Kind::NthWeekday, &phrase.pieces)
 }
 
 /// Writes the fifth weekdays and the last.
@@ -78,18 +144,14 @@ fn write_from_fifth(
     text: &mut String,
     style: Style,
     told: bool,
+    listed: bool,
     week: &Weekdays,
 ) -> Result<(), CronError>
-    ensures { Appends (from_fifth style told week.now) text.old text.new result }
+    ensures { Appends (from_fifth style told listed week.now) text.old text.new result }
 {
-    write_nth_part(text, style, Term::FifthTime, told, &week.fifth)?;
-    write_nth_part(
-        text,
-        style,
-        Term::LastTime,
-        told || is_some(&week.fifth),
-        &week.last,
-    )
+    write_nth_part(text, style, Term::FifthTime, told, listed, &week.fifth)?;
+    let listed = listed || is_some(&week.fifth);
+    write_nth_part(text, style, Term::LastTime, told, listed, &week.last)
 }
 
 /// Writes the fourth weekdays and those behind them.
@@ -98,12 +160,13 @@ fn write_from_fourth(
     text: &mut String,
     style: Style,
     told: bool,
+    listed: bool,
     week: &Weekdays,
 ) -> Result<(), CronError>
-    ensures { Appends (from_fourth style told week.now) text.old text.new result }
+    ensures { Appends (from_fourth style told listed week.now) text.old text.new result }
 {
-    write_nth_part(text, style, Term::FourthTime, told, &week.fourth)?;
-    write_from_fifth(text, style, told || is_some(&week.fourth), week)
+    write_nth_part(text, style, Term::FourthTime, told, listed, &week.fourth)?;
+    write_from_fifth(text, style, told, listed || is_some(&week.fourth), week)
 }
 
 /// Writes the third weekdays and those behind them.
@@ -112,12 +175,13 @@ fn write_from_third(
     text: &mut String,
     style: Style,
     told: bool,
+    listed: bool,
     week: &Weekdays,
 ) -> Result<(), CronError>
-    ensures { Appends (from_third style told week.now) text.old text.new result }
+    ensures { Appends (from_third style told listed week.now) text.old text.new result }
 {
-    write_nth_part(text, style, Term::ThirdTime, told, &week.third)?;
-    write_from_fourth(text, style, told || is_some(&week.third), week)
+    write_nth_part(text, style, Term::ThirdTime, told, listed, &week.third)?;
+    write_from_fourth(text, style, told, listed || is_some(&week.third), week)
 }
 
 /// Writes the second weekdays and those behind them.
@@ -126,12 +190,13 @@ fn write_from_second(
     text: &mut String,
     style: Style,
     told: bool,
+    listed: bool,
     week: &Weekdays,
 ) -> Result<(), CronError>
-    ensures { Appends (from_second style told week.now) text.old text.new result }
+    ensures { Appends (from_second style told listed week.now) text.old text.new result }
 {
-    write_nth_part(text, style, Term::SecondTime, told, &week.second)?;
-    write_from_third(text, style, told || is_some(&week.second), week)
+    write_nth_part(text, style, Term::SecondTime, told, listed, &week.second)?;
+    write_from_third(text, style, told, listed || is_some(&week.second), week)
 }
 
 /// Writes the first weekdays and those behind them.
@@ -144,8 +209,38 @@ fn write_from_first(
 ) -> Result<(), CronError>
     ensures { Appends (from_first style told week.now) text.old text.new result }
 {
-    write_nth_part(text, style, Term::FirstTime, told, &week.first)?;
-    write_from_second(text, style, told || is_some(&week.first), week)
+    write_nth_part(text, style, Term::FirstTime, told, false, &week.first)?;
+    write_from_second(text, style, told, is_some(&week.first), week)
+}
+
+/// Whether a weekday is named as the nth or the last of a month.
+#[tactic(auto, unfolding(crate::specs::DayWords::has_nth))]
+fn has_nth(week: &Weekdays) -> bool
+    ensures { result ≡ has_nth week.now }
+{
+    is_some(&week.first)
+        || is_some(&week.second)
+        || is_some(&week.third)
+        || is_some(&week.fourth)
+        || is_some(&week.fifth)
+        || is_some(&week.last)
+}
+
+/// Writes the nth and the last weekdays of the month, if there are any.
+#[tactic(auto, unfolding(crate::specs::DayWords::nth_weekdays))]
+fn write_nth_weekdays(
+    text: &mut String,
+    style: Style,
+    told: bool,
+    week: &Weekdays,
+) -> Result<(), CronError>
+    ensures { Appends (nth_weekdays style told week.now) text.old text.new result }
+{
+    if !has_nth(week) {
+        return Ok(());
+    }
+    write_from_first(text, style, told, week)?;
+    write_term(text, style.language, Term::OfTheMonth)
 }
 
 /// Writes weekdays.
@@ -158,8 +253,9 @@ fn write_weekdays(
 ) -> Result<(), CronError>
     ensures { Appends (weekdays_text style told week.now) text.old text.new result }
 {
-    write_weekday_part(text, style, Kind::Weekday, Term::Each, told, &week.each)?;
-    write_from_first(text, style, told || is_some(&week.each), week)
+    let before = each_term(sole(&week.each.pieces));
+    write_weekday_part(text, style, Kind::Weekday, before, told, &week.each)?;
+    write_nth_weekdays(text, style, told || is_some(&week.each), week)
 }
 
 /// Writes weekdays to which days are narrowed.
@@ -176,20 +272,7 @@ fn write_only(text: &mut String, style: Style, week: &Weekdays) -> Result<(), Cr
         false,
         &week.each,
     )?;
-    write_from_first(text, style, is_some(&week.each), week)
-}
-
-/// Whether a weekday is named as the nth or the last of a month.
-#[tactic(auto, unfolding(crate::specs::DayWords::has_nth))]
-fn has_nth(week: &Weekdays) -> bool
-    ensures { result ≡ has_nth week.now }
-{
-    is_some(&week.first)
-        || is_some(&week.second)
-        || is_some(&week.third)
-        || is_some(&week.fourth)
-        || is_some(&week.fifth)
-        || is_some(&week.last)
+    write_nth_weekdays(text, style, is_some(&week.each), week)
 }
 
 /// Whether a weekday is named.
@@ -200,14 +283,12 @@ pub(crate) fn names_weekday(week: &Weekdays) -> bool
     is_some(&week.each) || has_nth(week)
 }
 
-/// Whether it is a range.
-fn is_range(one: Option<Piece>) -> bool
-    ensures { result ≡ is_range one }
+/// Whether some of the weekdays are a range.
+#[tactic(auto, unfolding(crate::specs::DayWords::has_range))]
+fn has_range(pieces: &[Piece]) -> bool
+    ensures { result ≡ has_range pieces.now }
 {
-    match one {
-        Some(Piece::Range(_, _)) => true,
-        _ => false,
-    }
+    pieces.iter().any(|piece| is_range(Some(*piece)))
 }
 
 /// Writes weekdays that alone say which days are named.
@@ -215,7 +296,7 @@ fn is_range(one: Option<Piece>) -> bool
 fn write_of_week(text: &mut String, style: Style, week: &Weekdays) -> Result<(), CronError>
     ensures { Appends (of_week_text style week.now) text.old text.new result }
 {
-    if is_range(sole(&week.each.pieces)) && !has_nth(week) {
+    if has_range(&week.each.pieces) && !has_nth(week) {
         write_text(text, ", ")?;
         return write_list(text, style, Kind::Weekday, &week.each.pieces);
     }
@@ -247,12 +328,14 @@ fn write_day_list(text: &mut String, style: Style, pieces: &[Piece]) -> Result<(
     write_list(text, style, Kind::Ordinal, pieces)
 }
 
-/// Writes every so many days, before the first of them.
-fn write_day_step(text: &mut String, language: SummaryLanguage, n: u16) -> Result<(), CronError>
-    ensures { Appends (codes " " ++ every_text language false n TimeUnit.Day) text.old text.new result }
+/// Writes every nth day, before the first of them.
+#[tactic(auto, unfolding(crate::specs::DayWords::nth_day))]
+fn write_nth_day(text: &mut String, language: SummaryLanguage, n: u16) -> Result<(), CronError>
+    ensures { Appends (nth_day language n) text.old text.new result }
 {
-    write_text(text, " ")?;
-    write_every(text, language, false, n, TimeUnit::Day)
+    write_term(text, language, Term::On)?;
+    write_nth(text, language, false, n)?;
+    write_unit_name(text, language, TimeUnit::Day)
 }
 
 /// Writes days by number.
@@ -273,12 +356,12 @@ fn write_numbered(
             write_unit_name(text, language, TimeUnit::Day)
         }
         Some(Piece::EveryNth(n)) => {
-            write_day_step(text, language, n)?;
+            write_nth_day(text, language, n)?;
             write_term(text, language, Term::FromThe)?;
             write_ordinal(text, language, 1)
         }
         Some(Piece::RangeNth(first, last, n)) => {
-            write_day_step(text, language, n)?;
+            write_nth_day(text, language, n)?;
             write_between(text, language, first, last)
         }
         Some(Piece::One(_)) => write_day_list(text, style, pieces),
@@ -541,7 +624,24 @@ pub(crate) fn write_days(text: &mut String, style: Style, days: &Days) -> Result
     }
 }
 
-/// Writes every so many units from the least value on.
+/// Writes every nth unit, before the first of them.
+#[tactic(auto, unfolding(crate::specs::DayWords::stepped))]
+fn write_stepped(
+    text: &mut String,
+    language: SummaryLanguage,
+    unit: TimeUnit,
+    kind: Kind,
+    n: u16,
+) -> Result<(), CronError>
+    ensures { Appends (stepped language unit kind n) text.old text.new result }
+{
+    write_term(text, language, Term::InMonths)?;
+    write_nth(text, language, is_year(kind), n)?;
+    write_unit_name(text, language, unit)?;
+    write_term(text, language, Term::From)
+}
+
+/// Writes every nth unit from the least value on.
 #[tactic(auto, unfolding(crate::specs::DayWords::stepped_all))]
 fn write_stepped_all(
     text: &mut String,
@@ -552,12 +652,11 @@ fn write_stepped_all(
 ) -> Result<(), CronError>
     ensures { Appends (stepped_all language unit kind n) text.old text.new result }
 {
-    write_every(text, language, false, n, unit)?;
-    write_term(text, language, Term::From)?;
+    write_stepped(text, language, unit, kind, n)?;
     write_value(text, language, kind, least_of(kind))
 }
 
-/// Writes every so many units from one value to another.
+/// Writes every nth unit from one value to another.
 #[tactic(auto, unfolding(crate::specs::DayWords::stepped_span))]
 fn write_stepped_span(
     text: &mut String,
@@ -570,8 +669,7 @@ fn write_stepped_span(
 ) -> Result<(), CronError>
     ensures { Appends (stepped_span language unit kind first last n) text.old text.new result }
 {
-    write_every(text, language, false, n, unit)?;
-    write_term(text, language, Term::From)?;
+    write_stepped(text, language, unit, kind, n)?;
     write_span(text, language, kind, first, last)
 }
 
@@ -597,15 +695,16 @@ fn write_months_case(
     match one {
         Some(Piece::Every) => Ok(()),
         Some(Piece::EveryNth(n)) => {
-            write_text(text, " ")?;
             write_stepped_all(text, language, TimeUnit::Month, Kind::Month, n)
         }
         Some(Piece::RangeNth(first, last, n)) => {
-            write_text(text, " ")?;
             write_stepped_span(text, language, TimeUnit::Month, Kind::Month, first, last, n)
         }
         Some(Piece::One(_)) => write_month_list(text, style, pieces),
-        Some(Piece::Range(_, _)) => write_month_list(text, style, pieces),
+        Some(Piece::Range(first, last)) => {
+            write_text(text, ", ")?;
+            write_span(text, language, Kind::Month, first, last)
+        }
         None => write_month_list(text, style, pieces),
     }
 }
@@ -644,15 +743,19 @@ fn write_years_case(
     match one {
         Some(Piece::Every) => Ok(()),
         Some(Piece::EveryNth(n)) => {
-            write_text(text, ", ")?;
+            write_text(text, ",")?;
             write_stepped_all(text, language, TimeUnit::Year, Kind::Year, n)
         }
         Some(Piece::RangeNth(first, last, n)) => {
-            write_text(text, ", ")?;
+            write_text(text, ",")?;
             write_stepped_span(text, language, TimeUnit::Year, Kind::Year, first, last, n)
         }
         Some(Piece::One(_)) => write_year_list(text, style, pieces),
-        Some(Piece::Range(_, _)) => write_year_list(text, style, pieces),
+        Some(Piece::Range(first, last)) => {
+            write_text(text, ",")?;
+            write_term(text, language, Term::From)?;
+            write_span(text, language, Kind::Year, first, last)
+        }
         None => write_year_list(text, style, pieces),
     }
 }

@@ -18,6 +18,7 @@ pub(crate) fn english_term(term: Term) -> &'static str
         Term::EachOne => "each",
         Term::FromValue => "from ",
         Term::Each => "each ",
+        Term::EachFrom => "each day from ",
         Term::Plural => "s",
         Term::From => " from ",
         Term::AtTime => "At ",
@@ -144,13 +145,12 @@ fn write_english_units(text: &mut String, n: u16, unit: TimeUnit) -> Result<(), 
 #[tactic(auto, unfolding(crate::specs::English::english_every))]
 pub(crate) fn write_english_every(
     text: &mut String,
-    is_head: bool,
     n: u16,
     unit: TimeUnit,
 ) -> Result<(), CronError>
-    ensures { Appends (english_every is_head n unit) text.old text.new result }
+    ensures { Appends (english_every n unit) text.old text.new result }
 {
-    text.push_str(if is_head { "Every " } else { "every " })?;
+    text.push_str("Every ")?;
     write_english_units(text, n, unit)
 }
 

@@ -38,7 +38,7 @@ fn is_in(least: u16, greatest: u16, piece: Piece, value: u16) -> bool
 }
 
 /// Whether one of the pieces names a value of the field.
-fn is_in_some(least: u16, greatest: u16, pieces: &[Piece], value: u16) -> bool
+pub(crate) fn is_in_some(least: u16, greatest: u16, pieces: &[Piece], value: u16) -> bool
     requires low { least ≤ value }
     requires high { value ≤ greatest }
     requires room { greatest < 65535 }
@@ -76,7 +76,7 @@ fn are_exact(least: u16, greatest: u16, pieces: &[Piece], bit: u8, field: &CronC
 }
 
 /// The marked values of a field, each by itself.
-fn one_by_one(
+pub(crate) fn one_by_one(
     alloc: Global,
     least: u16,
     greatest: u16,

@@ -44,6 +44,8 @@ pub enum Term {
     FromValue,
     /// Before a unit or a weekday, each time that it comes.
     Each,
+    /// Before weekdays in a row, each time that they come.
+    EachFrom,
     /// The end of a unit before several numbers.
     Plural,
     /// Between a step of a unit and the first value.
@@ -110,7 +112,7 @@ pub enum Term {
     HavingOneEnd,
     /// Behind several days, of which not each month has each.
     HavingDays,
-    /// Before months.
+    /// Before months, and before years at a step.
     InMonths,
     /// Before years.
     InYears,

@@ -13,6 +13,8 @@ mod field;
 mod language;
 mod phrase;
 mod pieces;
+mod plain;
+mod spacing;
 mod summary;
 mod swedish;
 mod text;

@@ -19,6 +19,12 @@ const VALUES_BESIDE: usize = 3;
 /// Beside other values a step is told where the field has so many steps.
 const STEPS_WITH_OTHERS: u16 = 4;
 
+/// Saturday, the last day of the week, with which no other field ends.
+pub(crate) const SATURDAY: u16 = 6;
+
+/// Sunday.
+const SUNDAY: u16 = 0;
+
 /// The distance of the first two values; 0 where there is none.
 fn first_step(values: &[u16]) -> u16 {
     if values.len() < 2 {
@@ -128,6 +134,16 @@ fn push_streaks(pieces: &mut Vec<Piece>, values: &[u16]) -> Result<(), CronError
     Ok(())
 }
 
+/// Puts Sunday behind the other weekdays, unless it begins a range.
+fn put_sunday_last(weekdays: &mut Vec<Piece>) {
+    if weekdays.len() < 2 {
+        return;
+    }
+    if let Piece::One(SUNDAY) = weekdays[0] {
+        weekdays[..].rotate_left(1);
+    }
+}
+
 /// How many of the values are a whole number of steps from the least.
 fn on_step(least: u16, values: &[u16], step: u16) -> usize {
     values
@@ -136,12 +152,21 @@ fn on_step(least: u16, values: &[u16], step: u16) -> usize {
         .count()
 }
 
+/// The least step that isn't too small: the field has no more such steps than there are values.
+fn least_step(count: u16, values: &[u16]) -> u16 {
+    match u16::try_from(values.len()) {
+        Ok(0) => 2,
+        Ok(len) => (count / len).max(2),
+        Err(_) => 2,
+    }
+}
+
 /// The least step of which each value of the field is there, with few others beside; 0 where there is none.
 fn step_with_few(least: u16, greatest: u16, values: &[u16]) -> u16
     requires { greatest < 65535 }
 {
-    let most = (greatest + 1).saturating_sub(least) / STEPS_WITH_OTHERS;
-    for step in 2..most + 1 {
+    let count = (greatest + 1).saturating_sub(least);
+    for step in least_step(count, values)..count / STEPS_WITH_OTHERS + 1 {
         let steps = usize::from(steps_of(least, greatest, step));
         let beside = values.len().saturating_sub(steps);
         if steps > 0 && on_step(least, values, step) == steps && beside <= VALUES_BESIDE {
@@ -165,7 +190,7 @@ fn off_step(alloc: Global, least: u16, values: &[u16], step: u16) -> Result<Vec<
 }
 
 /// The pieces of ascending values of a field: one piece where there is one; else each nth of the field with a few values beside, or
-/// ranges and values.
+/// ranges and values. Of weekdays Sunday comes last.
 pub(crate) fn pieces_of(
     alloc: Global,
     least: u16,
@@ -183,6 +208,9 @@ pub(crate) fn pieces_of(
     let step = step_with_few(least, greatest, values);
     if step == 0 {
         push_streaks(&mut pieces, values)?;
+        if greatest == SATURDAY {
+            put_sunday_last(&mut pieces);
+        }
         return Ok(pieces);
     }
     push_piece(&mut pieces, Piece::EveryNth(step))?;

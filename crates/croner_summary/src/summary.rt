@@ -3,6 +3,7 @@
 ghost use Rattle.std.specs.Prelude.{◌≡◌, IfOk, IfErr};
 ghost use Rattle.croner_pattern.specs.Meaning.{meaning_of};
 ghost use Rattle.croner.specs.Views.{job_of};
+ghost use Rattle.croner_summary.specs.Lengths.{IsShortlySaid};
 ghost use Rattle.croner_summary.specs.Summaries.{SaysTheSchedule};
 
 use crate::day_phrases::days_of;
@@ -50,7 +51,7 @@ impl Drop for Summary {
 
 impl Summary {
     /// The summary of a job. It says exactly the dates and times that the job's pattern schedules; where the clock changes, when it
-    /// runs is told by its [`JobType`](croner::JobType).
+    /// runs is told by its [`JobType`](croner::JobType). No phrase has more words than a single piece that names the same values.
     ///
     /// The only error is `OutOfMemory`.
     ///
@@ -60,6 +61,7 @@ impl Summary {
     /// ```
     pub fn of(alloc: Global, job: &Cron) -> Result<Summary, CronError>
         ensures ok { IfOk result (λ s. SaysTheSchedule s (job_of job.now)) }
+        ensures short { IfOk result IsShortlySaid }
         ensures err { IfErr result (λ e. e ≡ CronError.OutOfMemory) }
     {
         Summary::of_pattern(alloc, &job.pattern)
@@ -70,6 +72,7 @@ impl Summary {
     /// The only error is `OutOfMemory`.
     pub fn of_pattern(alloc: Global, pattern: &CronPattern) -> Result<Summary, CronError>
         ensures ok { IfOk result (λ s. SaysTheSchedule s (meaning_of pattern.now)) }
+        ensures short { IfOk result IsShortlySaid }
         ensures err { IfErr result (λ e. e ≡ CronError.OutOfMemory) }
     {
         let seconds = plain_phrase(alloc, 0, LAST_SECOND as u16, &pattern.seconds)?;

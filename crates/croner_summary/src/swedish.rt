@@ -18,6 +18,7 @@ pub(crate) fn swedish_term(term: Term) -> &'static str
         Term::EachOne => "varje",
         Term::FromValue => "från ",
         Term::Each => "varje ",
+        Term::EachFrom => "varje dag från ",
         Term::Plural => "",
         Term::From => " från ",
         Term::AtTime => "Kl. ",
@@ -182,12 +183,11 @@ fn is_year_unit(unit: TimeUnit) -> bool
 #[tactic(auto, unfolding(crate::specs::Swedish::swedish_every))]
 pub(crate) fn write_swedish_every(
     text: &mut String,
-    is_head: bool,
     n: u16,
     unit: TimeUnit,
 ) -> Result<(), CronError>
-    ensures { Appends (swedish_every is_head n unit) text.old text.new result }
+    ensures { Appends (swedish_every n unit) text.old text.new result }
 {
-    write_swedish_nth(text, is_head, is_year_unit(unit), n)?;
+    write_swedish_nth(text, true, is_year_unit(unit), n)?;
     Ok(text.push_str(swedish_unit(unit))?)
 }

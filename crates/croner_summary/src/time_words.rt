@@ -4,7 +4,7 @@ ghost use Rattle.std.specs.Prelude.{◌≡◌, ◌<◌, ◌++◌, true, length, 
 ghost use Rattle.std.specs.List.{list_all};
 ghost use Rattle.croner_summary.specs.Private.Appended.{Appends};
 ghost use Rattle.croner_summary.specs.Words.{every_text, span_text, term_text, unit_text};
-ghost use Rattle.croner_summary.specs.TimeWords.{are_times, at_second, at_step, beside_text, by_hours, by_minutes, each_hour_text, ends_text, head_step, hour_case, in_hour, in_hours, is_every, is_one, is_sole, is_whole_day, listed_minutes, many_seconds, minute_case, minutes_and_hours, minutes_head, minutes_text, of_hours, part_text, parts_text, second_case, seconds_text, stretch_of, stretch_text, stretched, time_text, times_text, unit_of, untimed, value_of};
+ghost use Rattle.croner_summary.specs.TimeWords.{are_times, at_second, at_step, beside_text, by_hours, by_minutes, each_hour_text, ends_text, from_minutes, head_step, hour_case, in_hour, in_hours, is_every, is_one, is_sole, is_to_the_end, is_whole_day, listed_minutes, many_seconds, minute_case, minutes_and_hours, minutes_head, minutes_text, of_hours, part_text, parts_text, second_case, seconds_text, stepped_hourly, stretch_of, stretch_text, stretched, time_text, times_text, unit_of, untimed, value_of};
 
 use crate::language::{Style, SummaryLanguage, Term, TimeUnit};
 use crate::phrase::Piece;
@@ -181,13 +181,7 @@ fn write_stretch(
 ) -> Result<(), CronError>
     ensures { Appends (stretch_text language stretch) text.old text.new result }
 {
-    write_every(
-        text,
-        language,
-        true,
-        stretch.step,
-        unit_of(stretch.by_hours),
-    )?;
+    write_every(text, language, stretch.step, unit_of(stretch.by_hours))?;
     write_part(text, language, stretch)
 }
 
@@ -207,9 +201,9 @@ fn write_stepped_minutes(
     last: u16,
     n: u16,
 ) -> Result<(), CronError>
-    ensures { Appends (every_text language true n TimeUnit.Minute ++ (term_text language Term.FromMinute ++ span_text language Kind.Number first last)) text.old text.new result }
+    ensures { Appends (every_text language n TimeUnit.Minute ++ (term_text language Term.FromMinute ++ span_text language Kind.Number first last)) text.old text.new result }
 {
-    write_every(text, language, true, n, TimeUnit::Minute)?;
+    write_every(text, language, n, TimeUnit::Minute)?;
     write_term(text, language, Term::FromMinute)?;
     write_span(text, language, Kind::Number, first, last)
 }
@@ -225,8 +219,8 @@ fn write_minutes_head(
     ensures { Appends (minutes_head style minutes.now one) text.old text.new result }
 {
     match one {
-        Some(Piece::Every) => write_every(text, style.language, true, 1, TimeUnit::Minute),
-        Some(Piece::EveryNth(n)) => write_every(text, style.language, true, n, TimeUnit::Minute),
+        Some(Piece::Every) => write_every(text, style.language, 1, TimeUnit::Minute),
+        Some(Piece::EveryNth(n)) => write_every(text, style.language, n, TimeUnit::Minute),
         Some(Piece::RangeNth(first, last, n)) => {
             write_stepped_minutes(text, style.language, first, last, n)
         }
@@ -279,7 +273,7 @@ fn write_beside(text: &mut String, style: Style, n: u16, minutes: &[Piece]) -> R
     requires { 0 < length minutes.now }
     ensures { Appends (beside_text style n minutes.now) text.old text.new result }
 {
-    write_every(text, style.language, true, n, TimeUnit::Minute)?;
+    write_every(text, style.language, n, TimeUnit::Minute)?;
     write_term(text, style.language, Term::AndAt)?;
     write_unit(text, style, TimeUnit::Minute, &minutes[1..])
 }
@@ -305,6 +299,48 @@ fn write_listed_minutes(
     }
 }
 
+/// Whether a step goes on to the end of the hour.
+fn is_to_the_end(last: u16, n: u16) -> bool
+    ensures { result ≡ is_to_the_end last n }
+{
+    u32::from(LAST_MINUTE) < u32::from(last) + u32::from(n)
+}
+
+/// Writes the minutes of a step.
+#[tactic(auto, unfolding(crate::specs::TimeWords::from_minutes))]
+fn write_from_minutes(
+    text: &mut String,
+    language: SummaryLanguage,
+    first: u16,
+    last: u16,
+    n: u16,
+) -> Result<(), CronError>
+    ensures { Appends (from_minutes language first last n) text.old text.new result }
+{
+    write_term(text, language, Term::FromMinute)?;
+    if is_to_the_end(last, n) {
+        return write_number(text, first);
+    }
+    write_span(text, language, Kind::Number, first, last)
+}
+
+/// Writes a step of minutes of each hour.
+#[tactic(auto, unfolding(crate::specs::TimeWords::stepped_hourly))]
+fn write_stepped_hourly(
+    text: &mut String,
+    style: Style,
+    first: u16,
+    last: u16,
+    n: u16,
+    hours: &[Piece],
+) -> Result<(), CronError>
+    ensures { Appends (stepped_hourly style first last n hours.now) text.old text.new result }
+{
+    write_every(text, style.language, n, TimeUnit::Minute)?;
+    write_from_minutes(text, style.language, first, last, n)?;
+    write_of_hours(text, style, hours)
+}
+
 /// Writes minutes of each hour.
 #[tactic(auto, unfolding(crate::specs::TimeWords::each_hour_text))]
 fn write_each_hour(
@@ -317,12 +353,14 @@ fn write_each_hour(
     ensures { Appends (each_hour_text style minutes.now hours.now one) text.old text.new result }
 {
     match one {
-        Some(Piece::Every) => write_every(text, style.language, true, 1, TimeUnit::Minute),
-        Some(Piece::EveryNth(n)) => write_every(text, style.language, true, n, TimeUnit::Minute),
-        Some(Piece::One(0)) => write_every(text, style.language, true, 1, TimeUnit::Hour),
+        Some(Piece::Every) => write_every(text, style.language, 1, TimeUnit::Minute),
+        Some(Piece::EveryNth(n)) => write_every(text, style.language, n, TimeUnit::Minute),
+        Some(Piece::One(0)) => write_every(text, style.language, 1, TimeUnit::Hour),
         Some(Piece::One(_)) => write_minutes_and_hours(text, style, minutes, hours),
         Some(Piece::Range(_, _)) => write_minutes_and_hours(text, style, minutes, hours),
-        Some(Piece::RangeNth(_, _, _)) => write_minutes_and_hours(text, style, minutes, hours),
+        Some(Piece::RangeNth(first, last, n)) => {
+            write_stepped_hourly(text, style, first, last, n, hours)
+        }
         None => write_listed_minutes(text, style, minutes, hours, head_step(minutes)),
     }
 }
@@ -543,8 +581,8 @@ fn write_seconds(
     ensures { Appends (seconds_text style seconds.now minutes.now hours.now one) text.old text.new result }
 {
     match one {
-        Some(Piece::Every) => write_every(text, style.language, true, 1, TimeUnit::Second),
-        Some(Piece::EveryNth(n)) => write_every(text, style.language, true, n, TimeUnit::Second),
+        Some(Piece::Every) => write_every(text, style.language, 1, TimeUnit::Second),
+        Some(Piece::EveryNth(n)) => write_every(text, style.language, n, TimeUnit::Second),
         _ => write_parts(text, style, seconds, minutes, hours),
     }
 }

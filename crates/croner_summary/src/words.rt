@@ -94,26 +94,25 @@ fn month_name(language: SummaryLanguage, month: u16) -> &'static str
     }
 }
 
-/// Writes every so many units, at the head of a text or within it.
+/// Writes every so many units.
 #[tactic(auto, unfolding(crate::specs::Words::every_text))]
 pub(crate) fn write_every(
     text: &mut String,
     language: SummaryLanguage,
-    is_head: bool,
     n: u16,
     unit: TimeUnit,
 ) -> Result<(), CronError>
-    ensures { Appends (every_text language is_head n unit) text.old text.new result }
+    ensures { Appends (every_text language n unit) text.old text.new result }
 {
     match language {
-        SummaryLanguage::English => write_english_every(text, is_head, n, unit),
-        SummaryLanguage::Swedish => write_swedish_every(text, is_head, n, unit),
+        SummaryLanguage::English => write_english_every(text, n, unit),
+        SummaryLanguage::Swedish => write_swedish_every(text, n, unit),
     }
 }
 
 /// Writes every nth, before what it is, which may be a year.
 #[tactic(auto, unfolding(crate::specs::Words::nth_text))]
-fn write_nth(
+pub(crate) fn write_nth(
     text: &mut String,
     language: SummaryLanguage,
     is_year: bool,
@@ -257,7 +256,7 @@ pub(crate) fn least_of(kind: Kind) -> u16
 }
 
 /// Whether the values are years.
-fn is_year(kind: Kind) -> bool
+pub(crate) fn is_year(kind: Kind) -> bool
     ensures { result ≡ is_year kind }
 {
     match kind {

@@ -1,10 +1,10 @@
 -- When pieces name exactly the values that a field marks. Private contracts alone cite these definitions.
-use Rattle.std.specs.Prelude.{◌≡◌, ℕ, ◌≤◌, ◌<◌, true, ◌&&◌, List}
+use Rattle.std.specs.Prelude.{◌≡◌, ℕ, ◌≤◌, ◌<◌, ◌+◌, ◌-◌, true, false, ◌&&◌, List}
 use Rattle.croner_base.specs.Field.{Field}
 use Rattle.croner_pattern.specs.Schedule.{is_named, is_plain}
 use Rattle.croner_summary.specs.declared.phrase.Piece.{Piece}
 use Rattle.croner_summary.specs.declared.phrase.Phrase.{Phrase}
-use Rattle.croner_summary.specs.Says.{is_in_some, is_within, names}
+use Rattle.croner_summary.specs.Says.{is_in, is_in_some, is_stepwise, is_within, names}
 
 -- up to a value, pieces name what the field has marked
 abbrev pub AgreeBelow : ℕ → ℕ → List Piece → ℕ → Field → ℕ → Type 0
@@ -23,3 +23,39 @@ HasAll least greatest f = (value : ℕ) → is_within least greatest value ≡ t
 -- the phrase names each value, whatever the bounds
 abbrev pub NamesAll : Phrase → Type 0
 NamesAll phrase = (least greatest value : ℕ) → is_in_some least greatest phrase.pieces.items value ≡ true
+
+-- the phrase names no value, whatever the bounds
+abbrev pub NamesNothing : Phrase → Type 0
+NamesNothing phrase = (least greatest value : ℕ) → is_in_some least greatest phrase.pieces.items value ≡ false
+
+-- ---- from one plain value to the next
+
+-- steps from a first value reach none of the values from one on and below another
+abbrev pub PassesOver : ℕ → ℕ → ℕ → ℕ → Type 0
+PassesOver first step from end =
+    (value : ℕ) → first ≤ value → from ≤ value → value < end → is_stepwise step (value - first) ≡ false
+
+-- a piece names none of them
+abbrev pub NamesNone : ℕ → ℕ → Piece → ℕ → ℕ → Type 0
+NamesNone least greatest piece from end = (value : ℕ) → from ≤ value → value < end → is_in least greatest piece value ≡ false
+
+-- no piece of a list does
+abbrev pub NameNone : ℕ → ℕ → List Piece → ℕ → ℕ → Type 0
+NameNone least greatest pieces from end = (value : ℕ) → from ≤ value → value < end → is_in_some least greatest pieces value ≡ false
+
+-- the next plain value from one on, or the value above the greatest
+pub record IsNextPlain (greatest : ℕ) (f : Field) (from next : ℕ) : Type 0 where
+  pub above : from ≤ next
+  pub within : next ≤ greatest + 1
+  pub none : (value : ℕ) → from ≤ value → value < next → is_plain f value ≡ false
+  pub plain : next ≤ greatest → is_plain f next ≡ true
+
+-- pieces name no value from one on before the next, and name that, where it isn't above the greatest
+pub record StepAgrees (least greatest : ℕ) (pieces : List Piece) (from next : ℕ) : Type 0 where
+  pub none : NameNone least greatest pieces from next
+  pub named : next ≤ greatest → is_in_some least greatest pieces next ≡ true
+
+-- as far as a value, pieces name what is plain, within the bounds
+abbrev pub AgreeWithin : ℕ → ℕ → List Piece → Field → ℕ → Type 0
+AgreeWithin least greatest pieces f end =
+    (value : ℕ) → least ≤ value → value < end → value ≤ greatest → is_in_some least greatest pieces value ≡ is_plain f value

@@ -1,4 +1,5 @@
 use Rattle.croner_summary.proofs.ExactDays.{weekdays_exact}
+use Rattle.croner_summary.proofs.Shortness.{short_of}
 use Rattle.croner_summary.proofs.day_phrases.weekdays.Goals as goal
 
 pub returns-clause-ok : goal.returns-clause-ok
@@ -14,3 +15,6 @@ returns-clause-ok c =
       fifth = c.in_ok-fifth.ensures.ok;
       last = c.in_ok-last.ensures.ok;
     })
+
+pub returns-clause-short : goal.returns-clause-short
+returns-clause-short c = short_of 0 6 c.args.weekdays.now c.in_ok-each.each c.in_ok-each.ensures.ok c.in_ok-each.ensures.short

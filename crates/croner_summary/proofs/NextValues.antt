@@ -1,0 +1,24 @@
+-- From one plain value to the next.
+use Rattle.std.proofs.Common.{◌≡◌, ℕ, ◌+◌, ◌≤◌, List, ap, sym, ◌∙◌, arith, inl, inr}
+use Rattle.std.proofs.lemmas.Bool.{cases_lt}
+use Rattle.croner_base.specs.Field.{Field}
+use Rattle.croner_pattern.specs.Schedule.{is_plain}
+use Rattle.croner_summary.specs.declared.phrase.Piece.{Piece}
+use Rattle.croner_summary.specs.Says.{is_in_some}
+use Rattle.croner_summary.specs.Private.Exact.{AgreeWithin, IsNextPlain, StepAgrees}
+
+-- one step more agrees
+pub agree_next : (least greatest : ℕ) (pieces : List Piece) (f : Field) (from next : ℕ) → AgreeWithin least greatest pieces f from
+    → IsNextPlain greatest f from next → StepAgrees least greatest pieces from next → AgreeWithin least greatest pieces f (next + 1)
+agree_next least greatest pieces f from next before is agrees value low high within =
+    elim (cases_lt value from) [
+      | inl done ↦ before value low done within
+      | inr more ↦
+          elim (cases_lt value next) [
+            | inl between ↦ agrees.none value more between ∙ sym (is.none value more between)
+            | inr last ↦
+                let here : value ≡ next = omega arith in
+                let in_bounds : next ≤ greatest = omega arith in
+                ap (is_in_some least greatest pieces) here ∙ agrees.named in_bounds ∙ sym (ap (is_plain f) here ∙ is.plain in_bounds)
+          ]
+    ]

@@ -1,0 +1,12 @@
+use Rattle.std.proofs.Common.{◌+◌, ◌-◌, ◌≤◌}
+use Rattle.croner_summary.specs.Private.Exact.{AgreeWithin}
+use Rattle.croner_summary.proofs.plain.are_exact.Given as goal
+
+abbrev pub invariant-loop-from : goal.invariant-loop-from
+invariant-loop-from l = record {
+  low : l.least ≤ l.from;
+  agree : AgreeWithin l.least l.greatest l.pieces l.field l.from;
+}
+
+abbrev pub decreases-loop-from : goal.decreases-loop-from
+decreases-loop-from l = (l.greatest + 1) - l.from
