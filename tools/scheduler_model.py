@@ -22,7 +22,8 @@ that goes back by three hours, which isn't calm), the same tables over a backend
 and civil time. A list goes on for some days about a change of one of its clocks. Jobs run every half a minute to never,
 many at the same instants. Their positions lie about the time of the list, far behind it and ahead of it. The time that a
 call is told goes on, jumps to a run or one second before it, and goes back. Jobs are taken out and put back where they
-stood, also at an id's end.
+stood, also at an id's end. Over the backend that holds little some jobs refuse their first searches near an end of what
+is held, and go on when they are asked again.
 """
 import datetime
 import functools
@@ -41,6 +42,7 @@ LAST_ID = 2**64 - 1
 PROGRAM = pathlib.Path(__file__).resolve().parent.parent / "crates" / "cronreplay" / "out" / "cronreplay"
 SEARCHED = 60  # runs one after another that the program is asked for at a time
 NEVER = ("0 0 30 2 *", "0 0 31 4,6 *")
+REFUSALS = [0, 0, 1, 1, 2, 5]  # how many searches of a job are refused
 WAYS = {"next": (model.FORWARD, False), "prev": (model.BACKWARD, True)}
 
 SUMMER_TIME = "CET-1CEST,M3.5.0,M10.5.0/3"
@@ -183,12 +185,20 @@ class Searches:
 
 
 class Standing:
-    """A job, its position, and what comes next: a run, None where none is left, or why it is stopped."""
+    """A job, its position, what comes next: a run, None where none is left, or why it is stopped; and how many of its searches near
+    an end of what is held are refused still."""
 
-    def __init__(self, text, zone, position):
-        self.text, self.zone, self.position, self.next = text, zone, position, None
+    def __init__(self, text, zone, position, refusals):
+        self.text, self.zone, self.position, self.next, self.refusals = text, zone, position, None, refusals
+
+    def refuses(self):
+        return self.refusals > 0 and not (self.zone.holds(self.position - DAY) and self.zone.holds(self.position + DAY))
 
     def search(self, searches):
+        if self.refuses():
+            self.refusals -= 1
+            self.next = "InvalidTime"
+            return
         found = yield from searches.answer("next", self.text, self.zone, self.position)
         if found == model.LIMIT:
             self.next = None
@@ -207,12 +217,12 @@ class Standing:
 class Model:
     """Jobs by their ids, and nothing else. A call that searches is a generator, which waits for searches."""
 
-    def __init__(self, searches, patterns, places, first_id):
-        self.searches, self.patterns, self.zones = searches, patterns, places
+    def __init__(self, searches, patterns, refusals, places, first_id):
+        self.searches, self.patterns, self.refusals, self.zones = searches, patterns, refusals, places
         self.jobs, self.next_id = {}, first_id
 
     def standing(self, pattern, zone, second):
-        job = Standing(self.patterns[pattern], self.zones[zone], second)
+        job = Standing(self.patterns[pattern], self.zones[zone], second, self.refusals[pattern])
         yield from job.search(self.searches)
         return job
 
@@ -365,8 +375,9 @@ class List:
         self.draw, self.length = draw, length
         self.zones, self.about = drawn_zones(draw, kind)
         self.patterns = drawn_patterns(draw, self.about, 1 if length < 30 else draw.randint(1, 3))
+        self.refusals = [draw.choice(REFUSALS) if kind == "held" else 0 for _ in self.patterns]
         self.first_id = LAST_ID - draw.randint(0, 9) if draw.random() < 0.05 else draw.choice([0, 0, 0, 7])
-        self.model = Model(searches, self.patterns, self.zones, self.first_id)
+        self.model = Model(searches, self.patterns, self.refusals, self.zones, self.first_id)
         self.now = self.about - draw.randint(0, 4) * DAY - draw.choice([0, 1, 60, HOUR, 7 * HOUR])
         self.calls, self.answers, self.out = [], [], []
 
@@ -436,6 +447,11 @@ class List:
             near = draw.randint(*job.zone.held)
         yield from self.call("skip_to", key, near)
 
+    def ask_again(self):
+        """Of a job that is stopped mostly, where there is one."""
+        draw, stopped = self.draw, [key for key, _ in self.model.stopped()]
+        yield from self.call("ask_again", draw.choice(stopped) if stopped and draw.random() < 0.8 else self.key())
+
     def look(self):
         yield from self.call("standings")
         yield from self.call("stopped")
@@ -445,7 +461,7 @@ class List:
         for _ in range(draw.randint(2, 5)):
             yield from self.call("add", *self.job())
         acts = [self.take] * 10 + [lambda: self.call("add", *self.job())] * 2 + [self.remove, self.put_back, self.skip]
-        acts += [lambda: self.call("replace", self.key(), *self.job()), lambda: self.call("ask_again", self.key())]
+        acts += [lambda: self.call("replace", self.key(), *self.job()), self.ask_again]
         acts += [lambda: self.call("add_from", *self.job()), self.take_latest]
         acts += [lambda: self.call("next_wake_up")] * 2 + [self.look]
         for _ in range(self.length):
@@ -454,7 +470,8 @@ class List:
         yield from self.look()
 
     def line(self):
-        question = {"op": "scheduler", "zones": [zone.member for zone in self.zones], "patterns": [{"text": text} for text in self.patterns]}
+        patterns = [{"text": text, "refusals": refusals} if refusals else {"text": text} for text, refusals in zip(self.patterns, self.refusals)]
+        question = {"op": "scheduler", "zones": [zone.member for zone in self.zones], "patterns": patterns}
         if self.first_id != 0:
             question["first_id"] = self.first_id
         return {**question, "calls": self.calls, "want": self.answers}

@@ -2,6 +2,11 @@
 use croner::errors::CronError;
 use croner::{Clocked, Recurring};
 use croner_scheduler::Scheduler;
+use std::thread;
+use std::time::{Clock, Duration};
+
+/// How many seconds the program sleeps at most: a machine that was suspended wakes late, and clocks are set.
+const MOST_SECONDS: u64 = 60;
 
 /// What a job starts, and when it runs.
 #[derive(Debug, Drop)]
@@ -53,4 +58,31 @@ pub fn start_due<J: Recurring<T>, T: Clocked>(
         }
     }
     Ok(scheduler.next_wake_up())
+}
+
+/// Starts jobs when they are due by the machine's clock, until it shows a second.
+pub fn serve<J: Recurring<T>, T: Clocked>(
+    rt: &HostRuntime,
+    scheduler: &mut Scheduler<Task<J>, T>,
+    until: u64,
+) -> anyhow::Result<()> {
+    for _turn in 0..u64::MAX {
+        let now = rt.since_1970()?;
+        if now.as_secs() >= until {
+            break;
+        }
+        let second = i64::try_from(now.as_secs())?;
+        let wake_up = start_due(rt, scheduler, second)?;
+        thread::sleep(rt, pause(now, wake_up));
+    }
+    Ok(())
+}
+
+// For how long to sleep before a wake-up.
+fn pause(now: Duration, wake_up: Option<i64>) -> Duration {
+    let most = Duration::from_secs(MOST_SECONDS);
+    match wake_up.and_then(|second| u64::try_from(second).ok()) {
+        Some(second) => Duration::from_secs(second).saturating_sub(now).min(most),
+        None => most,
+    }
 }

@@ -7,6 +7,7 @@ mod clocks;
 mod comparisons;
 mod faults;
 mod field_calls;
+mod flaky;
 mod jobs;
 mod lines;
 mod marks;
@@ -27,6 +28,7 @@ pub use clocks::{
 };
 pub use faults::Fault;
 pub use field_calls::{are_alike, calls_in_turn, hash_of, new_component, read_field};
+pub use flaky::FlakyJob;
 pub use jobs::{Job, read_parser, whole_text};
 pub use lines::{Summary, Tool, answer_lines, status};
 pub use marks::Caller;

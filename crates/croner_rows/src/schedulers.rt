@@ -1,7 +1,7 @@
 //! Schedulers: calls one after another, over clocks of one kind.
 
-use crate::{Caller, Fault, Job, Result, items, number, number_at, parts, shown, word};
-use croner::{Clocked, Cron};
+use crate::{Caller, Fault, FlakyJob, Result, items, number, number_at, parts, shown, word};
+use croner::Clocked;
 use croner_scheduler::{
     AddError, Again, Due, Latest, NotAdded, Replaced, Scheduler, Skip, Stop, Waiting,
 };
@@ -17,10 +17,10 @@ pub struct Named<'q, T: Clocked> {
 
 impl<'q, T: Clocked> Named<'q, T> {
     // The job of a pattern.
-    fn job(&self, alloc: Global, place: &Value) -> Result<Cron> {
+    fn job(&self, alloc: Global, place: &Value) -> Result<FlakyJob> {
         let place: usize = number(place)?;
         let pattern = self.patterns.get(place).ok_or(Fault::Malformed)?;
-        Ok(Job::read(alloc, pattern)?.into_cron())
+        FlakyJob::read(alloc, pattern)
     }
 
     // The time at a second of a clock, if it has that second.
@@ -32,7 +32,10 @@ impl<'q, T: Clocked> Named<'q, T> {
 }
 
 /// The scheduler of a question before its calls: without jobs, its first id the member `first_id`, or 0.
-pub fn new_scheduler<T: Clocked>(alloc: Global, question: &Value) -> Result<Scheduler<Cron, T>> {
+pub fn new_scheduler<T: Clocked>(
+    alloc: Global,
+    question: &Value,
+) -> Result<Scheduler<FlakyJob, T>> {
     match question.get("first_id") {
         None => Ok(Scheduler::new(alloc)),
         Some(first) => {
@@ -45,7 +48,7 @@ pub fn new_scheduler<T: Clocked>(alloc: Global, question: &Value) -> Result<Sche
 /// The answers of calls of a scheduler, one after another.
 pub fn call_in_turn<T: Clocked>(
     caller: Caller<'_>,
-    scheduler: &mut Scheduler<Cron, T>,
+    scheduler: &mut Scheduler<FlakyJob, T>,
     named: &Named<'_, T>,
     calls: &[Value],
 ) -> Result<Value> {
@@ -59,7 +62,7 @@ pub fn call_in_turn<T: Clocked>(
 /// What a call of a scheduler answers. The call is a list: its name, and what it is given.
 pub fn call_scheduler<T: Clocked>(
     caller: Caller<'_>,
-    scheduler: &mut Scheduler<Cron, T>,
+    scheduler: &mut Scheduler<FlakyJob, T>,
     named: &Named<'_, T>,
     call: &Value,
 ) -> Result<Value> {
@@ -80,7 +83,7 @@ pub fn call_scheduler<T: Clocked>(
 // What is asked of a scheduler that doesn't change it.
 fn view<T: Clocked>(
     caller: Caller<'_>,
-    scheduler: &Scheduler<Cron, T>,
+    scheduler: &Scheduler<FlakyJob, T>,
     name: &str,
 ) -> Result<Value> {
     match name {
@@ -94,7 +97,7 @@ fn view<T: Clocked>(
 // A job whose runs after a second are left, or with `starts` those from it on.
 fn add<T: Clocked>(
     caller: Caller<'_>,
-    scheduler: &mut Scheduler<Cron, T>,
+    scheduler: &mut Scheduler<FlakyJob, T>,
     named: &Named<'_, T>,
     call: &Value,
     starts: bool,
@@ -119,7 +122,7 @@ fn add<T: Clocked>(
 
 fn replace<T: Clocked>(
     caller: Caller<'_>,
-    scheduler: &mut Scheduler<Cron, T>,
+    scheduler: &mut Scheduler<FlakyJob, T>,
     named: &Named<'_, T>,
     call: &Value,
 ) -> Result<Value> {
@@ -140,7 +143,7 @@ fn replace<T: Clocked>(
 
 fn remove<T: Clocked>(
     caller: Caller<'_>,
-    scheduler: &mut Scheduler<Cron, T>,
+    scheduler: &mut Scheduler<FlakyJob, T>,
     call: &Value,
 ) -> Result<Value> {
     let [_, id] = parts::<2>(call)?;
@@ -156,7 +159,7 @@ fn remove<T: Clocked>(
 
 fn skip_to<T: Clocked>(
     caller: Caller<'_>,
-    scheduler: &mut Scheduler<Cron, T>,
+    scheduler: &mut Scheduler<FlakyJob, T>,
     call: &Value,
 ) -> Result<Value> {
     let [_, id, now] = parts::<3>(call)?;
@@ -169,7 +172,7 @@ fn skip_to<T: Clocked>(
 
 fn ask_again<T: Clocked>(
     caller: Caller<'_>,
-    scheduler: &mut Scheduler<Cron, T>,
+    scheduler: &mut Scheduler<FlakyJob, T>,
     call: &Value,
 ) -> Result<Value> {
     let [_, id] = parts::<2>(call)?;
@@ -183,7 +186,7 @@ fn ask_again<T: Clocked>(
 // At most so many runs, up to the first call that gives none.
 fn take_due<T: Clocked>(
     caller: Caller<'_>,
-    scheduler: &mut Scheduler<Cron, T>,
+    scheduler: &mut Scheduler<FlakyJob, T>,
     call: &Value,
 ) -> Result<Value> {
     let [_, now, most] = parts::<3>(call)?;
@@ -200,7 +203,7 @@ fn take_due<T: Clocked>(
 
 fn next_due<T: Clocked>(
     caller: Caller<'_>,
-    scheduler: &mut Scheduler<Cron, T>,
+    scheduler: &mut Scheduler<FlakyJob, T>,
     now: i64,
 ) -> Result<Option<Due>, AllocError> {
     caller.begin();
@@ -211,7 +214,7 @@ fn next_due<T: Clocked>(
 
 fn take_latest_due<T: Clocked>(
     caller: Caller<'_>,
-    scheduler: &mut Scheduler<Cron, T>,
+    scheduler: &mut Scheduler<FlakyJob, T>,
     call: &Value,
 ) -> Result<Value> {
     let [_, id, now] = parts::<3>(call)?;
@@ -233,7 +236,7 @@ fn shown_latest(alloc: Global, latest: Latest) -> Result<Value> {
     }
 }
 
-fn next_wake_up<T: Clocked>(caller: Caller<'_>, scheduler: &Scheduler<Cron, T>) -> Value {
+fn next_wake_up<T: Clocked>(caller: Caller<'_>, scheduler: &Scheduler<FlakyJob, T>) -> Value {
     caller.begin();
     let second = scheduler.next_wake_up();
     caller.end();
@@ -245,7 +248,7 @@ fn next_wake_up<T: Clocked>(caller: Caller<'_>, scheduler: &Scheduler<Cron, T>) 
 
 /// Each job of a scheduler in the order of the ids: its id, the second of its position, and that of its next run; null in its place where
 /// none is left, and where the job is stopped, why.
-pub fn standings<T: Clocked>(alloc: Global, scheduler: &Scheduler<Cron, T>) -> Result<Value> {
+pub fn standings<T: Clocked>(alloc: Global, scheduler: &Scheduler<FlakyJob, T>) -> Result<Value> {
     let mut standings = Vec::new(alloc);
     for (id, waiting) in scheduler.iter() {
         standings.push(standing(alloc, *id, waiting)?)?;
@@ -253,7 +256,7 @@ pub fn standings<T: Clocked>(alloc: Global, scheduler: &Scheduler<Cron, T>) -> R
     Ok(Value::Array(standings))
 }
 
-fn standing<T: Clocked>(alloc: Global, id: u64, waiting: &Waiting<Cron, T>) -> Result<Value> {
+fn standing<T: Clocked>(alloc: Global, id: u64, waiting: &Waiting<FlakyJob, T>) -> Result<Value> {
     let next = what_comes_next(alloc, waiting)?;
     let mut standing = Vec::new(alloc);
     standing.push(Value::from(id))?;
@@ -262,7 +265,7 @@ fn standing<T: Clocked>(alloc: Global, id: u64, waiting: &Waiting<Cron, T>) -> R
     Ok(Value::Array(standing))
 }
 
-fn what_comes_next<T: Clocked>(alloc: Global, waiting: &Waiting<Cron, T>) -> Result<Value> {
+fn what_comes_next<T: Clocked>(alloc: Global, waiting: &Waiting<FlakyJob, T>) -> Result<Value> {
     match (waiting.next_run(), waiting.stop()) {
         (Some(run), _) => Ok(Value::from(run.second())),
         (None, Some(stop)) => shown_stop(alloc, stop),
@@ -278,7 +281,7 @@ fn shown_stop(alloc: Global, stop: &Stop) -> Result<Value> {
 }
 
 // Each job of a scheduler that is stopped, in the order of the ids: its id, and why.
-fn stopped<T: Clocked>(caller: Caller<'_>, scheduler: &Scheduler<Cron, T>) -> Result<Value> {
+fn stopped<T: Clocked>(caller: Caller<'_>, scheduler: &Scheduler<FlakyJob, T>) -> Result<Value> {
     caller.begin();
     let left = scheduler.stopped();
     caller.end();
@@ -291,12 +294,12 @@ fn stopped<T: Clocked>(caller: Caller<'_>, scheduler: &Scheduler<Cron, T>) -> Re
 }
 
 // A job that is given back, as its text, and its position.
-fn given_back<T: Clocked>(alloc: Global, job: &Cron, position: &T) -> Result<Value> {
+fn given_back<T: Clocked>(alloc: Global, job: &FlakyJob, position: &T) -> Result<Value> {
     let text = shown::text(alloc, job.as_str())?;
     shown::pair(alloc, text, Value::from(position.second()))
 }
 
-fn put_in_place<T: Clocked>(alloc: Global, out: Replaced<Cron, T>) -> Result<Value> {
+fn put_in_place<T: Clocked>(alloc: Global, out: Replaced<FlakyJob, T>) -> Result<Value> {
     let given = given_back(alloc, &out.job, &out.position)?;
     marked(alloc, given, out.is_stopped)
 }
@@ -317,7 +320,7 @@ fn marked(alloc: Global, answer: Value, is_stopped: bool) -> Result<Value> {
 }
 
 // Why a job isn't added, and the job and its position as they were handed back.
-fn not_added<T: Clocked>(alloc: Global, refused: NotAdded<Cron, T>) -> Result<Value> {
+fn not_added<T: Clocked>(alloc: Global, refused: NotAdded<FlakyJob, T>) -> Result<Value> {
     let error = shown::text(alloc, error_name(&refused.error)?)?;
     let given = given_back(alloc, &refused.job, &refused.position)?;
     shown::pair(alloc, error, given)

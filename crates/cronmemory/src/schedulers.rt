@@ -1,9 +1,9 @@
 //! A scheduler: one of its calls, with others before it and behind it.
 
-use croner::{Clocked, Cron};
+use croner::Clocked;
 use croner_rows::{
-    Answer, Caller, Fault, Named, Outcome, OverClocks, Result, call_in_turn, call_scheduler, list,
-    member, new_scheduler, over_clocks, standings,
+    Answer, Caller, Fault, FlakyJob, Named, Outcome, OverClocks, Result, call_in_turn,
+    call_scheduler, list, member, new_scheduler, over_clocks, standings,
 };
 use croner_scheduler::Scheduler;
 use serde_json::Value;
@@ -34,7 +34,7 @@ impl<'q> OverClocks for OneCall<'q> {
 
 fn one_call<T: Clocked>(
     caller: Caller<'_>,
-    scheduler: &mut Scheduler<Cron, T>,
+    scheduler: &mut Scheduler<FlakyJob, T>,
     named: &Named<'_, T>,
     question: &Value,
 ) -> Result<Outcome> {
@@ -59,7 +59,7 @@ fn one_call<T: Clocked>(
 
 fn with_calls_behind<T: Clocked>(
     caller: Caller<'_>,
-    scheduler: &mut Scheduler<Cron, T>,
+    scheduler: &mut Scheduler<FlakyJob, T>,
     named: &Named<'_, T>,
     question: &Value,
     answer: Result<Value>,
