@@ -1,12 +1,15 @@
 -- Worked rows, computed from the definitions: a day from 00:00 on to 24:00, with starts at 02:00 of two jobs, and at 04:30.
 use Rattle.std.proofs.Common.{◌≡◌, ℕ, ℤ, pos, true, false, Bool, Option, Some, None, List, [], ◌∷◌, filter, int_lt, refl}
 use Rattle.cronplan.specs.declared.counts.Unit.TheVariants as units
+use Rattle.cronplan.specs.declared.moments.Moment.{Moment}
+use Rattle.std.specs.declared.cmp.Ordering.TheVariants.{Less, Greater}
 use Rattle.cronplan.specs.declared.start.JobStart.{JobStart}
 use Rattle.cronplan.specs.declared.windows.Bound.TheVariants as bounds
 use Rattle.cronplan.specs.declared.windows.Edge.{Edge}
 use Rattle.cronplan.specs.declared.windows.Window.{Window}
-use Rattle.cronplan.specs.Counts.{key_of, starts_at}
-use Rattle.cronplan.specs.Jobs.{Seen, count_of, shown_of, named_of, end_with}
+use Rattle.cronplan.specs.Counts.{key_of, starts_at, count_of}
+use Rattle.cronplan.specs.Jobs.{Seen, shown_of, named_of, end_with}
+use Rattle.cronplan.specs.Moments.{at_second, fullest_cmp}
 use Rattle.cronplan.specs.Private.Gaps.{gaps}
 use Rattle.cronplan.specs.Spans.{is_span}
 use Rattle.cronplan.specs.Starts.{second_at, earlier}
@@ -43,6 +46,16 @@ begins_with_a_start = refl
 -- three starts at 02:00, one at 04:30; four on the day; none at 03:00
 counts : (starts_at units.Second (pos 7_200) day ≡ 3) × (starts_at units.HourOfDay (pos 4) day ≡ 1) × (starts_at units.Day (pos 0) day ≡ 4) × (starts_at units.Hour (pos 3) day ≡ 0)
 counts = (refl, refl, refl, refl)
+
+-- the starts at 02:00; the moment there before the one at 04:30, which has fewer, and of two equal ones the earlier first
+then : (at_second (pos 7_200) day ≡ start 7_200 0 1 ∷ start 7_200 1 2 ∷ []) × (at_second (pos 7_201) day ≡ [])
+then = (refl, refl)
+
+abbrev moment : ℕ → ℕ → Moment
+moment second starts = record { second = pos second; wall = pos second; starts = starts }
+
+fullest_first : (fullest_cmp (moment 7_200 3) (moment 16_200 1) ≡ Less) × (fullest_cmp (moment 16_200 3) (moment 7_200 3) ≡ Greater)
+fullest_first = (refl, refl)
 
 -- a span of one second, and one that ends before it begins
 spans : (is_span (pos 0) (pos 1) ≡ true) × (is_span (pos 1) (pos 0) ≡ false)

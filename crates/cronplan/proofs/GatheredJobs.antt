@@ -13,7 +13,8 @@ use Rattle.cronplan.specs.declared.listing.Schedule.{Schedule}
 use Rattle.cronplan.specs.declared.span.Span.{Span}
 use Rattle.cronplan.specs.declared.start.JobStart.{JobStart}
 use Rattle.cronplan.specs.Starts.{earlier}
-use Rattle.cronplan.specs.Jobs.{count_of, Seen, IsSeen, AreSeen, shown_of, named_of, end_with}
+use Rattle.cronplan.specs.Counts.{count_of}
+use Rattle.cronplan.specs.Jobs.{Seen, IsSeen, AreSeen, shown_of, named_of, end_with}
 use Rattle.cronplan.specs.Listed.{IsStartIn}
 use Rattle.cronplan.specs.Private.Gathered.{AddsJob, Names, Shows}
 

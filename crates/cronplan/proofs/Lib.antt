@@ -1,7 +1,10 @@
 pub mod CountedStarts
+pub mod DayCells
 pub mod Examples
+pub mod ExamplesDays
 pub mod GapWindows
 pub mod GatheredJobs
 pub mod JobListings
+pub mod MomentStarts
 pub mod SpanSeconds
 pub mod StartOrder

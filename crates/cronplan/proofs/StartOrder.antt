@@ -22,7 +22,7 @@ pub start_weak : IsStrictWeakOrder (λ (x y : JobStart). is_lt (start_cmp x y))
 start_weak = ranks_by start_total (λ (s : JobStart). s)
 
 -- one that is no less than another is no earlier
-no_earlier : (x y : JobStart) → is_lt (start_cmp y x) ≡ false → x.second ≤ℤ y.second
+pub no_earlier : (x y : JobStart) → is_lt (start_cmp y x) ≡ false → x.second ≤ℤ y.second
 no_earlier x y e = grind (arith, ints)
 
 -- without its first start a list is in order still
@@ -62,7 +62,7 @@ late (x ∷ xs) zero end up =
     (All-weaker (λ t. x.second ≤ℤ t) (λ t. earlier end (Some x.second) ≤ℤ t) (λ t h. omega (arith, ints, le, h)) (seconds_of xs) up.0))
 late (x ∷ xs) (suc m) end up = late xs m end up.1
 
-filter_none : (p : JobStart → Bool) (xs : List JobStart) → All (λ s. p s ≡ false) xs → filter p xs ≡ []
+pub filter_none : (p : JobStart → Bool) (xs : List JobStart) → All (λ s. p s ≡ false) xs → filter p xs ≡ []
 filter_none p [] h = refl
 filter_none p (x ∷ xs) h =
     subst (λ (b : Bool). cond b (x ∷ filter p xs) (filter p xs) ≡ []) (sym (All-head (λ s. p s ≡ false) x xs h)) (filter_none p xs (All-tail (λ s. p s ≡ false) x xs h))

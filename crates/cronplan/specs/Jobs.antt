@@ -1,18 +1,14 @@
 -- The plan of jobs: which of them it shows, and which it names as too frequent. Source: this crate's documentation.
-use Rattle.std.specs.Prelude.{◌≡◌, ◌↔◌, ℕ, suc, ℤ, Bool, IsTrue, if◌then◌else◌, List, [], ◌∷◌, fold, sum_by, Option, Some, None}
+use Rattle.std.specs.Prelude.{◌≡◌, ◌↔◌, ℕ, suc, ℤ, Bool, IsTrue, if◌then◌else◌, List, [], ◌∷◌, fold, Option, Some, None}
 use Rattle.std.specs.List.{flat_map}
 use Rattle.croner_base.specs.Zone.{Zone}
 use Rattle.cronplan.specs.declared.jobs.Frequent.{Frequent}
 use Rattle.cronplan.specs.declared.listing.Schedule.{Schedule}
 use Rattle.cronplan.specs.declared.span.Span.{Span}
 use Rattle.cronplan.specs.declared.start.JobStart.{JobStart}
-use Rattle.cronplan.specs.Counts.{IsFrequent}
+use Rattle.cronplan.specs.Counts.{count_of, IsFrequent}
 use Rattle.cronplan.specs.Listed.{ListsJob}
 use Rattle.cronplan.specs.Starts.{earlier, Merges}
-
--- how many starts these are
-abbrev pub count_of : List JobStart → ℕ
-count_of starts = sum_by (λ s. s.count) starts
 
 -- of a job: its place, its starts in the span, up to where none is left out of them, and whether it is too frequent to be shown
 pub record Seen : Type 0 where

@@ -1,6 +1,9 @@
+pub mod Changes
 pub mod Counts
+pub mod Days
 pub mod Jobs
 pub mod Listed
+pub mod Moments
 pub mod Spans
 pub mod Starts
 pub mod Windows

@@ -1,4 +1,6 @@
 -- Definitions that private contracts alone cite.
+pub mod CountedPlan
 pub mod Gaps
 pub mod Gathered
+pub mod MomentsUntil
 pub mod Placed

@@ -2,7 +2,7 @@
 ghost use Rattle.std.specs.Prelude.{◌≡◌, ◌+◌, ◌<◌, ◌≤◌, ◌^◌, ◌↔◌, ℤ, IsTrue, IfOk, OnOk, length, unwrap_or};
 ghost use Rattle.std.specs.BTreeMap.{get};
 ghost use Rattle.std.specs.Ordering.{int_cmp};
-ghost use Rattle.cronplan.specs.Counts.{key_of, starts_at, added_at, IsFrequent};
+ghost use Rattle.cronplan.specs.Counts.{key_of, hour_of, date_of, starts_at, added_at, count_of, IsFrequent};
 
 use crate::start::JobStart;
 use std::alloc::{AllocError, Global};
@@ -33,13 +33,24 @@ fn key_of(start: &JobStart, unit: Unit) -> i64
 {
     match unit {
         Unit::Second => start.second,
-        Unit::Hour => start.wall.div_euclid(SECONDS_PER_HOUR),
-        Unit::Day => start.wall.div_euclid(SECONDS_PER_DAY),
-        Unit::HourOfDay => start
-            .wall
-            .div_euclid(SECONDS_PER_HOUR)
-            .rem_euclid(HOURS_PER_DAY),
+        Unit::Hour => hour_of(start.wall),
+        Unit::Day => date_of(start.wall),
+        Unit::HourOfDay => hour_of(start.wall).rem_euclid(HOURS_PER_DAY),
     }
+}
+
+/// The hour of a wall second, counted from 1970-01-01T00:00:00.
+pub(crate) fn hour_of(wall: i64) -> i64
+    ensures { result ≡ hour_of wall }
+{
+    wall.div_euclid(SECONDS_PER_HOUR)
+}
+
+/// The date of a wall second, counted from 1970-01-01.
+pub(crate) fn date_of(wall: i64) -> i64
+    ensures { result ≡ date_of wall }
+{
+    wall.div_euclid(SECONDS_PER_DAY)
 }
 
 // Counts a start in its second, hour or day, and answers how many are counted there now.
@@ -99,4 +110,16 @@ pub(crate) fn is_frequent(
         }
     }
     Ok(false)
+}
+
+/// How many starts these are.
+pub(crate) fn count_of(starts: &[JobStart]) -> u64
+    requires { length starts.now ≤ 2 ^ 31 }
+    ensures { result ≡ count_of starts.now }
+{
+    let mut count = 0;
+    for start in starts {
+        count += u64::from(start.count);
+    }
+    count
 }

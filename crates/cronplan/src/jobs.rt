@@ -1,10 +1,10 @@
 //! The plan of jobs.
 ghost use Rattle.std.specs.Prelude.{◌≡◌, ◌≤◌, ◌^◌, ◌↔◌, ◌++◌, IsTrue, IfOk, OnOk, length};
 ghost use Rattle.croner_base.specs.TableZone.{table_zone};
-ghost use Rattle.cronplan.specs.Jobs.{IsOver, IsPlanOf, count_of};
+ghost use Rattle.cronplan.specs.Jobs.{IsOver, IsPlanOf};
 ghost use Rattle.cronplan.specs.Private.Gathered.{AddsJob, Names, Shows};
 
-use crate::counts::is_frequent;
+use crate::counts::{count_of, is_frequent};
 use crate::listing::{Schedule, starts_in};
 use crate::plan::{Plan, earlier};
 use crate::span::Span;
@@ -128,16 +128,4 @@ fn is_over(alloc: Global, starts: &[JobStart], most_a_day: Option<u64>) -> Resul
         Some(most) => is_frequent(alloc, starts, most),
         None => Ok(false),
     }
-}
-
-// How many starts these are.
-fn count_of(starts: &[JobStart]) -> u64
-    requires { length starts.now ≤ 2 ^ 31 }
-    ensures { result ≡ count_of starts.now }
-{
-    let mut count = 0;
-    for start in starts {
-        count += u64::from(start.count);
-    }
-    count
 }

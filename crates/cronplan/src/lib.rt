@@ -2,17 +2,23 @@
 //! and counts of them.
 #![tactic(auto)]
 
+mod changes;
 mod counts;
+mod days;
 mod jobs;
 mod listing;
+mod moments;
 mod plan;
 mod span;
 mod start;
 mod windows;
 
+pub use changes::ClockChange;
 pub use counts::Unit;
+pub use days::{Day, Days, HourCell};
 pub use jobs::{Frequent, plan_of};
 pub use listing::Schedule;
+pub use moments::Moment;
 pub use plan::{MOST_STARTS, Plan};
 pub use span::Span;
 pub use start::JobStart;

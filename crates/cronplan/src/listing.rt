@@ -127,8 +127,8 @@ fn placed_start(time: TableTime<'_>, start: Start, place: usize) -> JobStart
     }
 }
 
-// What the clock shows at a time, as a wall second.
-fn wall_of(time: &TableTime<'_>) -> i64
+/// What the clock shows at a time, as a wall second.
+pub(crate) fn wall_of(time: &TableTime<'_>) -> i64
     ensures { result ≡ reading (table_moment time.now) }
 {
     time.to_civil().wall_second()

@@ -5,10 +5,12 @@ ghost use Rattle.std.specs.List.Sorted.{IsSorted, IsSortedByKey};
 ghost use Rattle.std.specs.BTreeMap.{get};
 ghost use Rattle.std.specs.Ordering.{nat_cmp, int_cmp};
 ghost use Rattle.cronplan.specs.Counts.{starts_at};
+ghost use Rattle.cronplan.specs.Moments.{AreFullest};
 ghost use Rattle.cronplan.specs.Starts.{start_cmp, second_at, earlier, IsMerged, Merges};
 ghost use Rattle.cronplan.specs.Windows.{AreWindows, seconds_in};
 
 use crate::counts::{Unit, counts_by};
+use crate::moments::{Moment, moments_of};
 use crate::span::Span;
 use crate::start::JobStart;
 use crate::windows::{Window, windows_between};
@@ -61,6 +63,18 @@ impl Plan {
         let mut windows = windows_between(alloc, self.starts.as_slice(), self.span, least)?;
         windows.sort_by_key(|window| Reverse(window.seconds()))?;
         Ok(windows)
+    }
+
+    /// The fullest moments of the plan, so many at most: the one with most starts first, and of equal ones the earlier.
+    ///
+    /// A moment is a second at which a job starts. Where there are fewer, all are given. The only error is want of memory.
+    pub fn fullest(&self, alloc: Global, most: usize) -> Result<Vec<Moment>, AllocError>
+        ensures { IfOk result (λ moments. AreFullest self.now.starts.items most moments.items) }
+    {
+        let mut moments = moments_of(alloc, self.starts.as_slice())?;
+        moments.sort_unstable_by_key(|moment| (Reverse(moment.starts), moment.second));
+        moments.truncate(most);
+        Ok(moments)
     }
 }
 

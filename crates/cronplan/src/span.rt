@@ -34,6 +34,14 @@ impl Span {
     pub(crate) fn until(self) -> Option<i64>
         ensures { result ≡ Some (self.end -ℤ pos 1) }
     {
-        Some(self.end - 1)
+        Some(self.last())
+    }
+
+    // The last second of it, or where it has none the one before it.
+    #[tactic(auto, using(crate::proofs::SpanSeconds::span_ends))]
+    pub(crate) fn last(self) -> i64
+        ensures { result ≡ self.end -ℤ pos 1 }
+    {
+        self.end - 1
     }
 }

@@ -1,3 +1,4 @@
 pub mod Calendars
 pub mod ContentLines
 pub mod Escapes
+pub mod Weeks

@@ -6,7 +6,8 @@ use Rattle.cronplan.specs.declared.listing.Schedule.{Schedule}
 use Rattle.cronplan.specs.declared.span.Span.{Span}
 use Rattle.cronplan.specs.declared.start.JobStart.{JobStart}
 use Rattle.cronplan.specs.Starts.{earlier}
-use Rattle.cronplan.specs.Jobs.{count_of, Seen, IsSeen, shown_of, named_of, end_with}
+use Rattle.cronplan.specs.Counts.{count_of}
+use Rattle.cronplan.specs.Jobs.{Seen, IsSeen, shown_of, named_of, end_with}
 
 -- a job is named, with how many starts it has
 pub record Names (place : ℕ) (starts : List JobStart) (old new : Gathering) : Type 0 where

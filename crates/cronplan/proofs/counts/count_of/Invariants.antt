@@ -1,6 +1,6 @@
 use Rattle.std.proofs.Common.{◌≡◌, ◌≤◌, ◌*◌, ◌^◌, take}
-use Rattle.cronplan.specs.Jobs.{count_of}
-use Rattle.cronplan.proofs.jobs.count_of.Given as goal
+use Rattle.cronplan.specs.Counts.{count_of}
+use Rattle.cronplan.proofs.counts.count_of.Given as goal
 
 abbrev pub invariant-loop-start : goal.invariant-loop-start
 invariant-loop-start l = record {

@@ -1,0 +1,234 @@
+//! The dates of a plan, hour by hour.
+ghost use Rattle.std.specs.Prelude.{◌≡◌, ◌≤ℤ◌, ℤ, pos, neg_ℤ, ◌+ℤ◌, ◌*ℤ◌, ◌^◌, List, IfOk};
+ghost use Rattle.croner_base.specs.TableZone.{table_zone};
+ghost use Rattle.cronplan.specs.Changes.{changes_in};
+ghost use Rattle.cronplan.specs.Counts.{date_of, starts_at};
+ghost use Rattle.cronplan.specs.Days.{AreDays, AreHours, IsDay, cell_of, fuller, fullest_on, first_date, last_date, dates_between};
+ghost use Rattle.cronplan.specs.Private.CountedPlan.{IsCounted, AreRows, IsDateNumber};
+ghost use Rattle.cronplan.specs.declared.start.JobStart.{JobStart};
+
+use crate::changes::{ClockChange, changes_in, repeats_hour, skips_hour, wall_at};
+use crate::counts::{Unit, date_of};
+use crate::moments::{Moment, moments_of};
+use crate::plan::Plan;
+use crate::span::Span;
+use crate::start::JobStart;
+use croner::time::table::ClockTable;
+use std::alloc::{AllocError, Global};
+use std::collections::BTreeMap;
+
+/// The hours of a day.
+const HOURS_PER_DAY: i64 = 24;
+
+/// An hour of a date of a clock, in a plan.
+#[derive(Debug, Clone, Copy, PartialEq, Eq)]
+pub struct HourCell {
+    /// How many starts there are in it: of an hour that the clock shows twice, those of both.
+    pub starts: u64,
+    /// Whether the clock skips the whole of it.
+    pub skipped: bool,
+    /// Whether the clock shows a second of it twice.
+    pub repeated: bool,
+}
+
+/// A date of a clock, in a plan.
+#[derive(Debug, Drop)]
+pub struct Day {
+    /// The date, counted from 1970-01-01.
+    pub date: i64,
+    /// Its 24 hours, from 0 on.
+    pub hours: Vec<HourCell>,
+    /// How many starts there are on it.
+    pub starts: u64,
+    /// The moment on it that has most of them, and of equal ones the first. `None` where it has no start.
+    pub fullest: Option<Moment>,
+}
+
+/// The dates that a clock shows in a plan, and its changes there.
+#[derive(Debug, Drop)]
+pub struct Days {
+    /// The dates one after the other, none left out: from the one at the first second of the span to the one at its last. Where the clock is put
+    /// back over midnight, as far as there are starts.
+    pub days: Vec<Day>,
+    /// The changes of the clock in the span, in order.
+    pub changes: Vec<ClockChange>,
+}
+
+// What the cells of a plan are made of.
+#[derive(Drop)]
+struct Counted {
+    by_hour: BTreeMap<i64, u64>,
+    by_day: BTreeMap<i64, u64>,
+    moments: Vec<Moment>,
+    changes: Vec<ClockChange>,
+}
+
+impl Plan {
+    /// The dates of the plan on the clock of a table, hour by hour. Each start of the plan lies in one cell.
+    ///
+    /// The only error is want of memory.
+    pub fn days(&self, alloc: Global, table: &ClockTable) -> Result<Days, AllocError>
+        ensures { IfOk result (λ days. AreDays (table_zone table.now) table.now.changes.items self.now.span self.now.starts.items days.days.items days.changes.items) }
+    {
+        let starts = self.starts.as_slice();
+        let counted = counts_of(alloc, self, table)?;
+        let first = first_date(table, self.span, starts);
+        let last = last_date(table, self.span, starts);
+        let days = days_between(alloc, &counted, first, last)?;
+        Ok(Days {
+            days,
+            changes: counted.changes,
+        })
+    }
+}
+
+// What the cells of a plan are made of, on the clock of a table.
+fn counts_of(alloc: Global, plan: &Plan, table: &ClockTable) -> Result<Counted, AllocError>
+    ensures counted { IfOk result (IsCounted plan.now.starts.items) }
+    ensures changes { IfOk result (λ counted. counted.changes.items ≡ changes_in (table_zone table.now) plan.now.span table.now.changes.items) }
+{
+    let by_hour = plan.counts(alloc, Unit::Hour)?;
+    let by_day = plan.counts(alloc, Unit::Day)?;
+    let moments = moments_of(alloc, plan.starts.as_slice())?;
+    let changes = changes_in(alloc, table, plan.span)?;
+    Ok(Counted {
+        by_hour,
+        by_day,
+        moments,
+        changes,
+    })
+}
+
+// The first date of a plan: the one that the clock shows at the first second of the span, or that of a start, if one lies before it.
+fn first_date(table: &ClockTable, span: Span, starts: &[JobStart]) -> i64
+    ensures date { result ≡ first_date (table_zone table.now) span starts.now }
+    ensures bound { IsDateNumber result }
+{
+    let mut first = date_of(wall_at(table, span.first));
+    for start in starts {
+        first = first.min(date_on(start));
+    }
+    first
+}
+
+// The last date of a plan: the one that the clock shows at the last second of the span, or that of a start, if one lies after it.
+fn last_date(table: &ClockTable, span: Span, starts: &[JobStart]) -> i64
+    ensures date { result ≡ last_date (table_zone table.now) span starts.now }
+    ensures bound { IsDateNumber result }
+{
+    let mut last = date_of(wall_at(table, span.last()));
+    for start in starts {
+        last = last.max(date_on(start));
+    }
+    last
+}
+
+// The date that the clock shows at a start.
+fn date_on(start: &JobStart) -> i64
+    ensures date { result ≡ date_of start.now.wall }
+    ensures bound { IsDateNumber result }
+{
+    date_of(start.wall)
+}
+
+// How many dates there are from one to another.
+fn date_count(first: i64, last: i64) -> u64
+    requires first { IsDateNumber first }
+    requires last { IsDateNumber last }
+    ensures { result ≡ dates_between first last }
+{
+    if last < first {
+        return 0;
+    }
+    first.abs_diff(last) + 1
+}
+
+// The dates from one to another.
+fn days_between(
+    alloc: Global,
+    counted: &Counted,
+    first: i64,
+    last: i64,
+) -> Result<Vec<Day>, AllocError>
+    requires first { IsDateNumber first }
+    requires last { IsDateNumber last }
+    ensures { (starts : List JobStart) → IsCounted starts counted.now → IfOk result (λ days. AreRows starts counted.now first (dates_between first last) days.items) }
+{
+    let mut days = Vec::new(alloc);
+    for place in 0..date_count(first, last) {
+        let day = day_on(alloc, counted, first + place as i64)?;
+        days.push(day)?;
+    }
+    Ok(days)
+}
+
+// A date.
+fn day_on(alloc: Global, counted: &Counted, date: i64) -> Result<Day, AllocError>
+    requires { IsDateNumber date }
+    ensures { (starts : List JobStart) → IsCounted starts counted.now → IfOk result (λ day. IsDay starts counted.now.moments.items counted.now.changes.items date day) }
+{
+    let hours = hours_on(alloc, counted, date)?;
+    let starts = starts_on(counted, date);
+    let fullest = fullest_on(counted.moments.as_slice(), date);
+    Ok(Day {
+        date,
+        hours,
+        starts,
+        fullest,
+    })
+}
+
+// How many starts there are on a date.
+fn starts_on(counted: &Counted, date: i64) -> u64
+    ensures { (starts : List JobStart) → IsCounted starts counted.now → result ≡ starts_at Unit.Day date starts }
+{
+    counted.by_day.get(&date).copied().unwrap_or(0)
+}
+
+// The hours of a date.
+fn hours_on(alloc: Global, counted: &Counted, date: i64) -> Result<Vec<HourCell>, AllocError>
+    requires { IsDateNumber date }
+    ensures { (starts : List JobStart) → IsCounted starts counted.now → IfOk result (λ cells. AreHours starts counted.now.changes.items date cells.items) }
+{
+    let mut cells = Vec::new(alloc);
+    for hour in 0..HOURS_PER_DAY {
+        cells.push(cell_at(counted, date * HOURS_PER_DAY + hour))?;
+    }
+    Ok(cells)
+}
+
+// An hour.
+fn cell_at(counted: &Counted, hour: i64) -> HourCell
+    ensures { (starts : List JobStart) → IsCounted starts counted.now → result ≡ cell_of starts counted.now.changes.items hour }
+{
+    let changes = counted.changes.as_slice();
+    HourCell {
+        starts: counted.by_hour.get(&hour).copied().unwrap_or(0),
+        skipped: skips_hour(changes, hour),
+        repeated: repeats_hour(changes, hour),
+    }
+}
+
+// Of moments in order, the one on a date that has most starts, and of equal ones the first.
+fn fullest_on(moments: &[Moment], date: i64) -> Option<Moment>
+    ensures { result ≡ fullest_on date moments.now }
+{
+    let mut fullest = None;
+    for moment in moments {
+        fullest = fuller(fullest, *moment, date);
+    }
+    fullest
+}
+
+// A moment in place of another, if it lies on a date and has more starts.
+fn fuller(fullest: Option<Moment>, moment: Moment, date: i64) -> Option<Moment>
+    ensures { result ≡ fuller date fullest moment }
+{
+    if date_of(moment.wall) != date {
+        return fullest;
+    }
+    match fullest {
+        Some(other) if moment.starts <= other.starts => fullest,
+        Some(_) | None => Some(moment),
+    }
+}

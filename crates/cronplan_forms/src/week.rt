@@ -1,0 +1,265 @@
+//! The dates of a plan as a picture of text, 80 columns wide: a row a day, a cell an hour.
+ghost use Rattle.std.specs.Prelude.{◌≡◌, ◌++◌, ◌<◌, IfOk, OnOk, string_bytes, codes};
+ghost use Rattle.cronplan_forms.specs.Weeks.{block_of, digit_of, step_sign, sign_of, cells_text, clock_text, moment_text, fullest_text, total_text, row_text, rows_text, head_text, legend_text, steps_text, step_text, left_out_text, left_outs_text, week_text, second_of_day};
+
+use croner_base::excerpt::Excerpt;
+use cronplan::{Day, HourCell, Moment};
+use std::alloc::{AllocError, Global};
+
+/// What a terminal shows.
+#[derive(Debug, Clone, Copy, PartialEq, Eq)]
+pub enum Signs {
+    /// A dot, and blocks of eight heights.
+    Blocks,
+    /// A dot, and digits from 1 to 8.
+    Digits,
+}
+
+/// A date and how it is called, in ten columns, as `Mon 22 Mar`.
+#[derive(Clone, Copy)]
+pub struct WeekDay<'w> {
+    pub name: &'w str,
+    pub day: &'w Day,
+}
+
+/// A job that is left out.
+#[derive(Clone, Copy)]
+pub struct LeftOut<'w> {
+    pub title: &'w str,
+    /// How many starts it has in the span.
+    pub starts: u64,
+}
+
+/// What a picture shows.
+#[derive(Clone, Copy)]
+pub struct Week<'w> {
+    pub left_out: &'w [LeftOut<'w>],
+    pub days: &'w [WeekDay<'w>],
+}
+
+/// The least starts in an hour of each of the steps.
+const STEPS: [u64; 9] = [0, 1, 2, 4, 8, 16, 32, 64, 128];
+
+const SECONDS_PER_DAY: i64 = 86_400;
+
+/// The picture: the jobs that are left out with their counts, the rows, and what the signs mean.
+///
+/// A sign stands for the starts in an hour, in steps that double; an hour that the clock skips is an `x`. The only error is want of memory.
+pub fn week_text(alloc: Global, week: Week<'_>, signs: Signs) -> Result<String, AllocError>
+    ensures { IfOk result (λ t. string_bytes t ≡ week_text signs week.entry) }
+{
+    let mut text = String::new(alloc);
+    push_week(&mut text, week, signs)?;
+    Ok(text)
+}
+
+// Puts a picture behind a text.
+#[tactic(auto, unfolding(crate::specs::Weeks::week_text))]
+fn push_week(text: &mut String, week: Week<'_>, signs: Signs) -> Result<(), AllocError>
+    ensures { OnOk result (string_bytes text.new ≡ string_bytes text.old ++ week_text signs week.entry) }
+{
+    push_left_outs(text, week.left_out)?;
+    push_head(text)?;
+    push_rows(text, week.days, signs)?;
+    push_legend(text, signs)
+}
+
+#[tactic(auto, using(crate::proofs::WeekParts::left_outs_step), unfolding(crate::specs::Weeks::left_outs_text))]
+fn push_left_outs(text: &mut String, left_out: &[LeftOut<'_>]) -> Result<(), AllocError>
+    ensures { OnOk result (string_bytes text.new ≡ string_bytes text.old ++ left_outs_text left_out.now) }
+{
+    for job in left_out {
+        push_left_out(text, *job)?;
+    }
+    Ok(())
+}
+
+#[tactic(auto, unfolding(crate::specs::Weeks::left_out_text))]
+fn push_left_out(text: &mut String, job: LeftOut<'_>) -> Result<(), AllocError>
+    ensures { OnOk result (string_bytes text.new ≡ string_bytes text.old ++ left_out_text job.entry) }
+{
+    let title = Excerpt::of(job.title);
+    let starts = job.starts;
+    write!(
+        text,
+        "Left out, since it starts too often: {title}, {starts} starts\n"
+    )
+}
+
+#[tactic(auto, unfolding(crate::specs::Weeks::head_text))]
+fn push_head(text: &mut String) -> Result<(), AllocError>
+    ensures { OnOk result (string_bytes text.new ≡ string_bytes text.old ++ head_text) }
+{
+    text.push_str("            0     3     6     9     12    15    18    21    starts, fullest\n")
+}
+
+#[tactic(auto, using(crate::proofs::WeekParts::rows_step), unfolding(crate::specs::Weeks::rows_text))]
+fn push_rows(text: &mut String, days: &[WeekDay<'_>], signs: Signs) -> Result<(), AllocError>
+    ensures { OnOk result (string_bytes text.new ≡ string_bytes text.old ++ rows_text signs days.now) }
+{
+    for day in days {
+        push_row(text, *day, signs)?;
+    }
+    Ok(())
+}
+
+// Puts a date behind a text: its name, its hours, how many starts it has, and its fullest moment.
+#[tactic(auto, unfolding(crate::specs::Weeks::row_text))]
+fn push_row(text: &mut String, day: WeekDay<'_>, signs: Signs) -> Result<(), AllocError>
+    ensures { OnOk result (string_bytes text.new ≡ string_bytes text.old ++ row_text signs day.entry) }
+{
+    let name = day.name;
+    write!(text, "{name}  ")?;
+    push_cells(text, day.day.hours.as_slice(), signs)?;
+    push_total(text, day.day.starts, day.day.fullest)
+}
+
+// Puts behind a text how many starts a date has, and its fullest moment, and ends the line.
+#[tactic(auto, unfolding(crate::specs::Weeks::total_text))]
+fn push_total(text: &mut String, starts: u64, fullest: Option<Moment>) -> Result<(), AllocError>
+    ensures { OnOk result (string_bytes text.new ≡ string_bytes text.old ++ total_text starts fullest) }
+{
+    write!(text, "{starts}")?;
+    push_fullest(text, fullest)?;
+    text.push_str("\n")
+}
+
+#[tactic(auto, using(crate::proofs::WeekParts::cells_step), unfolding(crate::specs::Weeks::cells_text))]
+fn push_cells(text: &mut String, cells: &[HourCell], signs: Signs) -> Result<(), AllocError>
+    ensures { OnOk result (string_bytes text.new ≡ string_bytes text.old ++ cells_text signs cells.now) }
+{
+    for cell in cells {
+        let sign = sign_of(*cell, signs);
+        write!(text, "{sign} ")?;
+    }
+    Ok(())
+}
+
+// The sign of an hour.
+fn sign_of(cell: HourCell, signs: Signs) -> &'static str
+    ensures { result.now ≡ sign_of signs cell }
+{
+    if cell.skipped {
+        return "x";
+    }
+    step_sign(cell.starts, signs)
+}
+
+// The sign of so many starts.
+fn step_sign(starts: u64, signs: Signs) -> &'static str
+    ensures { result.now ≡ step_sign signs starts }
+{
+    match signs {
+        Signs::Blocks => block_of(starts),
+        Signs::Digits => digit_of(starts),
+    }
+}
+
+fn block_of(starts: u64) -> &'static str
+    ensures { result.now ≡ block_of starts }
+{
+    if starts == 0 {
+        "·"
+    } else if starts < 2 {
+        "▁"
+    } else if starts < 4 {
+        "▂"
+    } else if starts < 8 {
+        "▃"
+    } else if starts < 16 {
+        "▄"
+    } else if starts < 32 {
+        "▅"
+    } else if starts < 64 {
+        "▆"
+    } else if starts < 128 {
+        "▇"
+    } else {
+        "█"
+    }
+}
+
+fn digit_of(starts: u64) -> &'static str
+    ensures { result.now ≡ digit_of starts }
+{
+    if starts == 0 {
+        "."
+    } else if starts < 2 {
+        "1"
+    } else if starts < 4 {
+        "2"
+    } else if starts < 8 {
+        "3"
+    } else if starts < 16 {
+        "4"
+    } else if starts < 32 {
+        "5"
+    } else if starts < 64 {
+        "6"
+    } else if starts < 128 {
+        "7"
+    } else {
+        "8"
+    }
+}
+
+// Puts the fullest moment of a date behind a text, if it has one.
+fn push_fullest(text: &mut String, fullest: Option<Moment>) -> Result<(), AllocError>
+    ensures { OnOk result (string_bytes text.new ≡ string_bytes text.old ++ fullest_text fullest) }
+{
+    match fullest {
+        Some(moment) => push_moment(text, moment),
+        None => Ok(()),
+    }
+}
+
+#[tactic(auto, unfolding(crate::specs::Weeks::moment_text))]
+fn push_moment(text: &mut String, moment: Moment) -> Result<(), AllocError>
+    ensures { OnOk result (string_bytes text.new ≡ string_bytes text.old ++ moment_text moment) }
+{
+    let starts = moment.starts;
+    write!(text, ", {starts} at ")?;
+    push_clock(text, time_of(moment))
+}
+
+// Puts the hour and the minute of a second of the day behind a text, as `02:30`.
+fn push_clock(text: &mut String, second: u64) -> Result<(), AllocError>
+    ensures { OnOk result (string_bytes text.new ≡ string_bytes text.old ++ clock_text second) }
+{
+    let (hour, minute) = (second / 3_600, second / 60 % 60);
+    write!(text, "{hour:02}:{minute:02}")
+}
+
+// The second of the day of a moment.
+fn time_of(moment: Moment) -> u64
+    ensures { result ≡ second_of_day moment.wall }
+{
+    second_of_day(moment.wall)
+}
+
+// The second of its day that a wall second is, from 0 to 86,399.
+fn second_of_day(wall: i64) -> u64
+    ensures { result ≡ second_of_day wall }
+{
+    wall.rem_euclid(SECONDS_PER_DAY) as u64
+}
+
+// Puts behind a text what the signs mean.
+#[tactic(auto, unfolding(crate::specs::Weeks::legend_text))]
+fn push_legend(text: &mut String, signs: Signs) -> Result<(), AllocError>
+    ensures { OnOk result (string_bytes text.new ≡ string_bytes text.old ++ legend_text signs) }
+{
+    push_steps(text, &STEPS, signs)?;
+    text.push_str("starts in an hour, or more\nx: the clock skips the hour\n")
+}
+
+#[tactic(auto, using(crate::proofs::WeekParts::steps_step), unfolding(crate::specs::Weeks::steps_text))]
+fn push_steps(text: &mut String, steps: &[u64], signs: Signs) -> Result<(), AllocError>
+    ensures { OnOk result (string_bytes text.new ≡ string_bytes text.old ++ steps_text signs steps.now) }
+{
+    for least in steps {
+        let sign = step_sign(*least, signs);
+        write!(text, "{sign}={least}  ")?;
+    }
+    Ok(())
+}
