@@ -1,0 +1,4 @@
+mod Examples
+mod Items
+mod Splits
+mod Told

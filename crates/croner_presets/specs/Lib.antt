@@ -1,0 +1,4 @@
+pub mod Parts
+pub mod Differences
+pub mod Presets
+pub mod Views

@@ -1,0 +1,147 @@
+//! The differences, each with its kind and its name.
+ghost use Rattle.std.specs.Prelude.{◌≡◌};
+ghost use Rattle.croner_presets.specs.Presets.{kind_of};
+
+/// Where a program reads a pattern otherwise than the parser with its settings. Each is about one form that stands in the text; where a text
+/// has several of them, or is wrong besides, another one can decide.
+#[derive(Debug, Clone, Copy, PartialEq, Eq, Drop)]
+pub enum Difference {
+    // ---- refused by the program
+    /// A nickname with a capital letter.
+    NicknameInCapitals,
+    /// A nickname, as `@daily`.
+    Nickname,
+    /// Sunday as 7.
+    SundayAsSeven,
+    /// A range to `SUN`, as `MON-SUN`.
+    RangeToSunday,
+    /// A name in a field that has no names, or no such names.
+    OtherName,
+    /// `L`, `W` or `#` in a day field.
+    DayModifier,
+    /// A `?` in a day field.
+    QuestionMark,
+    /// A `+` in front of the weekdays.
+    Plus,
+    /// A `+` in front of the weekdays, and no digit behind it.
+    PlusBeforeName,
+    /// A step without a start, as `/15`.
+    StepWithoutStart,
+    /// An empty part of a list, as in `1,,2`.
+    EmptyPart,
+    /// A `?` in neither day field, or in both.
+    NotOneOpenDay,
+    /// An `L` in a list of more parts.
+    LastInList,
+    /// Two `#` in the weekdays.
+    SecondNth,
+    /// A step greater than the greatest value of its field.
+    LargeStep,
+    /// A range from a name to a number, or from a number to a name.
+    MixedRange,
+    // ---- taken by the program
+    /// A star in a list of more parts.
+    StarInList,
+    /// `@midnight`.
+    Midnight,
+    /// `@every` and a duration.
+    Every,
+    /// `TZ=` or `CRON_TZ=` in front.
+    ZoneInFront,
+    /// A `?` in minutes, hours or months.
+    QuestionMarkElsewhere,
+    /// So many days before a month's last, as `L-3`.
+    DaysBeforeLast,
+    /// A range that goes down, as `FRI-MON`.
+    RangeDown,
+    /// A step of 0.
+    StepOfZero,
+    /// More letters behind a name, as `MONDAY`.
+    LongName,
+    /// Day 0 of a month.
+    DayZero,
+    // ---- read otherwise by the program
+    /// A star among others in a day field, or with the step 1.
+    StarAmongDays,
+    /// A range from Sunday to `SUN`.
+    SundayToSunday,
+    /// A `+` in front of the weekdays, and a digit behind it.
+    PlusBeforeNumber,
+    /// A step that leads from a weekday to 7.
+    StepToSunday,
+    /// Two minutes fewer than five apart.
+    Frequent,
+    /// A `#` in a list of more parts.
+    NthInList,
+    /// A `W` in a list of more parts.
+    NearestInList,
+    /// `29W`, `30W` or `31W`.
+    LateNearest,
+    /// Weekdays that are `L`.
+    LoneLastWeekday,
+    /// A step behind a name.
+    StepOfName,
+    /// A step in a day field with a `?`.
+    StepOfOpenDay,
+    /// Days `*/n`.
+    DayStepFromZero,
+}
+
+/// How a program differs.
+#[derive(Debug, Clone, Copy, PartialEq, Eq, Drop)]
+pub enum Kind {
+    /// It refuses what the parser takes.
+    Refuses,
+    /// It takes what the parser refuses.
+    Takes,
+    /// Both take it, and it means something else.
+    ReadsOtherwise,
+}
+
+impl Difference {
+    /// How the program differs.
+    pub fn kind(self) -> Kind
+        ensures { result ≡ kind_of self }
+    {
+        match self {
+            Difference::NicknameInCapitals
+            | Difference::Nickname
+            | Difference::SundayAsSeven
+            | Difference::RangeToSunday
+            | Difference::OtherName
+            | Difference::DayModifier
+            | Difference::QuestionMark
+            | Difference::Plus
+            | Difference::PlusBeforeName
+            | Difference::StepWithoutStart
+            | Difference::EmptyPart
+            | Difference::NotOneOpenDay
+            | Difference::LastInList
+            | Difference::SecondNth
+            | Difference::LargeStep
+            | Difference::MixedRange => Kind::Refuses,
+            Difference::StarInList
+            | Difference::Midnight
+            | Difference::Every
+            | Difference::ZoneInFront
+            | Difference::QuestionMarkElsewhere
+            | Difference::DaysBeforeLast
+            | Difference::RangeDown
+            | Difference::StepOfZero
+            | Difference::LongName
+            | Difference::DayZero => Kind::Takes,
+            Difference::StarAmongDays
+            | Difference::SundayToSunday
+            | Difference::PlusBeforeNumber
+            | Difference::StepToSunday
+            | Difference::Frequent
+            | Difference::NthInList
+            | Difference::NearestInList
+            | Difference::LateNearest
+            | Difference::LoneLastWeekday
+            | Difference::StepOfName
+            | Difference::StepOfOpenDay
+            | Difference::DayStepFromZero => Kind::ReadsOtherwise,
+        }
+    }
+}

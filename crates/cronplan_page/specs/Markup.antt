@@ -1,0 +1,39 @@
+-- Texts in elements of a page, and lists of them. Sources: the HTML standard, section 13.1.2 (elements), and this crate's documentation.
+use Rattle.std.specs.Prelude.{ℕ, List, [], ◌∷◌, ◌++◌}
+use Rattle.std.specs.Fmt.{decimal}
+use Rattle.std.specs.List.{flat_map}
+use Rattle.cronplan_forms.specs.declared.escapes.Form.TheVariants as forms
+use Rattle.cronplan_forms.specs.Escapes.{escaped}
+use Rattle.cronplan_page.specs.declared.markup.Line.{Line}
+use Rattle.cronplan_page.specs.declared.pieces.Piece.{Piece}
+use Rattle.cronplan_page.specs.declared.pieces.Piece.TheVariants as pieces
+use Rattle.cronplan_page.specs.Pieces.{piece_text}
+
+-- a text as it stands in an element: no byte of it ends that
+abbrev pub html : List ℕ → List ℕ
+html text = escaped forms.Html text
+
+-- a text between two pieces of markup
+unfoldable pub element : Piece → List ℕ → Piece → List ℕ
+element front text back = piece_text front ++ (html text ++ piece_text back)
+
+-- a number in a cell of its own
+unfoldable pub number_text : ℕ → List ℕ
+number_text n = piece_text pieces.Number ++ (decimal n ++ piece_text pieces.CellEnd)
+
+-- a line of a list
+unfoldable pub line_text : Line → List ℕ
+line_text line = element pieces.Item line.head.now pieces.ItemRest ++ (html line.rest.now ++ piece_text pieces.ItemEnd)
+
+-- some lines
+unfoldable pub lines_text : List Line → List ℕ
+lines_text lines = flat_map line_text lines
+
+-- a list, or what is said where it has no line
+unfoldable pub list_text : List Line → Piece → List ℕ
+list_text [] none = piece_text none
+list_text (line ∷ lines) none = piece_text pieces.List ++ (lines_text (line ∷ lines) ++ piece_text pieces.ListEnd)
+
+-- a section: its heading and its list
+unfoldable pub section_text : Piece → List Line → Piece → List ℕ
+section_text heading lines none = piece_text heading ++ list_text lines none

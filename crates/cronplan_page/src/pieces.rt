@@ -1,0 +1,159 @@
+//! The markup of a page, which is the same for each plan.
+ghost use Rattle.std.specs.Prelude.{◌≡◌, ◌++◌, OnOk, string_bytes};
+ghost use Rattle.cronplan_page.specs.Pieces.{style_text, week_table_text, piece_text};
+
+use std::alloc::AllocError;
+
+/// A piece of markup.
+#[derive(Clone, Copy)]
+pub(crate) enum Piece {
+    // The begin of a page: nothing is loaded, and no script runs.
+    Head,
+    // How it looks: light or dark as its reader has it, from 400 pixels on, and on A4.
+    Style,
+    HeadEnd,
+    PageEnd,
+    // Of a page, and of a picture.
+    Title,
+    TitleEnd,
+    // The first heading.
+    Name,
+    NameEnd,
+    Paragraph,
+    ParagraphEnd,
+    // A section that is marked.
+    Bad,
+    Section,
+    SectionEnd,
+    List,
+    ListEnd,
+    // A line of a list, its rest, and its end.
+    Item,
+    ItemRest,
+    ItemEnd,
+    // Headings.
+    IgnoredHeading,
+    FrequentHeading,
+    QuietHeading,
+    FullestHeading,
+    WeekHeading,
+    LinesHeading,
+    DaysHeading,
+    JobsHeading,
+    // What stands in place of an empty list.
+    NoWindow,
+    NoStart,
+    NoChange,
+    NoWarning,
+    // The table of days, with the hours of its head.
+    WeekTable,
+    // The table of jobs, with its head.
+    JobsTable,
+    TableEnd,
+    // A row, whose first cell is its name.
+    Row,
+    RowName,
+    RowEnd,
+    Cell,
+    CellEnd,
+    // A cell with a number.
+    Number,
+    // An hour that the clock skips.
+    SkippedCell,
+    // A picture with its caption.
+    Figure,
+    Caption,
+    Picture,
+    Description,
+    // The end of a picture's description, and its axis.
+    Axis,
+    MarkEnd,
+    FigureEnd,
+    // A day, which opens where it is asked for.
+    Day,
+    DayName,
+    DayEnd,
+}
+
+/// Puts a piece of markup behind a text of a page. The only error is want of memory; what then stands behind the text is not said.
+pub(crate) fn push_piece(out: &mut String, piece: Piece) -> Result<(), AllocError>
+    ensures { OnOk result (string_bytes out.new ≡ string_bytes out.old ++ piece_text piece) }
+{
+    out.push_str(text_of(piece))
+}
+
+// The table of the pieces.
+#[tactic(auto, unfolding(crate::specs::Pieces::piece_text))]
+fn text_of(piece: Piece) -> &'static str
+    ensures { result.now ≡ piece_text piece }
+{
+    match piece {
+        Piece::Head =>
+            "<!DOCTYPE html>\n<html lang=\"en\">\n<head>\n<meta charset=\"utf-8\">\n<meta http-equiv=\"Content-Security-Policy\" content=\"default-src 'none'; style-src 'unsafe-inline'\">\n<meta name=\"viewport\" content=\"width=device-width, initial-scale=1\">\n",
+        Piece::Style => style(),
+        Piece::HeadEnd => "</head>\n<body>\n<main>\n",
+        Piece::PageEnd => "</main>\n</body>\n</html>\n",
+        Piece::Title => "<title>",
+        Piece::TitleEnd => "</title>",
+        Piece::Name => "<h1>",
+        Piece::NameEnd => "</h1>\n",
+        Piece::Paragraph => "<p>",
+        Piece::ParagraphEnd => "</p>\n",
+        Piece::Bad => "<section class=\"bad\">\n",
+        Piece::Section => "<section>\n",
+        Piece::SectionEnd => "</section>\n",
+        Piece::List => "<ul>\n",
+        Piece::ListEnd => "</ul>\n",
+        Piece::Item => "<li><b>",
+        Piece::ItemRest => "</b> ",
+        Piece::ItemEnd => "</li>\n",
+        Piece::IgnoredHeading => "<h2>Cron ignores</h2>\n",
+        Piece::FrequentHeading => "<h2>Not shown, since they start too often</h2>\n",
+        Piece::QuietHeading => "<h2>Longest quiet windows</h2>\n",
+        Piece::FullestHeading => "<h2>Fullest moments</h2>\n",
+        Piece::WeekHeading => "<h2>Starts by hour</h2>\n",
+        Piece::LinesHeading => "<h2>Each job along the days</h2>\n",
+        Piece::DaysHeading => "<h2>Day by day</h2>\n",
+        Piece::JobsHeading => "<h2>Jobs</h2>\n",
+        Piece::NoWindow => "<p>There is none.</p>\n",
+        Piece::NoStart => "<p>Nothing starts.</p>\n",
+        Piece::NoChange => "<p>The clock goes on evenly in these days.</p>\n",
+        Piece::NoWarning => "<p>Nothing.</p>\n",
+        Piece::WeekTable => week_table(),
+        Piece::JobsTable =>
+            "<div class=\"wide\">\n<table>\n<tr><th scope=\"col\">Job</th><th scope=\"col\">When</th><th scope=\"col\">Line</th><th scope=\"col\">Starts</th><th scope=\"col\">Next</th><th scope=\"col\">Beware</th></tr>\n",
+        Piece::TableEnd => "</table>\n</div>\n",
+        Piece::Row => "<tr><th scope=\"row\">",
+        Piece::RowName => "</th>",
+        Piece::RowEnd => "</tr>\n",
+        Piece::Cell => "<td>",
+        Piece::CellEnd => "</td>",
+        Piece::Number => "<td class=\"n\">",
+        Piece::SkippedCell => "<td class=\"x\">x</td>",
+        Piece::Figure => "<figure><figcaption><b>",
+        Piece::Caption => "</b> ",
+        Piece::Picture =>
+            "</figcaption><svg viewBox=\"0 0 1000 20\" preserveAspectRatio=\"none\" role=\"img\">",
+        Piece::Description => "<desc>",
+        Piece::Axis => "</desc><rect class=\"a\" x=\"0\" width=\"1000\"/>",
+        Piece::MarkEnd => "</rect>",
+        Piece::FigureEnd => "</svg></figure>\n",
+        Piece::Day => "<details><summary>",
+        Piece::DayName => "</summary>\n",
+        Piece::DayEnd => "</details>\n",
+    }
+}
+
+#[tactic(auto, unfolding(crate::specs::Pieces::style_text))]
+fn style() -> &'static str
+    ensures { result.now ≡ style_text }
+{
+    "<style>\n:root { color-scheme: light dark; --ink: #1b1f24; --soft: #57606a; --paper: #ffffff; --line: #d0d7de; --bad: #a40e26; --mark: #0550ae; }\n@media (prefers-color-scheme: dark) { :root { --ink: #e6edf3; --soft: #9da7b3; --paper: #0d1117; --line: #3d444d; --bad: #ff9492; --mark: #79c0ff; } }\nbody { margin: 0; background: var(--paper); color: var(--ink); font: 16px/1.5 system-ui, sans-serif; }\nmain { max-width: 70rem; margin: 0 auto; padding: 1rem; }\nh1 { font-size: 1.6rem; line-height: 1.2; } h2 { font-size: 1.2rem; margin: 1.6rem 0 .4rem; }\np { margin: .3rem 0; } ul { margin: .3rem 0; padding-left: 1.2rem; } li { overflow-wrap: anywhere; }\n.bad { border-left: .3rem solid var(--bad); padding-left: 1rem; } .bad h2 { color: var(--bad); }\n.wide { overflow-x: auto; } table { border-collapse: collapse; font-size: .875rem; }\nth, td { padding: .2rem .4rem; text-align: left; vertical-align: top; border-bottom: 1px solid var(--line); }\ntd ul { padding-left: 1rem; margin: 0; } td p { margin: 0; } td.n { text-align: right; }\n.week td[class], .week th[scope=col] { text-align: center; min-width: 1.4rem; padding: .2rem; font-variant-numeric: tabular-nums; }\n.week th[scope=row], .week td { white-space: nowrap; } .week td.n { text-align: right; }\n.s1, .s2 { background: #0969da26; } .s3, .s4 { background: #0969da4d; } .s5, .s6 { background: #bf870073; } .s7, .s8 { background: #bf3989; color: #ffffff; }\n.t { outline: 1px dashed var(--soft); outline-offset: -2px; } .x { color: var(--soft); }\nfigure { margin: .6rem 0; } figcaption { font-size: .875rem; overflow-wrap: anywhere; }\nsvg { display: block; width: 100%; height: 20px; } rect { height: 12px; y: 4px; }\n.a { fill: var(--line); height: 2px; y: 9px; } .m { fill: var(--mark); width: 3px; } .b { fill: var(--mark); opacity: .4; } .h { fill: var(--soft); opacity: .5; }\nsummary { cursor: pointer; }\n@page { size: A4; margin: 12mm; }\n@media print { main { max-width: none; padding: 0; } body { font-size: 11px; } tr, figure, li { break-inside: avoid; } .wide { overflow: visible; } table { font-size: 9px; } .week td[class], .week th[scope=col] { min-width: 0; padding: 1px; } }\n</style>\n"
+}
+
+#[tactic(auto, unfolding(crate::specs::Pieces::week_table_text))]
+fn week_table() -> &'static str
+    ensures { result.now ≡ week_table_text }
+{
+    "<div class=\"wide\">\n<table class=\"week\">\n<tr><td></td><th scope=\"col\">00</th><th scope=\"col\">01</th><th scope=\"col\">02</th><th scope=\"col\">03</th><th scope=\"col\">04</th><th scope=\"col\">05</th><th scope=\"col\">06</th><th scope=\"col\">07</th><th scope=\"col\">08</th><th scope=\"col\">09</th><th scope=\"col\">10</th><th scope=\"col\">11</th><th scope=\"col\">12</th><th scope=\"col\">13</th><th scope=\"col\">14</th><th scope=\"col\">15</th><th scope=\"col\">16</th><th scope=\"col\">17</th><th scope=\"col\">18</th><th scope=\"col\">19</th><th scope=\"col\">20</th><th scope=\"col\">21</th><th scope=\"col\">22</th><th scope=\"col\">23</th><th scope=\"col\">Starts</th><th scope=\"col\">Fullest</th></tr>\n"
+}
