@@ -14,14 +14,14 @@ _croncheck_warnings() {
 
 # The options of a command; without one those of check.
 _croncheck_options() {
-    local clock='--zone --from' span='--runs --until' output='--json --strict --same-job --allow' look='--width --color' kinds='--system --user --patterns --stdin-name --users'
+    local clock='--zone --from' span='--runs --until' output='--json --strict --same-job --allow' look='--width --color' kinds='--system --user --patterns --stdin-name --users --root'
     local settings='--alternative-weekdays --dom-and-dow --sloppy-ranges --seconds --year'
     case $1 in
         check) printf '%s\n' "$clock -f --format $output $kinds --language $settings $look -h --help" ;;
         show) printf '%s\n' "$clock $span --show-zone $output $kinds --language $settings $look -h --help" ;;
         plan) printf '%s\n' "$clock $span $kinds $settings $look -h --help" ;;
-        next) printf '%s\n' "$clock $span --show-zone --language $settings $look -h --help" ;;
-        describe) printf '%s\n' "--language $settings $look -h --help" ;;
+        next) printf '%s\n' "$clock $span --show-zone --language --for $settings $look -h --help" ;;
+        describe) printf '%s\n' "--language --for $settings $look -h --help" ;;
         *) printf '%s\n' "$clock -f --format $output $kinds --language $settings $look -h --help -V --version" ;;
     esac
 }
@@ -39,7 +39,9 @@ _croncheck() {
         --zone | --show-zone) words="local UTC $(_croncheck_zones)" ;;
         --from | --until) words=now ;;
         --runs | --stdin-name | --width) ;;
+        --root) compopt -o dirnames 2>/dev/null; return 0 ;;
         --language) words='en sv' ;;
+        --for) words='kubernetes github quartz spring' ;;
         -f | --format) words='text gcc github sarif json' ;;
         --allow) words=$(_croncheck_warnings) ;;
         --color) words='auto always never' ;;

@@ -1,23 +1,27 @@
 //! `croncheck`: what each line of a crontab is to cron, what it means, and when it runs.
 #![tactic(auto)]
 
+mod machine;
+
 use croncheck_command::annotator::{Annotator, Style};
 use croncheck_command::changes::Changes;
 use croncheck_command::checker::Checker;
 use croncheck_command::clock::Clock;
-use croncheck_command::files::{Sources, tell_files};
+use croncheck_command::escaped::shown;
+use croncheck_command::files::tell_files;
 use croncheck_command::form::Form;
 use croncheck_command::json_checker::JsonChecker;
 use croncheck_command::json_reporter::JsonReporter;
 use croncheck_command::look::Look;
 use croncheck_command::moment::{Moment, last_up_to, second_of, start_from};
-use croncheck_command::names::STANDARD_INPUT;
+use croncheck_command::names::Asked;
 use croncheck_command::output::Output;
 use croncheck_command::patterns::{Answer, tell_patterns};
 use croncheck_command::planner::Planner;
 use croncheck_command::problem::Problem;
 use croncheck_command::progress::{Terms, TermsByKind};
 use croncheck_command::reporter::Reporter;
+use croncheck_command::root::{Root, root_at};
 use croncheck_command::runs::Listing;
 use croncheck_command::sarif::Sarif;
 use croncheck_command::sarif::rules::RULES;
@@ -30,16 +34,21 @@ use croncheck_command::words::{
 };
 use croncheck_command::zone::{note_of, refusal_of};
 use crontab::line::Dialect;
-use either::{Either, Left, Right};
 use jiff::Timestamp;
-use jiff::tz::{SystemTimeZone, TimeZone, TimeZoneDatabase};
+use jiff::tz::{SystemTimeZone, TimeZone, TimeZoneDatabase, Tzif};
+use machine::{Machine, announce, announce_missing};
 use std::alloc::AllocError;
-use std::fs::File;
-use std::io::{BufReader, BufWriter, ErrorKind, IsTerminal, Stdin};
+use std::io::{BufWriter, ErrorKind, IsTerminal};
 use std::process::ExitCode;
 use std::{env, fs, io};
 
 const MISUSED: u8 = 2;
+
+/// The folder in which this machine's files stand.
+const THIS_MACHINE: &str = "/";
+
+/// What stands in front of the name of a zone in the path of its file.
+const ZONES: &str = "zoneinfo/";
 
 /// How wide lines are on a terminal of which nothing is said.
 const USUAL_WIDTH: usize = 80;
@@ -96,6 +105,9 @@ fn in_zone(rt: &HostRuntime, call: &Call<'_>) -> Result<u8, Problem> {
     }
     let zones = TimeZoneDatabase::from_env(rt).map_err(Problem::Zone)?;
     if call.zone == "local" {
+        if call.root.is_some() {
+            return in_zone_of_machine(rt, call, &zones);
+        }
         let system = SystemTimeZone::read(rt).map_err(Problem::Zone)?;
         let zone = system.time_zone(&zones).map_err(Problem::Zone)?;
         return check(rt, call, zone);
@@ -104,6 +116,74 @@ fn in_zone(rt: &HostRuntime, call: &Call<'_>) -> Result<u8, Problem> {
         Ok(zone) => check(rt, call, zone),
         Err(jiff::Error::TimeZoneNotFound) => Err(no_zone(rt, call.zone)),
         Err(error) => Err(Problem::Zone(error)),
+    }
+}
+
+// Checks in the zone of the machine that is checked: that to whose file its own is a link, or that of the file.
+fn in_zone_of_machine(
+    rt: &HostRuntime,
+    call: &Call<'_>,
+    zones: &TimeZoneDatabase,
+) -> Result<u8, Problem> {
+    let root = root_of(rt, call.root)?;
+    let path = root.clock.as_str();
+    let Ok(target) = fs::read_link(rt, path) else {
+        return in_zone_of_file(rt, call, path);
+    };
+    let Some(name) = zone_name(target.as_path().to_string_lossy()) else {
+        return in_zone_of_file(rt, call, path);
+    };
+    let Ok(()) = announce_zone(rt, path, name) else {
+        return Err(Problem::OutOfMemory);
+    };
+    match zones.get(name) {
+        Ok(zone) => check(rt, call, zone),
+        Err(error) => Err(Problem::Zone(error)),
+    }
+}
+
+// Checks in the zone of a file of a machine.
+fn in_zone_of_file(rt: &HostRuntime, call: &Call<'_>, path: &str) -> Result<u8, Problem> {
+    match fs::read(rt, path) {
+        Ok(bytes) => {
+            let zone = Tzif::parse(rt.alloc(), None, bytes.as_slice()).map_err(Problem::Zone)?;
+            check(rt, call, TimeZone::tzif(&zone))
+        }
+        Err(error) if error.kind() == ErrorKind::NotFound => {
+            let Ok(()) = announce(rt, path, "isn't there, so that the zone is UTC") else {
+                return Err(Problem::OutOfMemory);
+            };
+            check(rt, call, TimeZone::UTC)
+        }
+        Err(error) => Err(Problem::Zone(jiff::Error::from(error))),
+    }
+}
+
+// Says which zone a machine has.
+fn announce_zone(rt: &HostRuntime, path: &str, name: &str) -> Result<(), AllocError> {
+    let name = shown(rt.alloc(), name.as_bytes())?;
+    let text = format!(in rt.alloc(); "the zone is {name}")?;
+    announce(rt, path, text.as_str())
+}
+
+// The name of the zone to whose file a link leads.
+fn zone_name(target: &str) -> Option<&str> {
+    let at = target.rfind(ZONES)?;
+    target.get(at + ZONES.len()..)
+}
+
+// The files of the machine that is checked, whose folder has to be one, and else those of this machine.
+fn root_of(rt: &HostRuntime, root: Option<&str>) -> Result<Root, Problem> {
+    let folder = match root {
+        Some(folder) => {
+            fs::read_dir(rt, folder).map_err(Problem::Root)?;
+            folder
+        }
+        None => THIS_MACHINE,
+    };
+    match root_at(rt.alloc(), folder) {
+        Ok(root) => Ok(root),
+        Err(_) => Err(Problem::OutOfMemory),
     }
 }
 
@@ -178,7 +258,8 @@ fn check_in<'z>(
     let Ok(changes) = Changes::of(rt.alloc(), &clock, start) else {
         return Err(Problem::OutOfMemory);
     };
-    let users = users_text(rt, call.users).map_err(Problem::Users)?;
+    let root = root_of(rt, call.root)?;
+    let users = users_text(rt, call, &root).map_err(Problem::Users)?;
     let Ok(names) = copies_of(rt, call.allowed.as_slice()) else {
         return Err(Problem::OutOfMemory);
     };
@@ -199,7 +280,23 @@ fn check_in<'z>(
         None => shared,
     };
     let kinds = TermsByKind::new(rt.alloc(), &settings, &shared);
-    tell(rt, call, &kinds).map_err(Problem::Unwritten)
+    tell_of_machine(rt, call, &kinds, &root, &users)
+}
+
+// Tells of the crontabs of the machine that is checked, or of the files that the words name. These are the machine's users.
+fn tell_of_machine(
+    rt: &HostRuntime,
+    call: &Call<'_>,
+    kinds: &TermsByKind<'_, '_>,
+    root: &Root,
+    users: &Option<Vec<u8>>,
+) -> Result<u8, Problem> {
+    let machine = Machine::new(rt, root, call.root.is_some(), known_users(users));
+    if call.root.is_none() {
+        return tell(rt, call, kinds, &machine, call.files.as_slice()).map_err(Problem::Unwritten);
+    }
+    let files = machine.crontabs().map_err(Problem::Root)?;
+    tell(rt, call, kinds, &machine, files.as_slice()).map_err(Problem::Unwritten)
 }
 
 // What reports are made by.
@@ -281,11 +378,24 @@ fn has_no_color(rt: &HostRuntime) -> bool {
     }
 }
 
-// The text of the file of the users, if one is named.
-fn users_text(rt: &HostRuntime, name: Option<&str>) -> io::Result<Option<Vec<u8>>> {
-    match name {
-        Some(name) => Ok(Some(fs::read(rt, name)?)),
-        None => Ok(None),
+// The text of the file of the users, if one is named, or the machine has one that is checked.
+fn users_text(rt: &HostRuntime, call: &Call<'_>, root: &Root) -> io::Result<Option<Vec<u8>>> {
+    match (call.users, call.root) {
+        (Some(name), _) => Ok(Some(fs::read(rt, name)?)),
+        (None, Some(_)) => text_if_there(rt, root.users.as_str()),
+        (None, None) => Ok(None),
+    }
+}
+
+// The text of a file of a machine, if it is there.
+fn text_if_there(rt: &HostRuntime, path: &str) -> io::Result<Option<Vec<u8>>> {
+    match fs::read(rt, path) {
+        Ok(text) => Ok(Some(text)),
+        Err(error) if error.kind() == ErrorKind::NotFound => {
+            announce_missing(rt, path)?;
+            Ok(None)
+        }
+        Err(error) => Err(error),
     }
 }
 
@@ -299,64 +409,26 @@ fn known_users(text: &Option<Vec<u8>>) -> Option<Users<'_>> {
     }
 }
 
-// The files of the machine, and its standard input.
-#[derive(Drop)]
-struct Machine<'r> {
-    rt: &'r HostRuntime,
-}
-
-impl Sources for Machine<'_> {
-    type Reader = Either<BufReader<Stdin>, BufReader<File>>;
-
-    ghost holds = { λ machine name remaining. Unit {0} };
-
-    ghost says_folder = { λ machine name answer. Unit {0} };
-
-    ghost lists = { λ machine name names. Unit {0} };
-
-    fn open(&self, name: &str) -> io::Result<Either<BufReader<Stdin>, BufReader<File>>> {
-        if name == STANDARD_INPUT {
-            announce_typing(self.rt);
-            let reader = BufReader::new(self.rt.alloc(), self.rt.stdin())?;
-            return Ok(Left(reader));
-        }
-        let opened = File::open(self.rt, name)?;
-        let reader = BufReader::new(self.rt.alloc(), opened)?;
-        Ok(Right(reader))
-    }
-
-    fn is_folder(&self, name: &str) -> bool {
-        match fs::metadata(self.rt, name) {
-            Ok(found) => name != STANDARD_INPUT && found.is_dir(),
-            Err(_) => false,
-        }
-    }
-
-    fn names(&self, name: &str) -> io::Result<Vec<String>> {
-        let mut names = Vec::new(self.rt.alloc());
-        for entry in fs::read_dir(self.rt, name)? {
-            let entry = entry?;
-            names.push(String::from_str(self.rt.alloc(), entry.file_name())?)?;
-        }
-        Ok(names)
-    }
-}
-
-// Says that standard input is read, where that is a terminal: nothing else would show it.
-fn announce_typing(rt: &HostRuntime) {
-    if rt.stdin().is_terminal() {
-        let _ = eprintln!(rt;
-            "croncheck: reads the lines that are typed here, up to Ctrl-D; croncheck --help lists its commands"
-        );
-    }
+// The files of a call, and the machine that has them.
+#[derive(Clone, Copy)]
+struct Named<'f> {
+    machine: &'f Machine<'f>,
+    files: &'f [Asked<'f>],
 }
 
 // Tells of the files or the patterns in the form that the call asks for.
-fn tell(rt: &HostRuntime, call: &Call<'_>, kinds: &TermsByKind<'_, '_>) -> io::Result<u8> {
+fn tell(
+    rt: &HostRuntime,
+    call: &Call<'_>,
+    kinds: &TermsByKind<'_, '_>,
+    machine: &Machine<'_>,
+    files: &[Asked<'_>],
+) -> io::Result<u8> {
+    let sources = Named { machine, files };
     match call.verb {
-        Verb::Check => check_in_format(rt, call, kinds),
-        Verb::Show => show_in_format(rt, call, kinds),
-        Verb::Plan => tell_in(rt, call, kinds, Planner::new(rt.alloc())),
+        Verb::Check => check_in_format(rt, call, kinds, sources),
+        Verb::Show => show_in_format(rt, call, kinds, sources),
+        Verb::Plan => tell_in(rt, kinds, sources, Planner::new(rt.alloc())),
         Verb::Next => answer(rt, call, kinds.of(Dialect::Patterns), Answer::Runs),
         Verb::Describe => answer(rt, call, kinds.of(Dialect::Patterns), Answer::Description),
     }
@@ -367,23 +439,24 @@ fn check_in_format(
     rt: &HostRuntime,
     call: &Call<'_>,
     kinds: &TermsByKind<'_, '_>,
+    sources: Named<'_>,
 ) -> io::Result<u8> {
     match call.format {
-        Format::Text => tell_in(rt, call, kinds, Checker),
-        Format::Gcc => tell_in(rt, call, kinds, Annotator { style: Style::Gcc }),
+        Format::Text => tell_in(rt, kinds, sources, Checker),
+        Format::Gcc => tell_in(rt, kinds, sources, Annotator { style: Style::Gcc }),
         Format::Github => tell_in(
             rt,
-            call,
             kinds,
+            sources,
             Annotator {
                 style: Style::Github,
             },
         ),
         Format::Sarif => {
             let sarif = Sarif::new(rt.alloc(), version(), &RULES)?;
-            tell_in(rt, call, kinds, sarif)
+            tell_in(rt, kinds, sources, sarif)
         }
-        Format::Json => tell_in(rt, call, kinds, JsonChecker),
+        Format::Json => tell_in(rt, kinds, sources, JsonChecker),
     }
 }
 
@@ -392,11 +465,12 @@ fn show_in_format(
     rt: &HostRuntime,
     call: &Call<'_>,
     kinds: &TermsByKind<'_, '_>,
+    sources: Named<'_>,
 ) -> io::Result<u8> {
     match call.format {
-        Format::Json => tell_in(rt, call, kinds, JsonReporter),
+        Format::Json => tell_in(rt, kinds, sources, JsonReporter),
         Format::Text | Format::Gcc | Format::Github | Format::Sarif => tell_in(
-            rt, call, kinds, Reporter,
+            rt, kinds, sources, Reporter,
         ),
     }
 }
@@ -404,20 +478,14 @@ fn show_in_format(
 // Tells of the files in a form.
 fn tell_in<F: Form + Drop>(
     rt: &HostRuntime,
-    call: &Call<'_>,
     kinds: &TermsByKind<'_, '_>,
+    sources: Named<'_>,
     form: F,
 ) -> io::Result<u8> {
     let out = BufWriter::new(rt.alloc(), rt.stdout())?;
     let mut notes = rt.stderr();
     let mut sink = Sink::new(kinds.of(Dialect::User), form, out);
-    tell_files(
-        &Machine { rt },
-        kinds,
-        call.files.as_slice(),
-        &mut sink,
-        &mut notes,
-    )
+    tell_files(sources.machine, kinds, sources.files, &mut sink, &mut notes)
 }
 
 // Answers the patterns.
@@ -428,5 +496,11 @@ fn answer(
     answer: Answer,
 ) -> io::Result<u8> {
     let mut output = Output::new(BufWriter::new(rt.alloc(), rt.stdout())?);
-    tell_patterns(&terms, call.patterns.as_slice(), answer, &mut output)
+    tell_patterns(
+        &terms,
+        call.patterns.as_slice(),
+        answer,
+        call.preset,
+        &mut output,
+    )
 }

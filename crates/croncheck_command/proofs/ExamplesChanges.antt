@@ -1,5 +1,5 @@
 -- Worked values of the definitions of changes of a clock.
-use Rattle.std.proofs.Common.{◌≡◌, ℕ, ◌*◌, Bool, pos, ◌+ℤ◌, true, false, refl}
+use Rattle.std.proofs.Common.{◌≡◌, ℕ, ◌*◌, Bool, pos, ◌+ℤ◌, ◌-ℤ◌, true, false, refl}
 use Rattle.std.specs.Prelude.{codes}
 use Rattle.croncheck_command.specs.declared.changes.Change.{Change}
 use Rattle.croncheck_command.specs.declared.changes.Fate.{Fate}
@@ -7,7 +7,7 @@ use Rattle.croncheck_command.specs.declared.changes.Fate.TheVariants as fates
 use Rattle.croncheck_command.specs.declared.changes.Meeting.{Meeting}
 use Rattle.croncheck_command.specs.declared.changes.Range.TheVariants as ranges
 use Rattle.croncheck_command.specs.declared.changes.meetings.Met.{Met}
-use Rattle.croncheck_command.specs.Changes.{fate_in_cron, with_all_hours, waits_for_new, is_warned, name_of}
+use Rattle.croncheck_command.specs.Changes.{fate_in_cron, with_all_hours, is_starless, is_warned, name_of}
 use Rattle.croncheck_command.specs.declared.runs.Runner.TheVariants as runners
 use Rattle.croncheck_command.specs.Starred.{is_starred}
 
@@ -74,9 +74,8 @@ a_job_of_all_hours = (refl, refl, refl)
 a_job_of_some_hours : with_all_hours false (fate_in_cron false ranges.Repeated back (pos 1_761_444_000)) ≡ fates.Once
 a_job_of_some_hours = refl
 
-who_waits : (waits_for_new (runners.Cron false) ranges.Repeated ≡ true) × (waits_for_new (runners.Cron true) ranges.Repeated ≡ false)
-    × (waits_for_new (runners.Cron false) ranges.Gap ≡ false) × (waits_for_new runners.Croner ranges.Repeated ≡ false)
-who_waits = (refl, refl, refl, refl)
+starless : (is_starless (runners.Cron false) ≡ true) × (is_starless (runners.Cron true) ≡ false) × (is_starless runners.Croner ≡ false)
+starless = (refl, refl, refl)
 
 less_than_half_a_day : is_warned (alone (in_spring 43_199 fates.LeftOut)) ≡ true
 less_than_half_a_day = refl
@@ -97,3 +96,11 @@ gaps = (refl, refl, refl, refl, refl, refl)
 -- what becomes of 02:00 that is shown twice
 repeated : (fate_in_cron false ranges.Repeated back (pos 1_761_444_000) ≡ fates.Once) × (fate_in_cron true ranges.Repeated back (pos 1_761_444_000) ≡ fates.Twice)
 repeated = (refl, refl)
+
+-- a clock that goes back from 02:01:00 by so many seconds: 02:00 of a starred job is started again where another minute was shown in between
+abbrev back_by : ℕ → Change
+back_by seconds = record { instant = pos 1_761_440_400; before = pos 1_761_444_060; after = pos 1_761_444_060 -ℤ pos seconds }
+
+back_by_a_minute : (fate_in_cron true ranges.Repeated (back_by 60) (pos 1_761_444_000) ≡ fates.Once)
+    × (fate_in_cron true ranges.Repeated (back_by 61) (pos 1_761_444_000) ≡ fates.Twice)
+back_by_a_minute = (refl, refl)

@@ -6,10 +6,12 @@ use Rattle.crontab.specs.declared.line.Dialect.TheVariants as dialects
 use Rattle.crontab.specs.declared.line.Fault.TheVariants as faults
 use Rattle.croncheck_command.specs.declared.findings.Severity.TheVariants as severities
 use Rattle.croncheck_command.specs.declared.findings.Extent.{Extent}
+use Rattle.croncheck_command.specs.declared.fitness.Unfit.TheVariants as unfits
 use Rattle.croncheck_command.specs.declared.report.Report.TheVariants as reports
 use Rattle.croncheck_command.specs.declared.report.SettingReport.{SettingReport}
 use Rattle.croncheck_command.specs.declared.report.Why.TheVariants as whys
 use Rattle.croncheck_command.specs.FileSeen.{File, unread}
+use Rattle.croncheck_command.specs.Report.{report_behind}
 use Rattle.croncheck_command.specs.Findings.{Found, named, place_of, findings_of_line, findings_of_file, Said}
 
 abbrev extent : ℕ → ℕ → Extent
@@ -67,6 +69,17 @@ a_refused_line : findings_of_line (codes " 5,,10 * * * * x") (reports.Refused 1 
     ≡ named severities.Error (codes "minutes") (extent 1 6) ∷ named severities.Note (codes "empty-part") (extent 1 6) ∷ []
 a_refused_line = refl
 
+-- the same behind a line that ends in a backslash
+behind_a_backslash : report_behind true (reports.Refused 1 6 (whys.Cron faults.Minutes)) ≡ reports.Refused 1 6 (whys.Behind faults.Minutes)
+behind_a_backslash = refl
+
+behind_another_line : report_behind false (reports.Refused 1 6 (whys.Cron faults.Minutes)) ≡ reports.Refused 1 6 (whys.Cron faults.Minutes)
+behind_another_line = refl
+
+the_same_of_the_latter : findings_of_line (codes " 5,,10 * * * * x") (reports.Refused 1 6 (whys.Behind faults.Minutes))
+    ≡ findings_of_line (codes " 5,,10 * * * * x") (reports.Refused 1 6 (whys.Cron faults.Minutes))
+the_same_of_the_latter = refl
+
 -- ---- files
 
 abbrev names_of : List Said → List (List ℕ)
@@ -89,6 +102,11 @@ many_comments_of_the_system = refl
 
 a_late_job_of_the_system : names_of (findings_of_file dialects.System 10_004 (record (unread (codes "f")) { has_late = true })) ≡ codes "many-lines" ∷ []
 a_late_job_of_the_system = refl
+
+-- what the file system says stands first
+another_users_file : names_of (findings_of_file dialects.System 3 (record broken { unfit = Some unfits.Owner }))
+    ≡ codes "file-owner" ∷ codes "refused-line" ∷ codes "no-newline" ∷ []
+another_users_file = refl
 
 -- cron doesn't read a file of patterns
 a_file_of_patterns : findings_of_file dialects.Patterns 3 broken ≡ []

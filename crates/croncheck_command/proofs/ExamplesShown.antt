@@ -1,8 +1,9 @@
 -- Worked rows of what is shown of a clock and of the front of a text, and of what is said at the end of a file and of a plan.
-use Rattle.std.proofs.Common.{◌≡◌, true, false, pos, [], ◌∷◌, refl}
+use Rattle.std.proofs.Common.{◌≡◌, true, false, pos, [], ◌∷◌, Some, refl}
 use Rattle.std.specs.Fmt.{digits}
 use Rattle.std.specs.Prelude.{codes, neg_ℤ}
 use Rattle.crontab.specs.declared.line.Dialect.TheVariants as dialects
+use Rattle.croncheck_command.specs.declared.fitness.Unfit.TheVariants as unfits
 use Rattle.croncheck_command.specs.declared.runs.Listing.TheVariants as listings
 use Rattle.croncheck_command.specs.declared.settings.Tongue.TheVariants as tongues
 use Rattle.croncheck_command.specs.FileSeen.{File, unread, ending_of}
@@ -75,6 +76,10 @@ as_many_lines_as_cron_takes = refl
 a_late_job : ending_of dialects.System 10_004 (record (unread (codes "backup")) { has_late = true })
     ≡ codes "backup: cron ignores the whole file: a job or a setting stands behind line 10003\n"
 a_late_job = refl
+
+two_hard_links : ending_of dialects.System 3 (record refused { unfit = Some unfits.Links })
+    ≡ codes "backup: cron ignores the whole file: it has more than one hard link\nbackup: cron ignores the whole file: a line is refused\n"
+two_hard_links = refl
 
 patterns_are_read_whole : ending_of dialects.Patterns 10_001 refused ≡ []
 patterns_are_read_whole = refl

@@ -147,6 +147,7 @@ pattern_of schedule = record {
   fields = Some (texts schedule);
   meaning = None;
   user = None;
+  users = None;
   command = None;
   is_crontab = false;
   is_fed = true;
@@ -265,6 +266,7 @@ job_by user command = record {
   fields = None;
   meaning = None;
   user = user;
+  users = None;
   command = Some command;
   is_crontab = true;
   is_fed = true;
@@ -325,6 +327,36 @@ a_user_and_a_command = refl
 
 no_command_behind_a_user : holds (job_by (Some (codes "root")) []) warnings.NoCommand ≡ true
 no_command_behind_a_user = refl
+
+-- ---- the name of a user
+
+root_in_front_of_a_command : holds (job_by None (codes "root x")) warnings.User ≡ true
+root_in_front_of_a_command = refl
+
+rootless : holds (job_by None (codes "roots x")) warnings.User ≡ false
+rootless = refl
+
+-- the same, where two users are known
+abbrev known_by : Option (List ℕ) → List ℕ → Subject
+known_by user command = record (job_by user command) { users = Some (codes "root:x:0:0::/:\nwww$:x:33:33::/:\n") }
+
+a_known_user_in_front_of_a_path : holds (known_by None (codes "www$  /bin/x")) warnings.User ≡ true
+a_known_user_in_front_of_a_path = refl
+
+a_known_user_in_front_of_no_path : holds (known_by None (codes "www$ x")) warnings.User ≡ false
+a_known_user_in_front_of_no_path = refl
+
+an_unknown_user_in_front_of_a_path : holds (known_by None (codes "ww /bin/x")) warnings.User ≡ false
+an_unknown_user_in_front_of_a_path = refl
+
+a_path_behind_an_unknown_word : holds (job_by None (codes "www$ /bin/x")) warnings.User ≡ false
+a_path_behind_an_unknown_word = refl
+
+a_known_user_with_a_sign : holds (known_by (Some (codes "www$")) (codes "x")) warnings.User ≡ false
+a_known_user_with_a_sign = refl
+
+an_unknown_user_with_a_sign : holds (job_by (Some (codes "www$")) (codes "x")) warnings.User ≡ true
+an_unknown_user_with_a_sign = refl
 
 -- these times, and this command behind them
 abbrev timed_job : List ℕ → List ℕ → Subject

@@ -11,6 +11,7 @@ mod ExamplesAnnotations
 mod ExamplesChanges
 mod ExamplesClock
 mod ExamplesFindings
+mod ExamplesFitness
 mod ExamplesFolder
 mod ExamplesJson
 mod ExamplesLook

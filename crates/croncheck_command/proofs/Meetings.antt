@@ -170,7 +170,7 @@ later z start changes n i are inside before k d from within same = elim (cases_l
       omega (arith, ints, b, here)
 ]
 
-pub first_meets : (z : Zone) (start : ℤ) (runner : Runner) (m : Meaning) (range : Range) (changes : List Change) (n : ℕ) (c : Change) (w : ℤ) → is_never_met runner m range ≡ false → AreChanges z start changes
+pub first_meets : (z : Zone) (start : ℤ) (runner : Runner) (m : Meaning) (range : Range) (changes : List Change) (n : ℕ) (c : Change) (w : ℤ) → is_never_met runner m ≡ false → AreChanges z start changes
     → IsNoneOf m range changes n → n < length changes → ((d : Change) → get_or changes n d ≡ c) → IsFirstIn m range c w → MeetsFirst z start runner m range c w
 first_meets z start runner m range changes n c w hours are none inside at first =
     let told = subst (λ (d : Change). IsJump z d × IsWatched start d.instant) (at c) (are.each n c inside) in

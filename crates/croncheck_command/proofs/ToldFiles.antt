@@ -14,6 +14,7 @@ use Rattle.croncheck_command.specs.Files.{Contents}
 use Rattle.croncheck_command.specs.Folder.{sort_of}
 use Rattle.croncheck_command.specs.Names.{File, dialect_of}
 use Rattle.croncheck_command.specs.Shown.{bytes_shown}
+use Rattle.croncheck_command.specs.declared.fitness.Unfit.{Unfit}
 use Rattle.croncheck_command.specs.declared.folder.Sort.{Sort}
 use Rattle.croncheck_command.specs.Output.{Written, IsFlushed}
 use Rattle.croncheck_command.specs.Tally.{status_of}
@@ -72,11 +73,11 @@ module _ {S T V Y : Type 0} (view : S → V) (terms_of : S → T) (Leaves : T �
 
 -- the lines of a file were taken, and its end was told
 pub file_told : {S T F : Type 0} (view : S → State F) (terms_of : S → T) (Leaves : T → State F → LineRead → State F → Type 0)
-    (ends : F → Stand → Written → Written → Type 0) (dialect : Dialect) (name : List ℕ) (remaining : Option (List ℕ)) (t : T) (before : State F) (old new : S)
-    (after : State F) → terms_of old ≡ t → view old ≡ at_file name before → TakesAll (Takes view terms_of Leaves) dialect remaining old new
-    → EndsFile ends dialect (view new) after → IfSome remaining (λ text. IsToldFile (Leaves t) ends dialect name text before after)
-file_told view terms_of Leaves ends dialect name None t before old new after same begun taken ended = tt
-file_told {S} {T} {F} view terms_of Leaves ends dialect name (Some text) t before old new after same begun taken ended =
+    (ends : F → Stand → Written → Written → Type 0) (dialect : Dialect) (name : List ℕ) (unfit : Option Unfit) (remaining : Option (List ℕ)) (t : T) (before : State F) (old new : S)
+    (after : State F) → terms_of old ≡ t → view old ≡ at_file name unfit before → TakesAll (Takes view terms_of Leaves) dialect remaining old new
+    → EndsFile ends dialect (view new) after → IfSome remaining (λ text. IsToldFile (Leaves t) ends dialect name unfit text before after)
+file_told view terms_of Leaves ends dialect name unfit None t before old new after same begun taken ended = tt
+file_told {S} {T} {F} view terms_of Leaves ends dialect name unfit (Some text) t before old new after same begun taken ended =
     let ys = map (entry_of_line dialect) taken.0 in
     let told = in_turn_seen view terms_of Leaves t ys old new same taken.2 in
     let P : State F → Type 0 = λ s. TakesInTurn (Leaves t) s ys (view new) in
@@ -120,15 +121,17 @@ module _ {M X V S : Type 0} (Has : M → Type 0) (view : X → V) (Tells : M →
 
 -- a file was told by the terms of its kind
 pub told_as : {F : Type 0} (takes : Terms → State F → LineRead → State F → Type 0) (ends_file : Terms → F → Stand → Written → Written → Type 0)
-    (kinds : TermsByKind) (text : List ℕ) (f : File) (t : Terms) (dialect : Dialect) (old new : State F) (remaining : Option (List ℕ))
-    → t ≡ terms_of kinds dialect → dialect ≡ dialect_of f → remaining ≡ Some text
-    → IfSome remaining (λ x. IsToldFile (takes t) (ends_file t) t.settings.now.dialect (bytes_shown f.name) x old new)
-    → IsToldAs takes ends_file kinds text f old new
-told_as {F} takes ends_file kinds text f t dialect old new remaining is_t is_dialect is h =
+    (kinds : TermsByKind) (m : Contents) (f : File) (t : Terms) (dialect : Dialect) (unfit : Option Unfit) (old new : State F) (remaining : Option (List ℕ))
+    → t ≡ terms_of kinds dialect → dialect ≡ dialect_of f → unfit ≡ m.unfit_of f.word → remaining ≡ Some (m.text_of f.word)
+    → IfSome remaining (λ x. IsToldFile (takes t) (ends_file t) t.settings.now.dialect (bytes_shown f.name) unfit x old new)
+    → IsToldAs takes ends_file kinds m f old new
+told_as {F} takes ends_file kinds m f t dialect unfit old new remaining is_t is_dialect is_unfit is h =
     let same : t ≡ terms_of kinds (dialect_of f) = is_t ∙ ap (terms_of kinds) is_dialect in
-    let P : List ℕ → Type 0 = λ x. IsToldFile (takes t) (ends_file t) t.settings.now.dialect (bytes_shown f.name) x old new in
+    let text = m.text_of f.word in
+    let P : List ℕ → Type 0 = λ x. IsToldFile (takes t) (ends_file t) t.settings.now.dialect (bytes_shown f.name) unfit x old new in
     let here : P text = subst (λ (o : Option (List ℕ)). IfSome o P) is h in
-    subst (λ (u : Terms). IsToldFile (takes u) (ends_file u) u.settings.now.dialect (bytes_shown f.name) text old new) same here
+    let fit = subst (λ (u : Option Unfit). IsToldFile (takes t) (ends_file t) t.settings.now.dialect (bytes_shown f.name) u text old new) is_unfit here in
+    subst (λ (u : Terms). IsToldFile (takes u) (ends_file u) u.settings.now.dialect (bytes_shown f.name) (m.unfit_of f.word) text old new) same fit
 
 -- a file was told as its sort says
 pub told_of : {F : Type 0} (takes : Terms → State F → LineRead → State F → Type 0) (ends_file : Terms → F → Stand → Written → Written → Type 0)

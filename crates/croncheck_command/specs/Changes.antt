@@ -2,6 +2,7 @@
 -- the crate `crontab_runs` defines them.
 use Rattle.std.specs.Prelude.{◌≡◌, ◌<◌, ◌⊎◌, ◌↔◌, ◌&&◌, ◌||◌, ◌==◌, not, IsTrue, ℕ, nat_lt, Bool, true, false, ℤ, pos, neg_ℤ, ◌+ℤ◌, ◌-ℤ◌, ◌<ℤ◌, ◌≤ℤ◌, int_lt, unsigned_abs, List, length, slice_index_or, codes, Option, Some, None, if◌then◌else◌}
 use Rattle.std.specs.List.{All}
+use Rattle.std.specs.Ordering.{int_eq}
 use Rattle.croner_base.specs.declared.errors.CronError.{CronError}
 use Rattle.croner_base.specs.declared.errors.CronError.TheVariants.{InvalidTime, OutOfMemory}
 use Rattle.croner_base.specs.declared.time.table.TableTime.{TableTime}
@@ -80,19 +81,19 @@ LiesIn ranges.Repeated c w = (c.after ≤ℤ w) × (w <ℤ c.before)
 abbrev pub names_all_hours : Meaning → Bool
 names_all_hours m = length (marked_values 1 m.hours) == 24
 
--- cron waits for a new minute with the job, where the clock shows a range of minutes again: it isn't starred
-abbrev pub waits_for_new : Runner → Range → Bool
-waits_for_new (runners.Cron is_starred) ranges.Repeated = not is_starred
-waits_for_new (runners.Cron is_starred) ranges.Gap = false
-waits_for_new runners.Croner range = false
+-- cron runs the job, and it isn't starred: then cron makes up for its minutes that a change skips, and waits for a new one where minutes are
+-- shown again
+abbrev pub is_starless : Runner → Bool
+is_starless (runners.Cron is_starred) = not is_starred
+is_starless runners.Croner = false
 
--- changes don't meet a job of which all hours are named, but where cron waits with it: then it isn't started for so long
-abbrev pub is_never_met : Runner → Meaning → Range → Bool
-is_never_met runner m range = names_all_hours m && not (waits_for_new runner range)
+-- changes don't meet a job of which all hours are named, unless it is starless: it is started in each hour that the clock shows
+abbrev pub is_never_met : Runner → Meaning → Bool
+is_never_met runner m = names_all_hours m && not (is_starless runner)
 
 -- a change meets a job at a wall second: the second is scheduled and lies in the range
 pub record Meets (z : Zone) (start : ℤ) (runner : Runner) (m : Meaning) (range : Range) (c : Change) (w : ℤ) : Type 0 where
-  pub hours : is_never_met runner m range ≡ false
+  pub hours : is_never_met runner m ≡ false
   pub change : IsJump z c
   pub watched : IsWatched start c.instant
   pub lies : LiesIn range c w
@@ -127,9 +128,17 @@ abbrev pub minute_there : Range → Change → ℤ → ℤ
 minute_there ranges.Gap c w = minute_of c.after
 minute_there ranges.Repeated c w = minute_of w
 
--- cron starts the job there for the minute of the second
+-- at the change the clock shows another minute than a second before; cron doesn't see one within a minute
+abbrev pub turns_at : Change → Bool
+turns_at c = not (int_eq (minute_of c.after) (minute_of (c.before -ℤ pos 1)))
+
+-- if it looks at the job there, the minute of the second is due, which begins with it
+abbrev pub is_due_there : Bool → Range → Change → ℤ → Bool
+is_due_there is_starred range c w = int_lt (due_after is_starred (minute_of (c.before -ℤ pos 1)) (minute_there range c w)) (minute_of w)
+
+-- cron starts the job there for that minute
 abbrev pub is_started_there : Bool → Range → Change → ℤ → Bool
-is_started_there is_starred range c w = int_lt (due_after is_starred (minute_of (c.before -ℤ pos 1)) (minute_there range c w)) (minute_of w)
+is_started_there is_starred range c w = turns_at c && is_due_there is_starred range c w
 
 -- what becomes of it
 abbrev pub fate_in_cron : Bool → Range → Change → ℤ → Fate

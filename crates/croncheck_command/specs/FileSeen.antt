@@ -1,12 +1,14 @@
 -- What cron makes of a file as a whole. Source: docs/CRONTAB.md, of `no-newline`, `many-lines` and a refused line.
-use Rattle.std.specs.Prelude.{ℕ, Bool, true, false, not, ◌&&◌, ◌||◌, List, [], ◌++◌, codes, string_bytes, if◌then◌else◌}
+use Rattle.std.specs.Prelude.{ℕ, Bool, true, false, not, ◌&&◌, ◌||◌, List, [], ◌++◌, codes, Option, Some, None, is_some, string_bytes, if◌then◌else◌}
 use Rattle.croncheck_command.specs.declared.file_seen.FileSeen.{FileSeen}
 use Rattle.crontab.specs.declared.line.Dialect.{Dialect}
 use Rattle.crontab.specs.declared.line.Dialect.TheVariants as dialects
+use Rattle.croncheck_command.specs.declared.fitness.Unfit.{Unfit}
 use Rattle.croncheck_command.specs.declared.report.Report.{Report}
 use Rattle.croncheck_command.specs.declared.report.Report.TheVariants as reports
 use Rattle.crontab.specs.Line.{Line, blank, comment, setting, job, pattern, refused}
-use Rattle.croncheck_command.specs.Warnings.{are_many_lines, is_behind_last}
+use Rattle.croncheck_command.specs.Fitness.{unfit_line}
+use Rattle.croncheck_command.specs.Warnings.{are_many_lines, is_behind_last, is_continued}
 
 -- a line counts for cron where no line feed ends it: it is neither blank nor a comment
 abbrev pub counts : Line → Bool
@@ -28,13 +30,16 @@ is_refused (reports.Refused start end why) = true
 -- ---- the file
 
 -- what contracts see of a file: its name as it is shown, that a line of it is refused, that its last line has no line feed and counts, that
--- cron passes over it for its name, and that a line which counts stands behind the last one that cron takes in a crontab of the system
+-- cron passes over it for its name, that a line which counts stands behind the last one that cron takes in a crontab of the system, why
+-- cron ignores it by what the file system says of it, if it does, and that its last line seems to go on in the next
 pub record File : Type 0 where
   pub name : List ℕ
   pub has_refused : Bool
   pub is_unfed : Bool
   pub is_passed_over : Bool
   pub has_late : Bool
+  pub unfit : Option Unfit
+  pub is_open : Bool
 
 -- what contracts see of a file
 abbrev pub file_seen : FileSeen → File
@@ -44,11 +49,17 @@ file_seen f = record {
   is_unfed = f.is_unfed;
   is_passed_over = f.is_passed_over;
   has_late = f.has_late;
+  unfit = f.unfit;
+  is_open = f.is_open;
 }
 
 -- a file of this name, of which no line was read
 abbrev pub unread : List ℕ → File
-unread name = record { name = name; has_refused = false; is_unfed = false; is_passed_over = false; has_late = false }
+unread name = record { name = name; has_refused = false; is_unfed = false; is_passed_over = false; has_late = false; unfit = None; is_open = false }
+
+-- the same, where cron ignores it for this, if it does
+abbrev pub unread_of : List ℕ → Option Unfit → File
+unread_of name unfit = record (unread name) { unfit = unfit }
 
 -- the same, where cron passes over it for its name
 abbrev pub passed_over : List ℕ → File
@@ -58,9 +69,22 @@ passed_over name = record (unread name) { is_passed_over = true }
 abbrev pub is_late : ℕ → Line → Bool
 is_late number line = counts line && is_behind_last number
 
+-- a line seems to go on in the next: it is a job whose command ends in a backslash
+abbrev pub is_open : Line → Bool
+is_open blank = false
+is_open comment = false
+is_open (setting is_zone) = false
+is_open (job task) = is_continued task.command
+is_open (pattern text) = false
+is_open (refused fault) = false
+
 -- with one more line, the one of this number, which has its line feed or hasn't
 abbrev pub with_line : ℕ → Line → Bool → File → File
-with_line number line is_fed f = record f { is_unfed = not is_fed && counts line; has_late = f.has_late || is_late number line }
+with_line number line is_fed f = record f {
+  is_unfed = not is_fed && counts line;
+  has_late = f.has_late || is_late number line;
+  is_open = is_open line;
+}
 
 -- with the report of one more line
 abbrev pub with_report : Report → File → File
@@ -88,9 +112,15 @@ many_lines_text dialects.User = codes "it has more than 10000 lines"
 many_lines_text dialects.System = codes "a job or a setting stands behind line 10003"
 many_lines_text dialects.Patterns = []
 
--- cron ignores a crontab of so many lines as a whole: a line is refused, the last one has no line feed, or there are too many
+-- what is said of a file of this name that cron ignores for what the file system says of it, if it does
+abbrev pub unfit_reason : List ℕ → Option Unfit → List ℕ
+unfit_reason name None = []
+unfit_reason name (Some unfit) = ignored name (unfit_line unfit)
+
+-- cron ignores a crontab of so many lines as a whole: for what the file system says of it; or a line is refused, the last one has no line feed,
+-- or there are too many
 abbrev pub has_reason : Dialect → ℕ → File → Bool
-has_reason dialect lines f = (f.has_refused || f.is_unfed) || has_many_lines dialect lines f
+has_reason dialect lines f = is_some f.unfit || ((f.has_refused || f.is_unfed) || has_many_lines dialect lines f)
 
 -- the same of a file, which may be one of patterns: cron doesn't read it
 abbrev pub is_ignored : Dialect → ℕ → File → Bool
@@ -101,7 +131,7 @@ is_ignored dialects.Patterns lines f = false
 -- the reasons for which cron ignores a crontab of so many lines
 abbrev pub reasons_of : Dialect → ℕ → File → List ℕ
 reasons_of dialect lines f =
-    (if_so f.has_refused (ignored f.name (codes "a line is refused\n"))
+    ((unfit_reason f.name f.unfit ++ if_so f.has_refused (ignored f.name (codes "a line is refused\n")))
     ++ if_so f.is_unfed (ignored f.name (codes "its last line has no line feed\n")))
     ++ if_so (has_many_lines dialect lines f) (ignored f.name (many_lines_text dialect ++ codes "\n"))
 

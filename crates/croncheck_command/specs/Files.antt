@@ -3,22 +3,26 @@ use Rattle.std.specs.Prelude.{◌≡◌, ◌==◌, ℕ, Bool, List, ◌++◌, co
 use Rattle.std.specs.declared.alloc.Global.{Global}
 use Rattle.std.specs.declared.string.String.{String}
 use Rattle.std.specs.Fmt.{decimal}
+use Rattle.croncheck_command.specs.declared.fitness.Unfit.{Unfit}
 use Rattle.croncheck_command.specs.declared.tally.Tally.{Tally}
 
 -- each reader of the file of this name gives this text
 abbrev pub HasText : (List ℕ → Option (List ℕ) → Type 0) → List ℕ → List ℕ → Type 0
 HasText holds name text = (remaining : Option (List ℕ)) → holds name remaining → remaining ≡ Some text
 
--- what the files and folders of a machine hold: the text of a file, whether a name is one of a folder, and the names in a folder, in any order
+-- what the files and folders of a machine hold: the text of a file, why cron ignores it by what the file system says of it, if it does, whether
+-- a name is one of a folder, and the names in a folder, in any order
 pub record Contents : Type 0 where
   pub text_of : List ℕ → List ℕ
+  pub unfit_of : List ℕ → Option Unfit
   pub is_folder : List ℕ → Bool
   pub names_of : List ℕ → List (String Global)
 
 -- they hold this
-pub record HaveContents (holds : List ℕ → Option (List ℕ) → Type 0) (is_folder : List ℕ → Bool → Type 0) (lists : List ℕ → List (String Global) → Type 0)
+pub record HaveContents (holds : List ℕ → Option (List ℕ) → Type 0) (says_unfit : List ℕ → Option Unfit → Type 0) (is_folder : List ℕ → Bool → Type 0) (lists : List ℕ → List (String Global) → Type 0)
     (m : Contents) : Type 0 where
   pub texts : (name : List ℕ) → HasText holds name (m.text_of name)
+  pub fitness : (name : List ℕ) (answer : Option Unfit) → says_unfit name answer → answer ≡ m.unfit_of name
   pub folders : (name : List ℕ) (answer : Bool) → is_folder name answer → answer ≡ m.is_folder name
   pub names : (name : List ℕ) (found : List (String Global)) → lists name found → found ≡ m.names_of name
 

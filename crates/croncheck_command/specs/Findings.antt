@@ -29,7 +29,9 @@ use Rattle.croncheck_command.specs.declared.warnings.OtherWarning.{OtherWarning}
 use Rattle.croncheck_command.specs.declared.warnings.OtherWarning.TheVariants as others
 use Rattle.croncheck_command.specs.declared.warnings.Warning.{Warning}
 use Rattle.croncheck_command.specs.Changes.{is_warned, name_of}
+use Rattle.croncheck_command.specs.declared.fitness.Unfit.{Unfit}
 use Rattle.croncheck_command.specs.FileSeen.{File, has_many_lines, many_lines_text}
+use Rattle.croncheck_command.specs.Fitness.{unfit_name, unfit_text}
 use Rattle.croncheck_command.specs.Found.{is_told_below}
 use Rattle.croncheck_command.specs.Report.{blanks_of, notes_of_job, notes_of_refusal}
 use Rattle.croncheck_command.specs.Shown.{is_printed}
@@ -133,6 +135,7 @@ fault_kind faults.LongCommand = codes "long-command"
 -- the word for why a line is refused
 abbrev pub refusal_kind : Why → List ℕ
 refusal_kind (whys.Cron fault) = fault_kind fault
+refusal_kind (whys.Behind fault) = fault_kind fault
 refusal_kind (whys.Pattern fault) = codes "pattern"
 refusal_kind (whys.Crate e) = codes "text"
 refusal_kind whys.NotText = codes "not-utf-8"
@@ -225,12 +228,18 @@ reason name text = record {
 abbrev pub said_if : Bool → Said → List Said
 said_if is_so s = if is_so then s ∷ [] else []
 
+-- what is found of a file that cron ignores for what the file system says of it, if it does
+abbrev pub said_of_unfit : Option Unfit → List Said
+said_of_unfit None = []
+said_of_unfit (Some unfit) = reason (unfit_name unfit) (unfit_text unfit) ∷ []
+
 -- what is found of a crontab of so many lines as a whole
 abbrev pub findings_of_crontab : Dialect → ℕ → File → List Said
 findings_of_crontab dialect lines f =
-    said_if f.has_refused (reason (codes "refused-line") (codes "a line is refused"))
+    said_of_unfit f.unfit
+    ++ (said_if f.has_refused (reason (codes "refused-line") (codes "a line is refused"))
     ++ (said_if f.is_unfed (reason (codes "no-newline") (codes "its last line has no line feed"))
-    ++ said_if (has_many_lines dialect lines f) (reason (codes "many-lines") (many_lines_text dialect)))
+    ++ said_if (has_many_lines dialect lines f) (reason (codes "many-lines") (many_lines_text dialect))))
 
 -- the same of a file that may be one of patterns, which cron doesn't read
 abbrev pub findings_of_lines : Dialect → ℕ → File → List Said

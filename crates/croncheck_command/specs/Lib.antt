@@ -5,6 +5,7 @@ pub mod Clock
 pub mod FileSeen
 pub mod Files
 pub mod Findings
+pub mod Fitness
 pub mod Folder
 pub mod Found
 pub mod Hidden
@@ -18,10 +19,12 @@ pub mod Output
 pub mod Patterns
 pub mod Plan
 pub mod Planner
+pub mod Presets
 pub mod Private
 pub mod Problem
 pub mod Report
 pub mod Reported
+pub mod Root
 pub mod Runs
 pub mod Same
 pub mod Sarif

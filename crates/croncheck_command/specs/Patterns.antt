@@ -1,5 +1,5 @@
 -- What is told of patterns that are words of the call. Source: this crate's documentation of `tell_patterns`.
-use Rattle.std.specs.Prelude.{◌≡◌, ◌||◌, ℕ, Bool, true, false, List, if◌then◌else◌}
+use Rattle.std.specs.Prelude.{◌≡◌, ◌||◌, ℕ, Bool, true, false, List, Option, if◌then◌else◌}
 use Rattle.croncheck_command.specs.declared.report.Report.{Report}
 use Rattle.croncheck_command.specs.declared.settings.Settings.{Settings}
 use Rattle.crontab.specs.Bytes.{behind}
@@ -8,7 +8,10 @@ use Rattle.crontab.specs.Checked.{TakesInTurn}
 use Rattle.croncheck_command.specs.FileSeen.{is_refused}
 use Rattle.croncheck_command.specs.Output.{Written, WritesApart, IsFlushed}
 use Rattle.croncheck_command.specs.Report.{IsReportOfPattern}
-use Rattle.croncheck_command.specs.Shown.{AreLines}
+use Rattle.croner_presets.specs.declared.preset.Preset.{Preset}
+use Rattle.croncheck_command.specs.declared.findings.Finding.{Finding}
+use Rattle.croncheck_command.specs.Findings.{findings_seen}
+use Rattle.croncheck_command.specs.Presets.{AreOfPreset, EndsBelow}
 
 -- how far the telling has come: what was written, and whether a pattern was refused
 pub record Told : Type 0 where
@@ -23,18 +26,21 @@ untold written = record { written = written; has_refused = false }
 abbrev pub pattern_in : List ℕ → List ℕ
 pattern_in word = behind kinds.Blank word
 
--- a word was told: it has its report as the pattern of a line of a file has it, of which lines were written, set apart
-pub record TellsPattern (s : Settings) (old : Told) (word : List ℕ) (new : Told) : Type 0 where
+-- a word was told: it has its report as the pattern of a line of a file has it, of which lines were written, set apart, and below them
+-- what the preset's program reads otherwise
+pub record TellsPattern (s : Settings) (preset : Option Preset) (old : Told) (word : List ℕ) (new : Told) : Type 0 where
   pub report : Report
   pub reported : IsReportOfPattern true s 0 (pattern_in word) report
   pub text : List ℕ
-  pub lines : AreLines text
+  pub found : List Finding
+  pub differing : AreOfPreset preset word (findings_seen found)
+  pub below : EndsBelow s.look found text
   pub written : WritesApart text old.written new.written
   pub refused : new.has_refused ≡ (is_refused report || old.has_refused)
 
 -- all words were told in order, what was written was passed on, and the status is 1 where one is refused, else 0
-pub record TellsPatterns (s : Settings) (old : Written) (words : List (List ℕ)) (new : Written) (status : ℕ) : Type 0 where
+pub record TellsPatterns (s : Settings) (preset : Option Preset) (old : Written) (words : List (List ℕ)) (new : Written) (status : ℕ) : Type 0 where
   pub last : Told
-  pub told : TakesInTurn (TellsPattern s) (untold old) words last
+  pub told : TakesInTurn (TellsPattern s preset) (untold old) words last
   pub flushed : IsFlushed last.written new
   pub status_is : status ≡ (if last.has_refused then 1 else 0)

@@ -1,5 +1,5 @@
 -- What a line is told. Source: this crate's documentation of `Report`.
-use Rattle.std.specs.Prelude.{◌≡◌, ◌⊎◌, ◌<◌, get_or, not, ◌||◌, ◌==◌, ℕ, ◌+◌, Bool, true, false, List, [], length, Option, Some, None, option_map, is_some, Result, Ok, Err, string_bytes, IsUtf8}
+use Rattle.std.specs.Prelude.{◌≡◌, ◌⊎◌, ◌<◌, get_or, not, ◌||◌, ◌==◌, ℕ, ◌+◌, Bool, true, false, List, [], length, Option, Some, None, option_map, is_some, Result, Ok, Err, string_bytes, IsUtf8, if◌then◌else◌}
 use Rattle.croner_base.specs.declared.errors.CronError.{CronError}
 use Rattle.croner_base.specs.declared.time.civil.CivilDateTime.{CivilDateTime}
 use Rattle.croner_base.specs.Civil.{wall_second, weekday_of_second}
@@ -57,11 +57,12 @@ meaning_of_timing never = None
 meaning_of_timing (named text both) = meaning_read (outcome (crontab_settings both) text)
 
 -- what is looked at of a job or a pattern that was told so
-abbrev pub subject_of : Option Texts → Option Meaning → Option (List ℕ) → Option (List ℕ) → Bool → Bool → Told → Subject
-subject_of fields meaning user command is_crontab is_fed told = record {
+abbrev pub subject_of : Option Texts → Option Meaning → Option (List ℕ) → Option (List ℕ) → Option (List ℕ) → Bool → Bool → Told → Subject
+subject_of fields meaning users user command is_crontab is_fed told = record {
   fields = fields;
   meaning = meaning;
   user = user;
+  users = users;
   command = command;
   is_crontab = is_crontab;
   is_fed = is_fed;
@@ -70,19 +71,19 @@ subject_of fields meaning user command is_crontab is_fed told = record {
   is_at_window_end = is_at_window_end told;
 }
 
--- the warnings of a job of a crontab, with these texts and this meaning, that was told so
-pub record IsWarned (is_fed : Bool) (schedule : List ℕ) (user : Option (List ℕ)) (command : List ℕ) (meaning : Option Meaning) (told : Told)
+-- the warnings of a job of a crontab, with these texts and this meaning, that was told so, where these users are known
+pub record IsWarned (is_fed : Bool) (users : Option (List ℕ)) (schedule : List ℕ) (user : Option (List ℕ)) (command : List ℕ) (meaning : Option Meaning) (told : Told)
     (found : List Warning) : Type 0 where
-  pub are : found ≡ warnings_of (subject_of (fields_of_schedule schedule) meaning user (Some command) true is_fed told)
+  pub are : found ≡ warnings_of (subject_of (fields_of_schedule schedule) meaning users user (Some command) true is_fed told)
 
-abbrev pub WarnsJob : Bool → Task → Told → List Warning → Type 0
-WarnsJob is_fed task told found = IsWarned is_fed task.schedule task.user task.command (meaning_of_timing task.times) told found
+abbrev pub WarnsJob : Bool → Option (List ℕ) → Task → Told → List Warning → Type 0
+WarnsJob is_fed users task told found = IsWarned is_fed users task.schedule task.user task.command (meaning_of_timing task.times) told found
 
 -- the warnings of a pattern of this meaning that was told so
 pub record WarnsPattern (is_fed : Bool) (text : List ℕ) (meaning : Option Meaning) (told : Told) (found : List Warning) : Type 0 where
   pub fields : Option Texts
   pub fields_are : AreFieldsOfPattern text fields
-  pub are : found ≡ warnings_of (subject_of fields meaning None None false is_fed told)
+  pub are : found ≡ warnings_of (subject_of fields meaning None None None false is_fed told)
 
 -- ---- changes of the clock
 
@@ -161,6 +162,7 @@ IsUnreadTiming (named text both) e = IsRefusalOf e (outcome (crontab_settings bo
 -- why a job of a crontab is refused
 abbrev pub IsJobRefused : Task → Why → Type 0
 IsJobRefused task (whys.Cron fault) = ⊥
+IsJobRefused task (whys.Behind fault) = ⊥
 IsJobRefused task (whys.Pattern fault) = ⊥
 IsJobRefused task (whys.Crate e) = IsUnreadTiming task.times e
 IsJobRefused task whys.NotText = ⊥
@@ -180,7 +182,7 @@ IsReportOfJob is_fed s blanks task reports.Silent = ⊥
 IsReportOfJob is_fed s blanks task (reports.Misnamed name) = ⊥
 IsReportOfJob is_fed s blanks task (reports.Setting seen has_feed) = ⊥
 IsReportOfJob is_fed s blanks task (reports.Job j) =
-    IsJobTold task.schedule task.user (Some task.command) (TellsTiming s task.schedule task.times) (WarnsJob is_fed task) (MeetsJob s task)
+    IsJobTold task.schedule task.user (Some task.command) (TellsTiming s task.schedule task.times) (WarnsJob is_fed (users_seen s.users) task) (MeetsJob s task)
     (DatesOf (meaning_of_timing task.times)) j
 IsReportOfJob is_fed s blanks task (reports.Refused start end why) = IsWholeBehind blanks task.schedule start end × IsJobRefused task why
 
@@ -199,6 +201,7 @@ IsReportBy false is_fed s line task r = IsReportOfJob is_fed s (blanks_of line) 
 -- whole of it is no text
 abbrev pub IsPatternRefused : Settings → ℕ → List ℕ → ℕ → ℕ → Why → Type 0
 IsPatternRefused s blanks text start end (whys.Cron fault) = ⊥
+IsPatternRefused s blanks text start end (whys.Behind fault) = ⊥
 IsPatternRefused s blanks text start end (whys.Pattern fault) =
     IsFaultOf s.parser text fault × IsFaultBehind blanks fault start end
 IsPatternRefused s blanks text start end (whys.Crate e) = ⊥
@@ -248,6 +251,23 @@ IsReportOfLine is_fed s line (entries.Setting is_zone) r = r ≡ reports.Setting
 IsReportOfLine is_fed s line (entries.Job j) r = IsReportBy (is_unknown (users_seen s.users) (job_seen j).user) is_fed s line (job_seen j) r
 IsReportOfLine is_fed s line (entries.Pattern text) r = IsReportOfPattern is_fed s (blanks_of line) text.now r
 IsReportOfLine is_fed s line (entries.Refused fault start end) r = r ≡ reports.Refused start end (whys.Cron fault)
+
+-- why a line is refused, behind one that seems to go on
+abbrev pub why_behind : Why → Why
+why_behind (whys.Cron fault) = whys.Behind fault
+why_behind (whys.Behind fault) = whys.Behind fault
+why_behind (whys.Pattern fault) = whys.Pattern fault
+why_behind (whys.Crate refusal) = whys.Crate refusal
+why_behind whys.NotText = whys.NotText
+why_behind whys.NoUser = whys.NoUser
+
+-- the report of a line behind one that seems to go on, or that doesn't
+abbrev pub report_behind : Bool → Report → Report
+report_behind is_open reports.Silent = reports.Silent
+report_behind is_open (reports.Misnamed name) = reports.Misnamed name
+report_behind is_open (reports.Setting seen has_feed) = reports.Setting seen has_feed
+report_behind is_open (reports.Job j) = reports.Job j
+report_behind is_open (reports.Refused start end why) = reports.Refused start end (if is_open then why_behind why else why)
 
 -- ---- the same job
 
@@ -301,6 +321,7 @@ notes_of_job (Some command) line = notes_of None line
 -- the notes of a line that is refused: where cron refuses it
 abbrev pub notes_of_refusal : Why → List ℕ → List Note
 notes_of_refusal (whys.Cron fault) line = notes_of (Some fault) line
+notes_of_refusal (whys.Behind fault) line = notes_of (Some fault) line
 notes_of_refusal (whys.Pattern fault) line = []
 notes_of_refusal (whys.Crate e) line = []
 notes_of_refusal whys.NotText line = []

@@ -18,7 +18,7 @@ use Rattle.croncheck_command.specs.FileSeen.{ending_of, with_line, with_report}
 use Rattle.croncheck_command.specs.Findings.{findings_seen, findings_of_line}
 use Rattle.croncheck_command.specs.Look.{broken, painted}
 use Rattle.croncheck_command.specs.Output.{Written, WritesApart}
-use Rattle.croncheck_command.specs.Report.{IsReportOfLine, earlier_of, file_and_line, place_for}
+use Rattle.croncheck_command.specs.Report.{IsReportOfLine, earlier_of, file_and_line, place_for, report_behind}
 use Rattle.croncheck_command.specs.Tally.{added, is_too_many, one_more}
 use Rattle.croncheck_command.specs.Same.{JobKey, IsCompared, FindsAny}
 use Rattle.croncheck_command.specs.Shown.{is_told, place_text}
@@ -31,7 +31,7 @@ pub record IsFound (s : Settings) (line : Line) (outcome : Outcome) (here : List
   pub compared : s.compares_jobs ≡ true → (key : Option JobKey) × IsCompared line outcome key × FindsAny key here old new found
 
 -- the next line of a file has this report: what is left of its whole report, where the words of the call and the comment above it allow
--- something. It was added to the tally with its warnings
+-- something. A refusal behind a line that seems to go on says so. It was added to the tally with its warnings
 pub record Reports (s : Settings) (old : Stand) (y : LineRead) (report : Report) (new : Stand) : Type 0 where
   pub entry : Entry
   pub outcome : Outcome
@@ -42,7 +42,7 @@ pub record Reports (s : Settings) (old : Stand) (y : LineRead) (report : Report)
   pub parsed : IsOutcome s.parser y.is outcome
   pub sought : IsFound s y.is outcome (old.file.name, one_more old.lines) old.seen new.seen found
   pub passed : earlier_of whole ≡ place_for whole (option_map file_and_line found)
-  pub left : IsLeft s old.allowed whole report
+  pub left : IsLeft s old.allowed (report_behind old.file.is_open whole) report
   pub allowing : new.allowed ≡ allowed_behind y.is y.bytes old.allowed
   pub tallied : new.tally ≡ added (is_too_many s.dialect old.lines y.is old.file) old.tally report
   pub file : new.file ≡ with_report report (with_line (one_more old.lines) y.is y.is_fed old.file)

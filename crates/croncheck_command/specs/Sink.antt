@@ -5,6 +5,7 @@ use Rattle.std.specs.declared.string.String.{String}
 use Rattle.std.specs.String.{string_cmp}
 use Rattle.crontab.specs.declared.line.Dialect.{Dialect}
 use Rattle.crontab.specs.declared.line.Dialect.TheVariants as dialects
+use Rattle.croncheck_command.specs.declared.fitness.Unfit.{Unfit}
 use Rattle.croncheck_command.specs.declared.folder.Sort.{Sort}
 use Rattle.croncheck_command.specs.declared.folder.Sort.TheVariants as sorts
 use Rattle.croncheck_command.specs.declared.folder.Treatment.{Treatment}
@@ -42,9 +43,9 @@ pub record State (F : Type 0) : Type 0 where
 abbrev pub state_of : {F W : Type 0} → (W → Option (List ℕ)) → F → Progress → Output W → State F
 state_of contents form progress output = record { form = form; stand = stand_of progress; written = written_of contents output }
 
--- at the begin of the next file
-abbrev pub at_file : {F : Type 0} → List ℕ → State F → State F
-at_file name s = record s { stand = begin_of_file name s.stand }
+-- at the begin of the next file, which cron ignores for this, if it does
+abbrev pub at_file : {F : Type 0} → List ℕ → Option Unfit → State F → State F
+at_file name unfit s = record s { stand = begin_of_file name unfit s.stand }
 
 -- at the begin of the next file, which cron passes over for its name
 abbrev pub at_passed_over : {F : Type 0} → List ℕ → State F → State F
@@ -60,12 +61,12 @@ EndsFile ends dialect old new = (new.form ≡ old.form) × (new.stand ≡ end_of
 
 -- ---- files
 
--- a file was told, whose name is shown so: each line of its text has exactly one entry, they were taken in order, and then its end was told
-abbrev pub IsToldFile : {F : Type 0} → (State F → LineRead → State F → Type 0) → (F → Stand → Written → Written → Type 0) → Dialect → List ℕ → List ℕ
-    → State F → State F → Type 0
-IsToldFile {F} takes ends dialect name text old new =
+-- a file was told, whose name is shown so, and which cron ignores for this, if it does: each line of its text has exactly one entry, they were taken in order, and then its end was told
+abbrev pub IsToldFile : {F : Type 0} → (State F → LineRead → State F → Type 0) → (F → Stand → Written → Written → Type 0) → Dialect → List ℕ → Option Unfit
+    → List ℕ → State F → State F → Type 0
+IsToldFile {F} takes ends dialect name unfit text old new =
     (lines : List (List ℕ)) × (last : State F) × AreLines text lines
-    × TakesInTurn takes (at_file name old) (map (entry_of_line dialect) lines) last × EndsFile ends dialect last new
+    × TakesInTurn takes (at_file name unfit old) (map (entry_of_line dialect) lines) last × EndsFile ends dialect last new
 
 -- what is asked of the lines of the files of a kind
 abbrev pub terms_of : TermsByKind → Dialect → Terms
@@ -75,10 +76,10 @@ terms_of k dialects.Patterns = k.patterns
 
 -- a file was told, as what is asked of its kind
 abbrev pub IsToldAs : {F : Type 0} → (Terms → State F → LineRead → State F → Type 0) → (Terms → F → Stand → Written → Written → Type 0) → TermsByKind
-    → List ℕ → File → State F → State F → Type 0
-IsToldAs takes ends_file k text f old new =
+    → Contents → File → State F → State F → Type 0
+IsToldAs takes ends_file k m f old new =
     let terms = terms_of k (dialect_of f) in
-    IsToldFile (takes terms) (ends_file terms) terms.settings.now.dialect (bytes_shown f.name) text old new
+    IsToldFile (takes terms) (ends_file terms) terms.settings.now.dialect (bytes_shown f.name) (m.unfit_of f.word) (m.text_of f.word) old new
 
 -- a file was told that cron passes over for its name, which is shown so: none of its lines was taken
 abbrev pub IsPassedOver : {F : Type 0} → (F → Stand → Written → Written → Type 0) → Dialect → List ℕ → State F → State F → Type 0
@@ -86,19 +87,19 @@ IsPassedOver ends dialect name old new = EndsFile ends dialect (at_passed_over n
 
 -- what became of a file in a folder was told
 abbrev pub IsToldBy : {F : Type 0} → Treatment → (Terms → State F → LineRead → State F → Type 0) → (Terms → F → Stand → Written → Written → Type 0)
-    → TermsByKind → List ℕ → File → State F → State F → Type 0
-IsToldBy treatments.Silent takes ends_file k text f old new = new ≡ old
-IsToldBy treatments.NotEntered takes ends_file k text f old new = new ≡ old
-IsToldBy treatments.NoCrontab takes ends_file k text f old new = new ≡ old
-IsToldBy treatments.PassedOver takes ends_file k text f old new =
+    → TermsByKind → Contents → File → State F → State F → Type 0
+IsToldBy treatments.Silent takes ends_file k m f old new = new ≡ old
+IsToldBy treatments.NotEntered takes ends_file k m f old new = new ≡ old
+IsToldBy treatments.NoCrontab takes ends_file k m f old new = new ≡ old
+IsToldBy treatments.PassedOver takes ends_file k m f old new =
     let terms = terms_of k (dialect_of f) in IsPassedOver (ends_file terms) terms.settings.now.dialect (bytes_shown f.name) old new
-IsToldBy treatments.Read takes ends_file k text f old new = IsToldAs takes ends_file k text f old new
+IsToldBy treatments.Read takes ends_file k m f old new = IsToldAs takes ends_file k m f old new
 
 -- a file of this name in a folder that is asked for was told
 abbrev pub IsToldEntry : {F : Type 0} → (Terms → State F → LineRead → State F → Type 0) → (Terms → F → Stand → Written → Written → Type 0) → TermsByKind
     → Contents → File → State F → List ℕ → State F → Type 0
 IsToldEntry takes ends_file k m f old name new =
-    let e = entry_of f name in IsToldBy (treatment_of (m.is_folder e.word) e name) takes ends_file k (m.text_of e.word) e old new
+    let e = entry_of f name in IsToldBy (treatment_of (m.is_folder e.word) e name) takes ends_file k m e old new
 
 -- the files of a folder were told, one behind the other, in the order of the bytes of their names
 pub record IsToldFolder {F : Type 0} (takes : Terms → State F → LineRead → State F → Type 0) (ends_file : Terms → F → Stand → Written → Written → Type 0)
@@ -113,7 +114,7 @@ abbrev pub IsToldOf : {F : Type 0} → Sort → (Terms → State F → LineRead 
     → TermsByKind → Contents → File → State F → State F → Type 0
 IsToldOf sorts.NoCrontab takes ends_file k m f old new = new ≡ old
 IsToldOf sorts.Folder takes ends_file k m f old new = IsToldFolder takes ends_file k m f old new
-IsToldOf sorts.File takes ends_file k m f old new = IsToldAs takes ends_file k (m.text_of f.word) f old new
+IsToldOf sorts.File takes ends_file k m f old new = IsToldAs takes ends_file k m f old new
 
 abbrev pub IsToldAsked : {F : Type 0} → (Terms → State F → LineRead → State F → Type 0) → (Terms → F → Stand → Written → Written → Type 0) → TermsByKind
     → Contents → State F → File → State F → Type 0

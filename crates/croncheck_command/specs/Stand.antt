@@ -1,14 +1,15 @@
 -- How far the reading of files has come. Source: this crate's documentation of `Progress`.
-use Rattle.std.specs.Prelude.{ℕ, Bool, List, []}
+use Rattle.std.specs.Prelude.{ℕ, Bool, List, [], Option}
 use Rattle.croncheck_command.specs.declared.progress.Line.{Line}
 use Rattle.croncheck_command.specs.declared.progress.Progress.{Progress}
+use Rattle.croncheck_command.specs.declared.fitness.Unfit.{Unfit}
 use Rattle.croncheck_command.specs.declared.tally.Tally.{Tally}
 use Rattle.croncheck_command.specs.declared.same.Seen.{Seen}
 use Rattle.crontab.specs.declared.line.Dialect.{Dialect}
 use Rattle.crontab.specs.Checked.{LineRead, line_seen}
 use Rattle.crontab.specs.Line.{Line as Meant}
 use Rattle.croncheck_command.specs.Allowed.{names_seen}
-use Rattle.croncheck_command.specs.FileSeen.{File, file_seen, is_ignored, unread, passed_over, with_line}
+use Rattle.croncheck_command.specs.FileSeen.{File, file_seen, is_ignored, unread_of, passed_over, with_line}
 use Rattle.croncheck_command.specs.Tally.{one_more, with_file}
 
 -- how far the reading has come: what was counted, the jobs that were seen, what was seen of the file, its number from 1, how many of its lines
@@ -25,9 +26,9 @@ pub record Stand : Type 0 where
 abbrev pub stand_of : Progress → Stand
 stand_of p = record { tally = p.tally; seen = p.seen; file = file_seen p.file; files = p.files; lines = p.lines; allowed = names_seen p.allowed.items }
 
--- at the begin of the next file, whose name is shown so
-abbrev pub begin_of_file : List ℕ → Stand → Stand
-begin_of_file name s = record s { file = unread name; files = one_more s.files; lines = 0; allowed = [] }
+-- at the begin of the next file, whose name is shown so, and which cron ignores for this by what the file system says of it, if it does
+abbrev pub begin_of_file : List ℕ → Option Unfit → Stand → Stand
+begin_of_file name unfit s = record s { file = unread_of name unfit; files = one_more s.files; lines = 0; allowed = [] }
 
 -- at the begin of the next file, whose name is shown so, and which cron passes over for it
 abbrev pub begin_passed_over : List ℕ → Stand → Stand

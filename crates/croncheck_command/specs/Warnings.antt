@@ -26,6 +26,7 @@ use Rattle.crontab.specs.Line.{Five, words_of, minute_place, hour_place, day_pla
 use Rattle.crontab.specs.List.{parts_of, names_nothing, is_uneven}
 use Rattle.crontab.specs.Notes.{has_passed_over as are_passed_over, has_large_number as is_large_in, has_other_name as is_named_otherwise, looks_like_weekdays}
 use Rattle.croncheck_command.specs.Hidden.{has_hidden, has_hidden_within}
+use Rattle.croncheck_command.specs.Users.{users_seen, begins_with_user}
 use Rattle.croncheck_command.specs.declared.warnings.Subject.{Subject as GivenSubject}
 use Rattle.croncheck_command.specs.declared.warnings.Warning.{Warning}
 use Rattle.croncheck_command.specs.declared.warnings.Warning.TheVariants as warnings
@@ -288,6 +289,7 @@ pub record Subject : Type 0 where
   pub fields : Option Texts
   pub meaning : Option Meaning
   pub user : Option (List ℕ)
+  pub users : Option (List ℕ)
   pub command : Option (List ℕ)
   pub is_crontab : Bool
   pub is_fed : Bool
@@ -317,10 +319,17 @@ has_command_within s field = is_last_field field && is_some_so (λ text. length 
 abbrev pub has_sixth_field : Subject → Bool
 has_sixth_field s = is_some s.fields && is_some_so looks_like_field (behind_times s)
 
--- the word where the user stands is none, and no further field; or where no user stands the command begins with `root`
+-- the word where the user stands is none, and no further field; where the users are known a job of such a word is refused
+abbrev pub has_no_user_word : Subject → Bool
+has_no_user_word s = not (is_some s.users) && (is_some_so has_no_user_sign s.user && not (has_sixth_field s))
+
+-- a command begins with `root` and a blank, or with the name of a user who is known, and a path behind it
+abbrev pub begins_with_name : Option (List ℕ) → List ℕ → Bool
+begins_with_name users command = begins_with_root command || is_some_so (λ text. begins_with_user text command) users
+
+-- the word where the user stands is none; or where no user stands the command begins with the name of one
 abbrev pub has_no_user : Subject → Bool
-has_no_user s =
-    (is_some_so has_no_user_sign s.user && not (has_sixth_field s)) || (not (is_some s.user) && is_some_so begins_with_root s.command)
+has_no_user s = has_no_user_word s || (not (is_some s.user) && is_some_so (begins_with_name s.users) s.command)
 
 -- the field of which a warning is
 abbrev pub field_of : Warning → Option PatternField
@@ -440,6 +449,7 @@ subject_seen s = record {
   fields = option_map fields_seen s.fields;
   meaning = option_map (λ job. job_of job.now) s.job;
   user = option_map (λ user. user.now) s.user;
+  users = users_seen s.users;
   command = option_map (λ command. command.now) s.command;
   is_crontab = s.is_crontab;
   is_fed = s.is_fed;

@@ -4,7 +4,7 @@ ghost use Rattle.croner_base.specs.TableZone.{table_moment};
 ghost use Rattle.croner_base.specs.Zone.{at_instant};
 ghost use Rattle.croner_pattern.specs.Schedule.{is_fixed_time};
 ghost use Rattle.croner.specs.Views.{job_of};
-ghost use Rattle.croncheck_command.specs.Changes.{AreChangesFrom, IsNoStart, names_all_hours, waits_for_new, is_never_met, Meets, IsMeeting, IsFate, IsFateBy, with_all_hours};
+ghost use Rattle.croncheck_command.specs.Changes.{AreChangesFrom, IsNoStart, names_all_hours, is_starless, is_never_met, Meets, IsMeeting, IsFate, IsFateBy, with_all_hours};
 ghost use Rattle.croncheck_command.specs.Private.Met.{IsToldOf, IsInYears, IsNoneIn, IsFirstIn};
 
 mod cron;
@@ -109,13 +109,13 @@ impl<'t> Changes<'t> {
     }
 
     /// The first of them that meets a job: a scheduled second lies in such a range of the change. `None` where none does. Those of which all hours
-    /// are named no change meets, but one that shows minutes again, where cron waits for a new one.
+    /// are named no change meets, unless cron runs the job and it isn't starred.
     pub fn first_meeting(&self, job: &Cron, runner: Runner, range: Range) -> Option<Meeting>
         ensures { MatchOption result
             ((c : Change) (w : ℤ) → ¬ (Meets (table_moment self.now.start).zone (table_moment self.now.start).instant runner (job_of job.now) range c w))
             (IsMeeting (table_moment self.now.start).zone (table_moment self.now.start).instant runner (job_of job.now) range) }
     {
-        if is_never_met(job, runner, range) {
+        if is_never_met(job, runner) {
             return None;
         }
         for change in self.items.iter() {
@@ -216,21 +216,20 @@ fn fate_by(run: TableTime<'_>, change: Change) -> Fate
     }
 }
 
-// Whether changes don't meet a job: all hours are named, and cron doesn't wait for a new minute with it.
-fn is_never_met(job: &Cron, runner: Runner, range: Range) -> bool
-    ensures { result ≡ is_never_met runner (job_of job.now) range }
+// Whether changes don't meet a job: all hours are named, and it isn't starless.
+fn is_never_met(job: &Cron, runner: Runner) -> bool
+    ensures { result ≡ is_never_met runner (job_of job.now) }
 {
-    names_all_hours(job) && !waits_for_new(runner, range)
+    names_all_hours(job) && !is_starless(runner)
 }
 
-// Whether cron waits for a new minute with the job.
-fn waits_for_new(runner: Runner, range: Range) -> bool
-    ensures { result ≡ waits_for_new runner range }
+// Whether cron runs the job, and it isn't starred: then cron makes up for what a change skips, and waits where minutes are shown again.
+fn is_starless(runner: Runner) -> bool
+    ensures { result ≡ is_starless runner }
 {
-    match (runner, range) {
-        (Runner::Cron { is_starred }, Range::Repeated) => !is_starred,
-        (Runner::Cron { .. }, Range::Gap) => false,
-        (Runner::Croner, _) => false,
+    match runner {
+        Runner::Cron { is_starred } => !is_starred,
+        Runner::Croner => false,
     }
 }
 
@@ -238,9 +237,9 @@ fn waits_for_new(runner: Runner, range: Range) -> bool
 fn with_all_hours(names_all: bool, fate: Fate) -> Fate
     ensures { result ≡ with_all_hours names_all fate }
 {
-    match (names_all, fate) {
-        (true, Fate::Once) => Fate::Paused,
-        _ => fate,
+    match fate {
+        Fate::Once if names_all => Fate::Paused,
+        Fate::LeftOut | Fate::Moved | Fate::Once | Fate::Twice | Fate::Paused => fate,
     }
 }
 

@@ -1,9 +1,11 @@
 //! What was seen of the file that is read, and what cron makes of it as a whole.
 ghost use Rattle.std.specs.Prelude.{◌≡◌, ◌++◌, codes, IfOk, OnOk, string_bytes};
 ghost use Rattle.crontab.specs.Entries.{entry_seen};
-ghost use Rattle.croncheck_command.specs.FileSeen.{file_seen, unread, passed_over, with_line, with_report, counts, is_refused, if_so, ignored, is_ignored, name_text, reasons_of, whole_of, ending_of, is_late, has_many_lines, many_lines_text};
+ghost use Rattle.croncheck_command.specs.FileSeen.{file_seen, unread_of, passed_over, with_line, with_report, counts, is_refused, if_so, ignored, unfit_reason, is_ignored, name_text, reasons_of, whole_of, ending_of, is_late, is_open, has_many_lines, many_lines_text};
 
+use crate::fitness::Unfit;
 use crate::report::Report;
+use crate::warnings::command::is_continued;
 use crate::warnings::{are_many_lines, is_behind_last};
 use crontab::line::{Dialect, Entry};
 use std::alloc::{AllocError, Global};
@@ -20,12 +22,17 @@ pub struct FileSeen {
     is_passed_over: bool,
     // A job or a setting stands behind the last line at which cron takes one in a crontab of the system.
     has_late: bool,
+    // Why cron ignores it by what the file system says of it, if it does.
+    unfit: Option<Unfit>,
+    // Its last line seems to go on in the next.
+    is_open: bool,
 }
 
 impl FileSeen {
-    /// A file of which no line was read, by its name as it is shown.
-    pub fn new(name: String) -> FileSeen
-        ensures { file_seen result ≡ unread (string_bytes name) }
+    /// A file of which no line was read, by its name as it is shown, and why cron ignores it by what the file system says of it,
+    /// if it does.
+    pub fn new(name: String, unfit: Option<Unfit>) -> FileSeen
+        ensures { file_seen result ≡ unread_of (string_bytes name) unfit }
     {
         FileSeen {
             name,
@@ -33,6 +40,8 @@ impl FileSeen {
             is_unfed: false,
             is_passed_over: false,
             has_late: false,
+            unfit,
+            is_open: false,
         }
     }
 
@@ -46,6 +55,8 @@ impl FileSeen {
             is_unfed: false,
             is_passed_over: true,
             has_late: false,
+            unfit: None,
+            is_open: false,
         }
     }
 
@@ -77,12 +88,27 @@ impl FileSeen {
         self.has_late
     }
 
+    /// Why cron ignores it by what the file system says of it, if it does.
+    pub fn unfit(&self) -> Option<Unfit>
+        ensures { result ≡ (file_seen self.now).unfit }
+    {
+        self.unfit
+    }
+
+    /// Its last line seems to go on in the next.
+    pub fn is_open(&self) -> bool
+        ensures { result ≡ (file_seen self.now).is_open }
+    {
+        self.is_open
+    }
+
     /// Takes up one more line, the one of this number, counted from 1, and whether a line feed ends it.
     pub fn add_line(&mut self, number: u64, entry: &Entry<'_>, is_fed: bool)
         ensures { file_seen self.new ≡ with_line number (entry_seen entry.now) is_fed (file_seen self.old) }
     {
         self.is_unfed = !is_fed && counts(entry);
         self.has_late = self.has_late || is_late(number, entry);
+        self.is_open = is_open(entry);
     }
 
     /// Takes up the report of a line.
@@ -130,7 +156,10 @@ impl FileSeen {
         match dialect {
             Dialect::Patterns => false,
             Dialect::User | Dialect::System => {
-                self.has_refused || self.is_unfed || self.has_many_lines(dialect, lines)
+                self.unfit.is_some()
+                    || self.has_refused
+                    || self.is_unfed
+                    || self.has_many_lines(dialect, lines)
             }
         }
     }
@@ -153,6 +182,7 @@ impl FileSeen {
         let name = self.name.as_str();
         let has_many = self.has_many_lines(dialect, lines);
         let mut text = String::new(alloc);
+        push_unfit(&mut text, name, self.unfit)?;
         push_if(&mut text, self.has_refused, name, "a line is refused\n")?;
         push_if(
             &mut text,
@@ -194,6 +224,16 @@ fn name_text(alloc: Global, name: &str) -> Result<String, AllocError>
     format!(in alloc;
         "{name}: warning: file-name: cron passes over a file of this name, and no line of it is read here: write letters, digits, _ and - alone\n"
     )
+}
+
+// The line of what the file system says, if cron ignores the file for it.
+fn push_unfit(text: &mut String, name: &str, unfit: Option<Unfit>) -> Result<(), AllocError>
+    ensures { OnOk result (string_bytes text.new ≡ string_bytes text.old ++ unfit_reason name.now unfit) }
+{
+    match unfit {
+        Some(unfit) => push_ignored(text, name, unfit.line()),
+        None => Ok(()),
+    }
 }
 
 // The line of a reason, if it holds.
@@ -238,5 +278,19 @@ fn counts(entry: &Entry<'_>) -> bool
     match entry {
         Entry::Blank | Entry::Comment => false,
         Entry::Setting { .. } | Entry::Job(_) | Entry::Pattern(_) | Entry::Refused { .. } => true,
+    }
+}
+
+// Whether the line of an entry seems to go on in the next: it is a job whose command ends in a backslash.
+fn is_open(entry: &Entry<'_>) -> bool
+    ensures { result ≡ is_open (entry_seen entry.now) }
+{
+    match entry {
+        Entry::Job(job) => is_continued(job.command),
+        Entry::Blank
+        | Entry::Comment
+        | Entry::Setting { .. }
+        | Entry::Pattern(_)
+        | Entry::Refused { .. } => false,
     }
 }

@@ -4,13 +4,14 @@ ghost use Rattle.std.specs.declared.alloc.Global.{Global};
 ghost use Rattle.std.specs.declared.string.String.{String};
 ghost use Rattle.std.specs.String.{string_cmp};
 ghost use Rattle.crontab.specs.Checked.{TakesInTurn};
-ghost use Rattle.croncheck_command.specs.Files.{HasText, Contents, HaveContents, noun_of, summary_of, warned_text};
+ghost use Rattle.croncheck_command.specs.Files.{Contents, HaveContents, noun_of, summary_of, warned_text};
 ghost use Rattle.croncheck_command.specs.Names.{asked_seen};
 ghost use Rattle.croncheck_command.specs.Output.{IsFlushed};
 ghost use Rattle.croncheck_command.specs.Tally.{status_of};
 ghost use Rattle.croncheck_command.specs.Sink.{State, state_of, Ends, IsToldAs, IsToldBy, IsToldEntry, IsToldFolder, IsToldOf, IsToldStatus};
 
 use crate::escaped::shown;
+use crate::fitness::Unfit;
 use crate::folder::{Sort, Treatment, path_in, sort_of, treatment_of};
 use crate::form::Form;
 use crate::names::Asked;
@@ -38,12 +39,16 @@ pub trait Sources {
     ghost use Rattle.std.specs.Prelude.{ℕ, Bool, List, Option, IfOk};
     ghost use Rattle.std.specs.declared.alloc.Global.{Global};
     ghost use Rattle.std.specs.declared.string.String.{String};
+    ghost use Rattle.croncheck_command.specs.declared.fitness.Unfit.{Unfit};
 
     /// What a file is read by.
     type Reader: BufRead + Drop;
 
     /// What a reader of the file of a name may give.
     ghost holds: { Self → List ℕ → Option (List ℕ) → Type 0 };
+
+    /// What may be said of why cron ignores the file of a name by what the file system says of it.
+    ghost says_unfit: { Self → List ℕ → Option Unfit → Type 0 };
 
     /// What may be said of whether a name is that of a folder.
     ghost says_folder: { Self → List ℕ → Bool → Type 0 };
@@ -54,6 +59,10 @@ pub trait Sources {
     /// Opens the file of a name; `-` is standard input. The error says why it isn't opened.
     fn open(&self, name: &str) -> io::Result<Self::Reader>
         ensures { IfOk result (λ reader. holds self.now name.now (Self.Reader.remaining reader)) };
+
+    /// Why cron ignores the file of a name by what the file system says of it, if it does and if that is looked at.
+    fn unfit(&self, name: &str) -> Option<Unfit>
+        ensures { says_unfit self.now name.now result };
 
     /// Whether a name is that of a folder.
     fn is_folder(&self, name: &str) -> bool
@@ -82,7 +91,7 @@ pub fn tell_files<'s, 't, S: Sources, F: Form, W: Write, N: Write>(
     sink: &mut Sink<'s, 't, F, W>,
     notes: &mut N,
 ) -> io::Result<u8>
-    ensures { (m : Contents) → HaveContents (S.holds sources.now) (S.says_folder sources.now) (S.lists sources.now) m →
+    ensures { (m : Contents) → HaveContents (S.holds sources.now) (S.says_unfit sources.now) (S.says_folder sources.now) (S.lists sources.now) m →
         IfOk result (IsToldStatus F.takes F.ends_file F.ends kinds.now m (map asked_seen files.now)
         (state_of W.contents sink.old.form sink.old.progress sink.old.output)
         (state_of W.contents sink.new.form sink.new.progress sink.new.output)) }
@@ -112,7 +121,7 @@ fn fails<'s, 't, S: Sources, F: Form, W: Write, N: Write>(
     sink: &mut Sink<'s, 't, F, W>,
     notes: &mut N,
 ) -> io::Result<bool>
-    ensures { (m : Contents) → HaveContents (S.holds sources.now) (S.says_folder sources.now) (S.lists sources.now) m →
+    ensures { (m : Contents) → HaveContents (S.holds sources.now) (S.says_unfit sources.now) (S.says_folder sources.now) (S.lists sources.now) m →
         IfOk result (λ is_failed. is_failed ≡ false → IsToldOf sort F.takes F.ends_file kinds.now m (asked_seen file.entry)
         (state_of W.contents sink.old.form sink.old.progress sink.old.output) (state_of W.contents sink.new.form sink.new.progress sink.new.output)) }
 {
@@ -134,7 +143,7 @@ fn folder_fails<'s, 't, S: Sources, F: Form, W: Write, N: Write>(
     sink: &mut Sink<'s, 't, F, W>,
     notes: &mut N,
 ) -> io::Result<bool>
-    ensures { (m : Contents) → HaveContents (S.holds sources.now) (S.says_folder sources.now) (S.lists sources.now) m →
+    ensures { (m : Contents) → HaveContents (S.holds sources.now) (S.says_unfit sources.now) (S.says_folder sources.now) (S.lists sources.now) m →
         IfOk result (λ is_failed. is_failed ≡ false → IsToldFolder F.takes F.ends_file kinds.now m (asked_seen file.entry)
         (state_of W.contents sink.old.form sink.old.progress sink.old.output) (state_of W.contents sink.new.form sink.new.progress sink.new.output)) }
 {
@@ -167,7 +176,7 @@ fn any_fails<'s, 't, S: Sources, F: Form, W: Write, N: Write>(
     sink: &mut Sink<'s, 't, F, W>,
     notes: &mut N,
 ) -> io::Result<bool>
-    ensures { (m : Contents) → HaveContents (S.holds sources.now) (S.says_folder sources.now) (S.lists sources.now) m →
+    ensures { (m : Contents) → HaveContents (S.holds sources.now) (S.says_unfit sources.now) (S.says_folder sources.now) (S.lists sources.now) m →
         IfOk result (λ is_failed. is_failed ≡ false → TakesInTurn (IsToldEntry F.takes F.ends_file kinds.now m (asked_seen folder.entry))
         (state_of W.contents sink.old.form sink.old.progress sink.old.output) (map (λ name. string_bytes name) names.now)
         (state_of W.contents sink.new.form sink.new.progress sink.new.output)) }
@@ -189,7 +198,7 @@ fn entry_fails<'s, 't, S: Sources, F: Form, W: Write, N: Write>(
     sink: &mut Sink<'s, 't, F, W>,
     notes: &mut N,
 ) -> io::Result<bool>
-    ensures { (m : Contents) → HaveContents (S.holds sources.now) (S.says_folder sources.now) (S.lists sources.now) m →
+    ensures { (m : Contents) → HaveContents (S.holds sources.now) (S.says_unfit sources.now) (S.says_folder sources.now) (S.lists sources.now) m →
         IfOk result (λ is_failed. is_failed ≡ false → IsToldEntry F.takes F.ends_file kinds.now m (asked_seen folder.entry)
         (state_of W.contents sink.old.form sink.old.progress sink.old.output) name.now
         (state_of W.contents sink.new.form sink.new.progress sink.new.output)) }
@@ -213,8 +222,8 @@ fn fails_by<'s, 't, S: Sources, F: Form, W: Write, N: Write>(
     sink: &mut Sink<'s, 't, F, W>,
     notes: &mut N,
 ) -> io::Result<bool>
-    ensures { (text : List ℕ) → HasText (S.holds sources.now) file.entry.word.now text → IfOk result (λ is_failed. is_failed ≡ false →
-        IsToldBy treatment F.takes F.ends_file kinds.now text (asked_seen file.entry)
+    ensures { (m : Contents) → HaveContents (S.holds sources.now) (S.says_unfit sources.now) (S.says_folder sources.now) (S.lists sources.now) m →
+        IfOk result (λ is_failed. is_failed ≡ false → IsToldBy treatment F.takes F.ends_file kinds.now m (asked_seen file.entry)
         (state_of W.contents sink.old.form sink.old.progress sink.old.output) (state_of W.contents sink.new.form sink.new.progress sink.new.output)) }
 {
     match treatment {
@@ -243,13 +252,14 @@ fn file_fails<'s, 't, S: Sources, F: Form, W: Write, N: Write>(
     sink: &mut Sink<'s, 't, F, W>,
     notes: &mut N,
 ) -> io::Result<bool>
-    ensures { (text : List ℕ) → HasText (S.holds sources.now) file.entry.word.now text → IfOk result (λ is_failed. is_failed ≡ false →
-        IsToldAs F.takes F.ends_file kinds.now text (asked_seen file.entry)
+    ensures { (m : Contents) → HaveContents (S.holds sources.now) (S.says_unfit sources.now) (S.says_folder sources.now) (S.lists sources.now) m →
+        IfOk result (λ is_failed. is_failed ≡ false → IsToldAs F.takes F.ends_file kinds.now m (asked_seen file.entry)
         (state_of W.contents sink.old.form sink.old.progress sink.old.output) (state_of W.contents sink.new.form sink.new.progress sink.new.output)) }
 {
     let terms = kinds.of(file.dialect());
+    let unfit = sources.unfit(file.word);
     let error = match sources.open(file.word) {
-        Ok(mut reader) => match sink.read(terms, file.name, &mut reader) {
+        Ok(mut reader) => match sink.read(terms, file.name, unfit, &mut reader) {
             Ok(()) => return Ok(false),
             Err(error) => error,
         },

@@ -180,7 +180,7 @@ fn kind_of_why(why: &Why) -> &'static str
     ensures { result.now ≡ refusal_kind why.now }
 {
     match why {
-        Why::Cron(fault) => kind_of_fault(*fault),
+        Why::Cron(fault) | Why::Behind(fault) => kind_of_fault(*fault),
         Why::Pattern(_) => "pattern",
         Why::Crate(_) => "text",
         Why::NotText => "not-utf-8",

@@ -19,6 +19,8 @@ pub enum Problem {
     Now(jiff::Error),
     /// The file of the users isn't read.
     Users(io::Error),
+    /// The folder of the machine that is to be checked isn't read.
+    Root(io::Error),
     /// The zone's clock never shows the date and time of `--from`.
     SkippedFrom,
     /// The same for `--until`.
@@ -47,6 +49,7 @@ impl Problem {
             | Problem::Clock(_)
             | Problem::Now(_)
             | Problem::Users(_)
+            | Problem::Root(_)
             | Problem::Unwritten(_)
             | Problem::OutOfMemory => 3,
         }
@@ -65,6 +68,7 @@ impl fmt::Display for Problem {
             Problem::Clock(reason) => write_reason(f, *reason),
             Problem::Now(error) => write!(f, "the machine's clock: {error}"),
             Problem::Users(error) => write!(f, "the file of --users: {error}"),
+            Problem::Root(error) => write!(f, "the folder of --root: {error}"),
             Problem::SkippedFrom => {
                 f.write_str("--from: the zone's clock never shows this date or time")
             }

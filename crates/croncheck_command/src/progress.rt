@@ -9,7 +9,8 @@ ghost use Rattle.croncheck_command.specs.Stand.{stand_of, begin_of_file, begin_p
 use crate::allowed::comment::names_by;
 use crate::allowed::take_away;
 use crate::file_seen::FileSeen;
-use crate::report::{Report, report_of_line};
+use crate::fitness::Unfit;
+use crate::report::{Report, put_behind, report_of_line};
 use crate::same::Seen;
 use crate::settings::{Settings, SettingsByKind};
 use crate::shown::{Place, Shared};
@@ -123,18 +124,18 @@ impl Progress {
         Progress {
             tally: Tally::new(),
             seen: Seen::new(alloc),
-            file: FileSeen::new(String::new(alloc)),
+            file: FileSeen::new(String::new(alloc), None),
             files: 0,
             lines: 0,
             allowed: Vec::new(alloc),
         }
     }
 
-    /// Begins the next file, by its name as it is shown.
-    pub fn begin(&mut self, name: String)
-        ensures { stand_of self.new ≡ begin_of_file (string_bytes name) (stand_of self.old) }
+    /// Begins the next file, by its name as it is shown, and why cron ignores it by what the file system says of it, if it does.
+    pub fn begin(&mut self, name: String, unfit: Option<Unfit>)
+        ensures { stand_of self.new ≡ begin_of_file (string_bytes name) unfit (stand_of self.old) }
     {
-        self.file = FileSeen::new(name);
+        self.file = FileSeen::new(name, unfit);
         self.files = one_more(self.files);
         self.lines = 0;
         self.allowed.clear();
@@ -186,6 +187,7 @@ impl Progress {
             is_fed,
         } = line;
         let is_too_many = is_too_many(terms.settings.dialect, self.lines, &entry, &self.file);
+        let is_open = self.file.is_open();
         self.next_line(&entry, is_fed);
         let place = Place {
             file: self.file.name(),
@@ -207,6 +209,7 @@ impl Progress {
         ) else {
             return Err(io::Error::from(ErrorKind::OutOfMemory));
         };
+        put_behind(is_open, &mut report);
         let allowed = self.allowed.as_slice();
         take_away(terms.alloc, terms.settings, allowed, &mut report)?;
         if let Some(names) = names {

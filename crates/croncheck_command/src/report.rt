@@ -6,7 +6,7 @@ ghost use Rattle.crontab.specs.Content.{IsOutcome, IsOutcomeOfTimes, IsOutcomeOf
 ghost use Rattle.crontab.specs.Entries.{entry_seen, job_seen, times_seen};
 ghost use Rattle.croncheck_command.specs.declared.settings.Settings.{Settings as Made};
 ghost use Rattle.croncheck_command.specs.Allowed.{unknown_in};
-ghost use Rattle.croncheck_command.specs.Report.{IsReportOfJob, IsReportOfPattern, blanks_of, IsReportOfLine, IsReportOfComment, TellsChanges, subject_of, IsWarned, WarnsPattern, TellsDates, file_and_line, earlier_of, place_for, HasNoPlace, setting_found, is_setting_found, has_job_warnings, has_warnings, notes_of_job, notes_of_refusal, notes_of_report, refused_user, IsReportBy};
+ghost use Rattle.croncheck_command.specs.Report.{IsReportOfJob, IsReportOfPattern, blanks_of, IsReportOfLine, IsReportOfComment, TellsChanges, subject_of, IsWarned, WarnsPattern, TellsDates, file_and_line, earlier_of, place_for, HasNoPlace, setting_found, is_setting_found, has_job_warnings, has_warnings, notes_of_job, notes_of_refusal, notes_of_report, refused_user, IsReportBy, why_behind, report_behind};
 ghost use Rattle.croncheck_command.specs.Users.{users_seen, is_unknown};
 ghost use Rattle.croncheck_command.specs.Starred.{is_starred};
 ghost use Rattle.croncheck_command.specs.Told.{TellsTiming};
@@ -18,7 +18,7 @@ use crate::runs::Runner;
 use crate::settings::Settings;
 use crate::starred::is_starred;
 use crate::told::{Told, is_idle, told_of, told_of_crontab};
-use crate::users::{is_unknown, user_end, user_start};
+use crate::users::{Users, is_unknown, user_end, user_start};
 use crate::warnings::{
     Dates, Fields, Subject, Warning, dates_in_month_of, fields_of_pattern, fields_of_schedule,
     has_hidden, runs_on_either_day, warnings_of,
@@ -139,6 +139,8 @@ impl Drop for Same {
 pub enum Why {
     /// Cron refuses it, or this checker does.
     Cron(Fault),
+    /// The same, and the line before seems to go on in it: its command ends in a backslash.
+    Behind(Fault),
     /// The crate's parser refuses the pattern.
     Pattern(PatternFault),
     /// The crate's parser refuses the text that the line's times were made into.
@@ -204,7 +206,7 @@ impl Why {
         ensures { IfOk result (λ found. found.items ≡ notes_of_refusal self.now line.now) }
     {
         match self {
-            Why::Cron(fault) => notes_of(alloc, Some(*fault), line),
+            Why::Cron(fault) | Why::Behind(fault) => notes_of(alloc, Some(*fault), line),
             Why::Pattern(_) | Why::Crate(_) | Why::NotText | Why::NoUser => Ok(Vec::new(alloc)),
         }
     }
@@ -246,6 +248,32 @@ pub fn report_of_line<'l, 't>(
         Entry::Pattern(text) => report_of_pattern(
             alloc, settings, line, text, outcome, is_fed, same,
         ),
+    }
+}
+
+/// Puts into the report of a line that the line before seems to go on in it, if it does.
+pub fn put_behind(is_open: bool, report: &mut Report<'_, '_>)
+    ensures { report.new ≡ report_behind is_open report.old }
+{
+    match report {
+        Report::Refused { why, .. } if is_open => put_why_behind(why),
+        Report::Silent
+        | Report::Misnamed(_)
+        | Report::Setting { .. }
+        | Report::Job(_)
+        | Report::Refused { .. } => {}
+    }
+}
+
+fn put_why_behind(why: &mut Why)
+    ensures { why.new ≡ why_behind why.old }
+{
+    match why {
+        Why::Cron(fault) => {
+            let fault = *fault;
+            *why = Why::Behind(fault);
+        }
+        Why::Behind(_) | Why::Pattern(_) | Why::Crate(_) | Why::NotText | Why::NoUser => {}
     }
 }
 
@@ -332,7 +360,7 @@ fn report_of_job<'l, 't>(
             let crontab_job = CrontabJob { cron, is_starred };
             told_of_job(alloc, settings, job, &crontab_job, is_fed, same)
         }
-        Outcome::NoText => told_of_no_text(alloc, job, is_fed, same),
+        Outcome::NoText => told_of_no_text(alloc, settings, job, is_fed, same),
         Outcome::TimesRefused(refusal) => Ok(refused(line, job.schedule, Why::Crate(refusal))),
         // A pattern alone is refused so.
         Outcome::PatternRefused(_) | Outcome::NotUtf8 => Ok(refused(
@@ -365,7 +393,7 @@ fn told_of_job<'l, 't>(
     };
     let meetings = meetings_of(settings, cron, runner, &times);
     let dates = dates_of(cron, &times)?;
-    let warnings = warnings_of_job(alloc, &job, Some(cron), &times, is_fed)?;
+    let warnings = warnings_of_job(alloc, settings.users, &job, Some(cron), &times, is_fed)?;
     Ok(Report::Job(JobReport {
         schedule: job.schedule,
         user: job.user,
@@ -382,17 +410,18 @@ fn told_of_job<'l, 't>(
 // The report of a job that has no text for the parser.
 fn told_of_no_text<'l, 't>(
     alloc: Global,
+    settings: &Settings<'t>,
     job: Job<'l>,
     is_fed: bool,
     same: Option<Same>,
 ) -> Result<Report<'l, 't>, CronError>
-    ensures report { (s : Made) (blanks : ℕ) → IsOutcomeOfTimes (job_seen job.entry).times Outcome.NoText
-        → IfOk result (IsReportOfJob is_fed s blanks (job_seen job.entry)) }
+    ensures report { (blanks : ℕ) → IsOutcomeOfTimes (job_seen job.entry).times Outcome.NoText
+        → IfOk result (IsReportOfJob is_fed settings.now blanks (job_seen job.entry)) }
     ensures passed { IfOk result (λ r. earlier_of r ≡ place_for r (option_map file_and_line same)) }
     ensures err { IfErr result (λ e. e ≡ CronError.OutOfMemory) }
 {
     let times = times_of_no_text(&job.times);
-    let warnings = warnings_of_job(alloc, &job, None, &times, is_fed)?;
+    let warnings = warnings_of_job(alloc, settings.users, &job, None, &times, is_fed)?;
     Ok(Report::Job(JobReport {
         schedule: job.schedule,
         user: job.user,
@@ -447,12 +476,13 @@ fn dates_of(job: &Cron, told: &Told<'_>) -> Result<Option<Dates>, CronError>
 // The warnings of a job of a crontab, of whose times the parser made this job, if they have a text.
 fn warnings_of_job(
     alloc: Global,
+    users: Option<Users<'_>>,
     job: &Job<'_>,
     cron: Option<&Cron>,
     told: &Told<'_>,
     is_fed: bool,
 ) -> Result<Vec<Warning>, CronError>
-    ensures warnings { IfOk result (λ found. IsWarned is_fed job.now.schedule.now (option_map (λ u. u.now) job.now.user) job.now.command.now
+    ensures warnings { IfOk result (λ found. IsWarned is_fed (users_seen users.entry) job.now.schedule.now (option_map (λ u. u.now) job.now.user) job.now.command.now
         (option_map (λ j. meaning_of_job j.now) cron.entry) told.now found.items) }
     ensures err { IfErr result (λ e. e ≡ CronError.OutOfMemory) }
 {
@@ -460,7 +490,7 @@ fn warnings_of_job(
     let command = Some(job.command);
     let warnings = warnings_of(
         alloc,
-        &subject_of(fields, cron, job.user, command, true, is_fed, told),
+        &subject_of(fields, cron, users, job.user, command, true, is_fed, told),
     )?;
     Ok(warnings)
 }
@@ -469,6 +499,7 @@ fn warnings_of_job(
 fn subject_of<'s, 'j>(
     fields: Option<Fields<'s>>,
     job: Option<&'j Cron>,
+    users: Option<Users<'s>>,
     user: Option<&'s [u8]>,
     command: Option<&'s [u8]>,
     is_crontab: bool,
@@ -476,12 +507,13 @@ fn subject_of<'s, 'j>(
     told: &Told<'_>,
 ) -> Subject<'s, 'j>
     ensures { subject_seen result ≡ subject_of (option_map fields_seen fields.entry) (option_map (λ j. meaning_of_job j.now) job.entry)
-        (option_map (λ u. u.now) user.entry) (option_map (λ c. c.now) command.entry) is_crontab is_fed told.now }
+        (users_seen users.entry) (option_map (λ u. u.now) user.entry) (option_map (λ c. c.now) command.entry) is_crontab is_fed told.now }
 {
     Subject {
         fields,
         job,
         user,
+        users,
         command,
         is_crontab,
         is_fed,
@@ -589,7 +621,7 @@ fn warnings_of_pattern(
     let fields = fields_of_pattern(alloc, text)?;
     let warnings = warnings_of(
         alloc,
-        &subject_of(fields, Some(job), None, None, false, is_fed, told),
+        &subject_of(fields, Some(job), None, None, None, false, is_fed, told),
     )?;
     Ok(warnings)
 }

@@ -30,7 +30,7 @@ use croner::parser::PatternField;
 use croner::time::table::TableTime;
 use croner::time::{CivilDateTime, CronDateTime, Weekday};
 use crontab::bytes::{Kind, begins_with, cut, is_quote, rest_of, trimmed};
-use crontab::line::{Fault, WEEKDAYS};
+use crontab::line::{Fault, WEEKDAYS, words_of};
 use crontab::notes::{is_nickname, takes};
 use crontab::setting::has;
 use hints::{push_hint, push_nickname_hint};
@@ -382,6 +382,12 @@ pub(crate) fn push_why(
 ) -> Result<(), AllocError> {
     match why {
         Why::Cron(fault) => push_reason(alloc, text, *fault, line, piece),
+        Why::Behind(fault) => {
+            push_reason(alloc, text, *fault, line, piece)?;
+            text.push_str(
+                "; the line before ends in a backslash, but cron has no continued lines: write the command on one line",
+            )
+        }
         Why::Pattern(fault) => write!(text, "{fault}"),
         Why::Crate(refusal) => write!(text, "{refusal}"),
         Why::NotText => text.push_str("a pattern is text in UTF-8"),
@@ -418,35 +424,49 @@ fn push_nickname_reason(text: &mut String, line: &[u8], piece: &[u8]) -> Result<
     text.push_str(reason_of(Fault::Nickname))
 }
 
-// Why cron refuses a field.
+// Why cron refuses a field, of which this part is at fault.
 fn push_field_reason(
     alloc: Global,
     text: &mut String,
     fault: Fault,
     line: &[u8],
-    piece: &[u8],
+    part: &[u8],
 ) -> Result<(), AllocError> {
     let said = said_by_cron(fault);
-    if piece.is_empty() {
+    let field = field_at_fault(line, fault);
+    if field.is_empty() {
         let count = fields_before(fault);
         return write!(
             text,
             "{said}: the line has only {count} of the five fields, behind which the command stands"
         );
     }
-    if has(piece, END_OF_FILE) {
+    if has(field, END_OF_FILE) {
         text.push_str(said)?;
         return text.push_str(": cron takes the byte 255 for the end of the file");
     }
     match fault {
-        Fault::Minutes => push_minute_reason(alloc, text, line, piece),
-        Fault::Weekdays if takes(alloc, WEEKDAYS, piece)? => {
+        Fault::Minutes => push_minute_reason(alloc, text, line, field, part),
+        Fault::Weekdays if takes(alloc, WEEKDAYS, field)? => {
             text.push_str(said)?;
             text.push_str(
                 ": the command begins with the byte 255, which cron takes for the end of the file",
             )
         }
-        _ => push_hint(alloc, text, fault, line, piece),
+        _ => push_hint(alloc, text, fault, line, field, part),
+    }
+}
+
+// The field of a line that is at fault.
+fn field_at_fault(line: &[u8], fault: Fault) -> &[u8] {
+    let (_, content) = cut(line, Kind::Blank);
+    let words = words_of(content);
+    match fault {
+        Fault::Hours => words.hours,
+        Fault::Days => words.days,
+        Fault::Months => words.months,
+        Fault::Weekdays => words.weekdays,
+        _ => words.minutes,
     }
 }
 
@@ -455,7 +475,8 @@ fn push_minute_reason(
     alloc: Global,
     text: &mut String,
     line: &[u8],
-    piece: &[u8],
+    field: &[u8],
+    part: &[u8],
 ) -> Result<(), AllocError> {
     let (_, content) = cut(line, Kind::Blank);
     if is_carriage_return(content) {
@@ -468,7 +489,7 @@ fn push_minute_reason(
         Some([first, ..]) if is_quote(*first) => text.push_str(
             "bad minute: this is no setting to cron: a value that begins with a quote ends with the same one, and only spaces follow",
         ),
-        _ => push_hint(alloc, text, Fault::Minutes, line, piece),
+        _ => push_hint(alloc, text, Fault::Minutes, line, field, part),
     }
 }
 

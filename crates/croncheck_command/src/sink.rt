@@ -6,6 +6,7 @@ ghost use Rattle.croncheck_command.specs.Sink.{State, StandsAtBegin, state_of, E
 ghost use Rattle.croncheck_command.specs.Stand.{stand_of, end_of_file};
 
 use crate::escaped::shown;
+use crate::fitness::Unfit;
 use crate::form::Form;
 use crate::output::Output;
 use crate::progress::{Line, Progress, Terms};
@@ -60,22 +61,24 @@ impl<'s, 't, F: Form, W: Write> Sink<'s, 't, F, W> {
         self.output.is_refused()
     }
 
-    /// Takes the lines of a file behind those of the files before, by these terms, and writes what stands at its end.
+    /// Takes the lines of a file behind those of the files before, by these terms, and writes what stands at its end. Cron ignores
+    /// the file for `unfit`, if there is that.
     ///
     /// The error is that of the reader or of the writer, or says that memory is lacking.
     pub fn read<R: BufRead>(
         &mut self,
         terms: Terms<'s, 't>,
         name: &str,
+        unfit: Option<Unfit>,
         reader: &mut R,
     ) -> io::Result<()>
         ensures { OnOk result (IfSome (R.remaining reader.old) (λ text.
-            IsToldFile (F.takes terms.entry) (F.ends_file terms.entry) terms.entry.settings.now.dialect (bytes_shown name.now) text
+            IsToldFile (F.takes terms.entry) (F.ends_file terms.entry) terms.entry.settings.now.dialect (bytes_shown name.now) unfit text
             (state_of W.contents self.old.form self.old.progress self.old.output) (state_of W.contents self.new.form self.new.progress self.new.output))) }
     {
         self.terms = terms;
         let name = shown(terms.alloc, name.as_bytes())?;
-        self.progress.begin(name);
+        self.progress.begin(name, unfit);
         check(terms.alloc, terms.settings.dialect, reader, self)?;
         self.form
             .end_file(&terms, &self.progress, &mut self.output)?;

@@ -1,7 +1,7 @@
 //! The users of a machine, by the text of a file as /etc/passwd.
 ghost use Rattle.std.specs.Prelude.{◌≡◌, [], length, option_map, unwrap_or};
 ghost use Rattle.std.specs.List.{list_any, slice_split};
-ghost use Rattle.croncheck_command.specs.Users.{is_line_of, has_user, users_seen, is_unknown, user_end, user_start};
+ghost use Rattle.croncheck_command.specs.Users.{is_line_of, has_user, begins_with_user, users_seen, is_unknown, user_end, user_start};
 
 use crontab::bytes::{Kind, begins_with, cut};
 
@@ -35,6 +35,15 @@ fn is_line_of(name: &[u8], line: &[u8]) -> bool
 {
     let (front, behind) = cut(line, Kind::But(b':'));
     front == name && begins_with(behind, b':')
+}
+
+/// Whether a command begins with the name of a user who is known, and a path stands behind it.
+pub fn begins_with_user(users: Users<'_>, command: &[u8]) -> bool
+    ensures { result ≡ begins_with_user users.entry.text.now command.now }
+{
+    let (name, rest) = cut(command, Kind::Word);
+    let (_, path) = cut(rest, Kind::Blank);
+    users.has(name) && begins_with(path, b'/')
 }
 
 /// Whether the user of a job is none of those that are known, if any are, and the file names one.

@@ -2,17 +2,19 @@
 ghost use Rattle.std.specs.Prelude.{◌≡◌, IfOk, IfErr, filter, length, ◌++◌, ◌&&◌, false, option_map};
 ghost use Rattle.croner.specs.Views.{job_of as meaning_of_job};
 ghost use Rattle.crontab.specs.Bytes.{begins_with};
-ghost use Rattle.croncheck_command.specs.Warnings.{is_either_day, is_whole_hour, has_short_months, has_uneven_step, has_step_beyond, has_hours_in_range, is_last_field, has_command_within, has_hidden_field, has_empty_items, has_no_command, looks_like_field, begins_with_root, has_sixth_field, has_no_user, has_percent, is_continued, has_carriage_return, are_many_lines, is_first_too_many, is_behind_last, is_some_so, behind_times, holds, all_warnings, fields_seen, subject_seen};
+ghost use Rattle.croncheck_command.specs.Warnings.{is_either_day, is_whole_hour, has_short_months, has_uneven_step, has_step_beyond, has_hours_in_range, is_last_field, has_command_within, has_hidden_field, has_empty_items, has_no_command, looks_like_field, has_sixth_field, begins_with_name, has_no_user, has_percent, is_continued, has_carriage_return, are_many_lines, is_first_too_many, is_behind_last, is_some_so, behind_times, holds, all_warnings, fields_seen, subject_seen};
 ghost use Rattle.croncheck_command.specs.Hidden.{has_hidden, has_hidden_within};
+ghost use Rattle.croncheck_command.specs.Users.{users_seen};
 ghost use Rattle.croncheck_command.specs.Warnings as Spec;
 
-mod command;
+pub(crate) mod command;
 mod fields;
 mod hidden;
 mod meaning;
 mod sides;
 mod texts;
 
+use crate::users::{Users, begins_with_user};
 use croner::Cron;
 use croner::errors::CronError;
 use croner::parser::PatternField;
@@ -57,7 +59,7 @@ pub enum Warning {
     NoCommand,
     /// What stands behind five fields, a user's name or the command, begins with a word that may be one of weekdays.
     LooksLikeField,
-    /// The word in the user's place is no user's name; or the command of a user's crontab begins with `root`.
+    /// The word in the user's place is no user's name; or the command of a user's crontab begins with the name of one.
     User,
     /// The command has a percent sign that no backslash takes in.
     Percent,
@@ -150,6 +152,8 @@ pub struct Subject<'s, 'j> {
     pub job: Option<&'j Cron>,
     /// The name of its user, where the file names users.
     pub user: Option<&'s [u8]>,
+    /// The users that are known, if any are.
+    pub users: Option<Users<'s>>,
     /// Its command, where it is a job of a crontab.
     pub command: Option<&'s [u8]>,
     /// It stands in a crontab, and is no pattern alone.
@@ -430,22 +434,26 @@ fn has_sixth_field(subject: &Subject<'_, '_>) -> bool
     subject.fields.is_some() && looks_like_field(behind_times(subject))
 }
 
-// Whether the word where the user stands is none, and no further field; or where no user stands the command begins with `root`.
+// Whether the word where the user stands is none, and no further field; or where no user stands the command begins with the name of one.
 fn has_no_user(subject: &Subject<'_, '_>) -> bool
     ensures { result ≡ has_no_user (subject_seen subject.now) }
 {
-    match subject.user {
-        Some(user) => command::has_no_user_sign(user) && !has_sixth_field(subject),
-        None => begins_with_root(subject.command),
+    match (subject.user, subject.command) {
+        (Some(user), _) => {
+            subject.users.is_none() && command::has_no_user_sign(user) && !has_sixth_field(subject)
+        }
+        (None, Some(command)) => begins_with_name(subject.users, command),
+        (None, None) => false,
     }
 }
 
-fn begins_with_root(command: Option<&[u8]>) -> bool
-    ensures { result ≡ is_some_so begins_with_root (option_map (λ c. c.now) command.entry) }
+// Whether a command begins with `root` and a blank, or with the name of a user who is known, and a path behind it.
+fn begins_with_name(users: Option<Users<'_>>, command: &[u8]) -> bool
+    ensures { result ≡ begins_with_name (users_seen users.entry) command.now }
 {
-    match command {
-        Some(command) => command::begins_with_root(command),
-        None => false,
+    match users {
+        Some(users) => command::begins_with_root(command) || begins_with_user(users, command),
+        None => command::begins_with_root(command),
     }
 }
 

@@ -13,6 +13,7 @@ use crate::settings::Tongue;
 use clap::ArgMatches;
 use clap::error::ErrorKind;
 use croner::parser::{CronParser, Seconds, Year};
+use croner_presets::Preset;
 use jiff::civil::Date;
 use options::{program, verb_of, verbs_with};
 use std::alloc::{AllocError, Global};
@@ -65,6 +66,10 @@ const BEHIND_ALL: usize = usize::MAX;
 const NAMES_NOTHING: &str =
     "error: --stdin-name is the name of standard input, which isn't read here: write - among the files\n";
 
+/// What is told where something is named beside a machine.
+const BESIDE_ROOT: &str =
+    "error: --root stands in place of files, and of --system, --user, --patterns, --stdin-name and --users\n";
+
 /// What the words of a call ask for.
 #[derive(Drop)]
 pub struct Call<'w> {
@@ -79,6 +84,8 @@ pub struct Call<'w> {
     pub span: Span,
     /// The parser of patterns.
     pub parser: CronParser,
+    /// The program whose reading of the patterns is told too. Only with [`Verb::Next`] and [`Verb::Describe`].
+    pub preset: Option<Preset>,
     pub language: Tongue,
     /// The form in which is told. Only with [`Verb::Check`]; [`Verb::Show`] has texts and JSON alone.
     pub format: Format,
@@ -93,7 +100,9 @@ pub struct Call<'w> {
     pub allowed: Vec<&'w str>,
     /// The file of the users that there are, if one is named. Only with those two and [`Verb::Plan`].
     pub users: Option<&'w str>,
-    /// The files, in order: standard input where none is named. None with [`Verb::Next`] and [`Verb::Describe`].
+    /// The folder below which the files of a machine stand, if a machine is checked. Only with those three, and no file is named then.
+    pub root: Option<&'w str>,
+    /// The files, in order: standard input where none is named and no machine is checked. None with [`Verb::Next`] and [`Verb::Describe`].
     pub files: Vec<Asked<'w>>,
     /// The patterns, with these two alone.
     pub patterns: Vec<&'w str>,
@@ -258,6 +267,7 @@ fn call_of<'w>(alloc: Global, verb: Verb, matches: &ArgMatches<'w>) -> Result<Ca
         from,
         span,
         parser: parser(matches),
+        preset: preset(matches),
         language: language(matches),
         format: format_of(matches),
         width: width(alloc, matches)?,
@@ -266,6 +276,7 @@ fn call_of<'w>(alloc: Global, verb: Verb, matches: &ArgMatches<'w>) -> Result<Ca
         compares_jobs: matches.get_flag("same-job"),
         allowed: allowed(alloc, matches)?,
         users: matches.get_str("users"),
+        root: matches.get_str("root"),
         files,
         patterns: patterns(alloc, matches)?,
     })
@@ -340,7 +351,7 @@ fn named_files<'w>(
     }
     let stdin_name = matches.get_str("stdin-name").unwrap_or(STANDARD_INPUT);
     let mut files = asked_files(alloc, options, stdin_name, words, places(matches, "file"))?;
-    if words.is_empty() {
+    if words.is_empty() && matches.get_str("root").is_none() {
         files.reserve(1)?;
         files.push_reserved(asked_at(options, stdin_name, BEHIND_ALL, STANDARD_INPUT));
     }
@@ -359,6 +370,9 @@ fn misplaced_option(
     options: Places<'_>,
     words: &[&str],
 ) -> Option<NoCall> {
+    if let Some(_) = matches.get_str("root") {
+        return beside_root(alloc, matches, options, words);
+    }
     if words.is_empty() {
         return None;
     }
@@ -377,6 +391,23 @@ fn misplaced_option(
         return Some(told_misuse(String::from_str(alloc, NAMES_NOTHING)));
     }
     None
+}
+
+// What is told of a file, or of an option that is of files, beside the folder of a machine.
+fn beside_root(
+    alloc: Global,
+    matches: &ArgMatches<'_>,
+    options: Places<'_>,
+    words: &[&str],
+) -> Option<NoCall> {
+    let has_kind = !(options.user.is_empty()
+        && options.system.is_empty()
+        && options.patterns.is_empty());
+    let has_name = matches.get_str("stdin-name").is_some() || matches.get_str("users").is_some();
+    if words.is_empty() && !has_kind && !has_name {
+        return None;
+    }
+    Some(told_misuse(String::from_str(alloc, BESIDE_ROOT)))
 }
 
 // What is told of an option that stands behind all files.
@@ -521,7 +552,15 @@ fn language(matches: &ArgMatches<'_>) -> Tongue {
     }
 }
 
+// The preset that is asked for by its name.
+fn preset(matches: &ArgMatches<'_>) -> Option<Preset> {
+    Preset::of_name(matches.get_str("for")?)
+}
+
 fn parser(matches: &ArgMatches<'_>) -> CronParser {
+    if let Some(preset) = preset(matches) {
+        return preset.parser();
+    }
     CronParser::builder()
         .alternative_weekdays(matches.get_flag("alternative-weekdays"))
         .dom_and_dow(matches.get_flag("dom-and-dow"))

@@ -1,7 +1,7 @@
 //! What cron makes of a scheduled second of a change.
 ghost use Rattle.std.specs.Prelude.{◌≡◌};
 ghost use Rattle.crontab_runs.specs.Starts.{minute_of};
-ghost use Rattle.croncheck_command.specs.Changes.{LiesIn, minute_there, is_started_there, fate_in_cron};
+ghost use Rattle.croncheck_command.specs.Changes.{LiesIn, turns_at, minute_there, is_due_there, is_started_there, fate_in_cron};
 ghost use Rattle.croncheck_command.specs.Private.Met.{IsInYears};
 
 use crate::changes::{Change, Fate, Range};
@@ -26,15 +26,32 @@ fn minute_there(range: Range, change: Change, second: i64) -> i64
     }
 }
 
-// Whether cron starts the job there for the minute of the second.
+// Whether the clock shows another minute at the change than a second before.
+fn turns_at(change: Change) -> bool
+    requires { IsInYears change }
+    ensures { result ≡ turns_at change }
+{
+    minute_of(change.after) != minute_of(change.before - 1)
+}
+
+// Whether the minute of the second is due there, which begins with it.
+fn is_due_there(is_starred: bool, range: Range, change: Change, second: i64) -> bool
+    requires years { IsInYears change }
+    requires lies { LiesIn range change second }
+    ensures { result ≡ is_due_there is_starred range change second }
+{
+    let shown = minute_of(change.before - 1);
+    let minute = minute_there(range, change, second);
+    due_after(is_starred, shown, minute) < minute_of(second)
+}
+
+// Whether cron starts the job there for that minute.
 fn is_started_there(is_starred: bool, range: Range, change: Change, second: i64) -> bool
     requires years { IsInYears change }
     requires lies { LiesIn range change second }
     ensures { result ≡ is_started_there is_starred range change second }
 {
-    let shown = minute_of(change.before - 1);
-    let minute = minute_there(range, change, second);
-    due_after(is_starred, shown, minute) < minute_of(second)
+    turns_at(change) && is_due_there(is_starred, range, change, second)
 }
 
 /// What becomes of a scheduled second of the range.

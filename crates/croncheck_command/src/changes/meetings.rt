@@ -73,7 +73,7 @@ impl Met {
 
 impl Changes<'_> {
     /// What is told of these changes to a job, by what runs it: of the first that skips one of its scheduled seconds, and of the first that shows
-    /// one twice. A job whose hours are all named is told of the latter alone, and where cron makes it pause.
+    /// one twice. A job whose hours are all named is told of them only where cron runs it and it isn't starred.
     pub fn meetings_of(&self, job: &Cron, runner: Runner) -> Meetings
         ensures { AreMeetings self.now.start runner (job_of job.now) result }
     {

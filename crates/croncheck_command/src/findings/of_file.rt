@@ -1,10 +1,11 @@
 //! What is found of a file as a whole.
 ghost use Rattle.std.specs.Prelude.{◌≡◌, [], ◌∷◌, ◌++◌, codes, IfOk, OnOk};
 ghost use Rattle.croncheck_command.specs.FileSeen.{file_seen};
-ghost use Rattle.croncheck_command.specs.Findings.{finding_said, findings_said, reason, said_if, findings_of_crontab, findings_of_lines, file_name, findings_of_file, last_line};
+ghost use Rattle.croncheck_command.specs.Findings.{finding_said, findings_said, reason, said_if, said_of_unfit, findings_of_crontab, findings_of_lines, file_name, findings_of_file, last_line};
 
 use super::{Extent, Finding, Severity};
 use crate::file_seen::{FileSeen, many_lines_text};
+use crate::fitness::Unfit;
 use crontab::line::Dialect;
 use std::alloc::{AllocError, Global};
 
@@ -74,6 +75,7 @@ fn findings_of_crontab(
     ensures { IfOk result (λ found. findings_said found.items ≡ findings_of_crontab dialect lines (file_seen file.now)) }
 {
     let mut found = Vec::new(alloc);
+    push_unfit(alloc, &mut found, file.unfit())?;
     push_if(
         alloc,
         &mut found,
@@ -96,6 +98,20 @@ fn findings_of_crontab(
         many_lines_text(dialect),
     )?;
     Ok(found)
+}
+
+// What the file system says of a file, if cron ignores it for that.
+fn push_unfit(
+    alloc: Global,
+    found: &mut Vec<Finding>,
+    unfit: Option<Unfit>,
+) -> Result<(), AllocError>
+    ensures { OnOk result (findings_said found.new.items ≡ findings_said found.old.items ++ said_of_unfit unfit) }
+{
+    if let Some(unfit) = unfit {
+        found.push(reason(alloc, unfit.name(), unfit.text())?)?;
+    }
+    Ok(())
 }
 
 // A reason, if it holds.

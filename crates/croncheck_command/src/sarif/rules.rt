@@ -8,7 +8,7 @@ pub struct Rule {
 }
 
 /// The rules of all findings.
-pub const RULES: [Rule; 48] = [
+pub const RULES: [Rule; 54] = [
     Rule {
         name: "nul",
         text: "The line has a byte 0, at which cron ends it.",
@@ -42,6 +42,10 @@ pub const RULES: [Rule; 48] = [
         text: "No user's name stands where one has to, or one stands where none may.",
     },
     Rule {
+        name: "unknown-user",
+        text: "The user of the job is none of those that --users or --root names, so cron refuses the line.",
+    },
+    Rule {
         name: "command",
         text: "The command begins with a star.",
     },
@@ -72,6 +76,26 @@ pub const RULES: [Rule; 48] = [
     Rule {
         name: "many-lines",
         text: "The file has more lines than cron takes, so cron ignores it.",
+    },
+    Rule {
+        name: "file-user",
+        text: "No user has the name of the file, so cron ignores it.",
+    },
+    Rule {
+        name: "file-owner",
+        text: "The file is another user's than it has to be, so cron ignores it.",
+    },
+    Rule {
+        name: "file-type",
+        text: "The file is no regular file, so cron ignores it.",
+    },
+    Rule {
+        name: "file-mode",
+        text: "Others may write to the file, so cron ignores it.",
+    },
+    Rule {
+        name: "file-links",
+        text: "The file has several hard links, so cron ignores it.",
     },
     Rule {
         name: "file-name",

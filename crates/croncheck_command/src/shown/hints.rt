@@ -8,9 +8,7 @@ use croner::parser::{
     CronParser, Expected, Hint, PatternFault, PatternField, Seconds, Suggestion, Year,
 };
 use crontab::bytes::{Kind, begins_with, cut, rest_of};
-use crontab::field::Place;
-use crontab::line::{DAYS, Fault, HOURS, MINUTES, MONTHS, WEEKDAYS};
-use crontab::notes::takes;
+use crontab::line::Fault;
 use std::alloc::{AllocError, Global};
 use std::fmt;
 
@@ -22,15 +20,15 @@ pub(super) fn push_hint(
     fault: Fault,
     line: &[u8],
     field: &[u8],
+    part: &[u8],
 ) -> Result<(), AllocError> {
     text.push_str(said_by_cron(fault))?;
     if let Some(sign) = foreign_sign(field) {
         return push_sign(text, sign);
     }
-    if let Some(words) = words_of_another(fault, line, field) {
+    if let Some(words) = words_of_another(fault, line, field, part) {
         return write!(text, ": {words}");
     }
-    let part = refused_part(alloc, fault, field)?;
     push_part(text, field, part)?;
     if let Some(found) = fault_in(alloc, fault, part)? {
         if push_expected(text, &found.expected)? {
@@ -118,13 +116,13 @@ fn push_sign(text: &mut String, sign: char) -> Result<(), AllocError> {
 // ---- lines of other programs
 
 // What is said of a line that another program takes, or a shell.
-fn words_of_another(fault: Fault, line: &[u8], field: &[u8]) -> Option<&'static str> {
+fn words_of_another(fault: Fault, line: &[u8], field: &[u8], part: &[u8]) -> Option<&'static str> {
     match fault {
         Fault::Minutes => match words_of_first(line, field) {
             Some(words) => Some(words),
-            None => words_of_field(line, field),
+            None => words_of_part(line, part),
         },
-        _ => words_of_field(line, field),
+        _ => words_of_part(line, part),
     }
 }
 
@@ -172,14 +170,14 @@ fn is_name_of_setting(word: &[u8]) -> bool {
         .all(|byte| byte.is_ascii_uppercase() || *byte == b'_')
 }
 
-// Of any field.
-fn words_of_field(line: &[u8], field: &[u8]) -> Option<&'static str> {
-    if is_hashed(field) {
+// Of a part of any field.
+fn words_of_part(line: &[u8], part: &[u8]) -> Option<&'static str> {
+    if is_hashed(part) {
         return Some(
             "H is a value that Jenkins picks: write a number of your own, as in 7, or 7-59/15 for H/15",
         );
     }
-    if is_word(field, "?") {
+    if is_word(part, "?") {
         return Some(if has_year(line) {
             "cron has no ? and no field of years: write * for ?, and leave out what stands behind the weekdays"
         } else {
@@ -189,9 +187,9 @@ fn words_of_field(line: &[u8], field: &[u8]) -> Option<&'static str> {
     None
 }
 
-// Whether a field is `H`, alone or with a range or a step.
-fn is_hashed(field: &[u8]) -> bool {
-    begins_with(field, b'H') && matches!(rest_of(field), [] | [b'/' | b'(', ..])
+// Whether a part is `H`, alone or with a range or a step.
+fn is_hashed(part: &[u8]) -> bool {
+    begins_with(part, b'H') && matches!(rest_of(part), [] | [b'/' | b'(', ..])
 }
 
 // Whether the sixth word of a line is a star or a year.
@@ -220,28 +218,6 @@ fn is_word(word: &[u8], name: &str) -> bool {
 }
 
 // ---- what croner's parser says of a part
-
-// The first part of a field that cron doesn't take, or the whole of it where it takes each.
-fn refused_part(alloc: Global, fault: Fault, field: &[u8]) -> Result<&[u8], AllocError> {
-    let place = place_of(fault);
-    for part in field.split(|byte| *byte == b',') {
-        if !takes(alloc, place, part)? {
-            return Ok(part);
-        }
-    }
-    Ok(field)
-}
-
-// The values of the field at fault.
-fn place_of(fault: Fault) -> Place {
-    match fault {
-        Fault::Hours => HOURS,
-        Fault::Days => DAYS,
-        Fault::Months => MONTHS,
-        Fault::Weekdays => WEEKDAYS,
-        _ => MINUTES,
-    }
-}
 
 // The field of a pattern.
 fn field_of(fault: Fault) -> PatternField {

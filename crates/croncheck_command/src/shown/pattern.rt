@@ -1,17 +1,17 @@
 //! What is told of a pattern that is a word of the call.
 ghost use Rattle.std.specs.Prelude.{IfOk, string_bytes};
-ghost use Rattle.croncheck_command.specs.Shown.{AreLines};
+ghost use Rattle.croncheck_command.specs.Presets.{EndsBelow};
 
 use super::below::push_below;
 use super::{Shared, push_head, push_report};
-use crate::findings::findings_of;
+use crate::findings::{Finding, findings_of};
 use crate::look::Look;
 use crate::report::{JobReport, Report};
 use crate::told::Told;
 use std::alloc::{AllocError, Global};
 
-/// The text of the report of a pattern, whole lines: what it means, its runs and its warnings, or why it is refused. No
-/// place stands in front.
+/// The text of the report of a pattern, whole lines: what it means, its runs and its warnings, or why it is refused; and
+/// below it these findings. No place stands in front.
 ///
 /// The error comes where memory is lacking.
 pub fn runs_text(
@@ -20,11 +20,13 @@ pub fn runs_text(
     shared: &Shared<'_>,
     pattern: &[u8],
     report: &Report<'_, '_>,
+    more: &[Finding],
 ) -> Result<String, AllocError>
-    ensures { IfOk result (λ text. AreLines (string_bytes text)) }
+    ensures { IfOk result (λ text. EndsBelow look more.now (string_bytes text)) }
 {
     let mut text = String::new(alloc);
     push_found(alloc, look, &mut text, shared, pattern, report)?;
+    push_below(alloc, look, &mut text, more)?;
     text.push('\n')?;
     Ok(text)
 }
@@ -36,8 +38,9 @@ pub fn description_text(
     shared: &Shared<'_>,
     pattern: &[u8],
     report: &Report<'_, '_>,
+    more: &[Finding],
 ) -> Result<String, AllocError>
-    ensures { IfOk result (λ text. AreLines (string_bytes text)) }
+    ensures { IfOk result (λ text. EndsBelow look more.now (string_bytes text)) }
 {
     let mut text = String::new(alloc);
     match report {
@@ -46,6 +49,7 @@ pub fn description_text(
             push_found(alloc, look, &mut text, shared, pattern, report)?;
         }
     }
+    push_below(alloc, look, &mut text, more)?;
     text.push('\n')?;
     Ok(text)
 }

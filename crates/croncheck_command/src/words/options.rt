@@ -50,9 +50,10 @@ pub(super) fn verbs_with(option: &str) -> Option<&'static str> {
         "--runs" | "--until" => Some("show, plan and next"),
         "--show-zone" => Some("show and next"),
         "--json" | "--strict" | "--same-job" | "--allow" | "--ignore" => Some("check and show"),
-        "--system" | "--user" | "--patterns" | "--stdin-name" | "--users" => Some(
+        "--system" | "--user" | "--patterns" | "--stdin-name" | "--users" | "--root" => Some(
             "check, show and plan",
         ),
+        "--for" => Some("next and describe"),
         "--language" => Some("check, show, next and describe"),
         _ => None,
     }
@@ -292,6 +293,9 @@ fn with_kinds<'w>(alloc: Global, command: Command<'w>) -> Result<Command<'w>, Al
         ))?
         .arg(value(alloc, "users", "FILE").help(
             "The users there are, as /etc/passwd has them: a job of another one is refused, as cron does",
+        ))?
+        .arg(value(alloc, "root", "DIR").help(
+            "In place of files: the crontabs of the machine whose files stand below DIR, its users and its zone",
         ))
 }
 
@@ -331,12 +335,27 @@ fn with_look<'w>(alloc: Global, command: Command<'w>) -> Result<Command<'w>, All
 
 // With the settings of patterns that are words of the call.
 fn with_settings<'w>(alloc: Global, command: Command<'w>) -> Result<Command<'w>, AllocError> {
+    let command = add(command, preset(alloc))?;
     command
         .arg(flag(alloc, "alternative-weekdays").help("Weekdays are 1 to 7 from Sunday"))?
         .arg(flag(alloc, "dom-and-dow").help("Both day fields must match"))?
         .arg(flag(alloc, "sloppy-ranges").help("A step may follow a number, as 5/10"))?
         .arg(use_of_field(alloc, "seconds", "Whether there is a field of seconds"))?
         .arg(use_of_field(alloc, "year", "Whether there is a field of years"))
+}
+
+// The program for which patterns are written; its settings stand in place of the others.
+fn preset<'w>(alloc: Global) -> Result<Arg<'w>, AllocError> {
+    value(alloc, "for", "PROGRAM")
+        .value_parser(["kubernetes", "github", "quartz", "spring"].as_slice())
+        .help(
+            "Reads patterns as this program does, as far as there are settings for it, and tells what it still reads otherwise",
+        )
+        .conflicts_with("alternative-weekdays")?
+        .conflicts_with("dom-and-dow")?
+        .conflicts_with("sloppy-ranges")?
+        .conflicts_with("seconds")?
+        .conflicts_with("year")
 }
 
 // With the same of files of patterns.

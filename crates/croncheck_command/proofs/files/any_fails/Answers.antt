@@ -10,7 +10,7 @@ pub loop-k-preserved : goal.loop-k-preserved
 loop-k-preserved g c =
     let within : c.loop-k.k < length c.args.names.now = search rules in
     let is : c.index-names-k.result ≡ get_or c.args.names.now c.loop-k.k c.index-names-k.result = search rules in
-    so_far_next (HaveContents (g.S.Sources.holds c.args.sources.now) (g.S.Sources.says_folder c.args.sources.now) (g.S.Sources.lists c.args.sources.now))
+    so_far_next (HaveContents (g.S.Sources.holds c.args.sources.now) (g.S.Sources.says_unfit c.args.sources.now) (g.S.Sources.says_folder c.args.sources.now) (g.S.Sources.lists c.args.sources.now))
     (λ name. string_bytes name) (λ m. IsToldEntry g.F.Form.takes g.F.Form.ends_file c.args.kinds.now m (asked_seen c.args.folder))
     c.args.names.now c.loop-k.k c.index-names-k.result c.index-names-k.result _ _
     (state_of g.W.Write.contents c.entry_fails.new.sink.form c.entry_fails.new.sink.progress c.entry_fails.new.sink.output)
@@ -24,6 +24,6 @@ loop-k-preserved g c =
 pub returns : goal.returns
 returns g c =
     let all : length c.args.names.now ≤ c.loop-k.k = search rules in
-    so_far_all (HaveContents (g.S.Sources.holds c.args.sources.now) (g.S.Sources.says_folder c.args.sources.now) (g.S.Sources.lists c.args.sources.now))
+    so_far_all (HaveContents (g.S.Sources.holds c.args.sources.now) (g.S.Sources.says_unfit c.args.sources.now) (g.S.Sources.says_folder c.args.sources.now) (g.S.Sources.lists c.args.sources.now))
     (λ name. string_bytes name) (λ m. IsToldEntry g.F.Form.takes g.F.Form.ends_file c.args.kinds.now m (asked_seen c.args.folder))
     c.args.names.now c.loop-k.k _ _ _ all c.loop-k.invariant

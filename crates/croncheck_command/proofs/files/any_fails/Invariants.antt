@@ -8,7 +8,7 @@ use Rattle.croncheck_command.proofs.files.any_fails.Given as goal
 
 abbrev pub invariant-loop-k : goal.invariant-loop-k
 invariant-loop-k g l =
-    SoFar (HaveContents (g.S.Sources.holds l.fn.sources) (g.S.Sources.says_folder l.fn.sources) (g.S.Sources.lists l.fn.sources)) (λ name. string_bytes name)
+    SoFar (HaveContents (g.S.Sources.holds l.fn.sources) (g.S.Sources.says_unfit l.fn.sources) (g.S.Sources.says_folder l.fn.sources) (g.S.Sources.lists l.fn.sources)) (λ name. string_bytes name)
     (λ m. IsToldEntry g.F.Form.takes g.F.Form.ends_file l.fn.kinds m (asked_seen l.fn.folder)) (take l.k l.fn.names)
     (state_of g.W.Write.contents l.initial.sink.form l.initial.sink.progress l.initial.sink.output)
     (state_of g.W.Write.contents l.sink.form l.sink.progress l.sink.output) l.is_failed

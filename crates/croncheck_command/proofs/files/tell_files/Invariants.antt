@@ -7,7 +7,7 @@ use Rattle.croncheck_command.proofs.files.tell_files.Given as goal
 
 abbrev pub invariant-loop-k : goal.invariant-loop-k
 invariant-loop-k g l =
-    SoFar (HaveContents (g.S.Sources.holds l.fn.sources) (g.S.Sources.says_folder l.fn.sources) (g.S.Sources.lists l.fn.sources)) asked_seen
+    SoFar (HaveContents (g.S.Sources.holds l.fn.sources) (g.S.Sources.says_unfit l.fn.sources) (g.S.Sources.says_folder l.fn.sources) (g.S.Sources.lists l.fn.sources)) asked_seen
     (IsToldAsked g.F.Form.takes g.F.Form.ends_file l.fn.kinds) (take l.k l.fn.files)
     (state_of g.W.Write.contents l.initial.sink.form l.initial.sink.progress l.initial.sink.output)
     (state_of g.W.Write.contents l.sink.form l.sink.progress l.sink.output) l.is_failed

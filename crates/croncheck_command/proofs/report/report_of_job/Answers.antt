@@ -11,5 +11,5 @@ returns-in-Job-clause-report c = λ read.
 
 pub returns-in-NoText-clause-report : goal.returns-in-NoText-clause-report
 returns-in-NoText-clause-report c = λ read.
-    c.told_of_no_text.ensures.report c.args.settings.now (blanks_of c.args.line.now)
+    c.told_of_no_text.ensures.report (blanks_of c.args.line.now)
     (subst (IsOutcomeOfTimes (job_seen c.args.job).times) c.in-NoText.is read)

@@ -5,6 +5,7 @@ use Rattle.crontab.specs.Entries.{job_seen}
 use Rattle.croncheck_command.specs.declared.runs.Runner.TheVariants as runners
 use Rattle.croncheck_command.specs.Report.{IsWarned, TellsChanges, DatesOf}
 use Rattle.croncheck_command.specs.Told.{cron_of, TellsMeaning}
+use Rattle.croncheck_command.specs.Users.{users_seen}
 use Rattle.croncheck_command.proofs.Outcomes.{meaning_is, tells_timing}
 use Rattle.croncheck_command.proofs.report.told_of_job.Goals as goal
 
@@ -20,7 +21,7 @@ returns-clause-report c = λ blanks read starred.
       command_is = refl;
       tells_times = tells_timing s task.schedule task.times cron c.in_ok-times.times read
           (subst (λ (b : Bool). TellsMeaning s (runners.Cron b) (Ok (job_of cron)) c.in_ok-times.times) starred c.in_ok-times.ensures.told);
-      warned = subst (λ (m : Option Meaning). IsWarned c.args.is_fed task.schedule task.user task.command m c.in_ok-times.times
+      warned = subst (λ (m : Option Meaning). IsWarned c.args.is_fed (users_seen s.users) task.schedule task.user task.command m c.in_ok-times.times
           c.in_ok-warnings.warnings.items) is c.in_ok-warnings.ensures.warnings;
       met = subst (λ (m : Option Meaning). TellsChanges s (cron_of task.schedule) m c.in_ok-times.times c.meetings_of-meetings.result) is
           (subst (λ (b : Bool). TellsChanges s (runners.Cron b) (Some (job_of cron)) c.in_ok-times.times c.meetings_of-meetings.result) starred

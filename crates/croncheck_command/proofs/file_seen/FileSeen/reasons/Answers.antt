@@ -7,6 +7,6 @@ pub returns : goal.returns
 returns c =
     reasons_behind (file_seen c.args.self.now) c.args.dialect c.args.lines c.as_str-name.result.now c.has_many_lines-has_many.result
     c.many_lines_line.result.now (string_bytes c.new-text.result)
-    (string_bytes c.push_if.new.text) (string_bytes c.push_if-2.new.text) (string_bytes c.push_if-3.new.text)
+    (string_bytes c.push_unfit.new.text) (string_bytes c.push_if.new.text) (string_bytes c.push_if-2.new.text) (string_bytes c.push_if-3.new.text)
     c.as_str-name.ensures.value c.has_many_lines-has_many.ensures c.many_lines_line.ensures c.new-text.ensures.bytes
-    c.in_ok-push_if.ensures c.in_ok-push_if-2.ensures c.in_ok-push_if-3.ensures
+    c.in_ok-push_unfit.ensures c.in_ok-push_if.ensures c.in_ok-push_if-2.ensures c.in_ok-push_if-3.ensures

@@ -1,6 +1,6 @@
 use Rattle.std.proofs.Common.{rules, arith, refl, pos, ◌-ℤ◌, w64, FitsSigned}
 use Rattle.std.proofs.lemmas.Int.{ints, to_z-of_z}
-use Rattle.croncheck_command.proofs.changes.cron.is_started_there.Goals as goal
+use Rattle.croncheck_command.proofs.changes.cron.is_due_there.Goals as goal
 
 pub returns : goal.returns
 returns c =
