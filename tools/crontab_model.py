@@ -912,8 +912,31 @@ def in_order(found):
     return sorted(found, key=lambda said: len(ORDER) if said.split(" ")[0] in CHANGES else ORDER.index(said.split(" ")[0]))
 
 
-def warnings_of_line(text, is_fed, is_system, zone, start):
-    """What is to be said of a line of a crontab."""
+def users_of_row(row):
+    """The names of the users that a row has known, or None where it has none of them: each stands in front of a line's first colon."""
+    if "users" not in row:
+        return None
+    return {line.partition(":")[0].encode("latin-1") for line in row["users"].split("\n") if ":" in line}
+
+
+def is_refused(text, is_system, users):
+    """A line is refused: cron doesn't take it, or its user is none of those that are known."""
+    kind, what = line_of(text, is_system)
+    return kind == "refused" or kind == "job" and users is not None and what.user is not None and what.user not in users
+
+
+def has_no_user(job, users):
+    """Where the user stands is none, or one stands where the command does."""
+    if job.user is not None:
+        return users is None and re.search(rb"[/=$*,]", job.user) is not None
+    first = re.match(rb"([^ \t]+)[ \t]+/", job.command)
+    return re.match(rb"root[ \t]", job.command) is not None or users is not None and first is not None and first[1] in users
+
+
+def warnings_of_line(text, is_fed, is_system, zone, start, users=None):
+    """What is to be said of a line of a crontab, where these users are known."""
+    if is_refused(text, is_system, users):
+        return []
     kind, job = line_of(text, is_system)
     found = ["no-newline"] if kind in ("setting", "job") and not is_fed else []
     if kind == "setting":
@@ -925,15 +948,13 @@ def warnings_of_line(text, is_fed, is_system, zone, start):
         ends = [re.sub(rb"\r\Z", b"", word) for word in words + [job.command]]
         found += ["control-byte"] if any(hides(word) for word in ends + [job.user or b""]) else []
         found += warnings_of_command(job.user, job.command)
-        if job.user is None and re.match(rb"root[ \t]", job.command):
-            found.append("user")
         if job.fields is not None:
             words = [] if job.schedule.startswith(b"@") else re.split(rb"[ \t]+", job.schedule)
             found += warnings_of_fields(job)
             if words and is_sixth_field(job.user, job.command):
                 found.append("looks-like-field")
             found += warnings_of_times(Times(job, dict(zip(FIELD_NAMES[1:], words)), False), zone, start)
-        if "looks-like-field" not in found and re.search(rb"[/=$*,]", job.user or b""):
+        if (job.user is None or "looks-like-field" not in found) and has_no_user(job, users):
             found.append("user")
     return in_order(found)
 
@@ -965,14 +986,14 @@ def warnings_of_pattern(text, zone, start):
     return in_order(found + warnings_of_times(Times(job, written, True), zone, start))
 
 
-def warnings_of_file(data, is_system, is_pattern, zone, start):
+def warnings_of_file(data, is_system, is_pattern, zone, start, users=None):
     """The warnings of all lines of a file, one after another, and that of the file."""
     lines, found = lines_of(data), []
     for text, is_fed in lines:
         if is_pattern:
             found.append(warnings_of_pattern(text, zone, start))
         else:
-            found.append(warnings_of_line(text, is_fed, is_system, zone, start))
+            found.append(warnings_of_line(text, is_fed, is_system, zone, start, users))
     return found, [] if is_pattern or first_too_many(lines, is_system) is None else ["many-lines"]
 
 
@@ -992,17 +1013,18 @@ def data_of_row(row):
 def told_of_row(row):
     """The warnings of the lines of a row of crontab_warnings.txt."""
     data = data_of_row(row)
-    lines, file = warnings_of_file(data, row.get("system", False), row.get("patterns", False), row["zone"], row["from"])
+    lines, file = warnings_of_file(data, row.get("system", False), row.get("patterns", False), row["zone"], row["from"], users_of_row(row))
     return [said for found in lines for said in found] + file
 
 
 def counts_of_row(row):
     """How many lines of a row are refused, and how many are warned of. That of a file's length stands at the first line too many."""
     data, is_system, is_pattern = data_of_row(row), row.get("system", False), row.get("patterns", False)
-    lines, file = warnings_of_file(data, is_system, is_pattern, row["zone"], row["from"])
+    users = users_of_row(row)
+    lines, file = warnings_of_file(data, is_system, is_pattern, row["zone"], row["from"], users)
     warned = {at for at, found in enumerate(lines) if found}
     too_many = first_too_many(lines_of(data), is_system)
-    refused = sum(not is_pattern and line_of(text, is_system)[0] == "refused" for text, _ in lines_of(data))
+    refused = sum(not is_pattern and is_refused(text, is_system, users) for text, _ in lines_of(data))
     return refused, len(warned | ({too_many} if file else set()))
 
 
