@@ -1,14 +1,21 @@
 #!/usr/bin/env python3
 """Rows of what Debian's cron starts, as questions of cronreplay with the answers of cron's own main loop.
 
-    tools/starts_rows.py     the rows on starts of crates/cronreplay/stdin, one a line
+    tools/starts_rows.py                   the rows on starts of crates/cronreplay/stdin, one a line
+    tools/starts_rows.py made PAIRS SEED   that many made-up pairs of a job and a calm clock, those of tools/starts_test: what is started from
+                                           the clock's begin up to a day behind its last change, as a listing, and backward from there.
+                                           On standard error it says how many starts these are
 
 Each row has a clock, a line of a crontab, and a stretch of time about a change of the clock. The answers are those of the loop in
 tools/crontab_model.py, which has cron.c's variables and its four cases, and shares nothing with the library. A row asks forward from
 the stretch's begin, backward from its end, or for a listing up to its end. The last four rows are worked out by hand: a line that is
 never started, and a listing of no start.
 """
+import importlib.machinery
+import importlib.util
 import json
+import pathlib
+import random
 import sys
 
 import crontab_model
@@ -158,10 +165,48 @@ def rows():
     yield from repeated(clock, change)
 
 
-def main():
-    for row in asked():
+# ---- made up
+
+
+def starts_test():
+    """The script of that name, which makes jobs and clocks."""
+    path = str(pathlib.Path(__file__).resolve().parent / "starts_test")
+    loader = importlib.machinery.SourceFileLoader("starts_test", path)
+    module = importlib.util.module_from_spec(importlib.util.spec_from_loader("starts_test", loader))
+    loader.exec_module(module)
+    return module
+
+
+def is_calm(spans):
+    """No change back by more than two hours or forward by more than a day, and two of them two days apart or more."""
+    pairs = list(zip(spans, spans[1:]))
+    apart = all(later - first >= 2 * DAY for (first, _), (later, _) in pairs[1:])
+    return apart and all(-2 * HOUR <= after - before <= DAY for (_, before), (_, after) in pairs)
+
+
+def made(pairs, seed):
+    maker = starts_test()
+    random.seed(seed)
+    answers = 0
+    while pairs:
+        line, spans = maker.made_job(), maker.made_clock()
+        if not is_calm(spans):
+            continue
+        pairs -= 1
+        clock = Clock("made up", spans)
+        start, until = spans[0][0], spans[-1][0] + DAY
+        found, behind = clock.starts(line, start, until), clock.starts(line, until, until + 3 * DAY)
+        answers += 2 * len(found)
+        # One more is asked for than there are, where the next one is known: then the listing ends at that.
+        yield question(clock, line, start, until=until, count=len(found) + len(behind[:1]), want=[found, behind[0] if behind else "Full"])
+        yield question(clock, line, until, direction="backward", count=len(found), want=found[::-1])
+    print(f"{answers} starts", file=sys.stderr)
+
+
+def main(words):
+    for row in made(int(words[1]), int(words[2])) if words else asked():
         print(json.dumps(row, separators=(",", ":")))
 
 
 if __name__ == "__main__":
-    sys.exit(main())
+    sys.exit(main(sys.argv[1:]))
