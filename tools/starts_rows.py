@@ -5,6 +5,8 @@
     tools/starts_rows.py made PAIRS SEED   that many made-up pairs of a job and a calm clock, those of tools/starts_test: what is started from
                                            the clock's begin up to a day behind its last change, as a listing, and backward from there.
                                            On standard error it says how many starts these are
+    tools/starts_rows.py beside COUNT      so many starts of a line, and so many of croner's runs of the same text, on the clock of Paris up to
+                                           year 5000, forward and backward; of five lines. What they take is measured (docs/PERFORMANCE.md)
 
 Each row has a clock, a line of a crontab, and a stretch of time about a change of the clock. The answers are those of the loop in
 tools/crontab_model.py, which has cron.c's variables and its four cases, and shares nothing with the library. A row asks forward from
@@ -178,10 +180,11 @@ def starts_test():
 
 
 def is_calm(spans):
-    """No change back by more than two hours or forward by more than a day, and two of them two days apart or more."""
+    """No change back by more than two hours or forward by more than a day, two of them more than two days apart, and no offset of more than a day."""
     pairs = list(zip(spans, spans[1:]))
-    apart = all(later - first >= 2 * DAY for (first, _), (later, _) in pairs[1:])
-    return apart and all(-2 * HOUR <= after - before <= DAY for (_, before), (_, after) in pairs)
+    apart = all(later - first > 2 * DAY for (first, _), (later, _) in pairs[1:])
+    near = all(abs(offset) <= DAY for _, offset in spans)
+    return apart and near and all(-2 * HOUR <= after - before <= DAY for (_, before), (_, after) in pairs)
 
 
 def made(pairs, seed):
@@ -203,8 +206,31 @@ def made(pairs, seed):
     print(f"{answers} starts", file=sys.stderr)
 
 
+# ---- beside croner's runs
+
+BESIDE = ["30 2 * * *", "*/30 2 * * *", "0 0 29 2 *", "0 0 30 2 *", "* * * * *"]
+PARIS = "CET-1CEST,M3.5.0,M10.5.0/3"
+
+
+def beside(count):
+    clock = Clock("Paris", crontab_model.spans_of(PARIS, second_of("1996-01-01"), second_of("4999-12-31")))
+    start = second_of("3000-01-01")
+    for line in BESIDE:
+        for direction, croners in (("forward", "next"), ("backward", "prev")):
+            yield question(clock, line, start, direction=direction, count=count, want=0)
+            yield {"op": croners, "text": line, "zone": clock.zone, "start": start, "inclusive": direction == "backward", "count": count, "want": 0}
+
+
+def rows_by(words):
+    if words[:1] == ["made"]:
+        return made(int(words[1]), int(words[2]))
+    if words[:1] == ["beside"]:
+        return beside(int(words[1]))
+    return asked()
+
+
 def main(words):
-    for row in made(int(words[1]), int(words[2])) if words else asked():
+    for row in rows_by(words):
         print(json.dumps(row, separators=(",", ":")))
 
 
