@@ -7,6 +7,8 @@
     PROGRAM data <FILE | tools/summary_model.py judge what the data name, and their form
     PROGRAM <FILE | tools/summary_model.py texts      that no two English texts that tell all are equal where what the patterns
                                                       name differs
+    PROGRAM <FILE | tools/summary_model.py lengths    which English texts are longer than those of cronstrue, which is asked by
+                                                      node (Debian: node-cronstrue)
 
 PROGRAM is the program `cronsummary`. Its lines have a pattern, its texts, whether these tell all, and with an argument the data.
 `judge` works out what the fields name from the pattern's own characters (`model.Field`), and what the data name from the
@@ -16,8 +18,10 @@ up, but that Sunday stands behind other weekdays. The last line says how many li
 where none does.
 """
 import functools
+import json
 import random
 import re
+import subprocess
 import sys
 
 import model
@@ -405,7 +409,40 @@ def judge_texts(lines):
     return differ == 0
 
 
+# ---- lengths
+
+
+CRONSTRUE = """
+const cronstrue = require("/usr/share/nodejs/cronstrue");
+const text = (pattern) => {
+    try { return cronstrue.toString(pattern, { use24HourTimeFormat: true }); } catch { return null; }
+};
+console.log(JSON.stringify(JSON.parse(require("fs").readFileSync(0)).map(text)));
+"""
+
+NICKNAMES = {"@yearly": "0 0 1 1 *", "@monthly": "0 0 1 * *", "@weekly": "0 0 * * 0", "@daily": "0 0 * * *", "@hourly": "0 * * * *"}
+
+
+def as_cronstrue_has_it(pattern):
+    """The same pattern in the signs of cronstrue, which knows no nickname, has `5L` for `5#L`, and no day that has to match both."""
+    return NICKNAMES.get(pattern, pattern).removeprefix("and ").replace("#L", "L").replace("+", "")
+
+
+def judge_lengths(lines):
+    told = [line.rstrip("\n").split("\t")[:2] for line in lines]
+    asked = json.dumps([as_cronstrue_has_it(pattern) for pattern, _ in told])
+    answer = subprocess.run(["node", "-e", CRONSTRUE], input=asked, capture_output=True, text=True, check=True)
+    others = json.loads(answer.stdout)
+    longer = [(*pair, other) for pair, other in zip(told, others, strict=True) if other is not None and len(pair[1]) > len(other)]
+    for pattern, text, other in longer:
+        print(f"{pattern}: {text}; cronstrue: {other}")
+    print(f"{len(told)} lines, {others.count(None)} refused by cronstrue, {len(longer)} longer")
+    return not longer
+
+
 def main(words):
+    if words == ["lengths"]:
+        return 0 if judge_lengths(sys.stdin) else 1
     if words == ["judge"]:
         return 0 if judge(sys.stdin) else 1
     if words == ["texts"]:
