@@ -709,7 +709,8 @@ def warnings_of_steps(written):
     for name, word in written.items():
         parts, most = parts_of_word(word, name)
         turn = {"seconds": 60, "minutes": 60, "hours": 24}.get(name)
-        if turn and len(parts) == 1 and parts[0].is_star and parts[0].step < turn and turn % parts[0].step:
+        is_short = name != "hours" and parts and parts[0].step <= 15
+        if turn and len(parts) == 1 and parts[0].is_star and parts[0].step < turn and turn % parts[0].step and not is_short:
             uneven.append(f"uneven-step {name}")
         if any(1 < part.step and part.first <= part.last < part.first + part.step for part in parts):
             beyond.append(f"step-beyond {name}")

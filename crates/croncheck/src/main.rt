@@ -127,8 +127,10 @@ fn in_zone_of_machine(
 ) -> Result<u8, Problem> {
     let root = root_of(rt, call.root)?;
     let path = root.clock.as_str();
-    let Ok(target) = fs::read_link(rt, path) else {
-        return in_zone_of_file(rt, call, path);
+    let target = match fs::read_link(rt, path) {
+        Ok(target) => target,
+        Err(error) if error.kind() == ErrorKind::OutOfMemory => return Err(Problem::OutOfMemory),
+        Err(_) => return in_zone_of_file(rt, call, path),
     };
     let Some(name) = zone_name(target.as_path().to_string_lossy()) else {
         return in_zone_of_file(rt, call, path);
@@ -495,6 +497,9 @@ fn answer(
     terms: Terms<'_, '_>,
     answer: Answer,
 ) -> io::Result<u8> {
+    if are_fields(call.patterns.as_slice()) {
+        announce_fields(rt);
+    }
     let mut output = Output::new(BufWriter::new(rt.alloc(), rt.stdout())?);
     tell_patterns(
         &terms,
@@ -503,4 +508,21 @@ fn answer(
         call.preset,
         &mut output,
     )
+}
+
+// Whether there are several words, and none that may be a pattern: one with a blank, or a nickname.
+fn are_fields(words: &[&str]) -> bool {
+    words.len() > 1 && !words.iter().any(|word| may_be_pattern(word))
+}
+
+fn may_be_pattern(word: &str) -> bool {
+    let bytes = word.as_bytes();
+    bytes.starts_with("@".as_bytes()) || bytes.iter().any(|byte| byte.is_ascii_whitespace())
+}
+
+// Says how a pattern is written: without quotes a shell hands its fields over one by one.
+fn announce_fields(rt: &HostRuntime) {
+    let _ = eprintln!(rt;
+        "croncheck: each word is read as a pattern: write the fields of one in quotes, as '30 9 * * MON-FRI'"
+    );
 }

@@ -30,6 +30,14 @@ even_minutes : uneven fields.Minutes (codes "*/15 * * * *") ≡ false
 unfolding digits
 even_minutes = refl
 
+four_runs_of_an_hour : uneven fields.Minutes (codes "*/16 * * * *") ≡ true
+unfolding digits
+four_runs_of_an_hour = refl
+
+five_runs_of_an_hour : uneven fields.Minutes (codes "*/14 * * * *") ≡ false
+unfolding digits
+five_runs_of_an_hour = refl
+
 uneven_hours : uneven fields.Hours (codes "0 */5 * * *") ≡ true
 unfolding digits
 uneven_hours = refl

@@ -81,9 +81,20 @@ turn_of fields.Minutes = 60
 turn_of fields.Hours = 24
 turn_of other = 0
 
--- `uneven-step`: seconds, minutes or hours are one part `*/n`, and n is below 60, 60 or 24 and doesn't divide it
+-- a step that leaves at most four runs of a minute or an hour; of hours any
+abbrev pub is_long_step : PatternField → ℕ → Bool
+is_long_step fields.Hours step = true
+is_long_step other step = nat_lt 15 step
+
+-- the first part of a field has one
+abbrev pub has_long_step : PatternField → List Part → Bool
+has_long_step field [] = false
+has_long_step field (part ∷ more) = is_long_step field part.step
+
+-- `uneven-step`: seconds, minutes or hours are one part `*/n`, n is below 60, 60 or 24 and doesn't divide it, and of seconds or minutes it is
+-- above 15
 abbrev pub has_uneven_step : PatternField → Texts → Bool
-has_uneven_step field t = is_uneven (turn_of field) (parts_in field t)
+has_uneven_step field t = is_uneven (turn_of field) (parts_in field t) && has_long_step field (parts_in field t)
 
 -- a range names its first value alone, since the second is past its end
 abbrev pub is_beyond : Part → Bool

@@ -13,6 +13,7 @@ mod changes;
 pub mod found;
 mod hints;
 pub mod pattern;
+mod refused_pattern;
 
 use crate::ahead::Ahead;
 use crate::clock::stop::Stop;
@@ -36,6 +37,7 @@ use crontab::setting::has;
 use hints::{push_hint, push_nickname_hint};
 use jiff::Timestamp;
 use jiff::tz::TimeZone;
+use refused_pattern::push_pattern_reason;
 use std::alloc::{AllocError, Global};
 use std::fmt;
 use unicode_width::UnicodeWidthStr;
@@ -388,7 +390,7 @@ pub(crate) fn push_why(
                 "; the line before ends in a backslash, but cron has no continued lines: write the command on one line",
             )
         }
-        Why::Pattern(fault) => write!(text, "{fault}"),
+        Why::Pattern(fault) => push_pattern_reason(text, line, fault),
         Why::Crate(refusal) => write!(text, "{refusal}"),
         Why::NotText => text.push_str("a pattern is text in UTF-8"),
         Why::NoUser => text.push_str(

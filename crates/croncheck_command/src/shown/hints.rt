@@ -57,8 +57,8 @@ fn values_of(fault: Fault) -> &'static str {
 
 // ---- signs that look like others
 
-// The first character of a field that isn't of ASCII and looks like a blank, a quote or nothing.
-fn foreign_sign(field: &[u8]) -> Option<char> {
+/// The first character of a field that isn't of ASCII and looks like a blank, a quote or nothing.
+pub(super) fn foreign_sign(field: &[u8]) -> Option<char> {
     let Ok(text) = std::str::from_utf8(field) else {
         return None;
     };
@@ -95,12 +95,12 @@ fn is_curly(sign: char) -> bool {
     matches!(sign, '\u{2018}'..='\u{201f}' | '\u{ab}' | '\u{bb}')
 }
 
-// What is said of such a sign.
-fn push_sign(text: &mut String, sign: char) -> Result<(), AllocError> {
+/// Puts what is said of such a sign behind a text.
+pub(super) fn push_sign(text: &mut String, sign: char) -> Result<(), AllocError> {
     let code = u32::from(sign);
     if sign == '\u{feff}' {
         return text.push_str(
-            ": a byte order mark (U+FEFF) stands here, which cron takes for a part of the word: save the file without one",
+            ": a byte order mark (U+FEFF) stands here, which is a part of the word: save the file without one",
         );
     }
     let words = if is_curly(sign) {
@@ -108,7 +108,7 @@ fn push_sign(text: &mut String, sign: char) -> Result<(), AllocError> {
     } else if is_other_blank(sign) {
         "looks like a blank and is none to cron: write a space"
     } else {
-        "is not seen, and is a part of the word to cron: take it out"
+        "is not seen, and is a part of the word: take it out"
     };
     write!(text, ": U+{code:04X} {words}")
 }
@@ -133,6 +133,14 @@ fn words_of_first(line: &[u8], word: &[u8]) -> Option<&'static str> {
             "this is no shell: a setting is NAME=value alone, and the commands have it: leave out the first word",
         );
     }
+    if is_unset_name(line, word) {
+        return Some("a setting has a = behind its name, as MAILTO=root");
+    }
+    words_of_schedule(word)
+}
+
+/// What is said of the first word of a line that is a schedule of AWS, or an interval in words.
+pub(super) fn words_of_schedule(word: &[u8]) -> Option<&'static str> {
     if word.starts_with(b"cron(") {
         return Some(
             "cron(..) is of AWS: write its first five fields without it, * for ?, and leave out the year behind them",
@@ -142,9 +150,6 @@ fn words_of_first(line: &[u8], word: &[u8]) -> Option<&'static str> {
         return Some(
             "an interval is a step: write */5 * * * * for each fifth minute, 0 */2 * * * for each second hour",
         );
-    }
-    if is_unset_name(line, word) {
-        return Some("a setting has a = behind its name, as MAILTO=root");
     }
     None
 }
@@ -172,11 +177,6 @@ fn is_name_of_setting(word: &[u8]) -> bool {
 
 // Of a part of any field.
 fn words_of_part(line: &[u8], part: &[u8]) -> Option<&'static str> {
-    if is_hashed(part) {
-        return Some(
-            "H is a value that Jenkins picks: write a number of your own, as in 7, or 7-59/15 for H/15",
-        );
-    }
     if is_word(part, "?") {
         return Some(if has_year(line) {
             "cron has no ? and no field of years: write * for ?, and leave out what stands behind the weekdays"
@@ -184,7 +184,18 @@ fn words_of_part(line: &[u8], part: &[u8]) -> Option<&'static str> {
             "cron has no ?: write *"
         });
     }
-    None
+    words_of_hashed(part)
+}
+
+/// What is said of a part that Jenkins takes.
+pub(super) fn words_of_hashed(part: &[u8]) -> Option<&'static str> {
+    if is_hashed(part) {
+        Some(
+            "H is a value that Jenkins picks: write a number of your own, as in 7, or 7-59/15 for H/15",
+        )
+    } else {
+        None
+    }
 }
 
 // Whether a part is `H`, alone or with a range or a step.
@@ -320,22 +331,64 @@ impl fmt::Display for Stepped {
 
 // ---- nicknames
 
+/// What a nickname that is none may have been meant as. Its words say what to write.
+#[derive(Clone, Copy)]
+pub(super) enum Meant {
+    /// A blank stands behind the `@`.
+    NoName,
+    Noon,
+    /// `@every` so many minutes, which divide an hour.
+    Minutes(u32),
+    /// `@every` so many hours, which divide a day.
+    Hours(u32),
+    /// `@every` another length.
+    Interval,
+}
+
+impl fmt::Display for Meant {
+    fn fmt<W: fmt::Write>(&self, f: &mut fmt::Formatter<W>) -> fmt::Result {
+        match self {
+            Meant::NoName => f.write_str("no blank stands behind the @: write @daily"),
+            Meant::Noon => f.write_str("write 0 12 * * *"),
+            Meant::Minutes(minutes) => write!(f, "write */{minutes} * * * *"),
+            Meant::Hours(hours) => write!(f, "write 0 */{hours} * * *"),
+            Meant::Interval => f.write_str(
+                "an interval is a step, as */5 * * * * for each fifth minute, and begins anew with each hour or day",
+            ),
+        }
+    }
+}
+
 /// Puts what is to be written in place of a nickname that cron refuses behind a text, or answers that nothing is known of it.
 pub(super) fn push_nickname_hint(
     text: &mut String,
     line: &[u8],
     name: &[u8],
 ) -> Result<bool, AllocError> {
-    if name.is_empty() {
-        text.push_str("bad time specifier: no blank stands behind the @: write @daily")?;
-    } else if name.eq_ignore_ascii_case(b"every") {
-        push_interval(text, second_word(line))?;
-    } else if name.eq_ignore_ascii_case(b"noon") {
-        text.push_str("bad time specifier: cron has no @noon: write 0 12 * * *")?;
-    } else {
+    let Some(meant) = meant_by(line, name) else {
         return Ok(false);
+    };
+    match meant {
+        Meant::NoName => write!(text, "bad time specifier: {meant}")?,
+        Meant::Noon => write!(text, "bad time specifier: cron has no @noon: {meant}")?,
+        Meant::Minutes(_) | Meant::Hours(_) | Meant::Interval => {
+            write!(text, "bad time specifier: cron has no @every: {meant}")?
+        }
     }
     Ok(true)
+}
+
+/// What the name behind the `@` of a line may have been meant as, if that is known.
+pub(super) fn meant_by(line: &[u8], name: &[u8]) -> Option<Meant> {
+    if name.is_empty() {
+        Some(Meant::NoName)
+    } else if name.eq_ignore_ascii_case(b"every") {
+        Some(interval_of(second_word(line)))
+    } else if name.eq_ignore_ascii_case(b"noon") {
+        Some(Meant::Noon)
+    } else {
+        None
+    }
 }
 
 // The second word of a line.
@@ -347,24 +400,20 @@ fn second_word(line: &[u8]) -> &[u8] {
     word
 }
 
-// What says the same as `@every` and a length, as `5m`.
-fn push_interval(text: &mut String, length: &[u8]) -> Result<(), AllocError> {
-    let said = "bad time specifier: cron has no @every";
+// What `@every` and a length, as `5m`, may have been meant as.
+fn interval_of(length: &[u8]) -> Meant {
     match length {
         [digits @ .., b'm'] => match divisor_of(60, digits) {
-            Some(minutes) => write!(text, "{said}: write */{minutes} * * * *"),
-            None => write!(text, "{said}: {AN_INTERVAL}"),
+            Some(minutes) => Meant::Minutes(minutes),
+            None => Meant::Interval,
         },
         [digits @ .., b'h'] => match divisor_of(24, digits) {
-            Some(hours) => write!(text, "{said}: write 0 */{hours} * * *"),
-            None => write!(text, "{said}: {AN_INTERVAL}"),
+            Some(hours) => Meant::Hours(hours),
+            None => Meant::Interval,
         },
-        _ => write!(text, "{said}: {AN_INTERVAL}"),
+        _ => Meant::Interval,
     }
 }
-
-const AN_INTERVAL: &str =
-    "an interval is a step, as */5 * * * * for each fifth minute, and begins anew with each hour or day";
 
 // The number that these digits write, if it divides another one.
 fn divisor_of(all: u32, digits: &[u8]) -> Option<u32> {

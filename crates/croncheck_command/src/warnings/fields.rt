@@ -5,7 +5,7 @@ ghost use Rattle.croner.specs.parser.Grammar.{seven};
 ghost use Rattle.croner.specs.parser.Words.{AreWords};
 ghost use Rattle.crontab.specs.Line.{words_of};
 ghost use Rattle.crontab.specs.List.{names_nothing};
-ghost use Rattle.croncheck_command.specs.Warnings.{texts_of_five, fields_of_schedule, AreFieldsOfPattern, place_of_field, text_of_field, parts_in, turn_of, has_uneven_step, is_beyond, has_step_beyond, is_one_range, has_hours_in_range, has_range_down, has_passed_over, has_large_number, has_other_name, has_hidden_field, has_empty_item, has_empty_items, fields_seen};
+ghost use Rattle.croncheck_command.specs.Warnings.{texts_of_five, fields_of_schedule, AreFieldsOfPattern, place_of_field, text_of_field, parts_in, turn_of, is_long_step, has_long_step, has_uneven_step, is_beyond, has_step_beyond, is_one_range, has_hours_in_range, has_range_down, has_passed_over, has_large_number, has_other_name, has_hidden_field, has_empty_item, has_empty_items, fields_seen};
 
 use super::hidden::has_hidden_within;
 use croner::errors::CronError;
@@ -16,6 +16,9 @@ use crontab::line::word;
 use crontab::list::{is_uneven, names_nothing, parts_of};
 use crontab::notes;
 use std::alloc::{AllocError, Global};
+
+/// Up to this step of seconds or minutes a job runs four times in a minute or an hour, or more often.
+const LONGEST_SHORT_STEP: u64 = 15;
 
 /// The texts of the fields of a job or a pattern, as they are written. Where there are no seconds they are `0`, and where there are no years
 /// `*`.
@@ -147,6 +150,30 @@ fn turn_of(field: PatternField) -> u64
 }
 
 // Whether a range names its first value alone, since the second is past its end.
+// Whether a step leaves at most four runs of a minute or an hour. Of hours any step counts.
+fn is_long_step(field: PatternField, step: u64) -> bool
+    ensures { result ≡ is_long_step field step }
+{
+    match field {
+        PatternField::Hours => true,
+        PatternField::Seconds
+        | PatternField::Minutes
+        | PatternField::DayOfMonth
+        | PatternField::Month
+        | PatternField::Weekday
+        | PatternField::Year => LONGEST_SHORT_STEP < step,
+    }
+}
+
+fn has_long_step(field: PatternField, parts: &[Part]) -> bool
+    ensures { result ≡ has_long_step field parts.now }
+{
+    match parts {
+        [part, ..] => is_long_step(field, part.step),
+        [] => false,
+    }
+}
+
 fn is_beyond(part: &Part) -> bool
     ensures { result ≡ is_beyond part.now }
 {
@@ -212,13 +239,14 @@ impl<'l> Fields<'l> {
         }
     }
 
-    /// Whether seconds, minutes or hours are `*/n`, and n is below 60, 60 or 24 and doesn't divide it. The only error is `OutOfMemory`.
+    /// Whether seconds, minutes or hours are `*/n`, n is below 60, 60 or 24 and doesn't divide it, and of seconds or minutes it is above 15.
+    /// The only error is `OutOfMemory`.
     pub fn has_uneven_step(&self, alloc: Global, field: PatternField) -> Result<bool, CronError>
         ensures ok { IfOk result (λ yes. yes ≡ has_uneven_step field (fields_seen self.now)) }
         ensures err { IfErr result (λ e. e ≡ CronError.OutOfMemory) }
     {
         let parts = self.parts_in(alloc, field)?;
-        Ok(is_uneven(turn_of(field), parts.as_slice()))
+        Ok(is_uneven(turn_of(field), parts.as_slice()) && has_long_step(field, parts.as_slice()))
     }
 
     /// Whether a step of a field leads past the end of its range. The only error is `OutOfMemory`.
