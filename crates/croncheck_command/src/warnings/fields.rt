@@ -149,7 +149,6 @@ fn turn_of(field: PatternField) -> u64
     }
 }
 
-// Whether a range names its first value alone, since the second is past its end.
 // Whether a step leaves at most four runs of a minute or an hour. Of hours any step counts.
 fn is_long_step(field: PatternField, step: u64) -> bool
     ensures { result ≡ is_long_step field step }
@@ -174,6 +173,7 @@ fn has_long_step(field: PatternField, parts: &[Part]) -> bool
     }
 }
 
+// Whether a range names its first value alone, since the second is past its end.
 fn is_beyond(part: &Part) -> bool
     ensures { result ≡ is_beyond part.now }
 {
