@@ -6,11 +6,10 @@ ghost use Rattle.croner_summary.specs.Texts.{are_all_told, are_days_told, cut_st
 ghost use Rattle.croner_summary.specs.Private.Appended.{Appends};
 ghost use Rattle.croner_words.specs.Writes.{Writes};
 
-use crate::day_words::{
-    is_some, names_month_day, names_weekday, write_days, write_months, write_years,
-};
+use crate::day_words::{is_some, names_month_day, names_weekday, write_days};
 use crate::days::{Days, MonthDays, Weekdays};
 use crate::language::{Style, SummaryLanguage, Term};
+use crate::month_words::{write_months, write_years};
 use crate::phrase::Phrase;
 use crate::summary::Summary;
 use crate::time_words::write_time;

@@ -425,7 +425,7 @@ fn is_one(piece: Piece) -> bool
 }
 
 /// Whether each piece is one value.
-fn are_ones(pieces: &[Piece]) -> bool
+pub(crate) fn are_ones(pieces: &[Piece]) -> bool
     ensures { result ≡ list_all is_one pieces.now }
 {
     pieces.iter().all(|piece| is_one(*piece))
