@@ -11,7 +11,6 @@ use Rattle.croner_summary.specs.declared.language.Style.{Style}
 use Rattle.croner_summary.specs.declared.language.SummaryLanguage.{SummaryLanguage}
 use Rattle.croner_summary.specs.declared.language.Term.{Term}
 use Rattle.croner_summary.specs.declared.language.Term.TheVariants.{And, Each, EachFrom, On, AndOn, The, FromThe, ToThe, DatedThe, ButOnly, OnlyEach, FirstTime, SecondTime, ThirdTime, FourthTime, FifthTime, LastTime, OfEachWeekday, OfTheMonth, TheLastDay, TheLastWorkingDay, TheFirstWorkingDay, Nearest, HavingOne, HavingOneEnd, HavingDays}
-use Rattle.croner_summary.specs.declared.language.TimeUnit.{TimeUnit}
 use Rattle.croner_summary.specs.declared.language.TimeUnit.TheVariants.{Day}
 use Rattle.croner_summary.specs.declared.phrase.Phrase.{Phrase}
 use Rattle.croner_summary.specs.declared.phrase.Piece.{Piece}

@@ -1,7 +1,7 @@
 -- The terms of English, its units, numbers, weekdays and months.
-use Rattle.std.specs.Prelude.{ℕ, ◌/◌, ◌%◌, Bool, ◌==◌, List, [], ◌++◌, codes, decimal, if◌then◌else◌}
+use Rattle.std.specs.Prelude.{ℕ, ◌/◌, ◌%◌, ◌==◌, List, [], ◌++◌, codes, decimal, if◌then◌else◌}
 use Rattle.croner_summary.specs.declared.language.Term.{Term}
-use Rattle.croner_summary.specs.declared.language.Term.TheVariants.{To, And, More, EachOne, FromValue, Each, EachFrom, Plural, From, AtTime, At, AndAt, Of, FromTime, FromMinute, AtSecond, On, AndOn, The, FromThe, ToThe, DatedThe, ButOnly, OnlyEach, OnlyEnd, NthEnd, FirstTime, SecondTime, ThirdTime, FourthTime, FifthTime, LastTime, OfEachWeekday, OfTheMonth, TheLastDay, TheLastWorkingDay, TheFirstWorkingDay, Nearest, HavingOne, HavingOneEnd, HavingDays, InMonths, InNthYears, InYears, NoSecond, NoMinute, NoHour, NoMonth, NoYear, NoMonthDay, NoWeekday, NoDay}
+use Rattle.croner_summary.specs.declared.language.Term.TheVariants.{To, And, More, EachOne, FromValue, Each, EachFrom, Plural, From, AtTime, At, AndAt, Of, FromTime, FromMinute, AtSecond, On, AndOn, The, FromThe, ToThe, DatedThe, ButOnly, OnlyEach, OnlyEnd, NthEnd, FirstTime, SecondTime, ThirdTime, FourthTime, FifthTime, LastTime, OfEachWeekday, OfTheMonth, TheLastDay, TheLastWorkingDay, TheFirstWorkingDay, Nearest, HavingOne, HavingOneEnd, HavingDays, InMonths, AndInMonths, InNthYears, InYears, AndInYears, NoSecond, NoMinute, NoHour, NoMonth, NoYear, NoMonthDay, NoWeekday, NoDay}
 use Rattle.croner_summary.specs.declared.language.TimeUnit.{TimeUnit}
 use Rattle.croner_summary.specs.declared.language.TimeUnit.TheVariants.{Second, Minute, Hour, Day, Month, Year}
 
@@ -48,8 +48,10 @@ english_term HavingOne = codes ", in months that have a "
 english_term HavingOneEnd = []
 english_term HavingDays = codes ", in months that have the day"
 english_term InMonths = codes " in "
+english_term AndInMonths = codes " and in "
 english_term InNthYears = codes ", in "
 english_term InYears = codes ", in "
+english_term AndInYears = codes " and in "
 english_term NoSecond = codes "Never: no second is named"
 english_term NoMinute = codes "Never: no minute is named"
 english_term NoHour = codes "Never: no hour is named"

@@ -116,10 +116,14 @@ pub enum Term {
     HavingDays,
     /// Before months.
     InMonths,
+    /// Before months beside a step.
+    AndInMonths,
     /// Before years at a step.
     InNthYears,
     /// Before years.
     InYears,
+    /// Before years beside a step.
+    AndInYears,
     /// That no second is named, and so nothing is scheduled.
     NoSecond,
     /// No minute.

@@ -1,15 +1,15 @@
 //! Months and years in words.
 
-ghost use Rattle.std.specs.Prelude.{◌≡◌, ◌++◌};
+ghost use Rattle.std.specs.Prelude.{◌≡◌, ◌<◌, ◌++◌, length, IsSome};
 ghost use Rattle.croner_summary.specs.Private.Appended.{Appends};
 ghost use Rattle.croner_summary.specs.Words.{list_text, term_text};
-ghost use Rattle.croner_summary.specs.MonthWords.{months_case, months_text, stepped, stepped_all, stepped_span, years_case, years_text};
+ghost use Rattle.croner_summary.specs.MonthWords.{listed_months, listed_years, months_case, months_text, stepped, stepped_all, stepped_span, years_case, years_text};
 
 use crate::language::{Style, SummaryLanguage, Term, TimeUnit};
 use crate::phrase::Piece;
 use crate::words::{
-    Kind, is_year, least_of, sole, write_list, write_nth, write_span, write_term, write_text,
-    write_unit_name, write_value,
+    Kind, head_step, is_year, least_of, sole, write_list, write_nth, write_span, write_term,
+    write_text, write_unit_name, write_value,
 };
 use croner_base::errors::CronError;
 
@@ -69,6 +69,28 @@ fn write_month_list(text: &mut String, style: Style, pieces: &[Piece]) -> Result
     write_list(text, style, Kind::Month, pieces)
 }
 
+/// Writes a list of months, which may begin with a step.
+#[tactic(auto, unfolding(crate::specs::MonthWords::listed_months))]
+fn write_listed_months(
+    text: &mut String,
+    style: Style,
+    pieces: &[Piece],
+    head: Option<u16>,
+) -> Result<(), CronError>
+    requires { IsSome head → 0 < length pieces.now }
+    ensures { Appends (listed_months style pieces.now head) text.old text.new result }
+{
+    match head {
+        None => write_month_list(text, style, pieces),
+        Some(n) => {
+            write_term(text, style.language, Term::InMonths)?;
+            write_stepped_all(text, style.language, TimeUnit::Month, Kind::Month, n)?;
+            write_term(text, style.language, Term::AndInMonths)?;
+            write_list(text, style, Kind::Month, &pieces[1..])
+        }
+    }
+}
+
 /// Writes months, unless each is named, by their one piece.
 #[tactic(auto, unfolding(crate::specs::MonthWords::months_case))]
 fn write_months_case(
@@ -95,7 +117,7 @@ fn write_months_case(
             write_text(text, ", ")?;
             write_span(text, language, Kind::Month, first, last)
         }
-        None => write_month_list(text, style, pieces),
+        None => write_listed_months(text, style, pieces, head_step(pieces)),
     }
 }
 
@@ -117,6 +139,28 @@ fn write_year_list(text: &mut String, style: Style, pieces: &[Piece]) -> Result<
 {
     write_term(text, style.language, Term::InYears)?;
     write_list(text, style, Kind::Year, pieces)
+}
+
+/// Writes a list of years, which may begin with a step.
+#[tactic(auto, unfolding(crate::specs::MonthWords::listed_years))]
+fn write_listed_years(
+    text: &mut String,
+    style: Style,
+    pieces: &[Piece],
+    head: Option<u16>,
+) -> Result<(), CronError>
+    requires { IsSome head → 0 < length pieces.now }
+    ensures { Appends (listed_years style pieces.now head) text.old text.new result }
+{
+    match head {
+        None => write_year_list(text, style, pieces),
+        Some(n) => {
+            write_term(text, style.language, Term::InNthYears)?;
+            write_stepped_all(text, style.language, TimeUnit::Year, Kind::Year, n)?;
+            write_term(text, style.language, Term::AndInYears)?;
+            write_list(text, style, Kind::Year, &pieces[1..])
+        }
+    }
 }
 
 /// Writes years, unless each is named, by their one piece.
@@ -146,7 +190,7 @@ fn write_years_case(
             write_term(text, language, Term::From)?;
             write_span(text, language, Kind::Year, first, last)
         }
-        None => write_year_list(text, style, pieces),
+        None => write_listed_years(text, style, pieces, head_step(pieces)),
     }
 }
 

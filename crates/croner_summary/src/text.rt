@@ -204,7 +204,7 @@ impl Summary {
     /// The summary in words, as a line without a full stop. It is known exactly from the phrases.
     ///
     /// A text of more than 400 bytes is cut: of a list of more than three pieces it tells the first three, and how many more there
-    /// are. [`is_whole`](Self::is_whole) says whether it tells all.
+    /// are; a step that others stand beside is told before these. [`is_whole`](Self::is_whole) says whether it tells all.
     ///
     /// The only error is `OutOfMemory`.
     ///
