@@ -3,6 +3,7 @@
 
     tools/summary_model.py patterns SEED COUNT        makes up patterns, a line each
     tools/summary_model.py pairs SEED COUNT           makes up pairs of patterns that differ little, a line each pattern
+    tools/summary_model.py modifiers SEED COUNT       makes up patterns of days with W, # and L, of which many are in a row or at a step
     tools/summary_model.py hostile                    patterns whose fields are as long as they can be
     PROGRAM data <FILE | tools/summary_model.py judge what the data name, and their form
     PROGRAM <FILE | tools/summary_model.py texts      that no two English texts that tell all are equal where what the patterns
@@ -319,6 +320,30 @@ def pattern(draw):
     return before + " ".join(fields)
 
 
+def in_order(draw, least, most):
+    """Values of which many are in a row or at a step."""
+    kind = draw.random()
+    if kind < 0.2:
+        return [n for n in range(least, most + 1) if draw.random() < 0.5]
+    first, last = sorted((value(draw, least, most), value(draw, least, most)))
+    first = least if kind < 0.5 else first
+    last = most if kind < 0.4 else last
+    values = set(range(first, last + 1, draw.choice([1, 1, 2, 3, 5, 7])))
+    others = {value(draw, least, most) for _ in range(draw.choice([0, 0, 1, 2]))}
+    return sorted(values ^ others)
+
+
+def modifiers(draw):
+    """A pattern whose days have modifiers."""
+    days = [f"{n}W" for n in in_order(draw, 1, 31) if draw.random() < 0.99]
+    days += draw.choice([[], [], [part(draw, 1, 31)], ["L"], ["LW"]])
+    week = [f"{n}#{k}" for k in draw.sample(["1", "2", "3", "4", "5", "L"], draw.choice([1, 1, 2, 3])) for n in in_order(draw, 0, 6)]
+    week += draw.choice([[], [], [part(draw, 0, 6)]])
+    sides = draw.choice([(days, []), ([], week), ([], week), (days, week)])
+    text = [",".join(side) or "*" for side in sides]
+    return f"0 0 {text[0]} * {draw.choice(['', '', '+']) if sides[1] else ''}{text[1]}"
+
+
 def altered(draw, text):
     """A pattern that differs from another in a field or two."""
     before, words = ("and ", text.removeprefix("and ").split()) if text.startswith("and ") else ("", text.split())
@@ -453,7 +478,7 @@ def main(words):
     kind, seed, count = words[0], int(words[1]), int(words[2])
     draw = random.Random(seed)
     for _ in range(count):
-        text = pattern(draw)
+        text = modifiers(draw) if kind == "modifiers" else pattern(draw)
         print(text)
         if kind == "pairs":
             print(altered(draw, text))

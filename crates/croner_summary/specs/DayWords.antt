@@ -1,6 +1,6 @@
--- Days, months and years in words.
+-- Days in words.
 use Rattle.std.specs.Prelude.{ℕ, nat_lt, Bool, true, false, not, ◌&&◌, ◌||◌, ◌==◌, List, [], ◌++◌, length, codes, Option, Some, None, if◌then◌else◌}
-use Rattle.std.specs.List.{list_any}
+use Rattle.std.specs.List.{list_all, list_any}
 use Rattle.croner_summary.specs.declared.days.Days.{Days}
 use Rattle.croner_summary.specs.declared.days.Days.TheVariants.{Every as EveryDay, OfMonth, OfWeek, Either, Both}
 use Rattle.croner_summary.specs.declared.days.FromEnd.{FromEnd}
@@ -10,16 +10,15 @@ use Rattle.croner_summary.specs.declared.days.Weekdays.{Weekdays}
 use Rattle.croner_summary.specs.declared.language.Style.{Style}
 use Rattle.croner_summary.specs.declared.language.SummaryLanguage.{SummaryLanguage}
 use Rattle.croner_summary.specs.declared.language.Term.{Term}
-use Rattle.croner_summary.specs.declared.language.Term.TheVariants.{And, From, Each, EachFrom, On, AndOn, The, FromThe, ToThe, DatedThe, ButOnly, OnlyEach, FirstTime, SecondTime, ThirdTime, FourthTime, FifthTime, LastTime, OfTheMonth, TheLastDay, TheLastWorkingDay, TheFirstWorkingDay, Nearest, HavingOne, HavingOneEnd, HavingDays, InMonths, InYears}
-use Rattle.croner_summary.specs.declared.language.TimeUnit.{TimeUnit}
-use Rattle.croner_summary.specs.declared.language.TimeUnit.TheVariants.{Day, Month as MonthUnit, Year as YearUnit}
+use Rattle.croner_summary.specs.declared.language.Term.TheVariants.{And, Each, EachFrom, On, AndOn, The, FromThe, ToThe, DatedThe, ButOnly, OnlyEach, FirstTime, SecondTime, ThirdTime, FourthTime, FifthTime, LastTime, OfEachWeekday, OfTheMonth, TheLastDay, TheLastWorkingDay, TheFirstWorkingDay, Nearest, HavingOne, HavingOneEnd, HavingDays}
+use Rattle.croner_summary.specs.declared.language.TimeUnit.TheVariants.{Day}
 use Rattle.croner_summary.specs.declared.phrase.Phrase.{Phrase}
 use Rattle.croner_summary.specs.declared.phrase.Piece.{Piece}
 use Rattle.croner_summary.specs.declared.phrase.Piece.TheVariants.{Every, EveryNth, One, Range, RangeNth}
 use Rattle.croner_summary.specs.declared.words.Kind.{Kind}
-use Rattle.croner_summary.specs.declared.words.Kind.TheVariants.{Ordinal, Weekday, NthWeekday, OnlyWeekday, Month, Year}
-use Rattle.croner_summary.specs.Words.{is_year, least_of, list_text, nth_text, ordinal, sole, span_text, term_text, unit_name, value_text, weekday_name}
-use Rattle.croner_summary.specs.TimeWords.{is_sole, value_of}
+use Rattle.croner_summary.specs.declared.words.Kind.TheVariants.{Ordinal, Weekday, NthWeekday, OnlyWeekday}
+use Rattle.croner_summary.specs.Words.{list_text, nth_text, ordinal, sole, span_text, term_text, unit_name, weekday_name}
+use Rattle.croner_summary.specs.TimeWords.{is_one, is_sole, value_of}
 
 -- a phrase names something
 unfoldable pub is_some : Phrase → Bool
@@ -60,10 +59,23 @@ each_term one = if is_range one then EachFrom else Each
 abbrev pub nth_on_text : SummaryLanguage → Bool → Bool → List ℕ
 nth_on_text l told listed = if listed then term_text l And else on_text l told
 
+-- weekdays by their names, all of them from Sunday to Saturday
+unfoldable pub weekday_names : Style → List Piece → List ℕ
+weekday_names style pieces =
+    if is_all (sole pieces) then span_text style.language Weekday 0 6 else list_text style Weekday pieces
+
+-- weekdays of which some are in a row, each for itself: `of each weekday, Monday to Friday,`
+unfoldable pub each_weekday : Style → List Piece → List ℕ
+each_weekday style pieces = term_text style.language OfEachWeekday ++ (weekday_names style pieces ++ codes ",")
+
+-- weekdays behind `the first `
+unfoldable pub nth_names : Style → List Piece → List ℕ
+nth_names style pieces = if list_all is_one pieces then list_text style NthWeekday pieces else each_weekday style pieces
+
 -- weekdays of which one of a month is meant: ` on the first Monday`
 unfoldable pub nth_part : Style → Term → Bool → Bool → Phrase → List ℕ
 nth_part style before told listed p =
-    if is_some p then nth_on_text style.language told listed ++ (term_text style.language before ++ list_text style NthWeekday p.pieces.items)
+    if is_some p then nth_on_text style.language told listed ++ (term_text style.language before ++ nth_names style p.pieces.items)
     else []
 
 unfoldable pub from_fifth : Style → Bool → Bool → Weekdays → List ℕ
@@ -121,32 +133,34 @@ of_week_text style w =
 unfoldable pub between_days : SummaryLanguage → ℕ → ℕ → List ℕ
 between_days l first last = term_text l FromThe ++ (ordinal l first ++ (term_text l ToThe ++ ordinal l last))
 
--- days at a step: ` on every 2nd day`
+-- days at a step: `every 2nd day`
 unfoldable pub nth_day : SummaryLanguage → ℕ → List ℕ
-nth_day l n = term_text l On ++ (nth_text l false n ++ unit_name l Day)
+nth_day l n = nth_text l false n ++ unit_name l Day
 
+-- days by number, by the one piece that they have: `the 1st and 15th`, `every 2nd day from the 1st to the 31st`
 unfoldable pub numbered : Style → List Piece → Option Piece → List ℕ
-numbered style pieces (Some Every) = term_text style.language On ++ (term_text style.language Each ++ unit_name style.language Day)
+numbered style pieces (Some Every) = term_text style.language Each ++ unit_name style.language Day
 numbered style pieces (Some (EveryNth n)) =
     nth_day style.language n ++ (term_text style.language FromThe ++ ordinal style.language 1)
 numbered style pieces (Some (RangeNth first last n)) =
     nth_day style.language n ++ between_days style.language first last
-numbered style pieces (Some (One day)) = term_text style.language On ++ (term_text style.language The ++ list_text style Ordinal pieces)
-numbered style pieces (Some (Range first last)) = term_text style.language On ++ (term_text style.language The ++ list_text style Ordinal pieces)
-numbered style pieces None = term_text style.language On ++ (term_text style.language The ++ list_text style Ordinal pieces)
+numbered style pieces (Some (One day)) = term_text style.language The ++ list_text style Ordinal pieces
+numbered style pieces (Some (Range first last)) = term_text style.language The ++ list_text style Ordinal pieces
+numbered style pieces None = term_text style.language The ++ list_text style Ordinal pieces
 
 unfoldable pub numbers_text : Style → Phrase → List ℕ
-numbers_text style p = if is_some p then numbered style p.pieces.items (sole p.pieces.items) else []
+numbers_text style p =
+    if is_some p then term_text style.language On ++ numbered style p.pieces.items (sole p.pieces.items) else []
 
 unfoldable pub from_end_text : SummaryLanguage → Bool → FromEnd → List ℕ
 from_end_text l told Neither = []
 from_end_text l told LastDay = on_text l told ++ term_text l TheLastDay
 from_end_text l told LastWorkingDay = on_text l told ++ term_text l TheLastWorkingDay
 
--- some month hasn't the day
+-- some month hasn't a day that is named; of all days, or each nth of them, each month has its own
 abbrev pub is_late : Piece → Bool
-is_late Every = true
-is_late (EveryNth n) = true
+is_late Every = false
+is_late (EveryNth n) = false
 is_late (One n) = nat_lt 28 n
 is_late (Range first last) = nat_lt 28 last
 is_late (RangeNth first last n) = nat_lt 28 last
@@ -159,8 +173,8 @@ having_text l other = term_text l HavingDays
 unfoldable pub late_text : SummaryLanguage → List Piece → List ℕ
 late_text l pieces = if list_any is_late pieces then having_text l (sole pieces) else []
 
-unfoldable pub near_list : Style → List Piece → List ℕ
-near_list style pieces = term_text style.language Nearest ++ (list_text style Ordinal pieces ++ late_text style.language pieces)
+unfoldable pub near_days : Style → List Piece → List ℕ
+near_days style pieces = term_text style.language Nearest ++ (numbered style pieces (sole pieces) ++ late_text style.language pieces)
 
 -- the 1st alone
 unfoldable pub is_first_day : Option Piece → Bool
@@ -168,7 +182,7 @@ is_first_day one = is_sole one && value_of one == 1
 
 unfoldable pub nearest : Style → List Piece → List ℕ
 nearest style pieces =
-    if is_first_day (sole pieces) then term_text style.language TheFirstWorkingDay else near_list style pieces
+    if is_first_day (sole pieces) then term_text style.language TheFirstWorkingDay else near_days style pieces
 
 unfoldable pub nearest_text : Style → Bool → Phrase → List ℕ
 nearest_text style told p = if is_some p then on_text style.language told ++ nearest style p.pieces.items else []
@@ -212,40 +226,3 @@ days_text style (OfMonth d) = month_days_text style d
 days_text style (OfWeek w) = of_week_text style w
 days_text style (Either d w) = month_days_text style d ++ weekdays_text style (names_month_day d) w
 days_text style (Both d w) = both_text style d w
-
--- ---- months and years
-
--- every nth: ` in every 3rd month from `
-unfoldable pub stepped : SummaryLanguage → TimeUnit → Kind → ℕ → List ℕ
-stepped l unit kind n = term_text l InMonths ++ (nth_text l (is_year kind) n ++ (unit_name l unit ++ term_text l From))
-
--- every nth from the least on: ` in every 3rd month from January`
-unfoldable pub stepped_all : SummaryLanguage → TimeUnit → Kind → ℕ → List ℕ
-stepped_all l unit kind n = stepped l unit kind n ++ value_text l kind (least_of kind)
-
--- every nth from one to another: ` in every 2nd year from 2020 to 2028`
-unfoldable pub stepped_span : SummaryLanguage → TimeUnit → Kind → ℕ → ℕ → ℕ → List ℕ
-stepped_span l unit kind first last n = stepped l unit kind n ++ span_text l kind first last
-
-unfoldable pub months_case : Style → List Piece → Option Piece → List ℕ
-months_case style pieces (Some Every) = []
-months_case style pieces (Some (EveryNth n)) = stepped_all style.language MonthUnit Month n
-months_case style pieces (Some (RangeNth first last n)) = stepped_span style.language MonthUnit Month first last n
-months_case style pieces (Some (One n)) = term_text style.language InMonths ++ list_text style Month pieces
-months_case style pieces (Some (Range first last)) = codes ", " ++ span_text style.language Month first last
-months_case style pieces None = term_text style.language InMonths ++ list_text style Month pieces
-
-unfoldable pub years_case : Style → List Piece → Option Piece → List ℕ
-years_case style pieces (Some Every) = []
-years_case style pieces (Some (EveryNth n)) = codes "," ++ stepped_all style.language YearUnit Year n
-years_case style pieces (Some (RangeNth first last n)) = codes "," ++ stepped_span style.language YearUnit Year first last n
-years_case style pieces (Some (One n)) = term_text style.language InYears ++ list_text style Year pieces
-years_case style pieces (Some (Range first last)) =
-    codes "," ++ (term_text style.language From ++ span_text style.language Year first last)
-years_case style pieces None = term_text style.language InYears ++ list_text style Year pieces
-
-unfoldable pub months_text : Style → List Piece → List ℕ
-months_text style pieces = months_case style pieces (sole pieces)
-
-unfoldable pub years_text : Style → List Piece → List ℕ
-years_text style pieces = years_case style pieces (sole pieces)

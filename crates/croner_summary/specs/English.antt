@@ -1,7 +1,7 @@
 -- The terms of English, its units, numbers, weekdays and months.
-use Rattle.std.specs.Prelude.{ℕ, ◌/◌, ◌%◌, Bool, ◌==◌, List, [], ◌++◌, codes, decimal, if◌then◌else◌}
+use Rattle.std.specs.Prelude.{ℕ, ◌/◌, ◌%◌, ◌==◌, List, [], ◌++◌, codes, decimal, if◌then◌else◌}
 use Rattle.croner_summary.specs.declared.language.Term.{Term}
-use Rattle.croner_summary.specs.declared.language.Term.TheVariants.{To, And, More, EachOne, FromValue, Each, EachFrom, Plural, From, AtTime, At, AndAt, Of, FromTime, FromMinute, AtSecond, On, AndOn, The, FromThe, ToThe, DatedThe, ButOnly, OnlyEach, OnlyEnd, NthEnd, FirstTime, SecondTime, ThirdTime, FourthTime, FifthTime, LastTime, OfTheMonth, TheLastDay, TheLastWorkingDay, TheFirstWorkingDay, Nearest, HavingOne, HavingOneEnd, HavingDays, InMonths, InYears, NoSecond, NoMinute, NoHour, NoMonth, NoYear, NoMonthDay, NoWeekday, NoDay}
+use Rattle.croner_summary.specs.declared.language.Term.TheVariants.{To, And, More, EachOne, FromValue, Each, EachFrom, Plural, From, AtTime, At, AndAt, Of, FromTime, FromMinute, AtSecond, On, AndOn, The, FromThe, ToThe, DatedThe, ButOnly, OnlyEach, OnlyEnd, NthEnd, FirstTime, SecondTime, ThirdTime, FourthTime, FifthTime, LastTime, OfEachWeekday, OfTheMonth, TheLastDay, TheLastWorkingDay, TheFirstWorkingDay, Nearest, HavingOne, HavingOneEnd, HavingDays, InMonths, AndInMonths, InNthYears, InYears, AndInYears, NoSecond, NoMinute, NoHour, NoMonth, NoYear, NoMonthDay, NoWeekday, NoDay}
 use Rattle.croner_summary.specs.declared.language.TimeUnit.{TimeUnit}
 use Rattle.croner_summary.specs.declared.language.TimeUnit.TheVariants.{Second, Minute, Hour, Day, Month, Year}
 
@@ -38,16 +38,20 @@ english_term ThirdTime = codes "the third "
 english_term FourthTime = codes "the fourth "
 english_term FifthTime = codes "the fifth "
 english_term LastTime = codes "the last "
+english_term OfEachWeekday = codes "of each weekday, "
 english_term OfTheMonth = codes " of the month"
 english_term TheLastDay = codes "the last day of the month"
 english_term TheLastWorkingDay = codes "the last weekday (Monday to Friday) of the month"
 english_term TheFirstWorkingDay = codes "the first weekday (Monday to Friday) of the month"
-english_term Nearest = codes "the weekday (Monday to Friday) nearest the "
+english_term Nearest = codes "the weekday (Monday to Friday) nearest "
 english_term HavingOne = codes ", in months that have a "
 english_term HavingOneEnd = []
 english_term HavingDays = codes ", in months that have the day"
 english_term InMonths = codes " in "
+english_term AndInMonths = codes " and in "
+english_term InNthYears = codes ", in "
 english_term InYears = codes ", in "
+english_term AndInYears = codes " and in "
 english_term NoSecond = codes "Never: no second is named"
 english_term NoMinute = codes "Never: no minute is named"
 english_term NoHour = codes "Never: no hour is named"

@@ -6,5 +6,6 @@ pub mod Swedish
 pub mod Words
 pub mod TimeWords
 pub mod DayWords
+pub mod MonthWords
 pub mod Texts
 pub mod Private

@@ -1,8 +1,8 @@
 -- The terms of Swedish, its units, numbers, weekdays and months. Letters past ASCII are written as the bytes of their UTF-8.
-use Rattle.std.specs.Prelude.{ℕ, ◌/◌, ◌%◌, Bool, true, false, ◌||◌, ◌==◌, List, [], ◌∷◌, ◌++◌, codes, decimal, if◌then◌else◌}
+use Rattle.std.specs.Prelude.{ℕ, ◌/◌, ◌%◌, Bool, true, false, ◌||◌, ◌==◌, List, [], ◌++◌, codes, decimal, if◌then◌else◌}
 use Rattle.croner_words.specs.Swedish.{a_with_ring, a_with_dots, o_with_dots}
 use Rattle.croner_summary.specs.declared.language.Term.{Term}
-use Rattle.croner_summary.specs.declared.language.Term.TheVariants.{To, And, More, EachOne, FromValue, Each, EachFrom, Plural, From, AtTime, At, AndAt, Of, FromTime, FromMinute, AtSecond, On, AndOn, The, FromThe, ToThe, DatedThe, ButOnly, OnlyEach, OnlyEnd, NthEnd, FirstTime, SecondTime, ThirdTime, FourthTime, FifthTime, LastTime, OfTheMonth, TheLastDay, TheLastWorkingDay, TheFirstWorkingDay, Nearest, HavingOne, HavingOneEnd, HavingDays, InMonths, InYears, NoSecond, NoMinute, NoHour, NoMonth, NoYear, NoMonthDay, NoWeekday, NoDay}
+use Rattle.croner_summary.specs.declared.language.Term.TheVariants.{To, And, More, EachOne, FromValue, Each, EachFrom, Plural, From, AtTime, At, AndAt, Of, FromTime, FromMinute, AtSecond, On, AndOn, The, FromThe, ToThe, DatedThe, ButOnly, OnlyEach, OnlyEnd, NthEnd, FirstTime, SecondTime, ThirdTime, FourthTime, FifthTime, LastTime, OfEachWeekday, OfTheMonth, TheLastDay, TheLastWorkingDay, TheFirstWorkingDay, Nearest, HavingOne, HavingOneEnd, HavingDays, InMonths, AndInMonths, InNthYears, InYears, AndInYears, NoSecond, NoMinute, NoHour, NoMonth, NoYear, NoMonthDay, NoWeekday, NoDay}
 use Rattle.croner_summary.specs.declared.language.TimeUnit.{TimeUnit}
 use Rattle.croner_summary.specs.declared.language.TimeUnit.TheVariants.{Second, Minute, Hour, Day, Month, Year}
 
@@ -63,16 +63,20 @@ swedish_term ThirdTime = codes "den tredje "
 swedish_term FourthTime = codes "den fj" ++ (a_with_dots ++ codes "rde ")
 swedish_term FifthTime = codes "den femte "
 swedish_term LastTime = codes "den sista "
+swedish_term OfEachWeekday = codes "av varje veckodag, "
 swedish_term OfTheMonth = of_the_month
 swedish_term TheLastDay = codes "den sista dagen" ++ of_the_month
 swedish_term TheLastWorkingDay = codes "den sista " ++ (working_day ++ of_the_month)
 swedish_term TheFirstWorkingDay = codes "den " ++ (first ++ (codes " " ++ (working_day ++ of_the_month)))
-swedish_term Nearest = working_day ++ (codes " n" ++ (a_with_dots ++ codes "rmast den "))
+swedish_term Nearest = working_day ++ (codes " n" ++ (a_with_dots ++ codes "rmast "))
 swedish_term HavingOne = codes ", i " ++ (month ++ codes "er som har en ")
 swedish_term HavingOneEnd = codes " dag"
 swedish_term HavingDays = codes ", i " ++ (month ++ codes "er som har dagen")
 swedish_term InMonths = codes " i "
+swedish_term AndInMonths = codes " och i "
+swedish_term InNthYears = codes ", "
 swedish_term InYears = codes ", " ++ (a_with_ring ++ codes "r ")
+swedish_term AndInYears = codes " och " ++ (a_with_ring ++ codes "r ")
 swedish_term NoSecond = never (codes "sekund")
 swedish_term NoMinute = never (codes "minut")
 swedish_term NoHour = never (codes "timme")

@@ -12,7 +12,8 @@ use Rattle.croner_summary.specs.declared.phrase.Phrase.{Phrase}
 use Rattle.croner_summary.specs.declared.summary.Summary.{Summary}
 use Rattle.croner_summary.specs.Words.{term_text}
 use Rattle.croner_summary.specs.TimeWords.{time_text}
-use Rattle.croner_summary.specs.DayWords.{days_text, is_some, months_text, names_month_day, names_weekday, years_text}
+use Rattle.croner_summary.specs.DayWords.{days_text, is_some, names_month_day, names_weekday}
+use Rattle.croner_summary.specs.MonthWords.{months_text, years_text}
 
 -- ---- nothing
 

@@ -1,5 +1,5 @@
 -- The times of a day in words, by the first case that holds.
-use Rattle.std.specs.Prelude.{ℕ, ◌+◌, ◌-◌, nat_lt, nat_le, Bool, true, false, ◌&&◌, ◌==◌, List, [], ◌∷◌, ◌++◌, drop, length, decimal, Option, Some, None, if◌then◌else◌}
+use Rattle.std.specs.Prelude.{ℕ, ◌+◌, ◌-◌, nat_lt, nat_le, Bool, true, false, ◌&&◌, ◌==◌, List, [], ◌++◌, drop, length, decimal, Option, Some, None, if◌then◌else◌}
 use Rattle.std.specs.List.{list_all}
 use Rattle.croner_summary.specs.declared.language.Style.{Style}
 use Rattle.croner_summary.specs.declared.language.SummaryLanguage.{SummaryLanguage}
@@ -11,7 +11,7 @@ use Rattle.croner_summary.specs.declared.phrase.Piece.TheVariants.{Every, EveryN
 use Rattle.croner_summary.specs.declared.time_words.Stretch.{Stretch}
 use Rattle.croner_summary.specs.declared.words.Kind.{Kind}
 use Rattle.croner_summary.specs.declared.words.Kind.TheVariants.{Number, HourAt, MinuteOf}
-use Rattle.croner_summary.specs.Words.{clock_text, every_text, list_text, sole, span_text, term_text, unit_text}
+use Rattle.croner_summary.specs.Words.{clock_text, every_text, head_step, list_text, sole, span_text, term_text, unit_text}
 
 -- a part of the day, stepped through by minutes or by hours
 abbrev pub by_minutes : ℕ → ℕ → ℕ → ℕ → ℕ → Stretch
@@ -104,11 +104,6 @@ of_hours style hours = term_text style.language Of ++ unit_text style Hour hours
 -- minutes of hours that have no form of their own
 unfoldable pub minutes_and_hours : Style → List Piece → List Piece → List ℕ
 minutes_and_hours style minutes hours = minutes_head style minutes (sole minutes) ++ of_hours style hours
-
--- the step that a list of more than one piece begins with
-abbrev pub head_step : List Piece → Option ℕ
-head_step (EveryNth n ∷ one ∷ more) = Some n
-head_step other = None
 
 -- a step with others beside
 unfoldable pub beside_text : Style → ℕ → List Piece → List ℕ

@@ -1,5 +1,5 @@
 -- How values, pieces and lists are written, in the terms of a language.
-use Rattle.std.specs.Prelude.{ℕ, ◌-◌, nat_lt, nat_le, Bool, true, false, ◌==◌, List, [], ◌∷◌, ◌++◌, map, take, length, codes, decimal, Option, Some, None, if◌then◌else◌}
+use Rattle.std.specs.Prelude.{ℕ, ◌-◌, nat_lt, nat_le, Bool, true, false, ◌==◌, List, [], ◌∷◌, ◌++◌, map, take, drop, length, codes, decimal, Option, Some, None, if◌then◌else◌}
 use Rattle.croner_pattern.specs.Private.Lists.{from_place}
 use Rattle.croner_summary.specs.declared.language.Style.{Style}
 use Rattle.croner_summary.specs.declared.language.SummaryLanguage.{SummaryLanguage}
@@ -137,11 +137,20 @@ sole [] = None
 sole (one ∷ []) = Some one
 sole (one ∷ two ∷ more) = None
 
+-- the step that a list of more than one piece begins with
+abbrev pub head_step : List Piece → Option ℕ
+head_step (EveryNth n ∷ one ∷ more) = Some n
+head_step other = None
+
 -- ---- units
 
 -- a step of a unit: `every 5th minute from `
 unfoldable pub step_text : SummaryLanguage → TimeUnit → ℕ → List ℕ
 step_text l unit n = nth_text l false n ++ (unit_name l unit ++ term_text l From)
+
+-- every nth from the least value on: `every 5th minute from 0`
+unfoldable pub whole_step : SummaryLanguage → TimeUnit → ℕ → List ℕ
+whole_step l unit n = step_text l unit n ++ decimal 0
 
 -- a unit before several numbers: `minutes `
 unfoldable pub units_text : SummaryLanguage → TimeUnit → List ℕ
@@ -150,11 +159,17 @@ units_text l unit = unit_name l unit ++ (term_text l Plural ++ codes " ")
 -- pieces of a unit whose values are numbers from 0: one piece, or a list
 unfoldable pub sole_text : Style → TimeUnit → List Piece → Option Piece → List ℕ
 sole_text style unit pieces (Some Every) = term_text style.language Each ++ unit_name style.language unit
-sole_text style unit pieces (Some (EveryNth n)) = step_text style.language unit n ++ decimal 0
+sole_text style unit pieces (Some (EveryNth n)) = whole_step style.language unit n
 sole_text style unit pieces (Some (One n)) = unit_name style.language unit ++ (codes " " ++ decimal n)
 sole_text style unit pieces (Some (Range first last)) = units_text style.language unit ++ span_text style.language Number first last
 sole_text style unit pieces (Some (RangeNth first last n)) = step_text style.language unit n ++ span_text style.language Number first last
 sole_text style unit pieces None = units_text style.language unit ++ list_text style Number pieces
 
+-- pieces of a unit, of which the first may be a step: `every 6th hour from 0 and hour 9`
+unfoldable pub headed_text : Style → TimeUnit → List Piece → Option ℕ → List ℕ
+headed_text style unit pieces None = sole_text style unit pieces (sole pieces)
+headed_text style unit pieces (Some n) =
+    whole_step style.language unit n ++ (term_text style.language And ++ sole_text style unit (drop 1 pieces) (sole (drop 1 pieces)))
+
 unfoldable pub unit_text : Style → TimeUnit → List Piece → List ℕ
-unit_text style unit pieces = sole_text style unit pieces (sole pieces)
+unit_text style unit pieces = headed_text style unit pieces (head_step pieces)

@@ -1,18 +1,19 @@
-//! Days, months and years in words.
+//! Days in words.
 
 ghost use Rattle.std.specs.Prelude.{◌≡◌, ◌++◌, false, codes};
 ghost use Rattle.std.specs.List.{list_any};
 ghost use Rattle.croner_summary.specs.Private.Appended.{Appends};
-ghost use Rattle.croner_summary.specs.Words.{is_year, list_text, nth_text, span_text, term_text, unit_name};
-ghost use Rattle.croner_summary.specs.DayWords.{behind_numbers, between_days, both_text, dated_weekday, days_text, each_term, from_end_text, from_fifth, from_first, from_fourth, from_second, from_third, has_nth, has_range, having_text, is_all, is_counted, is_dated_weekday, is_first_day, is_late, is_range, is_some, late_text, month_days_text, months_case, months_text, names_month_day, named_weekdays, names_weekday, near_list, nearest, nearest_text, nth_day, nth_on_text, nth_part, nth_weekdays, numbered, numbers_text, of_week_text, on_text, only_text, stepped, stepped_all, stepped_span, weekday_part, weekdays_text, years_case, years_text};
+ghost use Rattle.croner_summary.specs.Words.{list_text, term_text};
+ghost use Rattle.croner_summary.specs.DayWords.{behind_numbers, between_days, both_text, dated_weekday, days_text, each_term, each_weekday, from_end_text, from_fifth, from_first, from_fourth, from_second, from_third, has_nth, has_range, having_text, is_all, is_counted, is_dated_weekday, is_first_day, is_late, is_range, is_some, late_text, month_days_text, names_month_day, named_weekdays, names_weekday, near_days, nearest, nearest_text, nth_day, nth_names, nth_on_text, nth_part, nth_weekdays, numbered, numbers_text, of_week_text, on_text, only_text, weekday_names, weekday_part, weekdays_text};
 
 use crate::days::{Days, FromEnd, MonthDays, Weekdays};
 use crate::language::{Style, SummaryLanguage, Term, TimeUnit};
 use crate::phrase::{Phrase, Piece};
-use crate::time_words::{is_sole, value_of};
+use crate::pieces::{SATURDAY, SUNDAY};
+use crate::time_words::{are_ones, is_sole, value_of};
 use crate::words::{
-    Kind, is_year, least_of, sole, write_list, write_nth, write_ordinal, write_span, write_term,
-    write_text, write_unit_name, write_value,
+    Kind, sole, write_list, write_nth, write_ordinal, write_span, write_term, write_text,
+    write_unit_name, write_value,
 };
 use croner_base::errors::CronError;
 
@@ -118,6 +119,38 @@ fn write_nth_on(
     write_on(text, language, told)
 }
 
+/// Writes weekdays by their names.
+#[tactic(auto, unfolding(crate::specs::DayWords::weekday_names))]
+fn write_weekday_names(text: &mut String, style: Style, pieces: &[Piece]) -> Result<(), CronError>
+    ensures { Appends (weekday_names style pieces.now) text.old text.new result }
+{
+    if is_all(sole(pieces)) {
+        return write_span(text, style.language, Kind::Weekday, SUNDAY, SATURDAY);
+    }
+    write_list(text, style, Kind::Weekday, pieces)
+}
+
+/// Writes weekdays of which some are in a row, each for itself.
+#[tactic(auto, unfolding(crate::specs::DayWords::each_weekday))]
+fn write_each_weekday(text: &mut String, style: Style, pieces: &[Piece]) -> Result<(), CronError>
+    ensures { Appends (each_weekday style pieces.now) text.old text.new result }
+{
+    write_term(text, style.language, Term::OfEachWeekday)?;
+    write_weekday_names(text, style, pieces)?;
+    write_text(text, ",")
+}
+
+/// Writes weekdays of which one of a month is meant, by their names.
+#[tactic(auto, unfolding(crate::specs::DayWords::nth_names))]
+fn write_nth_names(text: &mut String, style: Style, pieces: &[Piece]) -> Result<(), CronError>
+    ensures { Appends (nth_names style pieces.now) text.old text.new result }
+{
+    if are_ones(pieces) {
+        return write_list(text, style, Kind::NthWeekday, pieces);
+    }
+    write_each_weekday(text, style, pieces)
+}
+
 /// Writes nth weekdays of a phrase, if there are any.
 #[tactic(auto, unfolding(crate::specs::DayWords::nth_part))]
 fn write_nth_part(
@@ -135,7 +168,7 @@ fn write_nth_part(
     }
     write_nth_on(text, style.language, told, listed)?;
     write_term(text, style.language, before)?;
-    write_list(text, style, Kind::NthWeekday, &phrase.pieces)
+    write_nth_names(text, style, &phrase.pieces)
 }
 
 /// Writes the fifth weekdays and the last.
@@ -321,19 +354,17 @@ fn write_between(
 
 /// Writes a list of days of the month.
 fn write_day_list(text: &mut String, style: Style, pieces: &[Piece]) -> Result<(), CronError>
-    ensures { Appends (term_text style.language Term.On ++ (term_text style.language Term.The ++ list_text style Kind.Ordinal pieces.now)) text.old text.new result }
+    ensures { Appends (term_text style.language Term.The ++ list_text style Kind.Ordinal pieces.now) text.old text.new result }
 {
-    write_term(text, style.language, Term::On)?;
     write_term(text, style.language, Term::The)?;
     write_list(text, style, Kind::Ordinal, pieces)
 }
 
-/// Writes every nth day, before the first of them.
+/// Writes every nth day.
 #[tactic(auto, unfolding(crate::specs::DayWords::nth_day))]
 fn write_nth_day(text: &mut String, language: SummaryLanguage, n: u16) -> Result<(), CronError>
     ensures { Appends (nth_day language n) text.old text.new result }
 {
-    write_term(text, language, Term::On)?;
     write_nth(text, language, false, n)?;
     write_unit_name(text, language, TimeUnit::Day)
 }
@@ -351,7 +382,6 @@ fn write_numbered(
     let language = style.language;
     match one {
         Some(Piece::Every) => {
-            write_term(text, language, Term::On)?;
             write_term(text, language, Term::Each)?;
             write_unit_name(text, language, TimeUnit::Day)
         }
@@ -378,6 +408,7 @@ fn write_numbers(text: &mut String, style: Style, phrase: &Phrase) -> Result<(),
     if !is_some(phrase) {
         return Ok(());
     }
+    write_term(text, style.language, Term::On)?;
     write_numbered(text, style, &phrase.pieces, sole(&phrase.pieces))
 }
 
@@ -404,13 +435,13 @@ fn write_from_end(
     }
 }
 
-/// Whether some month hasn't the day.
+/// Whether some month hasn't a day that is named. All days, or each nth of them, are those that a month has.
 fn is_late(piece: Piece) -> bool
     ensures { result ≡ is_late piece }
 {
     match piece {
-        Piece::Every => true,
-        Piece::EveryNth(_) => true,
+        Piece::Every => false,
+        Piece::EveryNth(_) => false,
         Piece::One(day) => SHORTEST_MONTH < day,
         Piece::Range(_, last) => SHORTEST_MONTH < last,
         Piece::RangeNth(_, last, _) => SHORTEST_MONTH < last,
@@ -458,13 +489,13 @@ fn write_late(
     write_having(text, language, sole(pieces))
 }
 
-/// Writes the weekdays nearest to listed days.
-#[tactic(auto, unfolding(crate::specs::DayWords::near_list))]
-fn write_near_list(text: &mut String, style: Style, pieces: &[Piece]) -> Result<(), CronError>
-    ensures { Appends (near_list style pieces.now) text.old text.new result }
+/// Writes the weekdays nearest to days by number.
+#[tactic(auto, unfolding(crate::specs::DayWords::near_days))]
+fn write_near_days(text: &mut String, style: Style, pieces: &[Piece]) -> Result<(), CronError>
+    ensures { Appends (near_days style pieces.now) text.old text.new result }
 {
     write_term(text, style.language, Term::Nearest)?;
-    write_list(text, style, Kind::Ordinal, pieces)?;
+    write_numbered(text, style, pieces, sole(pieces))?;
     write_late(text, style.language, pieces)
 }
 
@@ -484,7 +515,7 @@ fn write_nearest(text: &mut String, style: Style, pieces: &[Piece]) -> Result<()
     if is_first_day(sole(pieces)) {
         return write_term(text, style.language, Term::TheFirstWorkingDay);
     }
-    write_near_list(text, style, pieces)
+    write_near_days(text, style, pieces)
 }
 
 /// Writes the weekdays nearest to the days of a phrase, if it has any.
@@ -622,152 +653,4 @@ pub(crate) fn write_days(text: &mut String, style: Style, days: &Days) -> Result
         Days::Either(month, week) => write_either(text, style, month, week),
         Days::Both(month, week) => write_both(text, style, month, week),
     }
-}
-
-/// Writes every nth unit, before the first of them.
-#[tactic(auto, unfolding(crate::specs::DayWords::stepped))]
-fn write_stepped(
-    text: &mut String,
-    language: SummaryLanguage,
-    unit: TimeUnit,
-    kind: Kind,
-    n: u16,
-) -> Result<(), CronError>
-    ensures { Appends (stepped language unit kind n) text.old text.new result }
-{
-    write_term(text, language, Term::InMonths)?;
-    write_nth(text, language, is_year(kind), n)?;
-    write_unit_name(text, language, unit)?;
-    write_term(text, language, Term::From)
-}
-
-/// Writes every nth unit from the least value on.
-#[tactic(auto, unfolding(crate::specs::DayWords::stepped_all))]
-fn write_stepped_all(
-    text: &mut String,
-    language: SummaryLanguage,
-    unit: TimeUnit,
-    kind: Kind,
-    n: u16,
-) -> Result<(), CronError>
-    ensures { Appends (stepped_all language unit kind n) text.old text.new result }
-{
-    write_stepped(text, language, unit, kind, n)?;
-    write_value(text, language, kind, least_of(kind))
-}
-
-/// Writes every nth unit from one value to another.
-#[tactic(auto, unfolding(crate::specs::DayWords::stepped_span))]
-fn write_stepped_span(
-    text: &mut String,
-    language: SummaryLanguage,
-    unit: TimeUnit,
-    kind: Kind,
-    first: u16,
-    last: u16,
-    n: u16,
-) -> Result<(), CronError>
-    ensures { Appends (stepped_span language unit kind first last n) text.old text.new result }
-{
-    write_stepped(text, language, unit, kind, n)?;
-    write_span(text, language, kind, first, last)
-}
-
-/// Writes a list of months.
-fn write_month_list(text: &mut String, style: Style, pieces: &[Piece]) -> Result<(), CronError>
-    ensures { Appends (term_text style.language Term.InMonths ++ list_text style Kind.Month pieces.now) text.old text.new result }
-{
-    write_term(text, style.language, Term::InMonths)?;
-    write_list(text, style, Kind::Month, pieces)
-}
-
-/// Writes months, unless each is named, by their one piece.
-#[tactic(auto, unfolding(crate::specs::DayWords::months_case))]
-fn write_months_case(
-    text: &mut String,
-    style: Style,
-    pieces: &[Piece],
-    one: Option<Piece>,
-) -> Result<(), CronError>
-    ensures { Appends (months_case style pieces.now one) text.old text.new result }
-{
-    let language = style.language;
-    match one {
-        Some(Piece::Every) => Ok(()),
-        Some(Piece::EveryNth(n)) => {
-            write_stepped_all(text, language, TimeUnit::Month, Kind::Month, n)
-        }
-        Some(Piece::RangeNth(first, last, n)) => {
-            write_stepped_span(text, language, TimeUnit::Month, Kind::Month, first, last, n)
-        }
-        Some(Piece::One(_)) => write_month_list(text, style, pieces),
-        Some(Piece::Range(first, last)) => {
-            write_text(text, ", ")?;
-            write_span(text, language, Kind::Month, first, last)
-        }
-        None => write_month_list(text, style, pieces),
-    }
-}
-
-/// Writes months, unless each is named.
-#[tactic(auto, unfolding(crate::specs::DayWords::months_text))]
-pub(crate) fn write_months(
-    text: &mut String,
-    style: Style,
-    pieces: &[Piece],
-) -> Result<(), CronError>
-    ensures { Appends (months_text style pieces.now) text.old text.new result }
-{
-    write_months_case(text, style, pieces, sole(pieces))
-}
-
-/// Writes a list of years.
-fn write_year_list(text: &mut String, style: Style, pieces: &[Piece]) -> Result<(), CronError>
-    ensures { Appends (term_text style.language Term.InYears ++ list_text style Kind.Year pieces.now) text.old text.new result }
-{
-    write_term(text, style.language, Term::InYears)?;
-    write_list(text, style, Kind::Year, pieces)
-}
-
-/// Writes years, unless each is named, by their one piece.
-#[tactic(auto, unfolding(crate::specs::DayWords::years_case))]
-fn write_years_case(
-    text: &mut String,
-    style: Style,
-    pieces: &[Piece],
-    one: Option<Piece>,
-) -> Result<(), CronError>
-    ensures { Appends (years_case style pieces.now one) text.old text.new result }
-{
-    let language = style.language;
-    match one {
-        Some(Piece::Every) => Ok(()),
-        Some(Piece::EveryNth(n)) => {
-            write_text(text, ",")?;
-            write_stepped_all(text, language, TimeUnit::Year, Kind::Year, n)
-        }
-        Some(Piece::RangeNth(first, last, n)) => {
-            write_text(text, ",")?;
-            write_stepped_span(text, language, TimeUnit::Year, Kind::Year, first, last, n)
-        }
-        Some(Piece::One(_)) => write_year_list(text, style, pieces),
-        Some(Piece::Range(first, last)) => {
-            write_text(text, ",")?;
-            write_term(text, language, Term::From)?;
-            write_span(text, language, Kind::Year, first, last)
-        }
-        None => write_year_list(text, style, pieces),
-    }
-}
-
-/// Writes years, unless each is named.
-#[tactic(auto, unfolding(crate::specs::DayWords::years_text))]
-pub(crate) fn write_years(
-    text: &mut String,
-    style: Style,
-    pieces: &[Piece],
-) -> Result<(), CronError>
-    ensures { Appends (years_text style pieces.now) text.old text.new result }
-{
-    write_years_case(text, style, pieces, sole(pieces))
 }

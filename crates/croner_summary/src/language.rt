@@ -96,6 +96,8 @@ pub enum Term {
     FifthTime,
     /// For the last time.
     LastTime,
+    /// Behind the nth, before weekdays of which some are in a row.
+    OfEachWeekday,
     /// Behind these weekdays.
     OfTheMonth,
     /// The last day of the month.
@@ -112,10 +114,16 @@ pub enum Term {
     HavingOneEnd,
     /// Behind several days, of which not each month has each.
     HavingDays,
-    /// Before months, and before years at a step.
+    /// Before months.
     InMonths,
+    /// Before months beside a step.
+    AndInMonths,
+    /// Before years at a step.
+    InNthYears,
     /// Before years.
     InYears,
+    /// Before years beside a step.
+    AndInYears,
     /// That no second is named, and so nothing is scheduled.
     NoSecond,
     /// No minute.

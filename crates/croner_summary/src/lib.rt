@@ -11,6 +11,7 @@ mod english;
 mod exact;
 mod field;
 mod language;
+mod month_words;
 mod phrase;
 mod pieces;
 mod plain;

@@ -23,7 +23,7 @@ const STEPS_WITH_OTHERS: u16 = 4;
 pub(crate) const SATURDAY: u16 = 6;
 
 /// Sunday.
-const SUNDAY: u16 = 0;
+pub(crate) const SUNDAY: u16 = 0;
 
 /// The distance of the first two values; 0 where there is none.
 fn first_step(values: &[u16]) -> u16 {

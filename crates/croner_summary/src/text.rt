@@ -6,11 +6,10 @@ ghost use Rattle.croner_summary.specs.Texts.{are_all_told, are_days_told, cut_st
 ghost use Rattle.croner_summary.specs.Private.Appended.{Appends};
 ghost use Rattle.croner_words.specs.Writes.{Writes};
 
-use crate::day_words::{
-    is_some, names_month_day, names_weekday, write_days, write_months, write_years,
-};
+use crate::day_words::{is_some, names_month_day, names_weekday, write_days};
 use crate::days::{Days, MonthDays, Weekdays};
 use crate::language::{Style, SummaryLanguage, Term};
+use crate::month_words::{write_months, write_years};
 use crate::phrase::Phrase;
 use crate::summary::Summary;
 use crate::time_words::write_time;
@@ -205,7 +204,7 @@ impl Summary {
     /// The summary in words, as a line without a full stop. It is known exactly from the phrases.
     ///
     /// A text of more than 400 bytes is cut: of a list of more than three pieces it tells the first three, and how many more there
-    /// are. [`is_whole`](Self::is_whole) says whether it tells all.
+    /// are; a step that others stand beside is told before these. [`is_whole`](Self::is_whole) says whether it tells all.
     ///
     /// The only error is `OutOfMemory`.
     ///

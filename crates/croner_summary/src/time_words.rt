@@ -4,13 +4,13 @@ ghost use Rattle.std.specs.Prelude.{◌≡◌, ◌<◌, ◌++◌, true, length, 
 ghost use Rattle.std.specs.List.{list_all};
 ghost use Rattle.croner_summary.specs.Private.Appended.{Appends};
 ghost use Rattle.croner_summary.specs.Words.{every_text, span_text, term_text, unit_text};
-ghost use Rattle.croner_summary.specs.TimeWords.{are_times, at_second, at_step, beside_text, by_hours, by_minutes, each_hour_text, ends_text, from_minutes, head_step, hour_case, in_hour, in_hours, is_every, is_one, is_sole, is_to_the_end, is_whole_day, listed_minutes, many_seconds, minute_case, minutes_and_hours, minutes_head, minutes_text, of_hours, part_text, parts_text, second_case, seconds_text, stepped_hourly, stretch_of, stretch_text, stretched, time_text, times_text, unit_of, untimed, value_of};
+ghost use Rattle.croner_summary.specs.TimeWords.{are_times, at_second, at_step, beside_text, by_hours, by_minutes, each_hour_text, ends_text, from_minutes, hour_case, in_hour, in_hours, is_every, is_one, is_sole, is_to_the_end, is_whole_day, listed_minutes, many_seconds, minute_case, minutes_and_hours, minutes_head, minutes_text, of_hours, part_text, parts_text, second_case, seconds_text, stepped_hourly, stretch_of, stretch_text, stretched, time_text, times_text, unit_of, untimed, value_of};
 
 use crate::language::{Style, SummaryLanguage, Term, TimeUnit};
 use crate::phrase::Piece;
 use crate::words::{
-    Kind, sole, write_clock, write_every, write_list, write_number, write_span, write_term,
-    write_unit,
+    Kind, head_step, sole, write_clock, write_every, write_list, write_number, write_span,
+    write_term, write_unit,
 };
 use croner_base::errors::CronError;
 
@@ -253,20 +253,6 @@ fn write_minutes_and_hours(
     write_of_hours(text, style, hours)
 }
 
-/// The step that a list of more than one piece begins with.
-fn head_step(pieces: &[Piece]) -> Option<u16>
-    ensures value { result ≡ head_step pieces.now }
-    ensures some { IsSome result → 0 < length pieces.now }
-{
-    if pieces.len() < 2 {
-        return None;
-    }
-    match pieces[0] {
-        Piece::EveryNth(n) => Some(n),
-        _ => None,
-    }
-}
-
 /// Writes a step with others beside.
 #[tactic(auto, unfolding(crate::specs::TimeWords::beside_text))]
 fn write_beside(text: &mut String, style: Style, n: u16, minutes: &[Piece]) -> Result<(), CronError>
@@ -425,7 +411,7 @@ fn is_one(piece: Piece) -> bool
 }
 
 /// Whether each piece is one value.
-fn are_ones(pieces: &[Piece]) -> bool
+pub(crate) fn are_ones(pieces: &[Piece]) -> bool
     ensures { result ≡ list_all is_one pieces.now }
 {
     pieces.iter().all(|piece| is_one(*piece))

@@ -1,7 +1,7 @@
 //! Values, pieces and lists in words.
 
-ghost use Rattle.std.specs.Prelude.{◌≡◌, ◌<◌, ◌++◌, true, decimal, length};
-ghost use Rattle.croner_summary.specs.Words.{clock_text, every_text, is_year, least_of, left_text, list_text, month_name, nth_text, ordinal, ordinal_end, piece_text, second_text, separator, sole, sole_text, span_text, step_text, term_text, two_places, unit_name, unit_text, units_text, value_text, weekday_name};
+ghost use Rattle.std.specs.Prelude.{◌≡◌, ◌<◌, ◌++◌, true, decimal, length, IsSome};
+ghost use Rattle.croner_summary.specs.Words.{clock_text, every_text, head_step, headed_text, is_year, least_of, left_text, list_text, month_name, nth_text, ordinal, ordinal_end, piece_text, second_text, separator, sole, sole_text, span_text, step_text, term_text, two_places, unit_name, unit_text, units_text, value_text, weekday_name, whole_step};
 ghost use Rattle.croner_summary.specs.Private.Appended.{Appends, BeginsList};
 
 use crate::english::{
@@ -419,6 +419,20 @@ pub(crate) fn sole(pieces: &[Piece]) -> Option<Piece>
     }
 }
 
+/// The step that a list of more than one piece begins with.
+pub(crate) fn head_step(pieces: &[Piece]) -> Option<u16>
+    ensures value { result ≡ head_step pieces.now }
+    ensures some { IsSome result → 0 < length pieces.now }
+{
+    if pieces.len() < 2 {
+        return None;
+    }
+    match pieces[0] {
+        Piece::EveryNth(n) => Some(n),
+        _ => None,
+    }
+}
+
 /// Writes the name of a unit.
 pub(crate) fn write_unit_name(
     text: &mut String,
@@ -443,6 +457,20 @@ fn write_step(
     write_nth(text, language, false, n)?;
     write_unit_name(text, language, unit)?;
     write_term(text, language, Term::From)
+}
+
+/// Writes a step of a unit from its least value on.
+#[tactic(auto, unfolding(crate::specs::Words::whole_step))]
+fn write_whole_step(
+    text: &mut String,
+    language: SummaryLanguage,
+    unit: TimeUnit,
+    n: u16,
+) -> Result<(), CronError>
+    ensures { Appends (whole_step language unit n) text.old text.new result }
+{
+    write_step(text, language, unit, n)?;
+    write_number(text, 0)
 }
 
 /// Writes a unit before several numbers.
@@ -476,10 +504,7 @@ fn write_sole(
             write_term(text, language, Term::Each)?;
             write_unit_name(text, language, unit)
         }
-        Some(Piece::EveryNth(n)) => {
-            write_step(text, language, unit, n)?;
-            write_number(text, 0)
-        }
+        Some(Piece::EveryNth(n)) => write_whole_step(text, language, unit, n),
         Some(Piece::One(value)) => {
             write_unit_name(text, language, unit)?;
             write_text(text, " ")?;
@@ -500,6 +525,29 @@ fn write_sole(
     }
 }
 
+/// Writes pieces of a unit, of which the first may be a step.
+#[tactic(auto, unfolding(crate::specs::Words::headed_text))]
+fn write_headed(
+    text: &mut String,
+    style: Style,
+    unit: TimeUnit,
+    pieces: &[Piece],
+    head: Option<u16>,
+) -> Result<(), CronError>
+    requires { IsSome head → 0 < length pieces.now }
+    ensures { Appends (headed_text style unit pieces.now head) text.old text.new result }
+{
+    match head {
+        None => write_sole(text, style, unit, pieces, sole(pieces)),
+        Some(n) => {
+            write_whole_step(text, style.language, unit, n)?;
+            write_term(text, style.language, Term::And)?;
+            let others = &pieces[1..];
+            write_sole(text, style, unit, others, sole(others))
+        }
+    }
+}
+
 /// Writes pieces of a unit whose values are numbers from 0.
 #[tactic(auto, unfolding(crate::specs::Words::unit_text))]
 pub(crate) fn write_unit(
@@ -510,5 +558,5 @@ pub(crate) fn write_unit(
 ) -> Result<(), CronError>
     ensures { Appends (unit_text style unit pieces.now) text.old text.new result }
 {
-    write_sole(text, style, unit, pieces, sole(pieces))
+    write_headed(text, style, unit, pieces, head_step(pieces))
 }

@@ -5,8 +5,8 @@ use crate::clones::clone_of;
 use crate::iterators::{handed, listing};
 use crate::schedulers::call_of_scheduler;
 use crate::searches::{reading, search};
-use crate::tables;
 use crate::texts::{explanation, new_field, parser, questions, to_json, words_of_language};
+use crate::{summaries, tables};
 use croner_rows::{Caller, Outcome, Result, ask, text};
 use serde_json::Value;
 
@@ -26,6 +26,10 @@ pub fn make_calls(caller: Caller<'_>, question: &Value) -> Result<Outcome> {
         "clock table" => clock_table(caller, question),
         "table of a zone" => zone_table(caller, question),
         "reading" => reading(caller, question),
+        "summary" => summaries::summary(caller, question),
+        "text of a summary" => summaries::told(caller, question),
+        "display of a summary" => summaries::displayed(caller, question),
+        "is a text whole" => summaries::whole(caller, question),
         op => calls_of_runs(caller, question, op),
     }
 }

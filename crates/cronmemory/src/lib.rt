@@ -8,6 +8,7 @@ mod clones;
 mod iterators;
 mod schedulers;
 mod searches;
+mod summaries;
 mod tables;
 mod texts;
 
