@@ -18,9 +18,9 @@ _croncheck_options() {
     local settings='--alternative-weekdays --dom-and-dow --sloppy-ranges --seconds --year'
     case $1 in
         check) printf '%s\n' "$clock -f --format $output $kinds --language $settings $look -h --help" ;;
-        show) printf '%s\n' "$clock $span --show-zone $output $kinds --language $settings $look -h --help" ;;
+        show) printf '%s\n' "$clock $span --previous --show-zone $output $kinds --language $settings $look -h --help" ;;
         plan) printf '%s\n' "$clock $span $kinds $settings $look -h --help" ;;
-        next) printf '%s\n' "$clock $span --show-zone --language --for $settings $look -h --help" ;;
+        next) printf '%s\n' "$clock $span --previous --show-zone --language --for $settings $look -h --help" ;;
         describe) printf '%s\n' "--language --for $settings $look -h --help" ;;
         *) printf '%s\n' "$clock -f --format $output $kinds --language $settings $look -h --help -V --version" ;;
     esac
@@ -38,7 +38,7 @@ _croncheck() {
     case $option in
         --zone | --show-zone) words="local UTC $(_croncheck_zones)" ;;
         --from | --until) words=now ;;
-        --runs | --stdin-name | --width) ;;
+        --runs | --previous | --stdin-name | --width) ;;
         --root) compopt -o dirnames 2>/dev/null; return 0 ;;
         --language) words='en sv' ;;
         --for) words='kubernetes github quartz spring' ;;

@@ -6,7 +6,7 @@ mod machine;
 use croncheck_command::annotator::{Annotator, Style};
 use croncheck_command::changes::Changes;
 use croncheck_command::checker::Checker;
-use croncheck_command::clock::Clock;
+use croncheck_command::clock::{Clock, NoClock};
 use croncheck_command::escaped::shown;
 use croncheck_command::files::tell_files;
 use croncheck_command::form::Form;
@@ -16,8 +16,10 @@ use croncheck_command::look::Look;
 use croncheck_command::moment::{Moment, last_up_to, second_of, start_from};
 use croncheck_command::names::Asked;
 use croncheck_command::output::Output;
+use croncheck_command::past::PastClock;
 use croncheck_command::patterns::{Answer, tell_patterns};
 use croncheck_command::planner::Planner;
+use croncheck_command::previous::Previous;
 use croncheck_command::problem::Problem;
 use croncheck_command::progress::{Terms, TermsByKind};
 use croncheck_command::reporter::Reporter;
@@ -260,6 +262,8 @@ fn check_in<'z>(
     let Ok(changes) = Changes::of(rt.alloc(), &clock, start) else {
         return Err(Problem::OutOfMemory);
     };
+    let past = past_of(rt, call, &zone, start)?;
+    let previous = previous_in(call, &past);
     let root = root_of(rt, call.root)?;
     let users = users_text(rt, call, &root).map_err(Problem::Users)?;
     let Ok(names) = copies_of(rt, call.allowed.as_slice()) else {
@@ -272,6 +276,7 @@ fn check_in<'z>(
         call,
         &changes,
         listing,
+        previous.as_ref(),
         look_of(rt, call),
         allowed.as_slice(),
         known_users(&users),
@@ -283,6 +288,31 @@ fn check_in<'z>(
     };
     let kinds = TermsByKind::new(rt.alloc(), &settings, &shared);
     tell_of_machine(rt, call, &kinds, &root, &users)
+}
+
+// The clock of the runs before the start, where the call asks for them.
+fn past_of(
+    rt: &HostRuntime,
+    call: &Call<'_>,
+    zone: &TimeZone<'_>,
+    start: i64,
+) -> Result<Option<PastClock>, Problem> {
+    if call.previous.is_none() {
+        return Ok(None);
+    }
+    match PastClock::of(rt.alloc(), zone, start) {
+        Ok(Some(past)) => Ok(Some(past)),
+        Ok(None) => Err(Problem::Clock(NoClock::Outside)),
+        Err(_) => Err(Problem::OutOfMemory),
+    }
+}
+
+// What is asked of these runs.
+fn previous_in<'p>(call: &Call<'_>, past: &'p Option<PastClock>) -> Option<Previous<'p>> {
+    match (call.previous, past) {
+        (Some(count), Some(past)) => past.previous(count),
+        _ => None,
+    }
 }
 
 // Tells of the crontabs of the machine that is checked, or of the files that the words name. These are the machine's users.
@@ -306,6 +336,7 @@ fn settings_of<'t>(
     call: &Call<'_>,
     changes: &'t Changes<'t>,
     listing: Listing,
+    previous: Option<&'t Previous<'t>>,
     look: Look,
     allowed: &'t [&'t str],
     users: Option<Users<'t>>,
@@ -317,6 +348,7 @@ fn settings_of<'t>(
         changes,
         listing,
         is_from_now: is_now(call.from),
+        previous,
         is_strict: call.is_strict,
         compares_jobs: call.compares_jobs,
         look,

@@ -57,7 +57,7 @@ a_job : (hour : Offset) (schedule command : Bor (List ℕ)) (found : Vec Warning
       user = None;
       command = Some command;
       same = None;
-      times = tolds.Runs text runs false;
+      times = tolds.Runs text runs None false;
       warnings = found;
       meetings = none_met;
       dates = None;

@@ -6,6 +6,7 @@ mod ClockTexts
 mod Dates
 mod Descriptions
 mod Endings
+mod ExamplesAgo
 mod ExamplesAllowed
 mod ExamplesAnnotations
 mod ExamplesChanges
@@ -17,6 +18,7 @@ mod ExamplesJson
 mod ExamplesLook
 mod ExamplesNames
 mod ExamplesOff
+mod ExamplesPrevious
 mod ExamplesSarif
 mod ExamplesShown
 mod ExamplesTally
@@ -37,7 +39,10 @@ mod Objects
 mod Outcomes
 mod Outputs
 mod OwnRuns
+mod OwnRunsBefore
+mod PastClocks
 mod Plans
+mod PreviousRuns
 mod SarifLines
 mod Sarifs
 mod ShownBytes

@@ -61,7 +61,7 @@ behind_by : (a b : ℤ) (t : Bool) → int_le a b ≡ t → (a ≤ℤ b → ⊥)
 behind_by a b true test isnt = absurd (isnt (le_of a b test))
 behind_by a b false test isnt = grind (arith, ints)
 
-behind_of : (a b : ℤ) → (a ≤ℤ b → ⊥) → b <ℤ a
+pub behind_of : (a b : ℤ) → (a ≤ℤ b → ⊥) → b <ℤ a
 behind_of a b isnt = behind_by a b (int_le a b) refl isnt
 
 -- the run past a bound is left, and each that is left before it is among the items
@@ -103,7 +103,7 @@ by_until : (until last : ℤ) (b : Bool) → int_lt last until ≡ b → (i : �
 by_until until last true test i by = grind (arith, ints)
 by_until until last false test i by = by
 
-abbrev or_else : CronError → Option CronError → CronError
+abbrev pub or_else : CronError → Option CronError → CronError
 or_else d None = d
 or_else d (Some e) = e
 
@@ -214,22 +214,22 @@ module _ (rest : Rest) (start : ℤ) (behind : (i : ℤ) → rest.left i → sta
 -- ---- runs that are times or starts
 
 -- what holds of what each is made into
-all_of_map : {X Y : Type 0} (P : X → Type 0) (f : Y → X) (ys : List Y) → All P (map f ys) → All (λ y. P (f y)) ys
+pub all_of_map : {X Y : Type 0} (P : X → Type 0) (f : Y → X) (ys : List Y) → All P (map f ys) → All (λ y. P (f y)) ys
 all_of_map P f ys all = λ k d inside. subst P (get_or-map f ys k d (f d) inside) (all k (f d) (omega (arith, length-map ys f, inside)))
 
-once_seconds : (times : List TableTime) → seconds_of (map once times) ≡ instants table_moment times
+pub once_seconds : (times : List TableTime) → seconds_of (map once times) ≡ instants table_moment times
 once_seconds [] = refl
 once_seconds (t ∷ times) = ap (λ (is : List ℤ). t.second ∷ is) (once_seconds times)
 
 -- the seconds of starts
-abbrev start_seconds : List Start → List ℤ
+abbrev pub start_seconds : List Start → List ℤ
 start_seconds starts = map (λ s. s.second) starts
 
-run_seconds : (runs : List Run) → map (λ v. v.start.second) (map run_seen runs) ≡ seconds_of runs
+pub run_seconds : (runs : List Run) → map (λ v. v.start.second) (map run_seen runs) ≡ seconds_of runs
 run_seconds [] = refl
 run_seconds (run ∷ runs) = ap (λ (is : List ℤ). run.time.second ∷ is) (run_seconds runs)
 
-on_seconds : (table : ClockTable) (starts : List Start) → map (λ v. v.start.second) (map (seen_on table) starts) ≡ start_seconds starts
+pub on_seconds : (table : ClockTable) (starts : List Start) → map (λ v. v.start.second) (map (seen_on table) starts) ≡ start_seconds starts
 on_seconds table [] = refl
 on_seconds table (s ∷ starts) = ap (λ (is : List ℤ). s.second ∷ is) (on_seconds table starts)
 
@@ -286,7 +286,7 @@ listed_by m start at new until most last listing times r fault ending begins up_
 -- ---- of a job of a crontab
 
 -- how a listing of starts ended, in the words of one of runs
-abbrev ending_of : StartsEnd → ListingEnd
+abbrev pub ending_of : StartsEnd → ListingEnd
 ending_of starts_ends.Full = endings.Full
 ending_of (starts_ends.Past next) = endings.Past next.second
 ending_of starts_ends.Over = endings.Over

@@ -53,7 +53,8 @@ runs_whole zone (run ∷ runs) = rw (run_whole zone run) (runs_whole zone runs)
 times_whole : (zone : TimeZone) (times : Told) → has_float (times_object zone times) ≡ false
 times_whole zone tolds.Reboot = refl
 times_whole zone tolds.Nothing = refl
-times_whole zone (tolds.Runs text runs is_past) = rw (runs_whole zone runs.items.items)
+times_whole zone (tolds.Runs text runs None is_past) = rw (runs_whole zone runs.items.items)
+times_whole zone (tolds.Runs text runs (Some previous) is_past) = rw (runs_whole zone previous.items.items, runs_whole zone runs.items.items)
 
 change_whole : (c : Met) → has_float (change_object c) ≡ false
 change_whole c =

@@ -23,6 +23,7 @@ use Rattle.croncheck_command.specs.declared.told.Told.TheVariants as tolds
 use Rattle.croncheck_command.specs.declared.runs.End.{End}
 use Rattle.croncheck_command.specs.declared.runs.End.TheVariants as ends
 use Rattle.croncheck_command.specs.declared.runs.Run.{Run}
+use Rattle.croncheck_command.specs.declared.runs.Runs.{Runs}
 use Rattle.croncheck_command.specs.Findings.{severity_name, findings_seen, findings_said, findings_of_line, findings_of_file, last_line}
 use Rattle.croncheck_command.specs.Output.{Written}
 use Rattle.croncheck_command.specs.Tally.{one_more}
@@ -84,15 +85,31 @@ run_object zone run = object
     (member (codes "offset") (integer (offset_of zone run.time.second)) (member (codes "second") (integer run.time.second)
     (member (codes "starts") (number (unsigned run.count)) no_members)))
 
+-- the runs before the start, and how their list ends
+abbrev pub previous_object : TimeZone → Runs → Data
+previous_object zone runs = object
+    (member (codes "end") (string (end_name false runs.end))
+    (member (codes "runs") (array (items_of (map (run_object zone) runs.items.items))) no_members))
+
+-- when a job runs whose times have a meaning: with the runs before the start where these are asked for
+abbrev pub named_object : TimeZone → List ℕ → Runs → Bool → Option Runs → Data
+named_object zone text runs is_past None = object
+    (member (codes "description") (string text)
+    (member (codes "end") (string (end_name is_past runs.end))
+    (member (codes "runs") (array (items_of (map (run_object zone) runs.items.items)))
+    (member (codes "when") (string (codes "named")) no_members))))
+named_object zone text runs is_past (Some previous) = object
+    (member (codes "description") (string text)
+    (member (codes "end") (string (end_name is_past runs.end))
+    (member (codes "previous") (previous_object zone previous)
+    (member (codes "runs") (array (items_of (map (run_object zone) runs.items.items)))
+    (member (codes "when") (string (codes "named")) no_members)))))
+
 -- when a job runs
 abbrev pub times_object : TimeZone → Told → Data
 times_object zone tolds.Reboot = object (member (codes "when") (string (codes "reboot")) no_members)
 times_object zone tolds.Nothing = object (member (codes "when") (string (codes "nothing")) no_members)
-times_object zone (tolds.Runs text runs is_past) = object
-    (member (codes "description") (string (string_bytes text))
-    (member (codes "end") (string (end_name is_past runs.end))
-    (member (codes "runs") (array (items_of (map (run_object zone) runs.items.items)))
-    (member (codes "when") (string (codes "named")) no_members))))
+times_object zone (tolds.Runs text runs previous is_past) = named_object zone (string_bytes text) runs is_past previous
 
 -- the word for what becomes of a second that a change of the clock skips, or shows twice
 abbrev pub fate_name : Fate → List ℕ

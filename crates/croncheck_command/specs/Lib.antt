@@ -1,3 +1,4 @@
+pub mod Ago
 pub mod Allowed
 pub mod Annotations
 pub mod Changes
@@ -16,10 +17,12 @@ pub mod Moment
 pub mod Names
 pub mod Off
 pub mod Output
+pub mod Past
 pub mod Patterns
 pub mod Plan
 pub mod Planner
 pub mod Presets
+pub mod Previous
 pub mod Private
 pub mod Problem
 pub mod Report

@@ -110,13 +110,13 @@ MeetsPattern s meaning told met = TellsChanges s runners.Croner meaning told met
 abbrev pub IsFirstListed : Told → Run → Type 0
 IsFirstListed tolds.Reboot run = ⊥
 IsFirstListed tolds.Nothing run = ⊥
-IsFirstListed (tolds.Runs text runs is_past) run = (0 < length runs.items.items) × (get_or runs.items.items 0 run ≡ run)
+IsFirstListed (tolds.Runs text runs previous is_past) run = (0 < length runs.items.items) × (get_or runs.items.items 0 run ≡ run)
 
 -- runs are listed
 abbrev pub has_listed : Told → Bool
 has_listed tolds.Reboot = false
 has_listed tolds.Nothing = false
-has_listed (tolds.Runs text runs is_past) = not (length runs.items.items == 0)
+has_listed (tolds.Runs text runs previous is_past) = not (length runs.items.items == 0)
 
 -- the days of the month of a run that each day field names by itself
 pub record AreDatesAt (m : Meaning) (told : Told) (d : Dates) (run : Run) (shown : CivilDateTime) : Type 0 where

@@ -1,9 +1,10 @@
 -- What reports are made by. Source: this crate's documentation of `Settings`.
-use Rattle.std.specs.Prelude.{ℤ, Option, Some, None, if◌then◌else◌}
+use Rattle.std.specs.Prelude.{ℤ, Option, Some, None, option_map, if◌then◌else◌}
 use Rattle.croner_base.specs.declared.time.table.TableTime.{TableTime}
 use Rattle.crontab.specs.declared.line.Dialect.{Dialect}
 use Rattle.crontab.specs.declared.line.Dialect.TheVariants as dialects
 use Rattle.croncheck_command.specs.declared.clock.stop.Stop.{Stop}
+use Rattle.croncheck_command.specs.declared.previous.Previous.{Previous}
 use Rattle.croncheck_command.specs.declared.settings.Settings.{Settings}
 use Rattle.croncheck_command.specs.declared.settings.SettingsByKind.{SettingsByKind}
 use Rattle.croncheck_command.specs.Clock.{last_before}
@@ -23,6 +24,14 @@ window_end s = last_before (stop_of s)
 -- the second from which on it is said how far off a run is: the start, where that is the call's own
 abbrev pub off_from : Settings → Option ℤ
 off_from s = if s.is_from_now then Some (start_of s).second else None
+
+-- what is asked of the runs up to the start, if these are told too
+abbrev pub asked_of : Settings → Option Previous
+asked_of s = option_map (λ asked. asked.now) s.previous
+
+-- the second from which on the clock of these runs is followed, where they are told
+abbrev pub followed_from : Settings → Option ℤ
+followed_from s = option_map (λ asked. asked.from) (asked_of s)
 
 -- these settings, for files of a dialect
 abbrev pub in_dialect : Dialect → Settings → Settings

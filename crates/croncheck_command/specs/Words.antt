@@ -1,5 +1,5 @@
 -- The words of a call.
-use Rattle.std.specs.Prelude.{◌≡◌, ◌≤◌, ⊤}
+use Rattle.std.specs.Prelude.{◌≡◌, ◌≤◌, ⊤, ℕ, Option, Some, None}
 use Rattle.croncheck_command.specs.declared.words.Span.{Span}
 use Rattle.croncheck_command.specs.declared.words.Span.TheVariants as spans
 use Rattle.croncheck_command.specs.declared.words.Verb.{Verb}
@@ -10,6 +10,11 @@ use Rattle.croncheck_command.specs.Moment.{IsNamed}
 abbrev pub IsInRange : Span → Type 0
 IsInRange (spans.Count n) = n ≤ 1000
 IsInRange (spans.Until moment) = IsNamed moment
+
+-- how many runs before the start may be asked for: none, or up to 1000
+abbrev pub AreInRange : Option ℕ → Type 0
+AreInRange None = ⊤
+AreInRange (Some n) = (1 ≤ n) × (n ≤ 1000)
 
 -- how many runs are looked at where none is told: one to check, none to describe
 abbrev pub TellsRuns : Verb → Span → Type 0

@@ -4,7 +4,7 @@ ghost use Rattle.serde_json.specs.Data.{array};
 ghost use Rattle.serde_json.specs.View.{view, items_of};
 ghost use Rattle.jiff.specs.ZoneView.{plain_zone};
 ghost use Rattle.crontab.specs.Entries.{entry_seen};
-ghost use Rattle.croncheck_command.specs.Json.{kind_of_line, kind_of, end_name, string_or_null, run_object, times_object, fate_name, change_object, change_objects, objects_of_changes, job_object, job_data, finding_object, object_of};
+ghost use Rattle.croncheck_command.specs.Json.{kind_of_line, kind_of, end_name, string_or_null, run_object, previous_object, named_object, times_object, fate_name, change_object, change_objects, objects_of_changes, job_object, job_data, finding_object, object_of};
 ghost use Rattle.croncheck_command.specs.Shown.{exact};
 
 use crate::changes::Fate;
@@ -173,18 +173,56 @@ fn times_of(alloc: Global, shared: &Shared<'_>, times: &Told<'_>) -> Result<Valu
         Told::Runs {
             description,
             runs,
+            previous,
             is_past,
         } => {
-            let end = end_of(&runs.end, *is_past);
-            let description = description.as_str();
-            json!(in alloc; {
-                "when": "named",
-                "description": description,
-                "runs": runs_of(alloc, shared, runs)?,
-                "end": end
-            })
+            named_of(
+                alloc,
+                shared,
+                description.as_str(),
+                runs,
+                *is_past,
+                previous,
+            )
         }
     }
+}
+
+// When a job runs whose times have a meaning.
+fn named_of(
+    alloc: Global,
+    shared: &Shared<'_>,
+    description: &str,
+    runs: &Runs<'_>,
+    is_past: bool,
+    previous: &Option<Runs<'_>>,
+) -> Result<Value, AllocError>
+    ensures { IfOk result (λ v. view v ≡ named_object (plain_zone shared.now.zone) description.now runs.now is_past previous.now) }
+{
+    let end = end_of(&runs.end, is_past);
+    match previous {
+        Some(previous) => json!(in alloc; {
+            "when": "named",
+            "description": description,
+            "runs": runs_of(alloc, shared, runs)?,
+            "end": end,
+            "previous": previous_of(alloc, shared, previous)?
+        }),
+        None => json!(in alloc; {
+            "when": "named",
+            "description": description,
+            "runs": runs_of(alloc, shared, runs)?,
+            "end": end
+        }),
+    }
+}
+
+// The runs before the start, and how their list ends.
+fn previous_of(alloc: Global, shared: &Shared<'_>, runs: &Runs<'_>) -> Result<Value, AllocError>
+    ensures { IfOk result (λ v. view v ≡ previous_object (plain_zone shared.now.zone) runs.now) }
+{
+    let end = end_of(&runs.end, false);
+    json!(in alloc; {"runs": runs_of(alloc, shared, runs)?, "end": end})
 }
 
 fn end_of(end: &End, is_past: bool) -> &'static str

@@ -1,6 +1,7 @@
 //! The crontab checker `croncheck` as a function: what each line of a crontab is to cron, what it means, and when it runs.
 #![tactic(auto)]
 
+mod ago;
 mod ahead;
 pub mod allowed;
 pub mod annotator;
@@ -24,10 +25,12 @@ pub mod moment;
 pub mod names;
 mod off;
 pub mod output;
+pub mod past;
 pub mod patterns;
 pub mod plan;
 pub mod planner;
 pub mod presets;
+pub mod previous;
 pub mod problem;
 pub mod progress;
 pub mod report;

@@ -36,8 +36,8 @@ fn ahead_word(language: Tongue) -> &'static str
 
 // So many seconds in two units.
 #[derive(Clone, Copy)]
-struct Lasting {
-    seconds: u64,
+pub(crate) struct Lasting {
+    pub(crate) seconds: u64,
 }
 
 impl fmt::Display for Lasting {

@@ -134,7 +134,10 @@ fn runs_from<'t>(
 }
 
 // Times as runs, each once.
-fn each_once<'t>(alloc: Global, times: &[TableTime<'t>]) -> Result<Vec<Run<'t>>, AllocError>
+pub(crate) fn each_once<'t>(
+    alloc: Global,
+    times: &[TableTime<'t>],
+) -> Result<Vec<Run<'t>>, AllocError>
     ensures { IfOk result (λ runs. runs.items ≡ map once times.now) }
 {
     let mut runs = Vec::new(alloc);
@@ -170,7 +173,7 @@ pub fn starts_of<'t>(
 }
 
 // Starts as runs on the clock of a time.
-fn runs_at<'t>(
+pub(crate) fn runs_at<'t>(
     alloc: Global,
     time: TableTime<'t>,
     starts: &[Start],
@@ -291,7 +294,7 @@ fn end_of_years(last: Option<i64>) -> End
 }
 
 // How a listing ends with a search that was refused, and left this fault.
-fn failed_end(fault: Option<&CronError>) -> Result<End, CronError>
+pub(crate) fn failed_end(fault: Option<&CronError>) -> Result<End, CronError>
     ensures ends { IfOk result (IsFailedBy (option_map (λ e. e.now) fault.entry)) }
     ensures err { IfErr result (λ e. e ≡ CronError.OutOfMemory) }
 {

@@ -1,10 +1,11 @@
 //! What reports are made by.
 ghost use Rattle.std.specs.Prelude.{◌≡◌};
-ghost use Rattle.croncheck_command.specs.Settings.{stop_of, window_end, in_dialect, of_kind};
+ghost use Rattle.croncheck_command.specs.Settings.{stop_of, window_end, asked_of, in_dialect, of_kind};
 
 use crate::changes::Changes;
 use crate::clock::stop::Stop;
 use crate::look::Look;
+use crate::previous::Previous;
 use crate::runs::Listing;
 use crate::users::Users;
 use croner::parser::CronParser;
@@ -30,6 +31,8 @@ pub struct Settings<'t> {
     pub listing: Listing,
     /// The start is the second at which the call is made: behind each run stands how far off it is.
     pub is_from_now: bool,
+    /// The runs up to the start that are told too, if any are.
+    pub previous: Option<&'t Previous<'t>>,
     /// The status is 1 where a line has a warning, too.
     pub is_strict: bool,
     /// Each job is compared with those before it, for `same-job`.
@@ -42,7 +45,17 @@ pub struct Settings<'t> {
     pub users: Option<Users<'t>>,
 }
 
-impl Settings<'_> {
+impl<'t> Settings<'t> {
+    /// What is asked of the runs up to the start, if these are told too.
+    pub fn previous(&self) -> Option<Previous<'t>>
+        ensures { result ≡ asked_of self.now }
+    {
+        match self.previous {
+            Some(asked) => Some(*asked),
+            None => None,
+        }
+    }
+
     /// Where the window of the clock ends before year 5000 does.
     pub fn stop(&self) -> Option<Stop>
         ensures { result ≡ stop_of self.now }

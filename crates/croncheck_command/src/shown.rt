@@ -4,7 +4,7 @@ ghost use Rattle.jiff.specs.ZoneView.{plain_zone};
 ghost use Rattle.croner_base.specs.Civil.{weekday_index};
 ghost use Rattle.crontab.specs.Setting.{has};
 ghost use Rattle.croncheck_command.specs.Reported.{AreLinesFound};
-ghost use Rattle.croncheck_command.specs.Settings.{off_from, stop_of};
+ghost use Rattle.croncheck_command.specs.Settings.{off_from, followed_from, stop_of};
 ghost use Rattle.croncheck_command.specs.Shown.{spaced, continues, start_at, cut_at, left_out_text, front_text, weekday_text, IsClockText, IsClockTextIn, english_weekday, swedish_weekday, is_told, place_text, offset_of, IsWindowEnd};
 ghost use Rattle.croncheck_command.specs.Warnings.{field_name};
 
@@ -13,6 +13,7 @@ mod changes;
 pub mod found;
 mod hints;
 pub mod pattern;
+mod previous;
 mod refused_pattern;
 
 use crate::ahead::Ahead;
@@ -37,6 +38,7 @@ use crontab::setting::has;
 use hints::{push_hint, push_nickname_hint};
 use jiff::Timestamp;
 use jiff::tz::TimeZone;
+use previous::push_previous;
 use refused_pattern::push_pattern_reason;
 use std::alloc::{AllocError, Global};
 use std::fmt;
@@ -78,6 +80,8 @@ pub struct Shared<'z> {
     pub(crate) language: Tongue,
     // The second from which on it is said how far off a run is, if that is said.
     pub(crate) off_from: Option<i64>,
+    // The second from which on the clock of the runs before the start is followed, if these are told.
+    pub(crate) followed_from: Option<i64>,
     // Another zone, whose clock is shown too.
     pub(crate) other_zone: Option<TimeZone<'z>>,
 }
@@ -90,6 +94,7 @@ impl<'z> Shared<'z> {
         ensures listing { result.listing ≡ settings.now.listing }
         ensures language { result.language ≡ settings.now.language }
         ensures off_from { result.off_from ≡ off_from settings.now }
+        ensures followed_from { result.followed_from ≡ followed_from settings.now }
         ensures other_zone { result.other_zone ≡ None }
     {
         Shared {
@@ -98,6 +103,7 @@ impl<'z> Shared<'z> {
             listing: settings.listing,
             language: settings.language,
             off_from: off_from(settings),
+            followed_from: followed_from(settings),
             other_zone: None,
         }
     }
@@ -121,6 +127,16 @@ fn off_from(settings: &Settings<'_>) -> Option<i64>
         Some(settings.changes.start.second())
     } else {
         None
+    }
+}
+
+// From which second on the clock of the runs before the start is followed.
+fn followed_from(settings: &Settings<'_>) -> Option<i64>
+    ensures { result ≡ followed_from settings.now }
+{
+    match settings.previous {
+        Some(asked) => Some(asked.from),
+        None => None,
     }
 }
 
@@ -652,6 +668,7 @@ fn push_told(
         Told::Runs {
             description,
             runs,
+            previous,
             ..
         } => {
             text.push_str("\n  ")?;
@@ -659,10 +676,10 @@ fn push_told(
             for run in runs.items.iter() {
                 push_run(text, shared, job, run)?;
             }
-            if job.times.is_never() {
-                return Ok(());
+            if !job.times.is_never() {
+                push_end(alloc, text, shared, runs)?;
             }
-            push_end(alloc, text, shared, runs)
+            push_previous(text, shared, previous)
         }
     }
 }
@@ -675,15 +692,26 @@ fn push_run(
     job: &JobReport<'_, '_>,
     run: &Run<'_>,
 ) -> Result<(), AllocError> {
+    push_clocks(text, shared, run)?;
+    push_off(text, shared, run.time.second())?;
+    push_count(text, run)?;
+    push_made_up(text, job, run)
+}
+
+// A run on a line of its own, and the same on the clock of another zone, where that is told.
+fn push_clocks(text: &mut String, shared: &Shared<'_>, run: &Run<'_>) -> Result<(), AllocError> {
     text.push_str("\n  ")?;
     push_clock_in(shared.language, text, shared, &run.time)?;
-    push_other_clock(text, shared, run.time.second())?;
-    push_off(text, shared, run.time.second())?;
+    push_other_clock(text, shared, run.time.second())
+}
+
+// How many times a job is started at a run, where that is more than once.
+fn push_count(text: &mut String, run: &Run<'_>) -> Result<(), AllocError> {
     if 1 < run.count {
         let count = run.count;
         write!(text, "  {count} times")?;
     }
-    push_made_up(text, job, run)
+    Ok(())
 }
 
 // Puts what another zone's clock shows at a second behind a text, if it is to be shown.

@@ -7,6 +7,7 @@ ghost use Rattle.croner_pattern.specs.Schedule.{is_year_matching};
 ghost use Rattle.croner.specs.Views.{job_of as meaning_of_job};
 ghost use Rattle.croncheck_command.specs.Told.{IsDescription, summary_language, NamesNoneFrom, IsPastAt, TellsMeaning, is_over, is_at_end_of_window, is_at_window_end, is_never, is_told_past, is_idle};
 
+use crate::previous::{previous_runs_of, previous_starts_of};
 use crate::runs::{End, Runner, Runs, runs_of, starts_of};
 use crate::settings::{Settings, Tongue};
 use croner::Cron;
@@ -33,6 +34,8 @@ pub enum Told<'t> {
         description: String,
         /// Those of a pattern, or what cron starts of a crontab's job.
         runs: Runs<'t>,
+        /// The same up to the start, the latest first, where they are asked for.
+        previous: Option<Runs<'t>>,
         /// No year that it names is left at the start.
         is_past: bool,
     },
@@ -47,6 +50,7 @@ impl Drop for Told<'_> {
             Told::Runs {
                 description: _,
                 runs: _,
+                previous: _,
                 is_past: _,
             } => {}
         }
@@ -125,10 +129,12 @@ pub(crate) fn told_of<'t>(
         settings.last(),
         settings.listing,
     )?;
+    let previous = previous_runs_of(alloc, settings.previous(), job)?;
     let is_past = is_past(job, settings.changes.start);
     Ok(Told::Runs {
         description,
         runs,
+        previous,
         is_past,
     })
 }
@@ -150,10 +156,12 @@ pub(crate) fn told_of_crontab<'t>(
         settings.last(),
         settings.listing,
     )?;
+    let previous = previous_starts_of(alloc, settings.previous(), job)?;
     let is_past = is_past(&job.cron, settings.changes.start);
     Ok(Told::Runs {
         description,
         runs,
+        previous,
         is_past,
     })
 }

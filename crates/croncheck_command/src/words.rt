@@ -1,7 +1,7 @@
 //! The words of a call.
 ghost use Rattle.std.specs.Prelude.{◌≡◌, ◌≤◌, IfOk};
 ghost use Rattle.croncheck_command.specs.Moment.{moment_text, IsNamed};
-ghost use Rattle.croncheck_command.specs.Words.{IsInRange, TellsRuns};
+ghost use Rattle.croncheck_command.specs.Words.{IsInRange, AreInRange, TellsRuns};
 
 mod options;
 
@@ -82,6 +82,8 @@ pub struct Call<'w> {
     pub from: Moment,
     /// One run with [`Verb::Check`], and none with [`Verb::Describe`], which tell none.
     pub span: Span,
+    /// How many runs up to there are told too, from 1 to 1000, if any are. Only with [`Verb::Show`] and [`Verb::Next`].
+    pub previous: Option<u32>,
     /// The parser of patterns.
     pub parser: CronParser,
     /// The program whose reading of the patterns is told too. Only with [`Verb::Next`] and [`Verb::Describe`].
@@ -178,6 +180,7 @@ pub fn read_call<'w>(alloc: Global, words: &'w [String]) -> Result<Call<'w>, NoC
     ensures span { IfOk result (λ call. IsInRange call.span) }
     ensures from { IfOk result (λ call. IsNamed call.from) }
     ensures told { IfOk result (λ call. TellsRuns call.verb call.span) }
+    ensures previous { IfOk result (λ call. AreInRange call.previous) }
 {
     let program = program(alloc)?;
     match program.try_get_matches_from(words) {
@@ -191,6 +194,7 @@ fn call_with_verb<'w>(alloc: Global, matches: &ArgMatches<'w>) -> Result<Call<'w
     ensures span { IfOk result (λ call. IsInRange call.span) }
     ensures from { IfOk result (λ call. IsNamed call.from) }
     ensures told { IfOk result (λ call. TellsRuns call.verb call.span) }
+    ensures previous { IfOk result (λ call. AreInRange call.previous) }
 {
     if let Some((name, behind)) = matches.subcommand() {
         return call_of(alloc, verb_of(name).unwrap_or(Verb::Check), behind);
@@ -256,9 +260,11 @@ fn call_of<'w>(alloc: Global, verb: Verb, matches: &ArgMatches<'w>) -> Result<Ca
     ensures span { IfOk result (λ call. IsInRange call.span) }
     ensures from { IfOk result (λ call. IsNamed call.from) }
     ensures told { IfOk result (λ call. TellsRuns call.verb call.span) }
+    ensures previous { IfOk result (λ call. AreInRange call.previous) }
 {
     let from = moment(alloc, FROM, matches.get_str("from").unwrap_or("now"))?;
     let span = span_of(alloc, verb, matches)?;
+    let previous = previous_of(alloc, matches)?;
     let files = files(alloc, verb, matches)?;
     Ok(Call {
         verb,
@@ -266,6 +272,7 @@ fn call_of<'w>(alloc: Global, verb: Verb, matches: &ArgMatches<'w>) -> Result<Ca
         show_zone: matches.get_str("show-zone"),
         from,
         span,
+        previous,
         parser: parser(matches),
         preset: preset(matches),
         language: language(matches),
@@ -456,6 +463,24 @@ fn read_count(alloc: Global, word: &str) -> Result<Span, NoCall>
     match word.parse::<u32>() {
         Ok(count) if count <= MOST_RUNS => Ok(Span::Count(count)),
         _ => Err(misused(alloc, "--runs <N>", word, "write a number from 0 to 1000")),
+    }
+}
+
+// How many runs before the start are told, if a word says that.
+fn previous_of(alloc: Global, matches: &ArgMatches<'_>) -> Result<Option<u32>, NoCall>
+    ensures { IfOk result AreInRange }
+{
+    match matches.get_str("previous") {
+        Some(word) => match word.parse::<u32>() {
+            Ok(count) if 1 <= count && count <= MOST_RUNS => Ok(Some(count)),
+            _ => Err(misused(
+                alloc,
+                "--previous <N>",
+                word,
+                "write a number from 1 to 1000",
+            )),
+        },
+        None => Ok(None),
     }
 }
 

@@ -48,7 +48,7 @@ pub(super) fn verbs_with(option: &str) -> Option<&'static str> {
     match option {
         "--zone" | "--from" => Some("check, show, plan and next"),
         "--runs" | "--until" => Some("show, plan and next"),
-        "--show-zone" => Some("show and next"),
+        "--show-zone" | "--previous" => Some("show and next"),
         "--json" | "--strict" | "--same-job" | "--allow" | "--ignore" => Some("check and show"),
         "--system" | "--user" | "--patterns" | "--stdin-name" | "--users" | "--root" => Some(
             "check, show and plan",
@@ -141,6 +141,7 @@ fn show<'w>(alloc: Global) -> Result<Command<'w>, AllocError> {
         .after_help(AFTER_HELP);
     let command = with_clock(alloc, command)?;
     let command = with_span(alloc, command, "How many runs of each line, 0 to 1000")?;
+    let command = with_previous(alloc, command)?;
     let command = with_show_zone(alloc, command)?;
     let command = with_output(
         alloc,
@@ -176,6 +177,7 @@ fn next<'w>(alloc: Global) -> Result<Command<'w>, AllocError> {
         .after_help(AFTER_PATTERNS);
     let command = with_clock(alloc, command)?;
     let command = with_span(alloc, command, "How many runs of each pattern, 0 to 1000")?;
+    let command = with_previous(alloc, command)?;
     let command = with_show_zone(alloc, command)?;
     let command = with_language(alloc, command)?;
     let command = with_settings(alloc, command)?;
@@ -242,6 +244,12 @@ fn with_span<'w>(
             .help("In place of --runs: all runs up to here; of a date to its end")
             .conflicts_with("runs"),
     )
+}
+
+fn with_previous<'w>(alloc: Global, command: Command<'w>) -> Result<Command<'w>, AllocError> {
+    command.arg(value(alloc, "previous", "N").help(
+        "Besides, so many runs up to the start, the latest first, 1 to 1000",
+    ))
 }
 
 fn with_show_zone<'w>(alloc: Global, command: Command<'w>) -> Result<Command<'w>, AllocError> {

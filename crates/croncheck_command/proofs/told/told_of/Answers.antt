@@ -1,5 +1,8 @@
 use Rattle.std.proofs.Common.{ℤ, Option, refl, subst}
 use Rattle.croner.specs.Views.{job_of}
+use Rattle.croncheck_command.specs.declared.previous.Previous.{Previous}
+use Rattle.croncheck_command.specs.declared.runs.Runner.TheVariants as runners
+use Rattle.croncheck_command.specs.Previous.{AreBefore}
 use Rattle.croncheck_command.specs.Runs.{runs_listed, IsListed}
 use Rattle.croncheck_command.specs.Settings.{start_of}
 use Rattle.croncheck_command.proofs.told.told_of.Goals as goal
@@ -13,6 +16,7 @@ returns-clause-told c =
       record {
         described = c.in_ok-description.ensures.told;
         listed = subst (λ (last : Option ℤ). IsListed (runs_listed m (start_of s)) last s.listing c.in_ok-runs.runs) c.last.ensures c.in_ok-runs.ensures.listed;
+        before = subst (λ (asked : Option Previous). AreBefore asked runners.Croner m c.in_ok-previous.previous) c.previous.ensures c.in_ok-previous.ensures.listed;
         past = c.is_past-is_past.ensures;
       },
     )

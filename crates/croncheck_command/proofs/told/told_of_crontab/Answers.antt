@@ -1,6 +1,9 @@
 use Rattle.std.proofs.Common.{ℤ, Option, refl, subst}
 use Rattle.croner.specs.Views.{job_of}
 use Rattle.crontab_runs.specs.Views.{cron_job_of}
+use Rattle.croncheck_command.specs.declared.previous.Previous.{Previous}
+use Rattle.croncheck_command.specs.declared.runs.Runner.TheVariants as runners
+use Rattle.croncheck_command.specs.Previous.{AreBefore}
 use Rattle.croncheck_command.specs.Runs.{starts_listed, IsListed}
 use Rattle.croncheck_command.specs.Settings.{start_of}
 use Rattle.croncheck_command.proofs.told.told_of_crontab.Goals as goal
@@ -14,6 +17,7 @@ returns-clause-told c =
       record {
         described = c.in_ok-description.ensures.told;
         listed = subst (λ (last : Option ℤ). IsListed (starts_listed (cron_job_of c.args.job.now) (start_of s)) last s.listing c.in_ok-runs.runs) c.last.ensures c.in_ok-runs.ensures.listed;
+        before = subst (λ (asked : Option Previous). AreBefore asked (runners.Cron c.args.job.now.is_starred) m c.in_ok-previous.previous) c.previous.ensures c.in_ok-previous.ensures.listed;
         past = c.is_past-is_past.ensures;
       },
     )
