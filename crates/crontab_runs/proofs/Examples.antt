@@ -1,10 +1,16 @@
 -- What cron starts where the clock changes, computed from the definition, as `table_starts` has it: instants of tables, and how many times.
 -- What cron's own loop starts there is what tools/crontab_model.py says.
-use Rattle.std.proofs.Common.{◌≡◌, refl, ◌*◌, Bool, true, false, ◌&&◌, ◌==◌, ℕ, ◌%◌, ◌/◌, ℤ, pos, neg_ℤ, List, [], ◌∷◌, length, unsigned_abs, nat_le}
+use Rattle.std.proofs.Common.{◌≡◌, refl, arith, ◌*◌, Bool, true, false, ◌&&◌, ◌==◌, ℕ, ◌%◌, ◌/◌, ℤ, pos, neg_ℤ, List, [], ◌∷◌, length, unsigned_abs, nat_le}
+use Rattle.std.proofs.lemmas.Int.{ints}
 use Rattle.std.specs.Int.{int_rem_euclid}
 use Rattle.std.specs.Ordering.{int_eq}
 use Rattle.croner_base.specs.Table.{is_calm_table}
+use Rattle.croner_base.specs.TableZone.{clock}
+use Rattle.crontab_runs.specs.MadeUp.{MakesUpFrom}
+use Rattle.crontab_runs.specs.Starts.{CronJob}
+use Rattle.crontab_runs.proofs.MadeUpStarts.{first_at_begin}
 use Rattle.crontab_runs.proofs.TableStarts.{listed, started_at}
+use Rattle.crontab_runs.proofs.TableStretches.{stretch_is}
 
 -- a minute and an hour of each day that pass two tests
 abbrev daily : (ℕ → Bool) → (ℕ → Bool) → ℤ → Bool
@@ -122,3 +128,13 @@ half_minutes = (refl, refl, refl, refl, refl, refl, refl, refl)
 over_midnight : (started_at (λ k. int_eq k (pos 1_425)) false (pos 0) ((pos 84_600, pos 3_600) ∷ []) (pos 84_600) ≡ pos 1_425 ∷ [])
     × (started_at (λ k. int_eq k (pos 2_865)) false (pos 0) ((pos 84_600, pos 3_600) ∷ []) (pos 84_600) ≡ [])
 over_midnight = (refl, refl)
+
+-- for which minute it is started first there: for 02:00, which is the wall second 7,200
+half_hours_of_two : CronJob
+half_hours_of_two = record { names = λ k. daily on_half (on 2) k ≡ true; starred = false }
+
+in_place_of_two : MakesUpFrom half_hours_of_two (clock (pos 0) spring) (pos 7_200) (pos 7_200)
+unfolding half_hours_of_two
+in_place_of_two =
+    first_at_begin _ _ _ _ _ (stretch_is (pos 0) spring calm_tables.0 1 (omega arith)) half_hours_of_two (pos 7_200) (λ same. omega (arith, ints, same))
+    (record { begins = refl; behind = omega (arith, ints); ahead = omega (arith, ints); named = refl; first = λ j low named. omega (arith, ints, low) })

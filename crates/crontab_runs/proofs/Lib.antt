@@ -8,6 +8,7 @@ pub mod TableStretches
 pub mod StretchStarts
 pub mod InsideStarts
 pub mod BeginStarts
+pub mod MadeUpStarts
 pub mod PartStarts
 pub mod KnownMinutes
 pub mod OnwardStretches

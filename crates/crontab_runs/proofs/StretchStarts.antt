@@ -30,7 +30,7 @@ module _ (z : Zone) (begin end o before : ℤ) (s : IsStretch z begin end o befo
   }
 
   -- behind it the clock shows another minute where one begins
-  turn_inside : (i : ℤ) → begin <ℤ i → i <ℤ end → Turns z i → i +ℤ o ≡ minute_of (z.reads i) *ℤ pos 60
+  pub turn_inside : (i : ℤ) → begin <ℤ i → i <ℤ end → Turns z i → i +ℤ o ≡ minute_of (z.reads i) *ℤ pos 60
   turn_inside i low high turns =
       let here = s.steady i (omega (arith, ints)) high in
       let there = s.steady (i -ℤ pos 1) (omega (arith, ints)) (omega (arith, ints)) in

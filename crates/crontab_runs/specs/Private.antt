@@ -4,6 +4,7 @@ pub mod Known
 pub mod Stretches
 pub mod Parts
 pub mod Due
+pub mod Named
 pub mod Found
 pub mod Steps
 pub mod Times

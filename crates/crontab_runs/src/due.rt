@@ -59,8 +59,8 @@ pub fn due_after(is_starred: bool, shown: i64, minute: i64) -> i64
 }
 
 impl CrontabJob {
-    // Whether the job names a minute: then it is the nearest one from itself on.
-    fn names(&self, minute: i64) -> bool
+    /// Whether the job names a minute: then it is the nearest one from itself on.
+    pub(crate) fn names(&self, minute: i64) -> bool
         ensures { IsTrue result ↔ NamesMinute (job_of self.now.cron) minute }
     {
         match nearest_named(&self.cron, minute, towards_1970(minute)) {

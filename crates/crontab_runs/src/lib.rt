@@ -13,6 +13,7 @@ mod due;
 mod job;
 mod line;
 mod listing;
+mod made_up;
 mod minutes;
 mod onward;
 mod part;
