@@ -536,7 +536,7 @@ class Cron:
     def __init__(self, job, spans):
         self.job, self.spans = job, spans
         self.clock_time = self.time_running = self.virtual_time = self.gmt_off = None
-        self.span, self.queue = 0, 0
+        self.span, self.queue, self.first = 0, 0, None
 
     def set_time(self, start_time):
         """The minute that the clock shows at a second."""
@@ -550,6 +550,7 @@ class Cron:
             return
         is_wild = self.job.is_repeated_by_cron
         if do_non_wild and not is_wild or do_wild and is_wild:
+            self.first = vtime if self.queue == 0 else self.first
             self.queue += 1
 
     def wake(self):
@@ -595,7 +596,7 @@ class Cron:
         return min([minute] + changes)
 
     def starts(self, until):
-        """The seconds at which the job is started, from the first span's on, and how many times."""
+        """The seconds at which the job is started, from the first span's on, how many times, and for which minute first."""
         second = self.spans[0][0]
         self.set_time(second)
         self.time_running = self.virtual_time = self.clock_time
@@ -606,14 +607,24 @@ class Cron:
             self.queue = 0
             self.wake()
             if self.queue:
-                yield second, self.queue
+                yield second, self.queue, self.first
+
+    def told(self, until):
+        """The same; the minute as a clock shows it, where it is an earlier one than the clock shows then, and else nothing."""
+        for second, count, minute in self.starts(until):
+            yield second, count, f"{minute // 60 % 24:02}:{minute % 60:02}" if minute < self.clock_time else ""
 
 
 def starts_of(job, spans, start, until):
     """What cron starts of a job behind a start and up to an end."""
+    return [(second, count) for second, count, _ in told_of(job, spans, start, until)]
+
+
+def told_of(job, spans, start, until):
+    """The same, each with the first minute that it makes up for."""
     if job.fields is None:
         return []
-    return [(second, count) for second, count in Cron(job, spans).starts(until) if start < second]
+    return [told for told in Cron(job, spans).told(until) if start < told[0]]
 
 
 # ---- warnings
@@ -831,7 +842,7 @@ class OneMinute:
 def made_by_cron(job, instant, before, after, second):
     """How many times cron starts a job for the minute of a second, around one change of the clock."""
     spans = [(instant - DAY, before - instant), (instant, after - instant)]
-    return sum(count for _, count in Cron(OneMinute(job, second), spans).starts(instant + DAY))
+    return sum(count for _, count, _ in Cron(OneMinute(job, second), spans).starts(instant + DAY))
 
 
 def warnings_of_times(times, zone, start):

@@ -51,7 +51,7 @@ a_refused_line m s why m_is s_is = rw (m_is, s_is) refl
 -- a job in a zone an hour ahead of UTC, with two runs
 a_job : (hour : Offset) (schedule command : Bor (List ℕ)) (found : Vec Warning Global) (unneeded : Vec (Bor (List ℕ)) Global) (text : String Global) (runs : Runs) (first second : Run)
     → hour.seconds ≡ pos 3_600 → runs.items.items ≡ first ∷ second ∷ [] → runs.end ≡ ends.More
-    → first.time.second ≡ pos 1_731_279_600 → first.count ≡ 1 → second.time.second ≡ pos 1_732_489_200 → second.count ≡ 2
+    → first.time.second ≡ pos 1_731_279_600 → first.count ≡ 1 → first.made_up ≡ None → second.time.second ≡ pos 1_732_489_200 → second.count ≡ 2 → second.made_up ≡ Some (pos 1_732_492_200)
     → object_of (record (line_of (codes "job") 8) { zone = zones.Fixed hour }) (reports.Job (record {
       schedule = schedule;
       user = None;
@@ -74,8 +74,8 @@ a_job : (hour : Offset) (schedule command : Bor (List ℕ)) (found : Vec Warning
     (member (codes "description") (string (string_bytes text))
     (member (codes "end") (string (codes "more"))
     (member (codes "runs") (array
-    (item (object (member (codes "offset") (number (unsigned 3_600)) (member (codes "second") (number (unsigned 1_731_279_600)) (member (codes "starts") (number (unsigned 1)) no_members))))
-    (item (object (member (codes "offset") (number (unsigned 3_600)) (member (codes "second") (number (unsigned 1_732_489_200)) (member (codes "starts") (number (unsigned 2)) no_members))))
+    (item (object (member (codes "makes_up_for") null (member (codes "offset") (number (unsigned 3_600)) (member (codes "second") (number (unsigned 1_731_279_600)) (member (codes "starts") (number (unsigned 1)) no_members)))))
+    (item (object (member (codes "makes_up_for") (number (unsigned 1_732_492_200)) (member (codes "offset") (number (unsigned 3_600)) (member (codes "second") (number (unsigned 1_732_489_200)) (member (codes "starts") (number (unsigned 2)) no_members)))))
     no_items)))
     (member (codes "when") (string (codes "named")) no_members)))))
     (member (codes "user") null no_members))))))
@@ -83,5 +83,5 @@ a_job : (hour : Offset) (schedule command : Bor (List ℕ)) (found : Vec Warning
     (member (codes "line") (number (unsigned 8))
     (member (codes "version") (number (unsigned 2)) no_members))))))
 unfolding offset_at digits
-a_job hour schedule command found unneeded text runs first second hour_is runs_are more first_is once second_is twice =
-    rw (runs_are, more, first_is, once, second_is, twice, hour_is) refl
+a_job hour schedule command found unneeded text runs first second hour_is runs_are more first_is once alone second_is twice skipped =
+    rw (runs_are, more, first_is, once, alone, second_is, twice, skipped, hour_is) refl

@@ -1,8 +1,8 @@
 -- Worked rows of the runs before a start: how far a clock is followed back, how a listing ends with the years, and the times of a job as JSON.
-use Rattle.std.proofs.Common.{◌≡◌, ◌∷◌, [], pos, String, Global, Some, true, false, string_bytes, refl}
+use Rattle.std.proofs.Common.{None, ◌≡◌, ◌∷◌, [], pos, String, Global, Some, true, false, string_bytes, refl}
 use Rattle.std.specs.Fmt.{digits}
 use Rattle.std.specs.Prelude.{neg_ℤ, codes}
-use Rattle.serde_json.specs.Data.{number, unsigned, string, array, object, no_items, item, member, no_members}
+use Rattle.serde_json.specs.Data.{null, number, unsigned, string, array, object, no_items, item, member, no_members}
 use Rattle.jiff_core.specs.declared.Offset.{Offset}
 use Rattle.jiff_tz.specs.declared.timezone.TimeZone.TheVariants as zones
 use Rattle.jiff_tz.specs.Zone.{offset_at}
@@ -31,7 +31,7 @@ followed_years = refl
 
 -- no run is listed behind the start, and one before it, in a zone an hour ahead of UTC
 one_before : (hour : Offset) (text : String Global) (runs previous : Runs) (first : Run) → hour.seconds ≡ pos 3_600 → runs.items.items ≡ [] → runs.end ≡ ends.More
-    → previous.items.items ≡ first ∷ [] → previous.end ≡ ends.Window → first.time.second ≡ pos 1_731_279_600 → first.count ≡ 1
+    → previous.items.items ≡ first ∷ [] → previous.end ≡ ends.Window → first.time.second ≡ pos 1_731_279_600 → first.count ≡ 1 → first.made_up ≡ None
     → times_object (zones.Fixed hour) (tolds.Runs text runs (Some previous) false)
     ≡ object
     (member (codes "description") (string (string_bytes text))
@@ -39,9 +39,9 @@ one_before : (hour : Offset) (text : String Global) (runs previous : Runs) (firs
     (member (codes "previous") (object
     (member (codes "end") (string (codes "cut"))
     (member (codes "runs") (array
-    (item (object (member (codes "offset") (number (unsigned 3_600)) (member (codes "second") (number (unsigned 1_731_279_600)) (member (codes "starts") (number (unsigned 1)) no_members))))
+    (item (object (member (codes "makes_up_for") null (member (codes "offset") (number (unsigned 3_600)) (member (codes "second") (number (unsigned 1_731_279_600)) (member (codes "starts") (number (unsigned 1)) no_members)))))
     no_items)) no_members)))
     (member (codes "runs") (array no_items)
     (member (codes "when") (string (codes "named")) no_members)))))
 unfolding offset_at digits
-one_before hour text runs previous first hour_is none more listed cut second_is count_is = rw (none, more, listed, cut, second_is, count_is, hour_is) refl
+one_before hour text runs previous first hour_is none more listed cut second_is count_is alone = rw (none, more, listed, cut, second_is, count_is, alone, hour_is) refl

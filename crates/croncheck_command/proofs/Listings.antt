@@ -40,8 +40,8 @@ use Rattle.crontab_runs.specs.Searches.{IsStartOf}
 use Rattle.crontab_runs.specs.Starts.{CronJob, cron_job}
 use Rattle.crontab_runs.proofs.StartBounds.{start_held}
 use Rattle.croncheck_command.specs.Private.Ends.{bound, limit, earlier, full_end, end_before, end_of_years, end_of_starts, EndsBy}
-use Rattle.croncheck_command.specs.Private.Listed.{once, Seen, run_seen, seen_on}
-use Rattle.croncheck_command.specs.Runs.{starts, seconds_of, Rest, runs_behind, runs_listed, starts_behind, starts_listed, GaveUntil, GaveYears, IsInWindow, LeavesOne, StartsWell, IsMore, IsEnd, IsAsked, IsListed}
+use Rattle.croncheck_command.specs.Private.Listed.{once, Seen, run_seen, seen_on, TellsMadeUp}
+use Rattle.croncheck_command.specs.Runs.{starts, MakesUp, seconds_of, Rest, runs_behind, runs_listed, starts_behind, starts_listed, GaveUntil, GaveYears, IsInWindow, LeavesOne, StartsWell, IsMore, IsEnd, IsAsked, IsListed}
 use Rattle.croncheck_command.proofs.OwnRuns.{counts_after}
 
 -- the clock of a table is calm
@@ -259,6 +259,7 @@ module _ (m : Meaning) (start : TableTime) where
       record {
         begins = subst (λ (is : List ℤ). BeginsWhere Forward rest.left is) same l.begins;
         times = subst (λ (runs : List Run). All (λ run. run.count ≡ 1) runs) (sym made) (All-map (λ (run : Run). run.count ≡ 1) once times (λ k d inside. refl));
+        made_up = subst (λ (runs : List Run). All (λ run. run.made_up ≡ None) runs) (sym made) (All-map (λ (run : Run). run.made_up ≡ None) once times (λ k d inside. refl));
         asked = subst (λ (is : List ℤ). IsAsked listing is) same (is_asked rest start.second left_behind last listing items l.begins.counts l.by within);
         on_clock = subst (λ (runs : List Run). All (λ run. IsWholeIn (table_moment start).zone (table_moment run.time)) runs) (sym made)
             (All-map (λ (run : Run). IsWholeIn (table_moment start).zone (table_moment run.time)) once times l.whole);
@@ -284,6 +285,11 @@ listed_by m start at new until most last listing times r fault ending begins up_
     (subst (λ (n : ℕ). ListsUntil at new until n times ending) at_most l))) is
 
 -- ---- of a job of a crontab
+
+-- what a run tells on its own clock, it tells on the clock of another time with the same table
+pub made_up_on : (job : CronJob) (table : ClockTable) (run : Run) → run.time.table.now ≡ table → TellsMadeUp job run
+    → MakesUp job (table_zone table) run.time.second run.made_up
+made_up_on job table run same told = subst (λ (t : ClockTable). MakesUp job (table_zone t) run.time.second run.made_up) same told
 
 -- how a listing of starts ended, in the words of one of runs
 abbrev pub ending_of : StartsEnd → ListingEnd
@@ -323,10 +329,10 @@ module _ (job : CronJob) (start : TableTime) where
   IsStartHere v = IsStartOf job (table_moment start).zone v.start × (v.table ≡ start.table.now)
 
   starts_listed_is : (last : Option ℤ) (listing : Listing) (starts : List Start) (r : Runs) (ending : StartsEnd)
-      → map run_seen r.items.items ≡ map (seen_on start.table.now) starts
+      → map run_seen r.items.items ≡ map (seen_on start.table.now) starts → All (TellsMadeUp job) r.items.items
       → ListsStarts job (table_moment start) (bound start.second last listing) (limit listing) starts ending
       → r.end ≡ end_of_starts listing last ending → IsListed (starts_listed job start) last listing r
-  starts_listed_is last listing starts r ending made l is =
+  starts_listed_is last listing starts r ending made made_up l is =
       let rest = starts_behind job start in
       let items = start_seconds starts in
       let same : items ≡ seconds_of r.items.items =
@@ -338,9 +344,12 @@ module _ (job : CronJob) (start : TableTime) where
       let here : All IsStartHere (map run_seen r.items.items) =
       subst (λ (vs : List Seen). All IsStartHere vs) (sym made) (All-map IsStartHere (seen_on start.table.now) starts (λ k d inside. (l.each k d inside, refl))) in
       let each : All (λ (run : Run). IsStartHere (run_seen run)) r.items.items = all_of_map IsStartHere run_seen r.items.items here in
+      let told_here : All (λ (run : Run). MakesUp job (table_moment start).zone run.time.second run.made_up) r.items.items =
+      λ k d inside. made_up_on job start.table.now (get_or r.items.items k d) (each k d inside).1 (made_up k d inside) in
       record {
         begins = subst (λ (is : List ℤ). BeginsWhere Forward rest.left is) same l.begins;
         times = λ k d inside. (each k d inside).0;
+        made_up = λ k d inside. told_here k d inside;
         asked = subst (λ (is : List ℤ). IsAsked listing is) same (is_asked rest start.second behind last listing items l.begins.counts by within);
         on_clock = λ k d inside. record { zone = ap table_zone (each k d inside).1; whole = refl };
         in_window = subst (λ (is : List ℤ). All (IsInWindow last) is) same (all_in_window rest start.second behind last listing items l.begins.counts by);
@@ -356,9 +365,9 @@ module _ (job : CronJob) (start : TableTime) where
 -- searched up to the bound
 pub starts_listed_by : (job : CronJob) (start : TableTime) (until : Option ℤ) (most : ℕ) (last : Option ℤ) (listing : Listing) (starts : List Start) (r : Runs)
     (ending : StartsEnd) → until ≡ bound start.second last listing → most ≡ limit listing → map run_seen r.items.items ≡ map (seen_on start.table.now) starts
-    → ListsStarts job (table_moment start) until most starts ending → r.end ≡ end_of_starts listing last ending → IsListed (starts_listed job start) last listing r
-starts_listed_by job start until most last listing starts r ending up_to at_most made l is =
-    starts_listed_is job start last listing starts r ending made
+    → All (TellsMadeUp job) r.items.items → ListsStarts job (table_moment start) until most starts ending → r.end ≡ end_of_starts listing last ending → IsListed (starts_listed job start) last listing r
+starts_listed_by job start until most last listing starts r ending up_to at_most made made_up l is =
+    starts_listed_is job start last listing starts r ending made made_up
     (subst (λ (u : Option ℤ). ListsStarts job (table_moment start) u (limit listing) starts ending) up_to
     (subst (λ (n : ℕ). ListsStarts job (table_moment start) until n starts ending) at_most l)) is
 

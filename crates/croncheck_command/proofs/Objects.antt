@@ -20,7 +20,7 @@ use Rattle.croncheck_command.specs.declared.told.Told.TheVariants as tolds
 use Rattle.crontab.specs.Checked.{LineRead}
 use Rattle.croncheck_command.specs.FileSeen.{File}
 use Rattle.croncheck_command.specs.Findings.{findings_seen, findings_said, findings_of_line, findings_of_file}
-use Rattle.croncheck_command.specs.Json.{kind_of_line, Origin, string_or_null, finding_object, run_object, times_object, change_object, change_objects, job_object, job_data, object_of, WritesObject, next_origin, Writes, WritesIfFound, WritesFound, file_origin, WritesFile}
+use Rattle.croncheck_command.specs.Json.{integer_or_null, kind_of_line, Origin, string_or_null, finding_object, run_object, times_object, change_object, change_objects, job_object, job_data, object_of, WritesObject, next_origin, Writes, WritesIfFound, WritesFound, file_origin, WritesFile}
 use Rattle.croncheck_command.specs.Output.{Written}
 use Rattle.croncheck_command.specs.Reported.{Reports}
 use Rattle.croncheck_command.specs.Shown.{exact, offset_of}
@@ -43,8 +43,12 @@ findings_whole : (found : List Finding) → items_have_float (items_of (map find
 findings_whole [] = refl
 findings_whole (f ∷ fs) = rw (finding_whole f) (findings_whole fs)
 
+second_whole : (second : Option ℤ) → has_float (integer_or_null second) ≡ false
+second_whole None = refl
+second_whole (Some z) = integer_whole z
+
 run_whole : (zone : TimeZone) (run : Run) → has_float (run_object zone run) ≡ false
-run_whole zone run = rw (integer_whole (offset_of zone run.time.second), integer_whole run.time.second)
+run_whole zone run = rw (second_whole run.made_up, integer_whole (offset_of zone run.time.second), integer_whole run.time.second) refl
 
 runs_whole : (zone : TimeZone) (runs : List Run) → items_have_float (items_of (map (run_object zone) runs)) ≡ false
 runs_whole zone [] = refl

@@ -29,10 +29,10 @@ use Rattle.crontab_runs.specs.Listing.{ListsStartsIn}
 use Rattle.crontab_runs.specs.Searches.{IsStartOf}
 use Rattle.crontab_runs.specs.Starts.{CronJob}
 use Rattle.croncheck_command.specs.Private.EndsBefore.{end_of_years, end_of_starts, EndsBefore}
-use Rattle.croncheck_command.specs.Private.Listed.{once, Seen, run_seen, seen_on}
-use Rattle.croncheck_command.specs.Runs.{seconds_of, Rest, StartsWell}
+use Rattle.croncheck_command.specs.Private.Listed.{once, Seen, run_seen, seen_on, TellsMadeUp}
+use Rattle.croncheck_command.specs.Runs.{MakesUp, seconds_of, Rest, StartsWell}
 use Rattle.croncheck_command.specs.Previous.{ends_at, runs_up_to, starts_up_to, GaveFrom, GaveYearsBefore, IsEndBefore, IsListedBefore}
-use Rattle.croncheck_command.proofs.Listings.{searchable, behind_of, or_else, all_of_map, once_seconds, start_seconds, run_seconds, on_seconds, ending_of}
+use Rattle.croncheck_command.proofs.Listings.{searchable, behind_of, or_else, all_of_map, once_seconds, start_seconds, run_seconds, on_seconds, made_up_on, ending_of}
 
 -- what comes by a second backward lies no earlier than it, and the other way round
 no_earlier : (from i : ℤ) → ComesBy Backward (Some from) i → from ≤ℤ i
@@ -117,6 +117,7 @@ module _ (m : Meaning) (asked : Previous) where
       record {
         begins = subst (λ (is : List ℤ). BeginsWhere Backward rest.left is) same l.begins;
         times = subst (λ (runs : List Run). All (λ run. run.count ≡ 1) runs) (sym made) (All-map (λ (run : Run). run.count ≡ 1) once times (λ k d inside. refl));
+        made_up = subst (λ (runs : List Run). All (λ run. run.made_up ≡ None) runs) (sym made) (All-map (λ (run : Run). run.made_up ≡ None) once times (λ k d inside. refl));
         most = subst (λ (runs : List Run). length runs ≤ asked.count) (sym made) few;
         on_clock = subst (λ (runs : List Run). All (λ run. IsWholeIn (table_moment asked.start).zone (table_moment run.time)) runs) (sym made)
             (All-map (λ (run : Run). IsWholeIn (table_moment asked.start).zone (table_moment run.time)) once times l.whole);
@@ -158,9 +159,9 @@ module _ (job : CronJob) (asked : Previous) where
   IsStartHere v = IsStartOf job (table_moment asked.start).zone v.start × (v.table ≡ asked.start.table.now)
 
   starts_listed_is : (starts : List Start) (r : Runs) (ending : StartsEnd) → map run_seen r.items.items ≡ map (seen_on asked.start.table.now) starts
-      → ListsStartsIn Backward job (table_moment asked.start) (Some asked.from) asked.count starts ending
+      → All (TellsMadeUp job) r.items.items → ListsStartsIn Backward job (table_moment asked.start) (Some asked.from) asked.count starts ending
       → r.end ≡ end_of_starts asked.is_whole ending → IsListedBefore (starts_up_to job asked.start) asked r
-  starts_listed_is starts r ending made l is =
+  starts_listed_is starts r ending made made_up l is =
       let table = asked.start.table.now in
       let runs = r.items.items in
       let items = start_seconds starts in
@@ -171,9 +172,12 @@ module _ (job : CronJob) (asked : Previous) where
       let here : All IsStartHere (map run_seen runs) =
       subst (λ (vs : List Seen). All IsStartHere vs) (sym made) (All-map IsStartHere (seen_on table) starts (λ k d inside. (l.each k d inside, refl))) in
       let each : All (λ (run : Run). IsStartHere (run_seen run)) runs = all_of_map IsStartHere run_seen runs here in
+      let told_here : All (λ (run : Run). MakesUp job (table_moment asked.start).zone run.time.second run.made_up) runs =
+      λ k d inside. made_up_on job table (get_or runs k d) (each k d inside).1 (made_up k d inside) in
       record {
         begins = subst (λ (is : List ℤ). BeginsWhere Backward rest_of_starts.left is) same l.begins;
         times = λ k d inside. (each k d inside).0;
+        made_up = λ k d inside. told_here k d inside;
         most = few;
         on_clock = λ k d inside. record { zone = ap table_zone (each k d inside).1; whole = refl };
         followed = subst (λ (is : List ℤ). All (λ i. asked.from ≤ℤ i) is) same (all_from asked.from items by);
@@ -184,9 +188,9 @@ module _ (job : CronJob) (asked : Previous) where
 -- listed back to the second
 pub starts_listed_back : (job : CronJob) (asked : Previous) (until : Option ℤ) (most : ℕ) (starts : List Start) (r : Runs) (ending : StartsEnd)
     → until ≡ Some asked.from → most ≡ asked.count → map run_seen r.items.items ≡ map (seen_on asked.start.table.now) starts
-    → ListsStartsIn Backward job (table_moment asked.start) until most starts ending → r.end ≡ end_of_starts asked.is_whole ending
+    → All (TellsMadeUp job) r.items.items → ListsStartsIn Backward job (table_moment asked.start) until most starts ending → r.end ≡ end_of_starts asked.is_whole ending
     → IsListedBefore (starts_up_to job asked.start) asked r
-starts_listed_back job asked until most starts r ending back at_most made l is =
-    starts_listed_is job asked starts r ending made
+starts_listed_back job asked until most starts r ending back at_most made made_up l is =
+    starts_listed_is job asked starts r ending made made_up
     (subst (λ (u : Option ℤ). ListsStartsIn Backward job (table_moment asked.start) u asked.count starts ending) back
     (subst (λ (n : ℕ). ListsStartsIn Backward job (table_moment asked.start) until n starts ending) at_most l)) is

@@ -79,11 +79,19 @@ finding_object f = object
     (member (codes "start") (number (unsigned f.extent.start))
     (member (codes "text") (string (string_bytes f.text)) no_members))))))
 
--- a run: its second, how far the zone's clock is ahead of UTC then, and how many times the job is started
+-- a number that may be negative, or null where there is none
+abbrev pub integer_or_null : Option ℤ → Data
+integer_or_null None = null
+integer_or_null (Some z) = integer z
+
+-- a run: the wall second of the first minute that it makes up for, how far the zone's clock is ahead of UTC then, its second, and how many
+-- times the job is started
 abbrev pub run_object : TimeZone → Run → Data
 run_object zone run = object
-    (member (codes "offset") (integer (offset_of zone run.time.second)) (member (codes "second") (integer run.time.second)
-    (member (codes "starts") (number (unsigned run.count)) no_members)))
+    (member (codes "makes_up_for") (integer_or_null run.made_up)
+    (member (codes "offset") (integer (offset_of zone run.time.second))
+    (member (codes "second") (integer run.time.second)
+    (member (codes "starts") (number (unsigned run.count)) no_members))))
 
 -- the runs before the start, and how their list ends
 abbrev pub previous_object : TimeZone → Runs → Data

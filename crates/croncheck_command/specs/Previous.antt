@@ -17,7 +17,7 @@ use Rattle.croncheck_command.specs.declared.runs.End.TheVariants as ends
 use Rattle.croncheck_command.specs.declared.runs.Runner.{Runner}
 use Rattle.croncheck_command.specs.declared.runs.Runner.TheVariants as runners
 use Rattle.croncheck_command.specs.declared.runs.Runs.{Runs}
-use Rattle.croncheck_command.specs.Runs.{Rest, Listed, seconds_of, StartsWell}
+use Rattle.croncheck_command.specs.Runs.{Rest, Listed, MakesUp, seconds_of, StartsWell}
 use Rattle.crontab_runs.specs.Searches.{IsStartOf}
 use Rattle.crontab_runs.specs.Starts.{CronJob, cron_job, Starts}
 
@@ -40,6 +40,7 @@ abbrev pub runs_up_to : Meaning → TableTime → Listed
 runs_up_to m start = record {
   rest = record { start = table_moment start; left = IsLeft (ends_at m start) };
   times = λ i n. n ≡ 1;
+  makes_up = λ i made_up. made_up ≡ None;
 }
 
 -- what cron starts of a job up to a start
@@ -47,6 +48,7 @@ abbrev pub starts_up_to : CronJob → TableTime → Listed
 starts_up_to job start = record {
   rest = record { start = table_moment start; left = CountsFrom Backward (Starts job (table_moment start).zone) start.second };
   times = λ i n. IsStartOf job (table_moment start).zone (record { second = i; count = n });
+  makes_up = MakesUp job (table_moment start).zone;
 }
 
 -- by what runs the line, whose times have this meaning
@@ -77,6 +79,7 @@ IsEndBefore rest asked items (ends.Failed e) = ¬ (StartsWell rest)
 pub record IsListedBefore (what : Listed) (asked : Previous) (r : Runs) : Type 0 where
   pub begins : BeginsWhere Backward what.rest.left (seconds_of r.items.items)
   pub times : All (λ run. what.times run.time.second run.count) r.items.items
+  pub made_up : All (λ run. what.makes_up run.time.second run.made_up) r.items.items
   pub most : length r.items.items ≤ asked.count
   pub on_clock : All (λ run. IsWholeIn what.rest.start.zone (table_moment run.time)) r.items.items
   pub followed : All (λ i. asked.from ≤ℤ i) (seconds_of r.items.items)

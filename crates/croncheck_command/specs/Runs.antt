@@ -6,7 +6,7 @@ use Rattle.croner_base.specs.declared.time.Direction.TheVariants.{Forward}
 use Rattle.croner_base.specs.declared.time.table.TableTime.{TableTime}
 use Rattle.croner_base.specs.Calm.{IsStart}
 use Rattle.croner_base.specs.TableZone.{table_moment}
-use Rattle.croner_base.specs.Zone.{Moment, reading}
+use Rattle.croner_base.specs.Zone.{Zone, Moment, reading}
 use Rattle.croner_pattern.specs.Meaning.{Meaning}
 use Rattle.croner.specs.Recurring.{CountsFrom}
 use Rattle.croner.specs.iterator.Listing.{Standing, new_standing, instants, IsLeft, BeginsWhere}
@@ -20,6 +20,7 @@ use Rattle.croncheck_command.specs.declared.runs.Run.{Run}
 use Rattle.croncheck_command.specs.declared.runs.Runner.{Runner}
 use Rattle.croncheck_command.specs.declared.runs.Runner.TheVariants as runners
 use Rattle.croncheck_command.specs.declared.runs.Runs.{Runs}
+use Rattle.crontab_runs.specs.MadeUp.{MakesUpForNone, MakesUpFrom}
 use Rattle.crontab_runs.specs.Searches.{IsStartOf}
 use Rattle.crontab_runs.specs.Starts.{CronJob, cron_job, Starts}
 
@@ -50,20 +51,27 @@ runs_behind m start = record { start = table_moment start; left = IsLeft (starts
 abbrev pub starts_behind : CronJob → TableTime → Rest
 starts_behind job start = record { start = table_moment start; left = CountsFrom Forward (Starts job (table_moment start).zone) start.second }
 
--- what is listed: the instants that are left, and how many times the job is started at each
+-- for which minute cron starts a job at an instant first, where the clock shows a later one
+abbrev pub MakesUp : CronJob → Zone → ℤ → Option ℤ → Type 0
+MakesUp job z i None = MakesUpForNone job z i
+MakesUp job z i (Some w) = MakesUpFrom job z i w
+
+-- what is listed: the instants that are left, how many times the job is started at each, and what is made up for there
 pub record Listed : Type 1 where
   pub rest : Rest
   pub times : ℤ → ℕ → Type 0
+  pub makes_up : ℤ → Option ℤ → Type 0
 
 -- of a pattern its runs, each once
 abbrev pub runs_listed : Meaning → TableTime → Listed
-runs_listed m start = record { rest = runs_behind m start; times = λ i n. n ≡ 1 }
+runs_listed m start = record { rest = runs_behind m start; times = λ i n. n ≡ 1; makes_up = λ i made_up. made_up ≡ None }
 
 -- of a crontab's job what cron starts, each once or more
 abbrev pub starts_listed : CronJob → TableTime → Listed
 starts_listed job start = record {
   rest = starts_behind job start;
   times = λ i n. IsStartOf job (table_moment start).zone (record { second = i; count = n });
+  makes_up = MakesUp job (table_moment start).zone;
 }
 
 -- by what runs the line, whose times have this meaning
@@ -133,10 +141,12 @@ IsAsked (listings.Count count) items = length items ≤ count
 IsAsked (listings.Until until) items = All (λ i. i ≤ℤ until) items
 
 -- the listing behind a start, on a clock whose window ends there or not before the years that are searched: the items are the first that are
--- left, in order, none left out, each so many times; they lie on the start's clock and in its window; and the end is so
+-- left, in order, none left out, each so many times, with what is made up for; they lie on the start's clock and in its window; and the end
+-- is so
 pub record IsListed (what : Listed) (last : Option ℤ) (listing : Listing) (r : Runs) : Type 0 where
   pub begins : BeginsWhere Forward what.rest.left (seconds_of r.items.items)
   pub times : All (λ run. what.times run.time.second run.count) r.items.items
+  pub made_up : All (λ run. what.makes_up run.time.second run.made_up) r.items.items
   pub asked : IsAsked listing (seconds_of r.items.items)
   pub on_clock : All (λ run. IsWholeIn what.rest.start.zone (table_moment run.time)) r.items.items
   pub in_window : All (IsInWindow last) (seconds_of r.items.items)

@@ -4,7 +4,7 @@ ghost use Rattle.serde_json.specs.Data.{array};
 ghost use Rattle.serde_json.specs.View.{view, items_of};
 ghost use Rattle.jiff.specs.ZoneView.{plain_zone};
 ghost use Rattle.crontab.specs.Entries.{entry_seen};
-ghost use Rattle.croncheck_command.specs.Json.{kind_of_line, kind_of, end_name, string_or_null, run_object, previous_object, named_object, times_object, fate_name, change_object, change_objects, objects_of_changes, job_object, job_data, finding_object, object_of};
+ghost use Rattle.croncheck_command.specs.Json.{kind_of_line, kind_of, end_name, string_or_null, integer_or_null, run_object, previous_object, named_object, times_object, fate_name, change_object, change_objects, objects_of_changes, job_object, job_data, finding_object, object_of};
 ghost use Rattle.croncheck_command.specs.Shown.{exact};
 
 use crate::changes::Fate;
@@ -258,13 +258,28 @@ fn run_objects(
     Ok(items)
 }
 
-// A run: its second, how many seconds the zone's clock is ahead of UTC then, and how many times the job is started.
+// A run: its second, how many seconds the zone's clock is ahead of UTC then, how many times the job is started, and what it makes up for.
 fn run_object(alloc: Global, shared: &Shared<'_>, run: &Run<'_>) -> Result<Value, AllocError>
     ensures { IfOk result (λ v. view v ≡ run_object (plain_zone shared.now.zone) run.now) }
 {
     let (second, offset) = (run.time.second(), ahead_of(shared, &run.time));
     let starts = run.count;
-    json!(in alloc; {"second": second, "offset": offset, "starts": starts})
+    json!(in alloc; {
+        "second": second,
+        "offset": offset,
+        "starts": starts,
+        "makes_up_for": second_or_null(alloc, run.made_up)?
+    })
+}
+
+// A wall second; null where there is none.
+fn second_or_null(alloc: Global, second: Option<i64>) -> Result<Value, AllocError>
+    ensures { IfOk result (λ v. view v ≡ integer_or_null second) }
+{
+    match second {
+        Some(second) => json!(in alloc; second),
+        None => Ok(Value::Null),
+    }
 }
 
 // ---- findings

@@ -117,7 +117,7 @@ fn starts_before<'t>(
         Some(asked.from),
         asked.count,
     )?;
-    let items = runs_at(alloc, asked.start, starts.as_slice())?;
+    let items = runs_at(alloc, job, asked.start, starts.as_slice())?;
     let end = end_of_starts(asked.is_whole, ending);
     Ok(Runs { items, end })
 }

@@ -13,7 +13,7 @@ ghost use Rattle.croner.specs.search.Limit.{InSpan};
 ghost use Rattle.croner.specs.Views.{job_of};
 ghost use Rattle.crontab_runs.specs.Views.{cron_job_of};
 ghost use Rattle.croncheck_command.specs.Private.Ends.{earlier, bound, limit, full_end, end_before, end_of_years, end_of_starts, EndsBy, IsFailedBy};
-ghost use Rattle.croncheck_command.specs.Private.Listed.{once, run_seen, seen_on};
+ghost use Rattle.croncheck_command.specs.Private.Listed.{once, run_seen, seen_on, TellsMadeUp};
 ghost use Rattle.croncheck_command.specs.Clock.{last_second};
 ghost use Rattle.croncheck_command.specs.Runs.{starts, runs_listed, starts_listed, IsListed, GaveUntil};
 
@@ -48,6 +48,8 @@ pub struct Run<'t> {
     pub time: TableTime<'t>,
     /// How many times the job is started then. It is more than once only where cron makes up for minutes that the clock has skipped.
     pub count: u32,
+    /// The wall second with which the first of these minutes begins. `None` where cron makes up for none, as of a pattern's run.
+    pub made_up: Option<i64>,
 }
 
 /// Which runs are listed.
@@ -145,6 +147,7 @@ pub(crate) fn each_once<'t>(
         runs.push(Run {
             time: *time,
             count: 1,
+            made_up: None,
         })?;
     }
     Ok(runs)
@@ -167,36 +170,40 @@ pub fn starts_of<'t>(
     let until = bound_of(start.second(), last, listing);
     let most = limit_of(listing);
     let (starts, ending) = next_starts_until(alloc, job, start, until, most)?;
-    let items = runs_at(alloc, start, starts.as_slice())?;
+    let items = runs_at(alloc, job, start, starts.as_slice())?;
     let end = end_of_starts(listing, last, ending);
     Ok(Runs { items, end })
 }
 
-// Starts as runs on the clock of a time.
+// Starts of a job as runs on the clock of a time.
 pub(crate) fn runs_at<'t>(
     alloc: Global,
+    job: &CrontabJob,
     time: TableTime<'t>,
     starts: &[Start],
 ) -> Result<Vec<Run<'t>>, AllocError>
     requires { All (λ s. is_table_second s.second ≡ true) starts.now }
-    ensures { IfOk result (λ runs. map run_seen runs.items ≡ map (seen_on time.entry.table.now) starts.now) }
+    ensures seen { IfOk result (λ runs. map run_seen runs.items ≡ map (seen_on time.entry.table.now) starts.now) }
+    ensures made_up { IfOk result (λ runs. All (TellsMadeUp (cron_job_of job.now)) runs.items) }
 {
     let mut runs = Vec::new(alloc);
     for start in starts {
-        runs.push(run_at(time, *start))?;
+        runs.push(run_at(job, time, *start))?;
     }
     Ok(runs)
 }
 
-// A start as a run on the clock of a time.
-fn run_at<'t>(time: TableTime<'t>, start: Start) -> Run<'t>
+// A start of a job as a run on the clock of a time.
+fn run_at<'t>(job: &CrontabJob, time: TableTime<'t>, start: Start) -> Run<'t>
     requires { is_table_second start.second ≡ true }
-    ensures { run_seen result ≡ seen_on time.entry.table.now start }
+    ensures seen { run_seen result ≡ seen_on time.entry.table.now start }
+    ensures made_up { TellsMadeUp (cron_job_of job.now) result }
 {
     match TableTime::new(time.table(), start.second) {
         Ok(at) => Run {
             time: at,
             count: start.count,
+            made_up: job.first_made_up(&at),
         },
         Err(_) => unreachable!(),
     }

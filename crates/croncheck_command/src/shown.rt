@@ -674,7 +674,7 @@ fn push_told(
             text.push_str("\n  ")?;
             text.push_str(description.as_str())?;
             for run in runs.items.iter() {
-                push_run(text, shared, job, run)?;
+                push_run(text, shared, run)?;
             }
             if !job.times.is_never() {
                 push_end(alloc, text, shared, runs)?;
@@ -686,16 +686,10 @@ fn push_told(
 
 // A run; the same on the clock of another zone, and how far off it is, where these are told; how many times the job is started then, where
 // that is more than once; and what it makes up for.
-fn push_run(
-    text: &mut String,
-    shared: &Shared<'_>,
-    job: &JobReport<'_, '_>,
-    run: &Run<'_>,
-) -> Result<(), AllocError> {
+fn push_run(text: &mut String, shared: &Shared<'_>, run: &Run<'_>) -> Result<(), AllocError> {
     push_clocks(text, shared, run)?;
     push_off(text, shared, run.time.second())?;
-    push_count(text, run)?;
-    push_made_up(text, job, run)
+    push_starts(text, run)
 }
 
 // A run on a line of its own, and the same on the clock of another zone, where that is told.
@@ -705,13 +699,13 @@ fn push_clocks(text: &mut String, shared: &Shared<'_>, run: &Run<'_>) -> Result<
     push_other_clock(text, shared, run.time.second())
 }
 
-// How many times a job is started at a run, where that is more than once.
-fn push_count(text: &mut String, run: &Run<'_>) -> Result<(), AllocError> {
+// How many times a job is started at a run, where that is more than once, and what it makes up for, if it does.
+fn push_starts(text: &mut String, run: &Run<'_>) -> Result<(), AllocError> {
     if 1 < run.count {
         let count = run.count;
         write!(text, "  {count} times")?;
     }
-    Ok(())
+    push_made_up(text, run)
 }
 
 // Puts what another zone's clock shows at a second behind a text, if it is to be shown.

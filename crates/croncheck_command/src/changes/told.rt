@@ -48,17 +48,6 @@ impl Meeting {
         }
         push_minute(text, self.second)
     }
-
-    /// Writes behind a run what it makes up for; it may be for more than the second.
-    pub fn push_made_up(&self, text: &mut String, is_one_of_many: bool) -> Result<(), AllocError> {
-        text.push_str(if is_one_of_many {
-            ", first for "
-        } else {
-            "  for "
-        })?;
-        push_minute(text, self.second)?;
-        text.push_str(", which the clock skips")
-    }
 }
 
 // What the clock does.
@@ -109,8 +98,8 @@ fn push_date(text: &mut String, wall: i64) -> Result<(), AllocError> {
     }
 }
 
-// The hour and the minute of a wall second.
-fn push_minute(text: &mut String, wall: i64) -> Result<(), AllocError> {
+/// Writes the hour and the minute of a wall second.
+pub(crate) fn push_minute(text: &mut String, wall: i64) -> Result<(), AllocError> {
     match CivilDateTime::of_wall_second(wall) {
         Some(civil) => {
             let (hour, minute) = (civil.hour(), civil.minute());

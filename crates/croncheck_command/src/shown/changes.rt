@@ -1,7 +1,8 @@
 //! What a job is told of changes of the clock.
 
+use crate::changes::Meeting;
 use crate::changes::meetings::Met;
-use crate::changes::{Fate, Meeting};
+use crate::changes::told::push_minute;
 use crate::report::JobReport;
 use crate::runs::Run;
 use std::alloc::AllocError;
@@ -45,20 +46,16 @@ fn push_two_changes(text: &mut String, first: Meeting, second: Meeting) -> Resul
     second.push_short(text)
 }
 
-// What a run of a crontab's job makes up for, where it is the next that does.
-pub(crate) fn push_made_up(
-    text: &mut String,
-    job: &JobReport<'_, '_>,
-    run: &Run<'_>,
-) -> Result<(), AllocError> {
-    match (&job.meetings.gap, job.command) {
-        (Some(met), Some(_)) if is_made_up_by(met, run) => met
-            .meeting
-            .push_made_up(text, 1 < run.count),
-        _ => Ok(()),
-    }
-}
-
-fn is_made_up_by(met: &Met, run: &Run<'_>) -> bool {
-    met.meeting.fate == Fate::Moved && met.meeting.change.instant == run.time.second()
+// What a start of a crontab's job makes up for, if it does.
+pub(crate) fn push_made_up(text: &mut String, run: &Run<'_>) -> Result<(), AllocError> {
+    let Some(second) = run.made_up else {
+        return Ok(());
+    };
+    text.push_str(if 1 < run.count {
+        ", first for "
+    } else {
+        "  for "
+    })?;
+    push_minute(text, second)?;
+    text.push_str(", which the clock skips")
 }

@@ -1,6 +1,6 @@
 //! The runs before the start, as they are shown.
 
-use super::{Shared, push_clocks, push_count};
+use super::{Shared, push_clocks, push_starts};
 use crate::ago::Ago;
 use crate::runs::{End, Run, Runs};
 use std::alloc::AllocError;
@@ -21,11 +21,11 @@ pub(super) fn push_previous(
     push_rest(text, shared, &runs.end)
 }
 
-// A run; how long ago it was, where that is told; and how many times the job was started then.
+// A run; how long ago it was, where that is told; how many times the job was started then, and what it made up for.
 fn push_run(text: &mut String, shared: &Shared<'_>, run: &Run<'_>) -> Result<(), AllocError> {
     push_clocks(text, shared, run)?;
     push_ago(text, shared, run.time.second())?;
-    push_count(text, run)
+    push_starts(text, run)
 }
 
 // Puts how long ago a second was behind a text, if that is to be told.

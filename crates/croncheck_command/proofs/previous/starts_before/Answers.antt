@@ -20,5 +20,5 @@ returns-clause-listed c =
     let asked = c.args.asked in
     let fits : FitsSigned w64 asked.from = search rules in
     starts_listed_back (cron_job_of c.args.job.now) asked _ _ c.in_ok-starts.starts.items (record { items = c.in_ok-items.items; end = c.end_of_starts-end.result })
-    c.in_ok-starts.ending (ap Some (to_z-of_z w64 asked.from fits)) refl (c.in_ok-items.ensures ∙ ap (map (seen_on asked.start.table.now)) c.as_slice.ensures.value)
+    c.in_ok-starts.ending (ap Some (to_z-of_z w64 asked.from fits)) refl (c.in_ok-items.ensures.seen ∙ ap (map (seen_on asked.start.table.now)) c.as_slice.ensures.value) c.in_ok-items.ensures.made_up
     c.in_ok-starts.ensures c.end_of_starts-end.ensures

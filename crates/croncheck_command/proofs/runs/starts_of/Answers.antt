@@ -24,5 +24,5 @@ returns-clause-listed c =
     let up_to = subst (λ (s : ℤ). until ≡ bound s c.args.last c.args.listing) second c.bound_of-until.ensures in
     starts_listed_by (cron_job_of c.args.job.now) start until c.limit_of-most.result c.args.last c.args.listing c.in_ok-starts.starts.items
     (record { items = c.in_ok-items.items; end = c.end_of_starts-end.result }) c.in_ok-starts.ending up_to c.limit_of-most.ensures
-    (c.in_ok-items.ensures ∙ ap (map (seen_on start.table.now)) c.as_slice.ensures.value)
+    (c.in_ok-items.ensures.seen ∙ ap (map (seen_on start.table.now)) c.as_slice.ensures.value) c.in_ok-items.ensures.made_up
     c.in_ok-starts.ensures c.end_of_starts-end.ensures
