@@ -335,9 +335,10 @@ def in_order(draw, least, most):
 
 def modifiers(draw):
     """A pattern whose days have modifiers."""
-    days = [f"{n}W" for n in in_order(draw, 1, 31) if draw.random() < 0.99]
+    days = [f"{n}W" for n in in_order(draw, 1, 31)]
     days += draw.choice([[], [], [part(draw, 1, 31)], ["L"], ["LW"]])
-    week = [f"{n}#{k}" for k in draw.sample(["1", "2", "3", "4", "5", "L"], draw.choice([1, 1, 2, 3])) for n in in_order(draw, 0, 6)]
+    which = draw.sample(["#1", "#2", "#3", "#4", "#5", "L"], draw.choice([1, 1, 2, 3]))
+    week = [f"{n}{k}" for k in which for n in in_order(draw, 0, 6)]
     week += draw.choice([[], [], [part(draw, 0, 6)]])
     sides = draw.choice([(days, []), ([], week), ([], week), (days, week)])
     text = [",".join(side) or "*" for side in sides]
