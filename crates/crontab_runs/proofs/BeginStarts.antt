@@ -1,5 +1,5 @@
 -- What cron starts at the first second of a stretch, by the count of what is due.
-use Rattle.std.proofs.Common.{◌≡◌, ◌∙◌, sym, subst, ap, arith, Bool, ℕ, ℤ, pos, neg_ℤ, ◌+ℤ◌, ◌≤ℤ◌, w64, to_z, of_z, FitsSigned}
+use Rattle.std.proofs.Common.{◌≡◌, ◌∙◌, sym, ap, arith, Bool, ℕ, ℤ, pos, neg_ℤ, ◌+ℤ◌, ◌≤ℤ◌, w64, to_z, of_z, FitsSigned}
 use Rattle.std.proofs.lemmas.Int.{ints, to_z-of_z}
 use Rattle.croner_base.specs.TableZone.{table_zone}
 use Rattle.croner_base.specs.Zone.{Zone}
@@ -81,19 +81,3 @@ module _ (t : Stretch) where
   pub other_minute : (a b : ℤ) → a ≡ minute_of (to_z w64 (of_z w64 t.before))
       → b ≡ minute_of (to_z w64 (of_z w64 (to_z w64 (of_z w64 t.begin) +ℤ to_z w64 (of_z w64 t.offset)))) → (of_z w64 b ≡ of_z w64 a → ⊥) → minute_of (t.begin +ℤ t.offset) ≡ minute_of t.before → ⊥
   other_minute a b e f differ same = differ (ap (of_z w64) ((minute_found b f).0 ∙ same ∙ sym (shown_found a e).0))
-
-  -- where the code finds the same minute nothing is started
-  pub found_same : (job : CronJob) (a b : ℤ) → a ≡ minute_of (to_z w64 (of_z w64 t.before))
-      → b ≡ minute_of (to_z w64 (of_z w64 (to_z w64 (of_z w64 t.begin) +ℤ to_z w64 (of_z w64 t.offset)))) → of_z w64 b ≡ of_z w64 a → AreStarts job of_table t.begin 0
-  found_same job a b e f same =
-      same_minute of_table t.begin t.end t.offset t.before t.fits job (sym (minute_found b f).1 ∙ ap (to_z w64) same ∙ (shown_found a e).1)
-
-  -- and else what it counts
-  pub found_other : (job : CronJob) (a b d : ℤ) (count : ℕ) → a ≡ minute_of (to_z w64 (of_z w64 t.before))
-      → b ≡ minute_of (to_z w64 (of_z w64 (to_z w64 (of_z w64 t.begin) +ℤ to_z w64 (of_z w64 t.offset)))) → (of_z w64 b ≡ of_z w64 a → ⊥)
-      → d ≡ due_after job.starred (to_z w64 (of_z w64 a)) (to_z w64 (of_z w64 b)) → IsNamedCount job.names (to_z w64 (of_z w64 d)) (to_z w64 (of_z w64 b)) count
-      → AreStarts job of_table t.begin count
-  found_other job a b d count e f differ g counted =
-      counted_starts of_table t.begin t.end t.offset t.before t.fits job count (other_minute a b e f differ)
-      (subst (λ (x : ℤ). IsNamedCount job.names x (minute_of (t.begin +ℤ t.offset)) count) (due_found job.starred a b d e f g)
-      (subst (λ (x : ℤ). IsNamedCount job.names (to_z w64 (of_z w64 d)) x count) (minute_found b f).1 counted))

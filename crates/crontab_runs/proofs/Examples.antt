@@ -6,9 +6,9 @@ use Rattle.std.specs.Int.{int_rem_euclid}
 use Rattle.std.specs.Ordering.{int_eq}
 use Rattle.croner_base.specs.Table.{is_calm_table}
 use Rattle.croner_base.specs.TableZone.{clock}
-use Rattle.crontab_runs.specs.MadeUp.{MakesUpFrom}
+use Rattle.crontab_runs.specs.MadeUp.{MakesUpForNone, MakesUpFrom}
 use Rattle.crontab_runs.specs.Starts.{CronJob}
-use Rattle.crontab_runs.proofs.MadeUpStarts.{first_at_begin}
+use Rattle.crontab_runs.proofs.MadeUpStarts.{none_at_begin, first_at_begin}
 use Rattle.crontab_runs.proofs.TableStarts.{listed, started_at}
 use Rattle.crontab_runs.proofs.TableStretches.{stretch_is}
 
@@ -138,3 +138,11 @@ unfolding half_hours_of_two
 in_place_of_two =
     first_at_begin _ _ _ _ _ (stretch_is (pos 0) spring calm_tables.0 1 (omega arith)) half_hours_of_two (pos 7_200) (λ same. omega (arith, ints, same))
     (record { begins = refl; behind = omega (arith, ints); ahead = omega (arith, ints); named = refl; first = λ j low named. omega (arith, ints, low) })
+
+-- a starred one is left out there
+half_hours_of_each : CronJob
+half_hours_of_each = record { names = λ k. daily on_half each k ≡ true; starred = true }
+
+left_out : MakesUpForNone half_hours_of_each (clock (pos 0) spring) (pos 7_200)
+unfolding half_hours_of_each
+left_out = none_at_begin _ _ _ _ _ (stretch_is (pos 0) spring calm_tables.0 1 (omega arith)) half_hours_of_each (λ k low high named. omega (arith, ints, low, high))

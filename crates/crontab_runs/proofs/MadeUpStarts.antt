@@ -1,14 +1,11 @@
 -- For which skipped minutes cron starts a job: at the first second of a stretch alone.
-use Rattle.std.proofs.Common.{◌≡◌, ◌∙◌, sym, subst, ap, arith, Bool, true, false, ℤ, pos, ◌+ℤ◌, ◌-ℤ◌, ◌<ℤ◌, ◌≤ℤ◌, if◌then◌else◌, Option, Some, None, MatchOption, w64, to_z, of_z}
+use Rattle.std.proofs.Common.{◌≡◌, ◌∙◌, sym, subst, ap, arith, Bool, true, false, ℤ, pos, ◌+ℤ◌, ◌-ℤ◌, ◌<ℤ◌, ◌≤ℤ◌, if◌then◌else◌, Option, Some, None, MatchOption}
 use Rattle.std.proofs.lemmas.Int.{ints}
-use Rattle.croner_base.specs.TableZone.{table_zone}
 use Rattle.croner_base.specs.Zone.{Zone}
-use Rattle.crontab_runs.specs.declared.stretch.Stretch.{Stretch}
 use Rattle.crontab_runs.specs.MadeUp.{MakesUpFor, MakesUpFrom, MakesUpForNone}
 use Rattle.crontab_runs.specs.Starts.{minute_of, is_from_to, due_after, most_late, CronJob}
 use Rattle.crontab_runs.specs.Private.Named.{NoneNamedBetween, IsFirstNamedBetween}
 use Rattle.crontab_runs.specs.Private.Stretches.{IsStretch}
-use Rattle.crontab_runs.proofs.BeginStarts.{minute_found, due_found, shown_found, other_minute}
 use Rattle.crontab_runs.proofs.DueMinutes.{minute_is}
 use Rattle.crontab_runs.proofs.StretchStarts.{one_greatest, greatest_at_begin, turn_inside}
 
@@ -78,26 +75,3 @@ module _ (z : Zone) (begin end o before : ℤ) (s : IsStretch z begin end o befo
       → MatchOption r (MakesUpForNone job z begin) (MakesUpFrom job z begin)
   found_at_begin None other none = none_at_begin none
   found_at_begin (Some w) other first = first_at_begin w other first
-
--- ---- as the code has them
-
-module _ (t : Stretch) where
-  abbrev of_table : Zone
-  of_table = table_zone t.table.now
-
-  pub same_found : (job : CronJob) (a b : ℤ) → a ≡ minute_of (to_z w64 (of_z w64 t.before))
-      → b ≡ minute_of (to_z w64 (of_z w64 (to_z w64 (of_z w64 t.begin) +ℤ to_z w64 (of_z w64 t.offset)))) → of_z w64 b ≡ of_z w64 a → MakesUpForNone job of_table t.begin
-  same_found job a b e f same =
-      none_within_minute of_table t.begin t.end t.offset t.before t.fits job (sym (minute_found t b f).1 ∙ ap (to_z w64) same ∙ (shown_found t a e).1)
-
-  pub named_found : (job : CronJob) (a b d : ℤ) (r : Option ℤ) → a ≡ minute_of (to_z w64 (of_z w64 t.before))
-      → b ≡ minute_of (to_z w64 (of_z w64 (to_z w64 (of_z w64 t.begin) +ℤ to_z w64 (of_z w64 t.offset)))) → (of_z w64 b ≡ of_z w64 a → ⊥)
-      → d ≡ due_after job.starred (to_z w64 (of_z w64 a)) (to_z w64 (of_z w64 b))
-      → MatchOption r (NoneNamedBetween job.names (to_z w64 (of_z w64 d)) (to_z w64 (of_z w64 b))) (IsFirstNamedBetween job.names (to_z w64 (of_z w64 d)) (to_z w64 (of_z w64 b)))
-      → MatchOption r (MakesUpForNone job of_table t.begin) (MakesUpFrom job of_table t.begin)
-  named_found job a b d r e f differ g found =
-      let after = due_found t job.starred a b d e f g in
-      let to = (minute_found t b f).1 in
-      found_at_begin of_table t.begin t.end t.offset t.before t.fits job r (other_minute t a b e f differ)
-      (subst (λ (x : ℤ). MatchOption r (NoneNamedBetween job.names x (minute_of (t.begin +ℤ t.offset))) (IsFirstNamedBetween job.names x (minute_of (t.begin +ℤ t.offset)))) after
-      (subst (λ (x : ℤ). MatchOption r (NoneNamedBetween job.names (to_z w64 (of_z w64 d)) x) (IsFirstNamedBetween job.names (to_z w64 (of_z w64 d)) x)) to found))

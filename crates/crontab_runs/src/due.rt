@@ -1,11 +1,11 @@
 //! What of a job is due when the clock shows another minute.
-ghost use Rattle.std.specs.Prelude.{◌≡◌, ◌↔◌, ◌≤◌, IsTrue, pos, neg_ℤ, ◌+ℤ◌, ◌-ℤ◌, ◌*ℤ◌, ◌≤ℤ◌};
+ghost use Rattle.std.specs.Prelude.{MatchOption, ◌≡◌, ◌↔◌, ◌≤◌, IsTrue, pos, neg_ℤ, ◌+ℤ◌, ◌-ℤ◌, ◌*ℤ◌, ◌≤ℤ◌};
 ghost use Rattle.croner_base.specs.TableZone.{table_zone};
 ghost use Rattle.croner.specs.Views.{job_of};
 ghost use Rattle.croner.specs.search.Limit.{IsWithin};
 ghost use Rattle.crontab_runs.specs.Starts.{NamesMinute, due_after as first_due, most_changed, far_minute};
 ghost use Rattle.crontab_runs.specs.Views.{cron_job_of};
-ghost use Rattle.crontab_runs.specs.Private.Due.{IsNamedCount, AreStarts};
+ghost use Rattle.crontab_runs.specs.Private.Due.{IsNamedCount, AreStarts, GoesOnWithinMinute, IsDueAtBegin};
 ghost use Rattle.crontab_runs.specs.Private.Known.{IsKnown};
 ghost use Rattle.crontab_runs.specs.Private.Stretches.{far};
 
@@ -56,6 +56,30 @@ pub fn due_after(is_starred: bool, shown: i64, minute: i64) -> i64
         return if is_starred { minute - 1 } else { shown };
     }
     minute - 1
+}
+
+/// For which minutes cron starts a job at the first second of a stretch, if it names them.
+#[derive(Clone, Copy)]
+pub(crate) struct Due {
+    /// The minute before the first of them.
+    pub(crate) after: i64,
+    /// The last of them, which the clock shows there.
+    pub(crate) shown: i64,
+}
+
+/// For which minutes cron starts a job at the first second of a stretch, if it names them: none where the clock goes on within a minute.
+pub(crate) fn due_at_begin(is_starred: bool, stretch: &Stretch<'_>) -> Option<Due>
+    ensures { MatchOption result (GoesOnWithinMinute stretch.now) (IsDueAtBegin is_starred stretch.now) }
+{
+    let shown = minute_of(stretch.before);
+    let minute = minute_of(stretch.begin + stretch.offset);
+    if minute == shown {
+        return None;
+    }
+    Some(Due {
+        after: due_after(is_starred, shown, minute),
+        shown: minute,
+    })
 }
 
 impl CrontabJob {
@@ -109,11 +133,9 @@ impl CrontabJob {
         requires { IsKnown (job_of self.now.cron) known.now }
         ensures { AreStarts (cron_job_of self.now) (table_zone stretch.now.table.now) stretch.now.begin result }
     {
-        let shown = minute_of(stretch.before);
-        let minute = minute_of(stretch.begin + stretch.offset);
-        if minute == shown {
-            return 0;
+        match due_at_begin(self.is_starred, stretch) {
+            Some(due) => self.named_count(known, due.after, due.shown),
+            None => 0,
         }
-        self.named_count(known, due_after(self.is_starred, shown, minute), minute)
     }
 }

@@ -8,9 +8,9 @@ ghost use Rattle.crontab_runs.specs.Private.Named.{NoneNamedBetween, IsFirstName
 ghost use Rattle.crontab_runs.specs.Private.Stretches.{far};
 ghost use Rattle.crontab_runs.specs.Views.{cron_job_of};
 
-use crate::due::due_after;
+use crate::due::due_at_begin;
 use crate::job::CrontabJob;
-use crate::minutes::{SECONDS_PER_MINUTE, minute_of};
+use crate::minutes::SECONDS_PER_MINUTE;
 use crate::stretch::{Stretch, changes_until};
 use croner::time::table::TableTime;
 
@@ -37,12 +37,10 @@ impl CrontabJob {
         ensures { MatchOption result (MakesUpForNone (cron_job_of self.now) (table_zone stretch.now.table.now) stretch.now.begin)
             (MakesUpFrom (cron_job_of self.now) (table_zone stretch.now.table.now) stretch.now.begin) }
     {
-        let shown = minute_of(stretch.before);
-        let minute = minute_of(stretch.begin + stretch.offset);
-        if minute == shown {
-            return None;
+        match due_at_begin(self.is_starred, stretch) {
+            Some(due) => self.first_named_between(due.after, due.shown),
+            None => None,
         }
-        self.first_named_between(due_after(self.is_starred, shown, minute), minute)
     }
 
     // With which wall second the first minute begins that the job names after one and before another.
