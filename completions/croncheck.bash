@@ -9,7 +9,7 @@ _croncheck_zones() {
 # The names of warnings that may be allowed.
 _croncheck_warnings() {
     printf '%s\n' 'either-day uneven-step step-beyond range-down passed-over large-number whole-hour short-months gone never no-command
-        looks-like-field user percent continued control-byte carriage-return empty-item other-name no-zone not-expanded gap twice same-job'
+        looks-like-field user percent continued control-byte carriage-return empty-item other-name preset no-zone not-expanded gap twice same-job'
 }
 
 # The options of a command; without one those of check.
@@ -17,12 +17,12 @@ _croncheck_options() {
     local clock='--zone --from' span='--runs --until' output='--json --strict --same-job --allow' look='--width --color' kinds='--system --user --patterns --stdin-name --users --root'
     local settings='--alternative-weekdays --dom-and-dow --sloppy-ranges --seconds --year'
     case $1 in
-        check) printf '%s\n' "$clock -f --format $output $kinds --language $settings $look -h --help" ;;
-        show) printf '%s\n' "$clock $span --previous --show-zone $output $kinds --language $settings $look -h --help" ;;
-        plan) printf '%s\n' "$clock $span $kinds $settings $look -h --help" ;;
-        next) printf '%s\n' "$clock $span --previous --show-zone --language --for $settings $look -h --help" ;;
+        check) printf '%s\n' "$clock -f --format $output $kinds --language --for $settings $look -h --help" ;;
+        show) printf '%s\n' "$clock $span --previous --often --show-zone $output $kinds --language --for $settings $look -h --help" ;;
+        plan) printf '%s\n' "$clock $span --show-zone --commands $kinds $settings $look -h --help" ;;
+        next) printf '%s\n' "$clock $span --previous --often --show-zone --language --for $settings $look -h --help" ;;
         describe) printf '%s\n' "--language --for $settings $look -h --help" ;;
-        *) printf '%s\n' "$clock -f --format $output $kinds --language $settings $look -h --help -V --version" ;;
+        *) printf '%s\n' "$clock -f --format $output $kinds --language --for $settings $look -h --help -V --version" ;;
     esac
 }
 

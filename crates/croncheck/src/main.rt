@@ -116,7 +116,7 @@ fn in_zone(rt: &HostRuntime, call: &Call<'_>) -> Result<u8, Problem> {
     }
     match zones.get(call.zone) {
         Ok(zone) => check(rt, call, zone),
-        Err(jiff::Error::TimeZoneNotFound) => Err(no_zone(rt, call.zone)),
+        Err(jiff::Error::TimeZoneNotFound) => Err(no_zone(rt, &zones, call.zone)),
         Err(error) => Err(Problem::Zone(error)),
     }
 }
@@ -204,11 +204,35 @@ fn in_ruled_zone(rt: &HostRuntime, call: &Call<'_>, zone: TimeZone<'_>) -> Resul
 }
 
 // What is wrong with the word of a zone that is none.
-fn no_zone(rt: &HostRuntime, word: &str) -> Problem {
-    match refusal_of(rt.alloc(), word) {
+fn no_zone(rt: &HostRuntime, zones: &TimeZoneDatabase, word: &str) -> Problem {
+    match zone_refusal(rt, zones, word) {
         Ok(text) => Problem::NoZone(text),
         Err(_) => Problem::OutOfMemory,
     }
+}
+
+// What is told of it; and the zone of that place, where it is the name of one.
+fn zone_refusal(
+    rt: &HostRuntime,
+    zones: &TimeZoneDatabase,
+    word: &str,
+) -> Result<String, AllocError> {
+    let mut text = refusal_of(rt.alloc(), word)?;
+    if let Some(name) = zones.available().find(|name| is_zone_of(name, word)) {
+        write!(&mut text, "; the zone of that place is {name}")?;
+    }
+    Ok(text)
+}
+
+// Whether a place stands last in the name of a zone, whatever its letters' case; a blank of it is an underscore there.
+fn is_zone_of(name: &str, place: &str) -> bool {
+    let last = name.rsplit('/').next().unwrap_or(name).as_bytes();
+    let place = place.as_bytes();
+    last.len() == place.len() && last.iter().zip(place).all(|(a, b)| is_same_letter(*a, *b))
+}
+
+fn is_same_letter(of_name: u8, of_place: u8) -> bool {
+    of_name.eq_ignore_ascii_case(&of_place) || of_name == b'_' && of_place == b' '
 }
 
 // Checks with the clock of the zone that is to be shown too, if there is one.
@@ -227,7 +251,7 @@ fn check(rt: &HostRuntime, call: &Call<'_>, zone: TimeZone<'_>) -> Result<u8, Pr
     }
     match zones.get(word) {
         Ok(other) => check_in(rt, call, zone, Some(other)),
-        Err(jiff::Error::TimeZoneNotFound) => Err(no_zone(rt, word)),
+        Err(jiff::Error::TimeZoneNotFound) => Err(no_zone(rt, &zones, word)),
         Err(error) => Err(Problem::Zone(error)),
     }
 }
@@ -344,11 +368,13 @@ fn settings_of<'t>(
     SettingsByKind::new(Settings {
         dialect: Dialect::User,
         parser: call.parser,
+        preset: call.preset,
         language: call.language,
         changes,
         listing,
         is_from_now: is_now(call.from),
         previous,
+        tells_often: call.tells_often,
         is_strict: call.is_strict,
         compares_jobs: call.compares_jobs,
         look,
@@ -462,7 +488,7 @@ fn tell(
     match call.verb {
         Verb::Check => check_in_format(rt, call, kinds, sources),
         Verb::Show => show_in_format(rt, call, kinds, sources),
-        Verb::Plan => tell_in(rt, kinds, sources, Planner::new(rt.alloc())),
+        Verb::Plan => tell_in(rt, kinds, sources, Planner::new(rt.alloc(), call.plan)),
         Verb::Next => answer(rt, call, kinds.of(Dialect::Patterns), Answer::Runs),
         Verb::Describe => answer(rt, call, kinds.of(Dialect::Patterns), Answer::Description),
     }
@@ -537,7 +563,6 @@ fn answer(
         &terms,
         call.patterns.as_slice(),
         answer,
-        call.preset,
         &mut output,
     )
 }

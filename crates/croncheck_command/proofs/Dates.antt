@@ -1,5 +1,5 @@
 -- Where a date begins on a zone's clock.
-use Rattle.std.proofs.Common.{◌≡◌, ◌∙◌, ◌+◌, ◌≤◌, Bool, true, false, ℕ, zero, suc, ℤ, pos, ◌+ℤ◌, ◌-ℤ◌, Option, Some, None, inl, inr, ap, refl, sym, subst, arith}
+use Rattle.std.proofs.Common.{◌≡◌, ◌+◌, ◌≤◌, Bool, true, false, ℕ, zero, suc, ℤ, pos, ◌+ℤ◌, ◌-ℤ◌, Option, Some, None, inl, inr, sym, subst, arith}
 use Rattle.std.proofs.lemmas.Int.{ints}
 use Rattle.std.specs.Prelude.{◌<ℤ◌, ◌≤ℤ◌, MatchOption}
 use Rattle.std.specs.Bool.{OnFalse}
@@ -9,7 +9,7 @@ use Rattle.jiff_core.specs.declared.civil.date.Date.{Date}
 use Rattle.jiff_core.specs.declared.civil.datetime.DateTime.{DateTime}
 use Rattle.jiff_tz.specs.declared.timezone.TimeZone.{TimeZone}
 use Rattle.croncheck_command.specs.Clock.{IsHeldSecond}
-use Rattle.croncheck_command.specs.Moment.{seconds_around, shown_at, midnight_of, IsShownIn, IsMidnight, IsAround, GoesOver, IsBegin, IsNoBegin, IsUnheld, BeginsNext, IsFirstOf, IsLastBeforeNext, IsLastOf, LiesInDay, ShowsDate}
+use Rattle.croncheck_command.specs.Moment.{seconds_around, shown_at, midnight_of, IsShownIn, IsAround, GoesOver, IsBegin, IsNoBegin, IsUnheld, IsFirstOf, IsLastBeforeNext, IsLastOf, LiesInDay, ShowsDate}
 
 none_behind : (first : ℤ) → (first +ℤ pos 0) ≡ first
 none_behind first = omega (arith, ints)

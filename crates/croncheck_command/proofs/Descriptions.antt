@@ -1,5 +1,5 @@
 -- What the words for a job say.
-use Rattle.std.proofs.Common.{◌≡◌, Ok, Err, Result}
+use Rattle.std.proofs.Common.{Ok, Err, Result}
 use Rattle.std.specs.Prelude.{IfOk, string_bytes}
 use Rattle.std.specs.declared.alloc.Global.{Global}
 use Rattle.std.specs.declared.string.String.{String}

@@ -1,5 +1,5 @@
 -- Worked rows of what comments allow, computed from the definitions.
-use Rattle.std.proofs.Common.{◌≡◌, ℕ, List, [], ◌∷◌, Bool, true, false, Option, Some, None, refl}
+use Rattle.std.proofs.Common.{◌≡◌, ℕ, List, [], ◌∷◌, true, false, Some, None, refl}
 use Rattle.std.specs.Prelude.{codes}
 use Rattle.crontab.specs.Line.{blank, comment, setting, refused}
 use Rattle.crontab.specs.declared.line.Fault.TheVariants as faults

@@ -12,7 +12,7 @@ use Rattle.croncheck_command.specs.declared.report.SettingReport.{SettingReport}
 use Rattle.croncheck_command.specs.declared.report.Why.TheVariants as whys
 use Rattle.croncheck_command.specs.FileSeen.{File, unread}
 use Rattle.croncheck_command.specs.Report.{report_behind}
-use Rattle.croncheck_command.specs.Findings.{Found, named, place_of, findings_of_line, findings_of_file, Said}
+use Rattle.croncheck_command.specs.Findings.{named, place_of, findings_of_line, findings_of_file, Said}
 
 abbrev extent : ℕ → ℕ → Extent
 extent start end = record { start = start; end = end }

@@ -1,5 +1,5 @@
 -- Worked rows of what is read of a folder: each is computed from the definitions.
-use Rattle.std.proofs.Common.{◌≡◌, [], Some, None, true, false, codes, refl}
+use Rattle.std.proofs.Common.{◌≡◌, Some, None, true, false, codes, refl}
 use Rattle.std.specs.Path.{path_file_name, path_parent, split_last_component, trim_trailing, rsplit_once}
 use Rattle.crontab.specs.declared.line.Dialect.TheVariants as dialects
 use Rattle.croncheck_command.specs.declared.folder.Sort.TheVariants as sorts

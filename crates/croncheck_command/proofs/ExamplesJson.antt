@@ -1,5 +1,5 @@
 -- Worked objects of lines, written by hand from docs/CRONTAB.md ("JSON"), and computed from the definitions.
-use Rattle.std.proofs.Common.{◌≡◌, ℕ, pos, List, [], ◌∷◌, false, true, None, Some, Bor, String, Vec, Global, string_bytes, refl}
+use Rattle.std.proofs.Common.{◌≡◌, ℕ, pos, List, [], ◌∷◌, false, None, Some, Bor, String, Vec, Global, string_bytes, refl}
 use Rattle.std.specs.Prelude.{codes}
 use Rattle.std.specs.Fmt.{digits}
 use Rattle.serde_json.proofs.OnLiterals.{serde_json_on_literals}
@@ -57,7 +57,7 @@ a_job : (hour : Offset) (schedule command : Bor (List ℕ)) (found : Vec Warning
       user = None;
       command = Some command;
       same = None;
-      times = tolds.Runs text runs None false;
+      times = tolds.Runs text runs None None false;
       warnings = found;
       meetings = none_met;
       dates = None;

@@ -32,7 +32,7 @@ followed_years = refl
 -- no run is listed behind the start, and one before it, in a zone an hour ahead of UTC
 one_before : (hour : Offset) (text : String Global) (runs previous : Runs) (first : Run) → hour.seconds ≡ pos 3_600 → runs.items.items ≡ [] → runs.end ≡ ends.More
     → previous.items.items ≡ first ∷ [] → previous.end ≡ ends.Window → first.time.second ≡ pos 1_731_279_600 → first.count ≡ 1 → first.made_up ≡ None
-    → times_object (zones.Fixed hour) (tolds.Runs text runs (Some previous) false)
+    → times_object (zones.Fixed hour) (tolds.Runs text runs (Some previous) None false)
     ≡ object
     (member (codes "description") (string (string_bytes text))
     (member (codes "end") (string (codes "more"))

@@ -1,13 +1,11 @@
--- Worked rows of what is shown of a clock and of the front of a text, and of what is said at the end of a file and of a plan.
-use Rattle.std.proofs.Common.{◌≡◌, true, false, pos, [], ◌∷◌, Some, refl}
+-- Worked rows of what is shown of a clock and of the front of a text, and of what is said at the end of a file.
+use Rattle.std.proofs.Common.{◌≡◌, true, pos, [], ◌∷◌, Some, refl}
 use Rattle.std.specs.Fmt.{digits}
 use Rattle.std.specs.Prelude.{codes, neg_ℤ}
 use Rattle.crontab.specs.declared.line.Dialect.TheVariants as dialects
 use Rattle.croncheck_command.specs.declared.fitness.Unfit.TheVariants as unfits
-use Rattle.croncheck_command.specs.declared.runs.Listing.TheVariants as listings
 use Rattle.croncheck_command.specs.declared.settings.Tongue.TheVariants as tongues
 use Rattle.croncheck_command.specs.FileSeen.{File, unread, ending_of}
-use Rattle.croncheck_command.specs.Planner.{over_text, more_text}
 use Rattle.croncheck_command.specs.Shown.{ahead_text, weekday_text, start_at, cut_at}
 
 -- ---- the clock
@@ -83,17 +81,3 @@ two_hard_links = refl
 
 patterns_are_read_whole : ending_of dialects.Patterns 10_001 refused ≡ []
 patterns_are_read_whole = refl
-
--- ---- the end of a plan
-
-no_job_runs : over_text true ≡ codes "no job runs: no run is left before year 5000\n"
-no_job_runs = refl
-
-no_run_is_left : over_text false ≡ codes "no more: no run is left before year 5000\n"
-no_run_is_left = refl
-
-none_up_to_a_second : more_text (listings.Until (pos 5)) true ≡ codes "no run up to then\n"
-none_up_to_a_second = refl
-
-none_asked : more_text (listings.Count 0) true ≡ []
-none_asked = refl

@@ -1,5 +1,5 @@
 -- Worked rows of the users of a machine, computed from the definitions.
-use Rattle.std.proofs.Common.{◌≡◌, ℕ, List, Bool, true, false, None, Some, refl}
+use Rattle.std.proofs.Common.{◌≡◌, ℕ, List, true, false, None, Some, refl}
 use Rattle.std.specs.Prelude.{codes}
 use Rattle.croncheck_command.specs.Users.{has_user, is_unknown, user_end, user_start}
 

@@ -1,8 +1,7 @@
 -- Worked rows of what is written, computed from the definitions.
-use Rattle.std.proofs.Common.{◌≡◌, [], ◌∷◌, false, true, refl}
+use Rattle.std.proofs.Common.{◌≡◌, [], false, true, refl}
 use Rattle.std.specs.Prelude.{codes}
 use Rattle.croncheck_command.specs.Output.{set_apart}
-use Rattle.croncheck_command.specs.Planner.{labels_at}
 
 a_first_text : set_apart false (codes "a\n") ≡ codes "a\n"
 a_first_text = refl
@@ -15,7 +14,3 @@ no_first_text = refl
 
 no_next_text : set_apart true [] ≡ []
 no_next_text = refl
-
--- two of three jobs run at a moment
-jobs_of_a_moment : labels_at (codes "a\n" ∷ codes "b\n" ∷ codes "c\n" ∷ []) (0 ∷ 2 ∷ []) ≡ codes "a\nc\n"
-jobs_of_a_moment = refl

@@ -1,5 +1,5 @@
 -- The text of what is found of a line.
-use Rattle.std.proofs.Common.{◌≡◌, ◌∙◌, ◌<◌, ℕ, List, [], ◌∷◌, ◌++◌, append_assoc, ap, sym, length, arith}
+use Rattle.std.proofs.Common.{◌≡◌, ◌∙◌, ◌<◌, ℕ, List, [], ◌∷◌, ◌++◌, append_assoc, sym, length, arith}
 use Rattle.std.proofs.lemmas.List.{append-nil}
 use Rattle.croncheck_command.specs.declared.findings.Finding.{Finding}
 use Rattle.croncheck_command.specs.declared.look.Look.{Look}

@@ -3,6 +3,7 @@ mod Annotated
 mod AskedFiles
 mod CalmFronts
 mod ClockTexts
+mod CountedRuns
 mod Dates
 mod Descriptions
 mod Endings
@@ -18,6 +19,9 @@ mod ExamplesJson
 mod ExamplesLook
 mod ExamplesNames
 mod ExamplesOff
+mod ExamplesOften
+mod ExamplesPlan
+mod ExamplesPresets
 mod ExamplesPrevious
 mod ExamplesSarif
 mod ExamplesShown
@@ -35,13 +39,15 @@ mod ListedChanges
 mod Listings
 mod Meetings
 mod Moments
+mod MomentStarts
 mod Objects
+mod OftenTold
 mod Outcomes
 mod Outputs
 mod OwnRuns
 mod OwnRunsBefore
 mod PastClocks
-mod Plans
+mod PlanClocks
 mod PreviousRuns
 mod SarifLines
 mod Sarifs

@@ -143,7 +143,7 @@ module _ (rest : Rest) (start : ℤ) (behind : (i : ℤ) → rest.left i → sta
   pub is_asked : (last : Option ℤ) (listing : Listing) (items : List ℤ) → All rest.left items → All (ComesBy Forward (bound start last listing)) items
       → length items ≤ limit listing → IsAsked listing items
   is_asked last (listings.Count count) items counts by within = asked_count last count items (count == 0) refl counts by within
-  is_asked last (listings.Until until) items counts by within = λ k d inside. asked_until last until _ (by k d inside)
+  is_asked last (listings.Until until) items counts by within = ((λ k d inside. asked_until last until _ (by k d inside)), within)
 
   -- as many as are searched
   full_count : (last : Option ℤ) (count : ℕ) (items : List ℤ) (b : Bool) → (count == 0) ≡ b → All rest.left items

@@ -1,15 +1,16 @@
 -- Objects of lines and of files: that none has a float, and what is written of them.
-use Rattle.std.proofs.Common.{◌≡◌, ◌∙◌, ℕ, ℤ, pos, negsuc, List, [], ◌∷◌, ◌++◌, Bool, true, false, Option, Some, None, map, ap, sym, subst, refl}
+use Rattle.std.proofs.Common.{◌≡◌, ◌∙◌, ℕ, ℤ, pos, negsuc, List, [], ◌∷◌, ◌++◌, true, false, Option, Some, None, map, ap, sym, subst, refl}
 use Rattle.std.specs.Prelude.{option_map}
 use Rattle.std.proofs.lemmas.Bool.{true≢false}
 use Rattle.std.specs.Io.KnownBytes.{Appends}
 use Rattle.jiff_tz.specs.declared.timezone.TimeZone.{TimeZone}
-use Rattle.serde_json.specs.Data.{Data, number, unsigned, float, string, array, object, member, no_members}
+use Rattle.serde_json.specs.Data.{Data}
 use Rattle.serde_json.specs.Find.{is_float, of_integer}
 use Rattle.serde_json.specs.View.{items_of}
 use Rattle.serde_json.specs.Written.{has_float, items_have_float, compact_text}
 use Rattle.croncheck_command.specs.declared.findings.Finding.{Finding}
 use Rattle.croncheck_command.specs.declared.changes.meetings.Met.{Met}
+use Rattle.croncheck_command.specs.declared.often.Often.{Often}
 use Rattle.croncheck_command.specs.declared.report.JobReport.{JobReport}
 use Rattle.croncheck_command.specs.declared.report.Report.{Report}
 use Rattle.croncheck_command.specs.declared.report.Report.TheVariants as reports
@@ -20,7 +21,7 @@ use Rattle.croncheck_command.specs.declared.told.Told.TheVariants as tolds
 use Rattle.crontab.specs.Checked.{LineRead}
 use Rattle.croncheck_command.specs.FileSeen.{File}
 use Rattle.croncheck_command.specs.Findings.{findings_seen, findings_said, findings_of_line, findings_of_file}
-use Rattle.croncheck_command.specs.Json.{integer_or_null, kind_of_line, Origin, string_or_null, finding_object, run_object, times_object, change_object, change_objects, job_object, job_data, object_of, WritesObject, next_origin, Writes, WritesIfFound, WritesFound, file_origin, WritesFile}
+use Rattle.croncheck_command.specs.Json.{integer_or_null, count_or_null, often_object, kind_of_line, Origin, string_or_null, finding_object, run_object, times_object, change_object, change_objects, job_object, job_data, object_of, WritesObject, next_origin, Writes, WritesIfFound, WritesFound, file_origin, WritesFile}
 use Rattle.croncheck_command.specs.Output.{Written}
 use Rattle.croncheck_command.specs.Reported.{Reports}
 use Rattle.croncheck_command.specs.Shown.{exact, offset_of}
@@ -54,11 +55,21 @@ runs_whole : (zone : TimeZone) (runs : List Run) → items_have_float (items_of 
 runs_whole zone [] = refl
 runs_whole zone (run ∷ runs) = rw (run_whole zone run) (runs_whole zone runs)
 
+distance_whole : (distance : Option ℕ) → has_float (count_or_null distance) ≡ false
+distance_whole None = refl
+distance_whole (Some n) = refl
+
+often_whole : (o : Often) → has_float (often_object o) ≡ false
+often_whole o = rw (integer_whole o.from, distance_whole o.shortest, integer_whole o.until) refl
+
 times_whole : (zone : TimeZone) (times : Told) → has_float (times_object zone times) ≡ false
 times_whole zone tolds.Reboot = refl
 times_whole zone tolds.Nothing = refl
-times_whole zone (tolds.Runs text runs None is_past) = rw (runs_whole zone runs.items.items)
-times_whole zone (tolds.Runs text runs (Some previous) is_past) = rw (runs_whole zone previous.items.items, runs_whole zone runs.items.items)
+times_whole zone (tolds.Runs text runs None None is_past) = rw (runs_whole zone runs.items.items)
+times_whole zone (tolds.Runs text runs None (Some often) is_past) = rw (often_whole often, runs_whole zone runs.items.items)
+times_whole zone (tolds.Runs text runs (Some previous) None is_past) = rw (runs_whole zone previous.items.items, runs_whole zone runs.items.items)
+times_whole zone (tolds.Runs text runs (Some previous) (Some often) is_past) =
+    rw (often_whole often, runs_whole zone previous.items.items, runs_whole zone runs.items.items)
 
 change_whole : (c : Met) → has_float (change_object c) ≡ false
 change_whole c =

@@ -1,5 +1,5 @@
 -- Listings up to a start on the clock of a zone's window, and in the zone.
-use Rattle.std.proofs.Common.{◌≡◌, ℤ, pos, ◌+ℤ◌, ◌≤ℤ◌, true, List, [], ◌++◌, get_or, inl, inr, sym, subst, arith}
+use Rattle.std.proofs.Common.{ℤ, pos, ◌+ℤ◌, ◌≤ℤ◌, true, List, [], ◌++◌, get_or, inl, inr, sym, subst, arith}
 use Rattle.std.proofs.lemmas.Int.{ints}
 use Rattle.std.proofs.lemmas.List.{append-nil}
 use Rattle.std.specs.List.{All}

@@ -28,7 +28,7 @@ use Rattle.crontab_runs.specs.declared.listing.StartsEnd.TheVariants as starts_e
 use Rattle.crontab_runs.specs.Listing.{ListsStartsIn}
 use Rattle.crontab_runs.specs.Searches.{IsStartOf}
 use Rattle.crontab_runs.specs.Starts.{CronJob}
-use Rattle.croncheck_command.specs.Private.EndsBefore.{end_of_years, end_of_starts, EndsBefore}
+use Rattle.croncheck_command.specs.Private.EndsBefore.{end_of_starts, EndsBefore}
 use Rattle.croncheck_command.specs.Private.Listed.{once, Seen, run_seen, seen_on, TellsMadeUp}
 use Rattle.croncheck_command.specs.Runs.{MakesUp, seconds_of, Rest, StartsWell}
 use Rattle.croncheck_command.specs.Previous.{ends_at, runs_up_to, starts_up_to, GaveFrom, GaveYearsBefore, IsEndBefore, IsListedBefore}

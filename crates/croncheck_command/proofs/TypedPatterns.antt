@@ -1,5 +1,5 @@
 -- Patterns that are words of the call, told one behind the other.
-use Rattle.std.proofs.Common.{◌≡◌, ◌∙◌, ◌<◌, ◌≤◌, ◌+◌, ◌||◌, ℕ, suc, List, [], ◌∷◌, ◌++◌, Bool, true, false, ap, sym, subst, refl, take, drop, length, get_or, map, cond, Option, arith}
+use Rattle.std.proofs.Common.{◌≡◌, ◌∙◌, ◌<◌, ◌≤◌, ◌+◌, ◌||◌, ℕ, suc, List, [], ◌∷◌, ◌++◌, Bool, true, false, ap, sym, subst, refl, take, drop, length, get_or, map, cond, arith}
 use Rattle.std.specs.List.{prefix_len}
 use Rattle.std.proofs.lemmas.List.{map_more, take_all}
 use Rattle.crontab.specs.Bytes.{is_of}
@@ -10,12 +10,9 @@ use Rattle.croncheck_command.specs.declared.report.Report.{Report}
 use Rattle.croncheck_command.specs.declared.settings.Settings.{Settings}
 use Rattle.croncheck_command.specs.FileSeen.{is_refused}
 use Rattle.croncheck_command.specs.Output.{Written, WritesApart}
-use Rattle.croncheck_command.specs.Patterns.{Told, TellsPattern, pattern_in}
+use Rattle.croncheck_command.specs.declared.patterns.Answer.{Answer}
+use Rattle.croncheck_command.specs.Patterns.{Told, TellsPattern, EndsWithFound, told_by, pattern_in}
 use Rattle.croncheck_command.specs.Report.{IsReportOfPattern, blanks_of}
-use Rattle.croncheck_command.specs.Findings.{findings_seen}
-use Rattle.croncheck_command.specs.Presets.{AreOfPreset, EndsBelow}
-use Rattle.croncheck_command.specs.declared.findings.Finding.{Finding}
-use Rattle.croner_presets.specs.declared.preset.Preset.{Preset}
 
 one_more : (n : ℕ) (x : ℕ) (xs : List ℕ) → drop (1 + n) (x ∷ xs) ≡ drop n xs
 one_more n x xs = let e : 1 + n ≡ suc n = omega arith in ap (λ m. drop m (x ∷ xs)) e
@@ -35,26 +32,24 @@ pub no_blanks : (word : List ℕ) → blanks_of (pattern_in word) ≡ 0
 no_blanks word = ap (λ n. length (take n (pattern_in word))) (none_left (is_of kinds.Blank) word)
 
 -- a word was told, by the steps of telling it
-pub pattern_told : (s : Settings) (preset : Option Preset) (old new : Written) (before : Bool) (word : List ℕ) (report : Report) (found : List Finding) (text : List ℕ)
-    (refused : Bool) → IsReportOfPattern true s (blanks_of (pattern_in word)) (pattern_in word) report → AreOfPreset preset word (findings_seen found)
-    → EndsBelow s.look found text → WritesApart text old new → refused ≡ is_refused report
-    → TellsPattern s preset (record { written = old; has_refused = before }) word (record { written = new; has_refused = refused || before })
-pattern_told s preset old new before word report found text refused reported differing below written is = record {
+pub pattern_told : (s : Settings) (answer : Answer) (old new : Written) (before : Bool) (word : List ℕ) (report : Report) (text : List ℕ)
+    (refused : Bool) → IsReportOfPattern true s (blanks_of (pattern_in word)) (pattern_in word) report
+    → EndsWithFound s.look (told_by answer (pattern_in word) report) text → WritesApart text old new → refused ≡ is_refused report
+    → TellsPattern s answer (record { written = old; has_refused = before }) word (record { written = new; has_refused = refused || before })
+pattern_told s answer old new before word report text refused reported below written is = record {
   report = report;
   reported = subst (λ (n : ℕ). IsReportOfPattern true s n (pattern_in word) report) (no_blanks word) reported;
   text = text;
-  found = found;
-  differing = differing;
   below = below;
   written = written;
   refused = ap (λ (b : Bool). b || before) is;
 }
 
 -- the same, where it is said otherwise whether a pattern was refused
-pub so_refused : (s : Settings) (preset : Option Preset) (old : Told) (word : List ℕ) (written : Written) (b either : Bool) → either ≡ b
-    → TellsPattern s preset old word (record { written = written; has_refused = b }) → TellsPattern s preset old word (record { written = written; has_refused = either })
-so_refused s preset old word written b either is told =
-    subst (λ (x : Bool). TellsPattern s preset old word (record { written = written; has_refused = x })) (sym is) told
+pub so_refused : (s : Settings) (answer : Answer) (old : Told) (word : List ℕ) (written : Written) (b either : Bool) → either ≡ b
+    → TellsPattern s answer old word (record { written = written; has_refused = b }) → TellsPattern s answer old word (record { written = written; has_refused = either })
+so_refused s answer old word written b either is told =
+    subst (λ (x : Bool). TellsPattern s answer old word (record { written = written; has_refused = x })) (sym is) told
 
 -- one more word of some was told
 pub next_told : {X S : Type 0} (text_of : X → List ℕ) (takes : S → List ℕ → S → Type 0) (old now new : S) (xs : List X) (k : ℕ) (x d : X) → k < length xs

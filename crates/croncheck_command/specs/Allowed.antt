@@ -1,6 +1,6 @@
 -- What is allowed of a line: the names of warnings that a comment above it lists, or the words of the call. Source: docs/CRONTAB.md ("What is
 -- allowed").
-use Rattle.std.specs.Prelude.{◌≡◌, ℕ, ◌&&◌, ◌||◌, ◌==◌, Bool, true, false, not, List, [], ◌∷◌, ◌++◌, length, map, filter, codes, Option, Some, None, option_map, is_some, unwrap_or, if◌then◌else◌}
+use Rattle.std.specs.Prelude.{◌≡◌, ℕ, ◌&&◌, ◌||◌, ◌==◌, Bool, not, List, [], ◌∷◌, length, map, filter, codes, Option, Some, None, option_map, is_some, unwrap_or, if◌then◌else◌}
 use Rattle.std.specs.Borrow.{Bor}
 use Rattle.std.specs.List.{list_any, slice_split}
 use Rattle.std.specs.Str.{bytes_eq}
@@ -28,6 +28,7 @@ allowable =
     codes "either-day" ∷ codes "uneven-step" ∷ codes "step-beyond" ∷ codes "range-down" ∷ codes "passed-over" ∷ codes "large-number"
     ∷ codes "whole-hour" ∷ codes "short-months" ∷ codes "gone" ∷ codes "never" ∷ codes "no-command" ∷ codes "looks-like-field" ∷ codes "user"
     ∷ codes "percent" ∷ codes "continued" ∷ codes "control-byte" ∷ codes "carriage-return" ∷ codes "empty-item" ∷ codes "other-name"
+    ∷ codes "preset"
     ∷ codes "no-zone" ∷ codes "not-expanded" ∷ codes "gap" ∷ codes "twice" ∷ codes "same-job" ∷ []
 
 -- a name is among these
@@ -131,10 +132,11 @@ hangs_on_clock name = bytes_eq name (codes "gap") || (bytes_eq name (codes "twic
 abbrev pub may_be_same : Settings → JobReport → Bool
 may_be_same s j = is_some j.same || not s.compares_jobs
 
--- a warning of this name stands at a job, or may stand there
+-- a warning of this name stands at a job, or may stand there: in another call, or at another time
 abbrev pub may_stand : Settings → JobReport → List ℕ → Bool
 may_stand s j name =
-    list_any (λ w. bytes_eq (warning_name w) name) j.warnings.items || ((bytes_eq name (codes "same-job") && may_be_same s j) || hangs_on_clock name)
+    list_any (λ w. bytes_eq (warning_name w) name) j.warnings.items
+    || ((bytes_eq name (codes "same-job") && may_be_same s j) || ((bytes_eq name (codes "preset") && not (is_some s.preset)) || hangs_on_clock name))
 
 -- `not-needed`: the names that the comment above a job allows and that don't stand there, where the call is strict
 abbrev pub not_needed : Settings → List (List ℕ) → JobReport → List (List ℕ)

@@ -1,6 +1,6 @@
 -- Findings as lines that a build reads, one for each. Sources: the GNU coding standards ("Formatting Error Messages"), GitHub's page on workflow
 -- commands, and this crate's documentation of `Annotator`.
-use Rattle.std.specs.Prelude.{◌≡◌, ℕ, ◌&&◌, ◌||◌, ◌==◌, Bool, true, false, not, List, [], ◌∷◌, ◌++◌, codes, Option, Some, None, unwrap_or, string_bytes, if◌then◌else◌}
+use Rattle.std.specs.Prelude.{◌≡◌, ℕ, ◌&&◌, ◌==◌, Bool, true, false, not, List, [], ◌∷◌, ◌++◌, codes, Option, Some, None, unwrap_or, string_bytes, if◌then◌else◌}
 use Rattle.std.specs.Fmt.{decimal}
 use Rattle.crontab.specs.Checked.{LineRead, TakesInTurn}
 use Rattle.croncheck_command.specs.declared.annotator.Style.{Style}

@@ -1,5 +1,5 @@
 -- What is found of a line and of a file, each thing with its place. Source: this crate's documentation of `Finding`.
-use Rattle.std.specs.Prelude.{◌≡◌, ℕ, ◌+◌, ◌-◌, ◌==◌, ◌&&◌, ◌||◌, Bool, true, false, not, List, [], ◌∷◌, ◌++◌, length, map, filter, codes, Option, Some, None, option_map, is_some, string_bytes, if◌then◌else◌}
+use Rattle.std.specs.Prelude.{ℕ, ◌+◌, ◌-◌, ◌==◌, ◌&&◌, ◌||◌, Bool, true, false, not, List, [], ◌∷◌, ◌++◌, length, map, filter, codes, Option, Some, None, option_map, is_some, string_bytes, if◌then◌else◌}
 use Rattle.std.specs.Borrow.{Bor}
 use Rattle.std.specs.List.{list_all}
 use Rattle.croner.specs.declared.parser.fault.PatternField.{PatternField}
@@ -33,7 +33,8 @@ use Rattle.croncheck_command.specs.declared.fitness.Unfit.{Unfit}
 use Rattle.croncheck_command.specs.FileSeen.{File, has_many_lines, many_lines_text}
 use Rattle.croncheck_command.specs.Fitness.{unfit_name, unfit_text}
 use Rattle.croncheck_command.specs.Found.{is_told_below}
-use Rattle.croncheck_command.specs.Report.{blanks_of, notes_of_job, notes_of_refusal}
+use Rattle.croncheck_command.specs.declared.presets.Reading.{Reading}
+use Rattle.croncheck_command.specs.Report.{blanks_of, notes_of_job, notes_of_refusal, taken_of}
 use Rattle.croncheck_command.specs.Shown.{is_printed}
 use Rattle.croncheck_command.specs.Warnings.{warning_name, other_name, field_name, field_of}
 
@@ -136,7 +137,7 @@ fault_kind faults.LongCommand = codes "long-command"
 abbrev pub refusal_kind : Why → List ℕ
 refusal_kind (whys.Cron fault) = fault_kind fault
 refusal_kind (whys.Behind fault) = fault_kind fault
-refusal_kind (whys.Pattern fault) = codes "pattern"
+refusal_kind (whys.Pattern fault taken) = codes "pattern"
 refusal_kind (whys.Crate e) = codes "text"
 refusal_kind whys.NotText = codes "not-utf-8"
 refusal_kind whys.NoUser = codes "unknown-user"
@@ -153,6 +154,10 @@ of_warning line times w = record {
 -- a note of a line's bytes
 abbrev pub of_note : Extent → Note → Found
 of_note extent note = named severities.Note (note_name note) extent
+
+-- `preset`: what another program takes of a pattern that is refused
+abbrev pub of_reading : Extent → Reading → Found
+of_reading extent reading = named severities.Note (codes "preset") extent
 
 -- the warning of a change of the clock
 abbrev pub of_change : Extent → Met → Found
@@ -195,7 +200,8 @@ findings_of_setting line s =
     only_if s.is_hiding (of_setting line others.ControlByte)
     ++ (only_if s.is_zone (of_setting line others.NoZone) ++ only_if s.is_not_expanded (of_setting line others.NotExpanded))
 
--- what is found of a line with a report: nothing of a good one. Where it is refused that stands first, and its notes behind it
+-- what is found of a line with a report: nothing of a good one. Where it is refused that stands first, behind it its notes, and what another
+-- program takes of it
 abbrev pub findings_of_line : List ℕ → Report → List Found
 findings_of_line line reports.Silent = []
 findings_of_line line (reports.Misnamed name) = of_unknown_name line ∷ []
@@ -203,7 +209,7 @@ findings_of_line line (reports.Setting seen is_fed) = findings_of_setting line s
 findings_of_line line (reports.Job j) = findings_of_job line j
 findings_of_line line (reports.Refused start end why) =
     named severities.Error (refusal_kind why) (record { start = start; end = end })
-    ∷ map (of_note (record { start = start; end = end })) (notes_of_refusal why line)
+    ∷ (map (of_note (record { start = start; end = end })) (notes_of_refusal why line) ++ map (of_reading (record { start = start; end = end })) (taken_of why))
 
 -- ---- a file
 

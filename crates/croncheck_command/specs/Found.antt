@@ -25,3 +25,4 @@ is_told_below warnings.ControlByte = true
 is_told_below warnings.CarriageReturn = true
 is_told_below warnings.EmptyItem = true
 is_told_below (warnings.OtherName field) = true
+is_told_below (warnings.Preset reading) = true

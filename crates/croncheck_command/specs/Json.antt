@@ -1,8 +1,8 @@
 -- Reports as JSON: one object a line of input. The members of an object stand in the order of their names. Source: this crate's documentation
 -- ("JSON").
-use Rattle.std.specs.Prelude.{◌≡◌, ◌||◌, ◌==◌, ℕ, ℤ, Bool, true, false, not, List, [], ◌∷◌, ◌++◌, length, map, codes, Option, Some, None, option_map, is_some, string_bytes, if◌then◌else◌}
+use Rattle.std.specs.Prelude.{◌≡◌, ℕ, ℤ, Bool, false, List, [], ◌∷◌, ◌++◌, map, codes, Option, Some, None, option_map, string_bytes, if◌then◌else◌}
 use Rattle.std.specs.Io.KnownBytes.{Appends}
-use Rattle.serde_json.specs.Data.{Data, null, number, unsigned, string, array, object, member, no_members}
+use Rattle.serde_json.specs.Data.{Data, Members, null, number, unsigned, string, array, object, member, no_members}
 use Rattle.serde_json.specs.Find.{of_integer}
 use Rattle.serde_json.specs.View.{items_of}
 use Rattle.serde_json.specs.Written.{compact_text}
@@ -14,6 +14,9 @@ use Rattle.croncheck_command.specs.declared.changes.Fate.TheVariants as fates
 use Rattle.croncheck_command.specs.declared.changes.meetings.Meetings.{Meetings}
 use Rattle.croncheck_command.specs.declared.changes.meetings.Met.{Met}
 use Rattle.croncheck_command.specs.declared.findings.Finding.{Finding}
+use Rattle.croncheck_command.specs.declared.often.Often.{Often}
+use Rattle.croncheck_command.specs.declared.often.Reach.{Reach}
+use Rattle.croncheck_command.specs.declared.often.Reach.TheVariants as reaches
 use Rattle.croncheck_command.specs.declared.report.JobReport.{JobReport}
 use Rattle.croncheck_command.specs.declared.report.Report.{Report}
 use Rattle.croncheck_command.specs.declared.report.Report.TheVariants as reports
@@ -99,25 +102,48 @@ previous_object zone runs = object
     (member (codes "end") (string (end_name false runs.end))
     (member (codes "runs") (array (items_of (map (run_object zone) runs.items.items))) no_members))
 
--- when a job runs whose times have a meaning: with the runs before the start where these are asked for
-abbrev pub named_object : TimeZone → List ℕ → Runs → Bool → Option Runs → Data
-named_object zone text runs is_past None = object
+-- how far starts are counted
+abbrev pub reach_name : Reach → List ℕ
+reach_name reaches.Whole = codes "whole"
+reach_name reaches.Cut = codes "cut"
+reach_name reaches.Window = codes "cut"
+reach_name reaches.Failed = codes "failed"
+
+-- a count, or null where there is none
+abbrev pub count_or_null : Option ℕ → Data
+count_or_null None = null
+count_or_null (Some n) = number (unsigned n)
+
+-- how often a job starts: how far is counted, from where on, the most on one date, the shortest distance, all, and the last second counted
+abbrev pub often_object : Often → Data
+often_object o = object
+    (member (codes "end") (string (reach_name o.reach))
+    (member (codes "from") (integer o.from)
+    (member (codes "most_a_day") (number (unsigned o.most_a_day))
+    (member (codes "shortest") (count_or_null o.shortest)
+    (member (codes "starts") (number (unsigned o.starts))
+    (member (codes "until") (integer o.until) no_members))))))
+
+-- a member, where there is one
+abbrev pub member_if : List ℕ → Option Data → Members → Members
+member_if key None members = members
+member_if key (Some d) members = member key d members
+
+-- when a job runs whose times have a meaning: with how often it starts, and with the runs before the start, where these are asked for
+abbrev pub named_object : TimeZone → List ℕ → Runs → Bool → Option Runs → Option Often → Data
+named_object zone text runs is_past previous often = object
     (member (codes "description") (string text)
     (member (codes "end") (string (end_name is_past runs.end))
+    (member_if (codes "often") (option_map often_object often)
+    (member_if (codes "previous") (option_map (previous_object zone) previous)
     (member (codes "runs") (array (items_of (map (run_object zone) runs.items.items)))
-    (member (codes "when") (string (codes "named")) no_members))))
-named_object zone text runs is_past (Some previous) = object
-    (member (codes "description") (string text)
-    (member (codes "end") (string (end_name is_past runs.end))
-    (member (codes "previous") (previous_object zone previous)
-    (member (codes "runs") (array (items_of (map (run_object zone) runs.items.items)))
-    (member (codes "when") (string (codes "named")) no_members)))))
+    (member (codes "when") (string (codes "named")) no_members))))))
 
 -- when a job runs
 abbrev pub times_object : TimeZone → Told → Data
 times_object zone tolds.Reboot = object (member (codes "when") (string (codes "reboot")) no_members)
 times_object zone tolds.Nothing = object (member (codes "when") (string (codes "nothing")) no_members)
-times_object zone (tolds.Runs text runs previous is_past) = named_object zone (string_bytes text) runs is_past previous
+times_object zone (tolds.Runs text runs previous often is_past) = named_object zone (string_bytes text) runs is_past previous often
 
 -- the word for what becomes of a second that a change of the clock skips, or shows twice
 abbrev pub fate_name : Fate → List ℕ

@@ -16,10 +16,12 @@ pub mod Look
 pub mod Moment
 pub mod Names
 pub mod Off
+pub mod Often
 pub mod Output
 pub mod Past
 pub mod Patterns
 pub mod Plan
+pub mod PlanList
 pub mod Planner
 pub mod Presets
 pub mod Previous
@@ -38,6 +40,7 @@ pub mod Sink
 pub mod Stand
 pub mod Starred
 pub mod Tally
+pub mod Titles
 pub mod Told
 pub mod Users
 pub mod Warnings

@@ -1,5 +1,5 @@
 -- How far off a run is, in units. Source: this crate's documentation of `Off`.
-use Rattle.std.specs.Prelude.{ℕ, nat_lt, ◌==◌, ◌/◌, ◌%◌, List, [], ◌∷◌, ◌++◌, codes, decimal, if◌then◌else◌}
+use Rattle.std.specs.Prelude.{ℕ, nat_lt, ◌==◌, ◌/◌, ◌%◌, List, [], ◌++◌, codes, decimal, if◌then◌else◌}
 use Rattle.croncheck_command.specs.declared.settings.Tongue.{Tongue}
 use Rattle.croncheck_command.specs.declared.settings.Tongue.TheVariants as tongues
 

@@ -1,19 +1,16 @@
 -- The clock of a zone up to a second. Source: this crate's documentation of `PastClock`.
-use Rattle.std.specs.Prelude.{◌≡◌, ◌⊎◌, ℤ, pos, neg_ℤ, ◌+ℤ◌, ◌-ℤ◌, ◌≤ℤ◌, int_le, int_lt, if◌then◌else◌}
+use Rattle.std.specs.Prelude.{◌≡◌, ◌⊎◌, ℤ, pos, ◌+ℤ◌, ◌-ℤ◌, ◌≤ℤ◌, int_le, int_lt, if◌then◌else◌}
 use Rattle.jiff_tz.specs.declared.timezone.TimeZone.{TimeZone}
+use Rattle.croner_base.specs.Limits.{first_searched}
 use Rattle.croner_base.specs.TableZone.{table_zone}
 use Rattle.croner_base.specs.ZoneTable.{IsCalmWindow}
 use Rattle.croner.specs.laws.Zones.{margin, IsClockOf}
 use Rattle.croncheck_command.specs.Clock.{IsHeldStart}
 use Rattle.croncheck_command.specs.declared.past.PastClock.{PastClock}
 
--- the first second of year 1 in UTC, 0001-01-01T00:00:00
-abbrev pub first_of_years : ℤ
-first_of_years = neg_ℤ (pos 62_135_596_800)
-
--- the first second to which a clock up to this one is followed back: that of year 1, or this one where it lies before that
+-- the first second to which a clock up to this one is followed back: that of year 1 in UTC, or this one where it lies before that
 abbrev pub reach_of : ℤ → ℤ
-reach_of last = if int_lt last first_of_years then last else first_of_years
+reach_of last = if int_lt last first_searched then last else first_searched
 
 -- from this first second on a clock is followed up to the last one: it is calm there, and can't begin a second earlier, since from there on it
 -- isn't calm, or year 1 begins

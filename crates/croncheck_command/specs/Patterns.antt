@@ -1,17 +1,44 @@
 -- What is told of patterns that are words of the call. Source: this crate's documentation of `tell_patterns`.
-use Rattle.std.specs.Prelude.{◌≡◌, ◌||◌, ℕ, Bool, true, false, List, Option, if◌then◌else◌}
+use Rattle.std.specs.Prelude.{◌≡◌, ◌||◌, ℕ, Bool, true, false, List, [], ◌∷◌, ◌++◌, map, filter, if◌then◌else◌}
+use Rattle.croncheck_command.specs.declared.findings.Finding.{Finding}
+use Rattle.croncheck_command.specs.declared.look.Look.{Look}
+use Rattle.croncheck_command.specs.declared.patterns.Answer.{Answer}
+use Rattle.croncheck_command.specs.declared.patterns.Answer.TheVariants as answers
 use Rattle.croncheck_command.specs.declared.report.Report.{Report}
+use Rattle.croncheck_command.specs.declared.report.Report.TheVariants as reports
 use Rattle.croncheck_command.specs.declared.settings.Settings.{Settings}
+use Rattle.croncheck_command.specs.declared.warnings.Warning.{Warning}
+use Rattle.croncheck_command.specs.declared.warnings.Warning.TheVariants as warnings
 use Rattle.crontab.specs.Bytes.{behind}
 use Rattle.crontab.specs.declared.bytes.Kind.TheVariants as kinds
 use Rattle.crontab.specs.Checked.{TakesInTurn}
 use Rattle.croncheck_command.specs.FileSeen.{is_refused}
+use Rattle.croncheck_command.specs.Findings.{Found, findings_seen, findings_of_line, of_warning}
 use Rattle.croncheck_command.specs.Output.{Written, WritesApart, IsFlushed}
 use Rattle.croncheck_command.specs.Report.{IsReportOfPattern}
-use Rattle.croner_presets.specs.declared.preset.Preset.{Preset}
-use Rattle.croncheck_command.specs.declared.findings.Finding.{Finding}
-use Rattle.croncheck_command.specs.Findings.{findings_seen}
-use Rattle.croncheck_command.specs.Presets.{AreOfPreset, EndsBelow}
+use Rattle.croncheck_command.specs.Reported.{below}
+
+-- what another program makes otherwise
+abbrev pub is_of_preset : Warning → Bool
+is_of_preset (warnings.Preset reading) = true
+is_of_preset other = false
+
+-- what is found of a pattern with this report where its meaning alone is told: of one that is read what another program makes otherwise
+abbrev pub described : List ℕ → Report → List Found
+described pattern reports.Silent = findings_of_line pattern reports.Silent
+described pattern (reports.Misnamed name) = findings_of_line pattern (reports.Misnamed name)
+described pattern (reports.Setting seen is_fed) = findings_of_line pattern (reports.Setting seen is_fed)
+described pattern (reports.Job j) = map (of_warning pattern j.schedule.now) (filter is_of_preset j.warnings.items)
+described pattern (reports.Refused start end why) = findings_of_line pattern (reports.Refused start end why)
+
+-- what is found of it where this is asked
+abbrev pub told_by : Answer → List ℕ → Report → List Found
+told_by answers.Runs pattern report = findings_of_line pattern report
+told_by answers.Description pattern report = described pattern report
+
+-- a text of whole lines ends with these findings, as they stand below a line
+abbrev pub EndsWithFound : Look → List Found → List ℕ → Type 0
+EndsWithFound look seen text = (found : List Finding) × (front : List ℕ) × (findings_seen found ≡ seen) × (text ≡ front ++ (below look found ++ 10 ∷ []))
 
 -- how far the telling has come: what was written, and whether a pattern was refused
 pub record Told : Type 0 where
@@ -27,20 +54,18 @@ abbrev pub pattern_in : List ℕ → List ℕ
 pattern_in word = behind kinds.Blank word
 
 -- a word was told: it has its report as the pattern of a line of a file has it, of which lines were written, set apart, and below them
--- what the preset's program reads otherwise
-pub record TellsPattern (s : Settings) (preset : Option Preset) (old : Told) (word : List ℕ) (new : Told) : Type 0 where
+-- what is found of it
+pub record TellsPattern (s : Settings) (answer : Answer) (old : Told) (word : List ℕ) (new : Told) : Type 0 where
   pub report : Report
   pub reported : IsReportOfPattern true s 0 (pattern_in word) report
   pub text : List ℕ
-  pub found : List Finding
-  pub differing : AreOfPreset preset word (findings_seen found)
-  pub below : EndsBelow s.look found text
+  pub below : EndsWithFound s.look (told_by answer (pattern_in word) report) text
   pub written : WritesApart text old.written new.written
   pub refused : new.has_refused ≡ (is_refused report || old.has_refused)
 
 -- all words were told in order, what was written was passed on, and the status is 1 where one is refused, else 0
-pub record TellsPatterns (s : Settings) (preset : Option Preset) (old : Written) (words : List (List ℕ)) (new : Written) (status : ℕ) : Type 0 where
+pub record TellsPatterns (s : Settings) (answer : Answer) (old : Written) (words : List (List ℕ)) (new : Written) (status : ℕ) : Type 0 where
   pub last : Told
-  pub told : TakesInTurn (TellsPattern s preset) (untold old) words last
+  pub told : TakesInTurn (TellsPattern s answer) (untold old) words last
   pub flushed : IsFlushed last.written new
   pub status_is : status ≡ (if last.has_refused then 1 else 0)

@@ -1,5 +1,5 @@
 -- What a line is told. Source: this crate's documentation of `Report`.
-use Rattle.std.specs.Prelude.{◌≡◌, ◌⊎◌, ◌<◌, get_or, not, ◌||◌, ◌==◌, ℕ, ◌+◌, Bool, true, false, List, [], length, Option, Some, None, option_map, is_some, Result, Ok, Err, string_bytes, IsUtf8, if◌then◌else◌}
+use Rattle.std.specs.Prelude.{◌≡◌, ◌⊎◌, ◌<◌, get_or, not, ◌||◌, ◌==◌, ℕ, ◌+◌, Bool, true, false, List, [], ◌++◌, length, map, Option, Some, None, option_map, is_some, Result, Ok, Err, string_bytes, IsUtf8, if◌then◌else◌}
 use Rattle.croner_base.specs.declared.errors.CronError.{CronError}
 use Rattle.croner_base.specs.declared.time.civil.CivilDateTime.{CivilDateTime}
 use Rattle.croner_base.specs.Civil.{wall_second, weekday_of_second}
@@ -41,6 +41,10 @@ use Rattle.croncheck_command.specs.Hidden.{has_hidden}
 use Rattle.croncheck_command.specs.Settings.{start_of}
 use Rattle.croncheck_command.specs.Told.{TellsMeaning, TellsTiming, cron_of, is_at_window_end, is_never, is_told_past, is_idle}
 use Rattle.croncheck_command.specs.Users.{users_seen, is_unknown, user_start, user_end}
+use Rattle.croncheck_command.specs.declared.presets.Reading.{Reading}
+use Rattle.croncheck_command.specs.declared.warnings.Warning.TheVariants as warnings
+use Rattle.croncheck_command.specs.Presets.{AreReadings}
+use Rattle.croner_presets.specs.declared.preset.Preset.{Preset}
 use Rattle.croncheck_command.specs.Warnings.{fields_of_schedule, AreFieldsOfPattern, is_either_day, IsMonthOf, NamesDates, Subject, warnings_of}
 
 -- ---- warnings
@@ -79,11 +83,13 @@ pub record IsWarned (is_fed : Bool) (users : Option (List ℕ)) (schedule : List
 abbrev pub WarnsJob : Bool → Option (List ℕ) → Task → Told → List Warning → Type 0
 WarnsJob is_fed users task told found = IsWarned is_fed users task.schedule task.user task.command (meaning_of_timing task.times) told found
 
--- the warnings of a pattern of this meaning that was told so
-pub record WarnsPattern (is_fed : Bool) (text : List ℕ) (meaning : Option Meaning) (told : Told) (found : List Warning) : Type 0 where
+-- the warnings of a pattern of this meaning that was told so; behind them what the program of a preset makes otherwise
+pub record WarnsPattern (preset : Option Preset) (is_fed : Bool) (text : List ℕ) (meaning : Option Meaning) (told : Told) (found : List Warning) : Type 0 where
   pub fields : Option Texts
   pub fields_are : AreFieldsOfPattern text fields
-  pub are : found ≡ warnings_of (subject_of fields meaning None None None false is_fed told)
+  pub readings : List Reading
+  pub readings_are : AreReadings preset false text readings
+  pub are : found ≡ warnings_of (subject_of fields meaning None None None false is_fed told) ++ map warnings.Preset readings
 
 -- ---- changes of the clock
 
@@ -110,13 +116,13 @@ MeetsPattern s meaning told met = TellsChanges s runners.Croner meaning told met
 abbrev pub IsFirstListed : Told → Run → Type 0
 IsFirstListed tolds.Reboot run = ⊥
 IsFirstListed tolds.Nothing run = ⊥
-IsFirstListed (tolds.Runs text runs previous is_past) run = (0 < length runs.items.items) × (get_or runs.items.items 0 run ≡ run)
+IsFirstListed (tolds.Runs text runs previous often is_past) run = (0 < length runs.items.items) × (get_or runs.items.items 0 run ≡ run)
 
 -- runs are listed
 abbrev pub has_listed : Told → Bool
 has_listed tolds.Reboot = false
 has_listed tolds.Nothing = false
-has_listed (tolds.Runs text runs previous is_past) = not (length runs.items.items == 0)
+has_listed (tolds.Runs text runs previous often is_past) = not (length runs.items.items == 0)
 
 -- the days of the month of a run that each day field names by itself
 pub record AreDatesAt (m : Meaning) (told : Told) (d : Dates) (run : Run) (shown : CivilDateTime) : Type 0 where
@@ -163,7 +169,7 @@ IsUnreadTiming (named text both) e = IsRefusalOf e (outcome (crontab_settings bo
 abbrev pub IsJobRefused : Task → Why → Type 0
 IsJobRefused task (whys.Cron fault) = ⊥
 IsJobRefused task (whys.Behind fault) = ⊥
-IsJobRefused task (whys.Pattern fault) = ⊥
+IsJobRefused task (whys.Pattern fault taken) = ⊥
 IsJobRefused task (whys.Crate e) = IsUnreadTiming task.times e
 IsJobRefused task whys.NotText = ⊥
 IsJobRefused task whys.NoUser = ⊥
@@ -197,13 +203,13 @@ IsReportBy false is_fed s line task r = IsReportOfJob is_fed s (blanks_of line) 
 
 -- ---- a pattern
 
--- why and where a pattern behind so many blanks is refused: the parser refuses it, and its fault is one of that refusal; or the
--- whole of it is no text
+-- why and where a pattern behind so many blanks is refused: the parser refuses it, its fault is one of that refusal, and with it stands what
+-- the program of a preset takes; or the whole of it is no text
 abbrev pub IsPatternRefused : Settings → ℕ → List ℕ → ℕ → ℕ → Why → Type 0
 IsPatternRefused s blanks text start end (whys.Cron fault) = ⊥
 IsPatternRefused s blanks text start end (whys.Behind fault) = ⊥
-IsPatternRefused s blanks text start end (whys.Pattern fault) =
-    IsFaultOf s.parser text fault × IsFaultBehind blanks fault start end
+IsPatternRefused s blanks text start end (whys.Pattern fault taken) =
+    IsFaultOf s.parser text fault × IsFaultBehind blanks fault start end × AreReadings s.preset true text taken.items
 IsPatternRefused s blanks text start end (whys.Crate e) = ⊥
 IsPatternRefused s blanks text start end whys.NotText = ¬ (IsUtf8 text) × IsWholeBehind blanks text start end
 IsPatternRefused s blanks text start end whys.NoUser = ⊥
@@ -214,7 +220,7 @@ IsReportOfPattern is_fed s blanks text reports.Silent = ⊥
 IsReportOfPattern is_fed s blanks text (reports.Misnamed name) = ⊥
 IsReportOfPattern is_fed s blanks text (reports.Setting seen has_feed) = ⊥
 IsReportOfPattern is_fed s blanks text (reports.Job j) =
-    IsJobTold text None None (TellsMeaning s runners.Croner (outcome s.parser text)) (WarnsPattern is_fed text (meaning_read (outcome s.parser text)))
+    IsJobTold text None None (TellsMeaning s runners.Croner (outcome s.parser text)) (WarnsPattern s.preset is_fed text (meaning_read (outcome s.parser text)))
     (MeetsPattern s (meaning_read (outcome s.parser text))) (DatesOf (meaning_read (outcome s.parser text))) j
 IsReportOfPattern is_fed s blanks text (reports.Refused start end why) = IsPatternRefused s blanks text start end why
 
@@ -256,7 +262,7 @@ IsReportOfLine is_fed s line (entries.Refused fault start end) r = r ≡ reports
 abbrev pub why_behind : Why → Why
 why_behind (whys.Cron fault) = whys.Behind fault
 why_behind (whys.Behind fault) = whys.Behind fault
-why_behind (whys.Pattern fault) = whys.Pattern fault
+why_behind (whys.Pattern fault taken) = whys.Pattern fault taken
 why_behind (whys.Crate refusal) = whys.Crate refusal
 why_behind whys.NotText = whys.NotText
 why_behind whys.NoUser = whys.NoUser
@@ -322,10 +328,19 @@ notes_of_job (Some command) line = notes_of None line
 abbrev pub notes_of_refusal : Why → List ℕ → List Note
 notes_of_refusal (whys.Cron fault) line = notes_of (Some fault) line
 notes_of_refusal (whys.Behind fault) line = notes_of (Some fault) line
-notes_of_refusal (whys.Pattern fault) line = []
+notes_of_refusal (whys.Pattern fault taken) line = []
 notes_of_refusal (whys.Crate e) line = []
 notes_of_refusal whys.NotText line = []
 notes_of_refusal whys.NoUser line = []
+
+-- what the program of a preset takes of a pattern that is refused
+abbrev pub taken_of : Why → List Reading
+taken_of (whys.Cron fault) = []
+taken_of (whys.Behind fault) = []
+taken_of (whys.Pattern fault taken) = taken.items
+taken_of (whys.Crate e) = []
+taken_of whys.NotText = []
+taken_of whys.NoUser = []
 
 -- the notes of a line with a report
 abbrev pub notes_of_report : List ℕ → Report → List Note

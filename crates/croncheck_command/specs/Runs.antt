@@ -135,10 +135,10 @@ IsEnd rest last listing items ends.Cut = IsCut listing items
 IsEnd rest last listing items ends.Window = IsAtWindowEnd rest last items
 IsEnd rest last listing items (ends.Failed e) = ¬ (StartsWell rest)
 
--- there are no more items than were asked, and none behind the second
+-- there are no more items than were asked, or, up to a second, than are listed at most, and none behind that
 abbrev pub IsAsked : Listing → List ℤ → Type 0
 IsAsked (listings.Count count) items = length items ≤ count
-IsAsked (listings.Until until) items = All (λ i. i ≤ℤ until) items
+IsAsked (listings.Until until) items = All (λ i. i ≤ℤ until) items × (length items ≤ most_runs)
 
 -- the listing behind a start, on a clock whose window ends there or not before the years that are searched: the items are the first that are
 -- left, in order, none left out, each so many times, with what is made up for; they lie on the start's clock and in its window; and the end

@@ -8,6 +8,7 @@ use Rattle.croncheck_command.specs.declared.previous.Previous.{Previous}
 use Rattle.croncheck_command.specs.declared.settings.Settings.{Settings}
 use Rattle.croncheck_command.specs.declared.settings.SettingsByKind.{SettingsByKind}
 use Rattle.croncheck_command.specs.Clock.{last_before}
+use Rattle.croncheck_command.specs.Often.{span_end}
 
 -- where runs are listed from: the start whose changes of the clock are told
 abbrev pub start_of : Settings → TableTime
@@ -32,6 +33,10 @@ asked_of s = option_map (λ asked. asked.now) s.previous
 -- the second from which on the clock of these runs is followed, where they are told
 abbrev pub followed_from : Settings → Option ℤ
 followed_from s = option_map (λ asked. asked.from) (asked_of s)
+
+-- the second up to which it is counted how often a job starts, if that is told
+abbrev pub asked_until : Settings → Option ℤ
+asked_until s = if s.tells_often then Some (span_end (start_of s).second s.listing) else None
 
 -- these settings, for files of a dialect
 abbrev pub in_dialect : Dialect → Settings → Settings

@@ -14,6 +14,7 @@ use Rattle.croner_summary.specs.declared.language.SummaryLanguage.{SummaryLangua
 use Rattle.croner_summary.specs.declared.language.SummaryLanguage.TheVariants as languages
 use Rattle.croner_summary.specs.Texts.{text_of}
 use Rattle.croner_summary.specs.Summaries.{SaysTheSchedule}
+use Rattle.croncheck_command.specs.declared.often.Often.{Often}
 use Rattle.croncheck_command.specs.declared.runs.End.TheVariants as ends
 use Rattle.croncheck_command.specs.declared.runs.End.{End}
 use Rattle.croncheck_command.specs.declared.runs.Runner.{Runner}
@@ -26,9 +27,10 @@ use Rattle.croncheck_command.specs.declared.told.Told.TheVariants as tolds
 use Rattle.croncheck_command.specs.declared.told.Told.{Told}
 use Rattle.crontab.specs.Line.{Timing, reboot, never, named}
 use Rattle.crontab.specs.Parsed.{crontab_settings}
+use Rattle.croncheck_command.specs.Often.{AreOften}
 use Rattle.croncheck_command.specs.Previous.{AreBefore}
 use Rattle.croncheck_command.specs.Runs.{listed_by, IsListed}
-use Rattle.croncheck_command.specs.Settings.{start_of, window_end, asked_of}
+use Rattle.croncheck_command.specs.Settings.{start_of, window_end, asked_of, asked_until}
 use Rattle.croncheck_command.specs.Starred.{is_starred}
 
 -- the pattern names no year from this one on
@@ -50,20 +52,21 @@ summary_language tongues.Swedish = languages.Swedish
 abbrev pub IsDescription : Tongue → Meaning → List ℕ → Type 0
 IsDescription l m text = (s : Summary) × SaysTheSchedule s m × (text ≡ text_of (summary_language l) s)
 
--- a meaning is told in words, and by what is listed of it behind the start by what runs the line, and before it where that is asked, and whether
--- its years are past
-pub record IsTold (s : Settings) (runner : Runner) (m : Meaning) (text : String Global) (runs : Runs) (previous : Option Runs) (is_past : Bool)
-    : Type 0 where
+-- a meaning is told in words, and by what is listed of it behind the start by what runs the line, before it and how often where that is asked, and
+-- whether its years are past
+pub record IsTold (s : Settings) (runner : Runner) (m : Meaning) (text : String Global) (runs : Runs) (previous : Option Runs) (often : Option Often)
+    (is_past : Bool) : Type 0 where
   pub described : IsDescription s.language m (string_bytes text)
   pub listed : IsListed (listed_by runner m (start_of s)) (window_end s) s.listing runs
   pub before : AreBefore (asked_of s) runner m previous
+  pub often_told : AreOften (listed_by runner m (start_of s)) (window_end s) (asked_until s) often
   pub past : IsPastAt m (reading (table_moment (start_of s))) is_past
 
 -- what was told of a text for a parser: that of its meaning, so that it has one
 abbrev pub TellsMeaning : Settings → Runner → Result Meaning Refusal → Told → Type 0
 TellsMeaning s runner read tolds.Reboot = ⊥
 TellsMeaning s runner read tolds.Nothing = ⊥
-TellsMeaning s runner read (tolds.Runs text runs previous is_past) = (m : Meaning) × (read ≡ Ok m) × IsTold s runner m text runs previous is_past
+TellsMeaning s runner read (tolds.Runs text runs previous often is_past) = (m : Meaning) × (read ≡ Ok m) × IsTold s runner m text runs previous often is_past
 
 -- what runs the job of a crontab whose times are written so
 abbrev pub cron_of : List ℕ → Runner
@@ -96,19 +99,19 @@ is_at_end_of_window (ends.Failed e) = false
 abbrev pub is_at_window_end : Told → Bool
 is_at_window_end tolds.Reboot = false
 is_at_window_end tolds.Nothing = false
-is_at_window_end (tolds.Runs text runs previous is_past) = is_at_end_of_window runs.end
+is_at_window_end (tolds.Runs text runs previous often is_past) = is_at_end_of_window runs.end
 
 -- a field names nothing, or the listing is over and has no run
 abbrev pub is_never : Told → Bool
 is_never tolds.Reboot = false
 is_never tolds.Nothing = true
-is_never (tolds.Runs text runs previous is_past) = is_over runs.end && length runs.items.items == 0
+is_never (tolds.Runs text runs previous often is_past) = is_over runs.end && length runs.items.items == 0
 
 -- no year that it names is left at the start, and its listing doesn't end where the clock's window does
 abbrev pub is_told_past : Told → Bool
 is_told_past tolds.Reboot = false
 is_told_past tolds.Nothing = false
-is_told_past (tolds.Runs text runs previous is_past) = is_past && not (is_at_end_of_window runs.end)
+is_told_past (tolds.Runs text runs previous often is_past) = is_past && not (is_at_end_of_window runs.end)
 
 -- no run is left
 abbrev pub is_idle : Told → Bool

@@ -374,6 +374,7 @@ warning_name warnings.NoNewline = codes "no-newline"
 warning_name warnings.CarriageReturn = codes "carriage-return"
 warning_name warnings.EmptyItem = codes "empty-item"
 warning_name (warnings.OtherName field) = codes "other-name"
+warning_name (warnings.Preset reading) = codes "preset"
 
 -- the name of one of a setting, or of the number of lines: where a job may have it too the name is the same
 abbrev pub other_name : OtherWarning → List ℕ
@@ -417,6 +418,7 @@ holds s warnings.NoNewline = s.is_crontab && not s.is_fed
 holds s warnings.CarriageReturn = is_some_so has_carriage_return s.command
 holds s warnings.EmptyItem = not s.is_crontab && is_some_so has_empty_items s.fields
 holds s (warnings.OtherName field) = not s.is_crontab && is_some_so (has_other_name field) s.fields
+holds s (warnings.Preset reading) = false
 
 -- the warnings of jobs and patterns, in the order in which they are given
 abbrev pub all_warnings : List Warning

@@ -9,6 +9,7 @@ pub(crate) mod comment;
 mod nearest;
 
 use crate::changes::meetings::{Meetings, Met};
+use crate::presets::PRESET;
 use crate::report::{JobReport, Report, SettingReport};
 use crate::settings::Settings;
 use crate::shown::SAME_JOB;
@@ -19,7 +20,7 @@ use std::alloc::{AllocError, Global};
 /// The names of the warnings that may be allowed, in the order of the table in docs/CRONTAB.md.
 ///
 /// That a crontab's last line has no line feed, or that it has too many lines, is none of them: cron ignores the file.
-pub const ALLOWABLE: [&str; 24] = [
+pub const ALLOWABLE: [&str; 25] = [
     "either-day",
     "uneven-step",
     "step-beyond",
@@ -39,6 +40,7 @@ pub const ALLOWABLE: [&str; 24] = [
     "carriage-return",
     "empty-item",
     "other-name",
+    PRESET,
     "no-zone",
     "not-expanded",
     "gap",
@@ -235,12 +237,13 @@ fn names_in_vain(
     Ok(names)
 }
 
-// Whether a warning of this name stands at a job, or may stand there.
+// Whether a warning of this name stands at a job, or may stand there: in another call, or at another time.
 fn may_stand(settings: &Settings<'_>, job: &JobReport<'_, '_>, name: &str) -> bool
     ensures { result ≡ may_stand settings.now job.now name.now }
 {
     any_named(job.warnings.as_slice(), name)
         || is_same(name, SAME_JOB) && may_be_same(settings, job)
+        || is_same(name, PRESET) && settings.preset.is_none()
         || hangs_on_clock(name)
 }
 

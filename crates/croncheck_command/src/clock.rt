@@ -27,10 +27,10 @@ use std::alloc::{AllocError, Global};
 pub(crate) const SECONDS_BEFORE: i64 = 259_200;
 
 /// The first start whose window `jiff` holds.
-const FIRST_START: i64 = -377_704_764_001;
+pub(crate) const FIRST_START: i64 = -377_704_764_001;
 
 /// The last second of the window: 5001-01-01T23:59:59 UTC. A clock that is a day behind UTC at most shows none of year 5000 behind it.
-const LAST_SECOND: i64 = 95_649_206_399;
+pub(crate) const LAST_SECOND: i64 = 95_649_206_399;
 
 const NANOS_PER_SECOND: i128 = 1_000_000_000;
 

@@ -1,8 +1,9 @@
 //! What is found of a line and of a file: each thing with how grave it is, its name, its place and what it says.
 ghost use Rattle.std.specs.Prelude.{◌≡◌, [], ◌∷◌, ◌++◌, map, filter, option_map, is_some, IfOk, OnOk};
-ghost use Rattle.croncheck_command.specs.Findings.{severity_name, content_extent, finding_seen, findings_seen, named, only_if, fault_kind, refusal_kind, of_warning, of_note, of_change, of_range, of_meetings, of_unneeded, findings_of_job, of_setting, findings_of_setting, findings_of_line};
+ghost use Rattle.croncheck_command.specs.Findings.{severity_name, content_extent, finding_seen, findings_seen, named, only_if, fault_kind, refusal_kind, of_warning, of_note, of_reading, of_change, of_range, of_meetings, of_unneeded, findings_of_job, of_setting, findings_of_setting, findings_of_line};
 ghost use Rattle.croncheck_command.specs.Found.{is_told_below};
-ghost use Rattle.croncheck_command.specs.Report.{notes_of_refusal};
+ghost use Rattle.croncheck_command.specs.Patterns.{is_of_preset, described};
+ghost use Rattle.croncheck_command.specs.Report.{notes_of_refusal, taken_of};
 ghost use Rattle.croncheck_command.specs.Warnings.{field_name, other_name};
 
 pub mod of_file;
@@ -10,9 +11,10 @@ mod places;
 
 use crate::allowed::{NOT_NEEDED, UNKNOWN_NAME, push_unknown};
 use crate::changes::meetings::{Meetings, Met};
+use crate::presets::{PRESET, Reading};
 use crate::report::{JobReport, Report, SettingReport, Why};
 use crate::shown::{SAME_JOB, at_fault, field_name, push_same, push_why};
-use crate::warnings::{Dates, OtherWarning, Warning, push_warning_text};
+use crate::warnings::{Dates, OtherWarning, Warning, warning_text};
 use croner::parser::PatternField;
 use crontab::line::Fault;
 use crontab::notes;
@@ -79,7 +81,7 @@ impl Drop for Finding {
 
 /// What is found of a line with this report, which is given without its line feed. Of a job these are in this order its notes, its own
 /// warnings, those of changes of the clock, an earlier job that is the same, and the names that are allowed in vain; of a refused line why
-/// it is refused, and its notes; of a comment the first name that it allows and that no warning has.
+/// it is refused, its notes, and what the program of a preset takes; of a comment the first name that it allows and that no warning has.
 ///
 /// That the last line has no line feed, or that there are too many, is found of the file. The only error is want of memory.
 pub fn findings_of(
@@ -92,6 +94,64 @@ pub fn findings_of(
     let mut found = Vec::new(alloc);
     push_findings(alloc, &mut found, line, report)?;
     Ok(found)
+}
+
+/// What is found of a pattern with this report where its meaning alone is told: what another program makes otherwise of one that is read, and
+/// else the same.
+pub fn findings_described(
+    alloc: Global,
+    pattern: &[u8],
+    report: &Report<'_, '_>,
+) -> Result<Vec<Finding>, AllocError>
+    ensures { IfOk result (λ found. findings_seen found.items ≡ described pattern.now report.now) }
+{
+    match report {
+        Report::Job(job) => findings_of_preset(alloc, pattern, job),
+        Report::Silent | Report::Misnamed(_) | Report::Setting { .. } | Report::Refused { .. } => {
+            findings_of(alloc, pattern, report)
+        }
+    }
+}
+
+fn findings_of_preset(
+    alloc: Global,
+    pattern: &[u8],
+    job: &JobReport<'_, '_>,
+) -> Result<Vec<Finding>, AllocError>
+    ensures { IfOk result (λ found. findings_seen found.items ≡ map (of_warning pattern.now job.now.schedule.now) (filter is_of_preset job.now.warnings.items)) }
+{
+    let mut found = Vec::new(alloc);
+    let told = those_of_preset(alloc, job.warnings.as_slice())?;
+    push_each_warning(
+        alloc,
+        &mut found,
+        pattern,
+        job.schedule,
+        told.as_slice(),
+        &job.dates,
+    )?;
+    Ok(found)
+}
+
+fn those_of_preset(alloc: Global, warnings: &[Warning]) -> Result<Vec<Warning>, AllocError>
+    ensures { IfOk result (λ told. told.items ≡ filter is_of_preset warnings.now) }
+{
+    let mut told = Vec::new(alloc);
+    for warning in warnings {
+        if is_of_preset(*warning) {
+            told.push(*warning)?;
+        }
+    }
+    Ok(told)
+}
+
+fn is_of_preset(warning: Warning) -> bool
+    ensures { result ≡ is_of_preset warning }
+{
+    match warning {
+        Warning::Preset(_) => true,
+        _ => false,
+    }
 }
 
 fn push_findings(
@@ -130,11 +190,35 @@ fn push_refused(
     why: &Why,
 ) -> Result<(), AllocError>
     ensures { OnOk result (findings_seen found.new.items ≡ findings_seen found.old.items
-        ++ (named Severity.Error (refusal_kind why.now) extent ∷ map (of_note extent) (notes_of_refusal why.now line.now))) }
+        ++ (named Severity.Error (refusal_kind why.now) extent
+        ∷ (map (of_note extent) (notes_of_refusal why.now line.now) ++ map (of_reading extent) (taken_of why.now)))) }
 {
     found.push(refusal(alloc, line, extent, why)?)?;
     let noted = why.notes(alloc, line)?;
-    push_notes(alloc, found, extent, noted.as_slice())
+    push_notes(alloc, found, extent, noted.as_slice())?;
+    push_readings(alloc, found, extent, why.taken())
+}
+
+// What another program takes.
+fn push_readings(
+    alloc: Global,
+    found: &mut Vec<Finding>,
+    extent: Extent,
+    readings: &[Reading],
+) -> Result<(), AllocError>
+    ensures { OnOk result (findings_seen found.new.items ≡ findings_seen found.old.items ++ map (of_reading extent) readings.now) }
+{
+    for reading in readings {
+        found.push(of_reading(alloc, extent, *reading)?)?;
+    }
+    Ok(())
+}
+
+fn of_reading(alloc: Global, extent: Extent, reading: Reading) -> Result<Finding, AllocError>
+    ensures { IfOk result (λ f. finding_seen f ≡ of_reading extent reading) }
+{
+    let text = reading.sentence(alloc)?;
+    Ok(named(Severity::Note, PRESET, extent, text))
 }
 
 fn refusal(alloc: Global, line: &[u8], extent: Extent, why: &Why) -> Result<Finding, AllocError>
@@ -181,7 +265,7 @@ fn kind_of_why(why: &Why) -> &'static str
 {
     match why {
         Why::Cron(fault) | Why::Behind(fault) => kind_of_fault(*fault),
-        Why::Pattern(_) => "pattern",
+        Why::Pattern(_, _) => "pattern",
         Why::Crate(_) => "text",
         Why::NotText => "not-utf-8",
         Why::NoUser => "unknown-user",
@@ -333,7 +417,8 @@ fn is_told_below(warning: Warning) -> bool
         | Warning::ControlByte
         | Warning::CarriageReturn
         | Warning::EmptyItem
-        | Warning::OtherName(_) => true,
+        | Warning::OtherName(_)
+        | Warning::Preset(_) => true,
     }
 }
 
@@ -362,8 +447,7 @@ fn of_warning(
 ) -> Result<Finding, AllocError>
     ensures { IfOk result (λ f. finding_seen f ≡ of_warning line.now times.now warning) }
 {
-    let mut text = String::new(alloc);
-    push_warning_text(&mut text, warning, dates)?;
+    let text = warning_text(alloc, warning, dates)?;
     Ok(Finding {
         severity: Severity::Warning,
         name: warning.name(),

@@ -1,16 +1,17 @@
 //! The object of a line, as JSON.
-ghost use Rattle.std.specs.Prelude.{◌≡◌, map, option_map, IfOk, ◌++◌, OnOk};
+ghost use Rattle.std.specs.Prelude.{◌≡◌, Some, None, map, option_map, IfOk, ◌++◌, OnOk};
 ghost use Rattle.serde_json.specs.Data.{array};
 ghost use Rattle.serde_json.specs.View.{view, items_of};
 ghost use Rattle.jiff.specs.ZoneView.{plain_zone};
 ghost use Rattle.crontab.specs.Entries.{entry_seen};
-ghost use Rattle.croncheck_command.specs.Json.{kind_of_line, kind_of, end_name, string_or_null, integer_or_null, run_object, previous_object, named_object, times_object, fate_name, change_object, change_objects, objects_of_changes, job_object, job_data, finding_object, object_of};
+ghost use Rattle.croncheck_command.specs.Json.{kind_of_line, kind_of, end_name, string_or_null, integer_or_null, count_or_null, run_object, previous_object, reach_name, often_object, named_object, times_object, fate_name, change_object, change_objects, objects_of_changes, job_object, job_data, finding_object, object_of};
 ghost use Rattle.croncheck_command.specs.Shown.{exact};
 
 use crate::changes::Fate;
 use crate::changes::meetings::{Meetings, Met};
 use crate::escaped::exact;
 use crate::findings::Finding;
+use crate::often::{Often, Reach};
 use crate::report::{JobReport, Report};
 use crate::runs::{End, Run, Runs};
 use crate::shown::{Place, Shared, ahead_of};
@@ -174,46 +175,116 @@ fn times_of(alloc: Global, shared: &Shared<'_>, times: &Told<'_>) -> Result<Valu
             description,
             runs,
             previous,
+            often,
             is_past,
         } => {
-            named_of(
-                alloc,
-                shared,
-                description.as_str(),
+            let named = Named {
+                description: description.as_str(),
                 runs,
-                *is_past,
-                previous,
-            )
+                often: *often,
+                is_past: *is_past,
+            };
+            match previous {
+                Some(previous) => with_previous(alloc, shared, named, previous),
+                None => named_of(alloc, shared, named),
+            }
         }
     }
 }
 
-// When a job runs whose times have a meaning.
-fn named_of(
-    alloc: Global,
-    shared: &Shared<'_>,
-    description: &str,
-    runs: &Runs<'_>,
+// When a job runs whose times have a meaning, but for the runs before the start.
+#[derive(Clone, Copy)]
+struct Named<'r, 't> {
+    description: &'r str,
+    runs: &'r Runs<'t>,
+    often: Option<Often>,
     is_past: bool,
-    previous: &Option<Runs<'_>>,
-) -> Result<Value, AllocError>
-    ensures { IfOk result (λ v. view v ≡ named_object (plain_zone shared.now.zone) description.now runs.now is_past previous.now) }
+}
+
+// The object without them.
+fn named_of(alloc: Global, shared: &Shared<'_>, named: Named<'_, '_>) -> Result<Value, AllocError>
+    ensures { IfOk result (λ v. view v ≡ named_object (plain_zone shared.now.zone) named.entry.description.now named.entry.runs.now named.entry.is_past None named.entry.often) }
 {
-    let end = end_of(&runs.end, is_past);
-    match previous {
-        Some(previous) => json!(in alloc; {
+    let (description, end) = (named.description, end_of(&named.runs.end, named.is_past));
+    match named.often {
+        Some(often) => json!(in alloc; {
             "when": "named",
             "description": description,
-            "runs": runs_of(alloc, shared, runs)?,
+            "runs": runs_of(alloc, shared, named.runs)?,
             "end": end,
-            "previous": previous_of(alloc, shared, previous)?
+            "often": often_of(alloc, often)?
         }),
         None => json!(in alloc; {
             "when": "named",
             "description": description,
-            "runs": runs_of(alloc, shared, runs)?,
+            "runs": runs_of(alloc, shared, named.runs)?,
             "end": end
         }),
+    }
+}
+
+// The object with them.
+fn with_previous(
+    alloc: Global,
+    shared: &Shared<'_>,
+    named: Named<'_, '_>,
+    previous: &Runs<'_>,
+) -> Result<Value, AllocError>
+    ensures { IfOk result (λ v. view v ≡ named_object (plain_zone shared.now.zone) named.entry.description.now named.entry.runs.now named.entry.is_past (Some previous.now) named.entry.often) }
+{
+    let (description, end) = (named.description, end_of(&named.runs.end, named.is_past));
+    match named.often {
+        Some(often) => json!(in alloc; {
+            "when": "named",
+            "description": description,
+            "runs": runs_of(alloc, shared, named.runs)?,
+            "end": end,
+            "previous": previous_of(alloc, shared, previous)?,
+            "often": often_of(alloc, often)?
+        }),
+        None => json!(in alloc; {
+            "when": "named",
+            "description": description,
+            "runs": runs_of(alloc, shared, named.runs)?,
+            "end": end,
+            "previous": previous_of(alloc, shared, previous)?
+        }),
+    }
+}
+
+// How often a job starts.
+fn often_of(alloc: Global, often: Often) -> Result<Value, AllocError>
+    ensures { IfOk result (λ v. view v ≡ often_object often) }
+{
+    let (from, until, end) = (often.from, often.until, reach_of(often.reach));
+    let (starts, most_a_day) = (often.starts, often.most_a_day);
+    json!(in alloc; {
+        "from": from,
+        "until": until,
+        "end": end,
+        "starts": starts,
+        "most_a_day": most_a_day,
+        "shortest": distance_or_null(alloc, often.shortest)?
+    })
+}
+
+fn reach_of(reach: Reach) -> &'static str
+    ensures { result.now ≡ reach_name reach }
+{
+    match reach {
+        Reach::Whole => "whole",
+        Reach::Cut | Reach::Window => "cut",
+        Reach::Failed => "failed",
+    }
+}
+
+// A distance; null where there is none.
+fn distance_or_null(alloc: Global, distance: Option<u64>) -> Result<Value, AllocError>
+    ensures { IfOk result (λ v. view v ≡ count_or_null distance) }
+{
+    match distance {
+        Some(distance) => json!(in alloc; distance),
+        None => Ok(Value::Null),
     }
 }
 

@@ -24,6 +24,7 @@ pub mod look;
 pub mod moment;
 pub mod names;
 mod off;
+pub mod often;
 pub mod output;
 pub mod past;
 pub mod patterns;

@@ -8,19 +8,13 @@ ghost use Rattle.croncheck_command.specs.Clock.{IsHeldStart};
 ghost use Rattle.croncheck_command.specs.Past.{reach_of, IsFollowedFrom, IsPastClock, IsNoPast};
 ghost use Rattle.croncheck_command.specs.Previous.{IsAskedOf};
 
+use crate::clock::{FIRST_START, LAST_SECOND};
 use crate::previous::Previous;
 use croner::errors::CronError;
 use croner::time::table::{ClockTable, TableTime};
+use croner_base::limits::FIRST_SEARCHED_SECOND;
 use jiff::tz::TimeZone;
 use std::alloc::{AllocError, Global};
-
-/// The first second whose clock is looked for, and the last.
-const FIRST_HELD: i64 = -377_704_764_001;
-
-const LAST_HELD: i64 = 95_649_206_399;
-
-/// The first second of year 1 in UTC.
-const FIRST_OF_YEARS: i64 = -62_135_596_800;
 
 /// From so many seconds behind the first one of a window on, runs on its clock are those of the zone.
 const MARGIN: i64 = 180_000;
@@ -62,7 +56,7 @@ impl PastClock {
     ) -> Result<Option<PastClock>, AllocError>
         ensures { IfOk result (λ c. MatchOption c (IsNoPast (plain_zone zone.now) last) (IsPastClock (plain_zone zone.now) last)) }
     {
-        if last < FIRST_HELD || LAST_HELD < last {
+        if last < FIRST_START || LAST_SECOND < last {
             return Ok(None);
         }
         if !is_calm_back(alloc, zone, last, 0)? {
@@ -103,10 +97,10 @@ fn reach_of(last: i64) -> i64
     ensures value { result ≡ reach_of last }
     ensures window { IsWindow result last }
 {
-    if last < FIRST_OF_YEARS {
+    if last < FIRST_SEARCHED_SECOND {
         last
     } else {
-        FIRST_OF_YEARS
+        FIRST_SEARCHED_SECOND
     }
 }
 

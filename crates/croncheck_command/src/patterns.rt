@@ -1,20 +1,15 @@
 //! Patterns that are words of the call.
 ghost use Rattle.std.specs.Prelude.{◌≡◌, ◌||◌, Bool, true, map, if◌then◌else◌, IfOk, string_bytes};
 ghost use Rattle.croncheck_command.specs.Output.{written_of};
-ghost use Rattle.croncheck_command.specs.Patterns.{TellsPattern, TellsPatterns, pattern_in};
+ghost use Rattle.croncheck_command.specs.Patterns.{TellsPattern, TellsPatterns, EndsWithFound, told_by, pattern_in};
 ghost use Rattle.croncheck_command.specs.Report.{IsReportOfPattern, blanks_of};
-ghost use Rattle.croncheck_command.specs.Findings.{findings_seen};
-ghost use Rattle.croncheck_command.specs.Presets.{AreOfPreset, EndsBelow};
 
 use crate::file_seen::is_refused;
-use crate::findings::Finding;
 use crate::output::Output;
-use crate::presets::findings_of_preset;
 use crate::progress::Terms;
 use crate::report::{Report, report_of_line};
 use crate::shown::pattern::{description_text, runs_text};
 use croner::errors::CronError;
-use croner_presets::Preset;
 use crontab::bytes::{Kind, cut};
 use crontab::content::outcome_of;
 use crontab::line::Entry;
@@ -34,20 +29,19 @@ pub enum Answer {
 /// Tells of patterns, in order, and answers the status of the call: 1 where one is refused, else 0.
 ///
 /// Each is read as a line of a file of patterns, blanks in front of it left out; a refused one is told where its fault is,
-/// and why. With a preset it is told where its program reads a pattern otherwise. The error is that of what is written to, or says that memory is lacking.
+/// and why. The error is that of what is written to, or says that memory is lacking.
 pub fn tell_patterns<W: Write>(
     terms: &Terms<'_, '_>,
     words: &[&str],
     answer: Answer,
-    preset: Option<Preset>,
     output: &mut Output<W>,
 ) -> io::Result<u8>
-    ensures { IfOk result (TellsPatterns terms.now.settings.now preset (written_of W.contents output.old) (map (λ word. word.now) words.now)
+    ensures { IfOk result (TellsPatterns terms.now.settings.now answer (written_of W.contents output.old) (map (λ word. word.now) words.now)
         (written_of W.contents output.new)) }
 {
     let mut has_refused = false;
     for k in 0..words.len() {
-        let refused = is_told_refused(terms, words[k], answer, preset, output)?;
+        let refused = is_told_refused(terms, words[k], answer, output)?;
         has_refused = either(refused, has_refused);
     }
     output.flush()?;
@@ -71,16 +65,14 @@ fn is_told_refused<W: Write>(
     terms: &Terms<'_, '_>,
     word: &str,
     answer: Answer,
-    preset: Option<Preset>,
     output: &mut Output<W>,
 ) -> io::Result<bool>
-    ensures { (before : Bool) → IfOk result (λ refused. TellsPattern terms.now.settings.now preset (record { written = written_of W.contents output.old; has_refused = before })
+    ensures { (before : Bool) → IfOk result (λ refused. TellsPattern terms.now.settings.now answer (record { written = written_of W.contents output.old; has_refused = before })
         word.now (record { written = written_of W.contents output.new; has_refused = refused || before })) }
 {
     let (_, pattern) = cut(word.as_bytes(), Kind::Blank);
     let report = report_of_pattern(terms, pattern)?;
-    let found = differing(terms.alloc, preset, word)?;
-    let text = text_of(terms, pattern, &report, answer, found.as_slice())?;
+    let text = text_of(terms, pattern, &report, answer)?;
     output.write_apart(text.as_str())?;
     Ok(is_refused(&report))
 }
@@ -105,25 +97,14 @@ fn report_of_pattern<'l, 't>(terms: &Terms<'_, 't>, pattern: &'l [u8]) -> io::Re
     }
 }
 
-// Where the program of a preset reads a pattern otherwise.
-fn differing(alloc: Global, preset: Option<Preset>, word: &str) -> io::Result<Vec<Finding>>
-    ensures { IfOk result (λ found. AreOfPreset preset word.now (findings_seen found.items)) }
-{
-    match findings_of_preset(alloc, preset, word) {
-        Ok(found) => Ok(found),
-        Err(_) => Err(io::Error::from(ErrorKind::OutOfMemory)),
-    }
-}
-
-// What is told of a pattern with this report, as whole lines, and below it these findings.
+// What is told of a pattern with this report, as whole lines.
 fn text_of(
     terms: &Terms<'_, '_>,
     pattern: &[u8],
     report: &Report<'_, '_>,
     answer: Answer,
-    found: &[Finding],
 ) -> Result<String, AllocError>
-    ensures { IfOk result (λ text. EndsBelow terms.now.settings.now.look found.now (string_bytes text)) }
+    ensures { IfOk result (λ text. EndsWithFound terms.now.settings.now.look (told_by answer pattern.now report.now) (string_bytes text)) }
 {
     match answer {
         Answer::Runs => runs_text(
@@ -132,7 +113,6 @@ fn text_of(
             terms.shared,
             pattern,
             report,
-            found,
         ),
         Answer::Description => description_text(
             terms.alloc,
@@ -140,7 +120,6 @@ fn text_of(
             terms.shared,
             pattern,
             report,
-            found,
         ),
     }
 }

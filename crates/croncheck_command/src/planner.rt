@@ -1,83 +1,109 @@
-//! The form of a plan: the jobs of all files, and behind them one list of their runs.
-ghost use Rattle.std.specs.Prelude.{◌≡◌, ◌==◌, ◌<◌, ◌++◌, ◌∷◌, ℕ, List, [], IfOk, IfErr, OnOk, length, string_bytes};
-ghost use Rattle.jiff.specs.ZoneView.{plain_zone};
-ghost use Rattle.croner.specs.crontable.Tables.{patterns_of};
-ghost use Rattle.croner.specs.Views.{job_of as meaning_of_job};
-ghost use Rattle.crontab.specs.Checked.{TakesInTurn};
+//! The form of a plan: the jobs of all files, and behind them what starts of them.
+ghost use Rattle.std.specs.Prelude.{◌≡◌, ◌++◌, ℕ, List, [], None, Some, IfOk, IfErr, OnOk, string_bytes, option_map, unwrap_or};
+ghost use Rattle.croner.specs.declared.job.Cron.{Cron as Made};
 ghost use Rattle.crontab.specs.Content.{IsOutcome};
 ghost use Rattle.crontab.specs.Entries.{entry_seen};
-ghost use Rattle.crontab.specs.Line.{are_patterns};
 ghost use Rattle.croncheck_command.specs.Output.{Written, written_of};
-ghost use Rattle.croncheck_command.specs.Plan.{IsPlanned};
-ghost use Rattle.croncheck_command.specs.Planner.{seen, is_refused_by_user, with_job, Adds, Passes, labels, labels_at, command_text, label_text, WritesMoment, plan_head, over_text, more_text, IsPlanEnd};
-ghost use Rattle.croncheck_command.specs.Settings.{start_of, window_end};
-ghost use Rattle.croncheck_command.specs.Shown.{IsWindowEnd};
+ghost use Rattle.croncheck_command.specs.Planner.{seen, planned_seen, job_shown, schedule_of, label_text, command_behind, user_text, command_of, times_of, above_at, is_refused_by_user, with_job, Adds, Passes, PlansOutcome, WritesPlan};
+ghost use Rattle.croncheck_command.specs.Shown.{spaced};
 ghost use Rattle.croncheck_command.specs.Stand.{stand_of};
 
+use crate::escaped::shown;
 use crate::form::Form;
 use crate::output::Output;
-use crate::plan::{Plan, plan_of};
+use crate::plan::list::{whose_text, write_list};
+use crate::plan::listed_plan;
+use crate::plan::title::{heading_of, title_of};
 use crate::progress::{Line, Progress, Terms};
 use crate::report::report_of_line;
 use crate::reporter::{write_ending, write_report};
-use crate::runs::{End, Listing, MOST_RUNS};
 use crate::settings::Settings;
-use crate::shown::{COMMAND_BYTES, Place, Shared, push_clock, push_front, window_end};
+use crate::shown::{COMMAND_BYTES, Place, push_front, push_spaced};
+use crate::starred::is_starred;
 use crate::tally::{Tally, one_more};
 use crate::users::is_unknown;
 use croner::Cron;
-use croner::crontable::CronTable;
-use croner::errors::CronError;
-use croner::time::table::TableTime;
+use cronplan::Schedule;
 use crontab::content::{Outcome, outcome_of};
-use crontab::line::{Dialect, Entry};
+use crontab::line::Entry;
+use crontab_runs::CrontabJob;
 use std::alloc::{AllocError, Global};
 use std::io;
 use std::io::{ErrorKind, Write};
 
-/// A job of a plan.
+/// What is asked of a plan.
+#[derive(Clone, Copy, Drop)]
+pub struct PlanAsked {
+    /// Commands are shown beside the titles of their jobs.
+    pub has_commands: bool,
+}
+
+/// What is shown of a job of a plan.
 #[derive(Drop)]
 pub struct Planned {
-    /// The number of its file, from 1.
-    pub file: u64,
-    /// The number of its line in that file, from 1.
+    /// The number of its line in its file, from 1.
     pub line: u64,
-    // Its place, and its command or pattern, as they are shown.
-    label: String,
+    /// The name of its file, as it is shown.
+    pub file: String,
+    /// Its title, as it is shown.
+    pub title: String,
+    /// The name of its user, as it is shown; empty where the file names none.
+    pub user: String,
+    /// Its times as they are written, as they are shown.
+    pub times: String,
+    /// Its command. Of a pattern it is the pattern.
+    pub command: Vec<u8>,
+    // Its place, and the front of its title, and of its command where that is asked for.
+    pub(crate) label: String,
 }
 
 /// Takes the jobs of files, and writes the plan of all of them. What has no time and what is refused is told as in a
 /// report.
 #[derive(Drop)]
 pub struct Planner {
-    table: CronTable,
+    schedules: Vec<Schedule>,
     jobs: Vec<Planned>,
+    // The title that comments give to the next line; empty where they give none.
+    above: Vec<u8>,
+    asked: PlanAsked,
 }
 
 impl Planner {
     /// It knows no job yet.
-    pub fn new(alloc: Global) -> Planner
-        ensures { (patterns_of result.table ≡ []) × (result.jobs.items ≡ []) }
+    pub fn new(alloc: Global, asked: PlanAsked) -> Planner
+        ensures jobs { (result.schedules.items ≡ []) × (result.jobs.items ≡ []) }
+        ensures asked { result.asked ≡ asked }
     {
         Planner {
-            table: CronTable::new(alloc),
+            schedules: Vec::new(alloc),
             jobs: Vec::new(alloc),
+            above: Vec::new(alloc),
+            asked,
         }
     }
 
-    /// The plan of all jobs that were read. The only error is `OutOfMemory`.
-    pub fn plan<'t>(&self, terms: &Terms<'_, 't>) -> Result<Plan<'t>, CronError>
-        ensures planned { IfOk result (IsPlanned (patterns_of self.now.table) (start_of terms.now.settings.now) (window_end terms.now.settings.now)
-            terms.now.settings.now.listing) }
-        ensures err { IfErr result (λ e. e ≡ CronError.OutOfMemory) }
+    // Forgets the title that stood above the first line of a file, of which so many lines were read.
+    fn begin_file(&mut self, lines: u64)
+        ensures above { self.new.above.items ≡ above_at lines self.old.above.items }
+        ensures schedules { self.new.schedules ≡ self.old.schedules }
+        ensures jobs { self.new.jobs ≡ self.old.jobs }
+        ensures asked { self.new.asked ≡ self.old.asked }
     {
-        plan_of(
-            terms.alloc,
-            &self.table,
-            terms.settings.changes.start,
-            terms.settings.last(),
-            terms.settings.listing,
-        )
+        if lines == 0 {
+            self.above.clear();
+        }
+    }
+
+    // Takes the title that a line gives to the next one, where it doesn't leave the one above it.
+    fn take_heading(&mut self, heading: Option<Vec<u8>>)
+        ensures above { self.new.above.items ≡ unwrap_or (option_map (λ text. text.items) heading) self.old.above.items }
+        ensures schedules { self.new.schedules ≡ self.old.schedules }
+        ensures jobs { self.new.jobs ≡ self.old.jobs }
+        ensures asked { self.new.asked ≡ self.old.asked }
+    {
+        if let Some(heading) = heading {
+            self.above = heading;
+        }
     }
 
     // Takes the job of the line that was read last.
@@ -88,19 +114,22 @@ impl Planner {
         job: Cron,
         entry: &Entry<'_>,
     ) -> io::Result<()>
-        ensures { (written : Written) → OnOk result (Adds (meaning_of_job job) (seen self.old.table self.old.jobs (stand_of progress.old) written)
-            (seen self.new.table self.new.jobs (stand_of progress.new) written)) }
+        ensures adds { (written : Written) → OnOk result (Adds self.old.asked self.old.above.items (entry_seen entry.now) job
+            (seen self.old.schedules self.old.jobs (stand_of progress.old) written) (seen self.new.schedules self.new.jobs (stand_of progress.new) written)) }
+        ensures above { self.new.above ≡ self.old.above }
+        ensures asked { self.new.asked ≡ self.old.asked }
     {
-        let label = label_of(alloc, progress.place(), entry)?;
+        let planned = planned_of(
+            alloc,
+            self.asked,
+            progress.place(),
+            self.above.as_slice(),
+            entry,
+        )?;
+        self.schedules.reserve(1)?;
         self.jobs.reserve(1)?;
-        if self.table.push(job).is_err() {
-            return Err(io::Error::from(ErrorKind::OutOfMemory));
-        }
-        self.jobs.push_reserved(Planned {
-            file: progress.files,
-            line: progress.lines,
-            label,
-        });
+        self.schedules.push_reserved(schedule_of(entry, job));
+        self.jobs.push_reserved(planned);
         progress.tally = with_job(progress.tally);
         Ok(())
     }
@@ -116,8 +145,8 @@ impl Planner {
         output: &mut Output<W>,
     ) -> io::Result<()>
         ensures { IsOutcome terms.now.settings.now.parser (entry_seen entry.entry) outcome → OnOk result (Passes terms.now.settings.now line.now entry.entry
-            (seen self.now.table self.now.jobs (stand_of progress.old) (written_of W.contents output.old))
-            (seen self.now.table self.now.jobs (stand_of progress.new) (written_of W.contents output.new))) }
+            (seen self.now.schedules self.now.jobs (stand_of progress.old) (written_of W.contents output.old))
+            (seen self.now.schedules self.now.jobs (stand_of progress.new) (written_of W.contents output.new))) }
     {
         let Ok(report) = report_of_line(
             terms.alloc,
@@ -134,19 +163,64 @@ impl Planner {
         progress.file.add_report(&report);
         write_report(terms, progress.place(), line, &report, output)
     }
+
+    // Plans the line that was read last, or tells it. The parser makes this of it.
+    fn plan_line<W: Write>(
+        &mut self,
+        terms: &Terms<'_, '_>,
+        progress: &mut Progress,
+        line: &[u8],
+        entry: Entry<'_>,
+        outcome: Outcome,
+        output: &mut Output<W>,
+    ) -> io::Result<()>
+        ensures plans { IsOutcome terms.now.settings.now.parser (entry_seen entry.entry) outcome → OnOk result (PlansOutcome terms.now.settings.now self.old.asked self.old.above.items line.now entry.entry outcome
+            (seen self.old.schedules self.old.jobs (stand_of progress.old) (written_of W.contents output.old))
+            (seen self.new.schedules self.new.jobs (stand_of progress.new) (written_of W.contents output.new))) }
+        ensures above { self.new.above ≡ self.old.above }
+        ensures asked { self.new.asked ≡ self.old.asked }
+    {
+        if is_refused_by_user(terms.settings, &entry) {
+            return self.pass(terms, progress, line, entry, outcome, output);
+        }
+        match outcome {
+            Outcome::Job(job) => self.add(terms.alloc, progress, job, &entry),
+            Outcome::NoText
+            | Outcome::TimesRefused(_)
+            | Outcome::PatternRefused(_)
+            | Outcome::NotUtf8 => self.pass(terms, progress, line, entry, outcome, output),
+        }
+    }
+}
+
+impl Planner {
+    // Writes the list of all starts.
+    fn end_list<W: Write>(&self, terms: &Terms<'_, '_>, output: &mut Output<W>) -> io::Result<()>
+        ensures { OnOk result (WritesPlan terms.now.settings.now terms.now.shared.now self.now (written_of W.contents output.old) (written_of W.contents output.new)) }
+    {
+        let Ok(found) = listed_plan(
+            terms.alloc,
+            self.schedules.as_slice(),
+            terms.settings.changes.start,
+            terms.settings.last(),
+            terms.settings.listing,
+        ) else {
+            return Err(io::Error::from(ErrorKind::OutOfMemory));
+        };
+        let whose = whose_text(self.schedules.as_slice());
+        write_list(terms, whose, self.jobs.as_slice(), &found, output)
+    }
 }
 
 impl Form for Planner {
-    ghost use Rattle.croncheck_command.specs.Planner.{Plans, seen, labels, WritesPlan};
+    ghost use Rattle.croncheck_command.specs.Planner.{Plans, seen, WritesPlan};
     ghost use Rattle.croncheck_command.specs.Reported.{WritesEnding};
-    ghost use Rattle.croner.specs.crontable.Tables.{patterns_of};
 
-    ghost takes = { λ terms old y new. Plans terms.settings.now (seen old.form.table old.form.jobs old.stand old.written) y
-        (seen new.form.table new.form.jobs new.stand new.written) };
+    ghost takes = { λ terms old y new. Plans terms.settings.now old y new };
 
     ghost ends_file = { λ terms planner stand old new. WritesEnding terms.settings.now stand old new };
 
-    ghost ends = { λ terms planner old new. WritesPlan terms.settings.now terms.shared.now (patterns_of planner.table) (labels planner.jobs.items) old new };
+    ghost ends = { λ terms planner old new. WritesPlan terms.settings.now terms.shared.now planner old new };
 
     fn take<W: Write>(
         &mut self,
@@ -160,18 +234,13 @@ impl Form for Planner {
             entry,
             is_fed,
         } = line;
+        self.begin_file(progress.lines);
         progress.next_line(&entry, is_fed);
+        let heading = heading_of(terms.alloc, &entry, text)?;
         let outcome = outcome_of(terms.alloc, terms.settings.parser, &entry)?;
-        if is_refused_by_user(terms.settings, &entry) {
-            return self.pass(terms, progress, text, entry, outcome, output);
-        }
-        match outcome {
-            Outcome::Job(job) => self.add(terms.alloc, progress, job, &entry),
-            Outcome::NoText
-            | Outcome::TimesRefused(_)
-            | Outcome::PatternRefused(_)
-            | Outcome::NotUtf8 => self.pass(terms, progress, text, entry, outcome, output),
-        }
+        self.plan_line(terms, progress, text, entry, outcome, output)?;
+        self.take_heading(heading);
+        Ok(())
     }
 
     fn end_file<W: Write>(
@@ -184,14 +253,7 @@ impl Form for Planner {
     }
 
     fn end<W: Write>(&self, terms: &Terms<'_, '_>, output: &mut Output<W>) -> io::Result<()> {
-        let Ok(plan) = self.plan(terms) else {
-            return Err(io::Error::from(ErrorKind::OutOfMemory));
-        };
-        let of_patterns = are_patterns(terms.settings.dialect);
-        output.write_apart(plan_head(plan.items.is_empty(), of_patterns))?;
-        write_moments(terms, self.jobs.as_slice(), plan.items.as_slice(), output)?;
-        let text = end_text(terms.alloc, terms.shared, &plan)?;
-        output.write_apart(text.as_str())
+        self.end_list(terms, output)
     }
 }
 
@@ -222,148 +284,130 @@ fn with_job(tally: Tally) -> Tally
     }
 }
 
-fn are_patterns(dialect: Dialect) -> bool
-    ensures { result ≡ are_patterns dialect }
+// The job of an entry, of whose times the parser makes this: a crontab's, or a pattern.
+fn schedule_of(entry: &Entry<'_>, cron: Cron) -> Schedule
+    ensures { result ≡ schedule_of (entry_seen entry.now) cron }
 {
-    match dialect {
-        Dialect::Patterns => true,
-        Dialect::User | Dialect::System => false,
+    match entry {
+        Entry::Job(job) => {
+            let is_starred = is_starred(job.schedule);
+            Schedule::Crontab(CrontabJob { cron, is_starred })
+        }
+        Entry::Blank
+        | Entry::Comment
+        | Entry::Setting { .. }
+        | Entry::Pattern(_)
+        | Entry::Refused { .. } => Schedule::Pattern(cron),
     }
 }
 
-// What stands in front of the moments of crontabs' jobs: whose runs they are.
-fn plan_head(is_empty: bool, of_patterns: bool) -> &'static str
-    ensures { result.now ≡ plan_head is_empty of_patterns }
+// ---- what is shown of a job
+
+// What is shown of the job of an entry at a place, above which this title stands, if there is any.
+fn planned_of(
+    alloc: Global,
+    asked: PlanAsked,
+    place: Place<'_>,
+    above: &[u8],
+    entry: &Entry<'_>,
+) -> Result<Planned, AllocError>
+    ensures { IfOk result (λ planned. planned_seen planned ≡ job_shown asked place.entry.file.now place.entry.line above.now (entry_seen entry.now)) }
 {
-    if is_empty || of_patterns {
-        ""
-    } else {
-        "these are croner's runs; where the clock changes cron goes by another rule, and show lists what it starts\n"
-    }
+    let title = title_of(above, entry);
+    let label = label_of(alloc, asked, place, title, entry)?;
+    let file = String::from_str(alloc, place.file)?;
+    let title = spaced_text(alloc, title)?;
+    let user = shown(alloc, user_of(entry))?;
+    let times = shown(alloc, times_of(entry))?;
+    let command = copy_of(alloc, command_of(entry))?;
+    let line = place.line;
+    Ok(Planned {
+        line,
+        file,
+        title,
+        user,
+        times,
+        command,
+        label,
+    })
 }
 
-// What is shown of a job in a plan, as a line: its place, and its command or pattern.
-fn label_of(alloc: Global, place: Place<'_>, entry: &Entry<'_>) -> Result<String, AllocError>
-    ensures { IfOk result (λ label. string_bytes label ≡ label_text place.entry.file.now place.entry.line (entry_seen entry.now)) }
+// What a list shows of a job: its place, the front of its title, and of its command where that is asked for.
+fn label_of(
+    alloc: Global,
+    asked: PlanAsked,
+    place: Place<'_>,
+    title: &[u8],
+    entry: &Entry<'_>,
+) -> Result<String, AllocError>
+    ensures { IfOk result (λ label. string_bytes label ≡ label_text asked place.entry.file.now place.entry.line title.now (entry_seen entry.now)) }
 {
     let (file, line) = (place.file, place.line);
     let mut label = format!(in alloc; "  {file}:{line}  ")?;
-    push_command(&mut label, entry)?;
-    label.push('\n')?;
+    push_front(&mut label, title, COMMAND_BYTES)?;
+    if asked.has_commands {
+        push_command(&mut label, title, command_of(entry))?;
+    }
     Ok(label)
 }
 
-// Puts the front of a job's command behind a text, or that of a pattern, as a report shows it.
-fn push_command(text: &mut String, entry: &Entry<'_>) -> Result<(), AllocError>
-    ensures { OnOk result (string_bytes text.new ≡ string_bytes text.old ++ command_text (entry_seen entry.now)) }
+// Puts the front of a command behind its title, if there is one, and it isn't the title.
+fn push_command(text: &mut String, title: &[u8], command: &[u8]) -> Result<(), AllocError>
+    ensures { OnOk result (string_bytes text.new ≡ string_bytes text.old ++ command_behind title.now command.now) }
+{
+    if command.is_empty() || command == title {
+        return Ok(());
+    }
+    text.push_str("  ")?;
+    push_front(text, command, COMMAND_BYTES)
+}
+
+fn user_of<'e>(entry: &Entry<'e>) -> &'e [u8]
+    ensures { result.now ≡ user_text (entry_seen entry.now) }
 {
     match entry {
-        Entry::Job(job) => push_front(text, job.command, COMMAND_BYTES),
-        Entry::Pattern(pattern) => push_front(text, pattern, COMMAND_BYTES),
-        Entry::Blank | Entry::Comment | Entry::Setting { .. } | Entry::Refused { .. } => Ok(()),
+        Entry::Job(job) => job.user.unwrap_or(&[]),
+        Entry::Blank
+        | Entry::Comment
+        | Entry::Setting { .. }
+        | Entry::Pattern(_)
+        | Entry::Refused { .. } => &[],
     }
 }
 
-// Writes moments and the jobs that run then, in order.
-fn write_moments<W: Write>(
-    terms: &Terms<'_, '_>,
-    jobs: &[Planned],
-    moments: &[(TableTime<'_>, Vec<usize>)],
-    output: &mut Output<W>,
-) -> io::Result<()>
-    ensures { OnOk result (TakesInTurn (WritesMoment (plain_zone terms.now.shared.now.zone) (labels jobs.now)) (written_of W.contents output.old) moments.now (written_of W.contents output.new)) }
+fn times_of<'e>(entry: &Entry<'e>) -> &'e [u8]
+    ensures { result.now ≡ times_of (entry_seen entry.now) }
 {
-    for k in 0..moments.len() {
-        write_moment(terms, jobs, &moments[k], output)?;
-    }
-    Ok(())
-}
-
-// Writes a moment and the jobs that run then.
-fn write_moment<W: Write>(
-    terms: &Terms<'_, '_>,
-    jobs: &[Planned],
-    moment: &(TableTime<'_>, Vec<usize>),
-    output: &mut Output<W>,
-) -> io::Result<()>
-    ensures { OnOk result (WritesMoment (plain_zone terms.now.shared.now.zone) (labels jobs.now) (written_of W.contents output.old) moment.now (written_of W.contents output.new)) }
-{
-    let mut text = String::new(terms.alloc);
-    push_clock(&mut text, terms.shared, &moment.0)?;
-    text.push('\n')?;
-    push_labels(&mut text, jobs, moment.1.as_slice())?;
-    output.write_apart(text.as_str())
-}
-
-// Puts what is shown of the jobs at some places behind a text, in this order.
-fn push_labels(text: &mut String, jobs: &[Planned], places: &[usize]) -> Result<(), AllocError>
-    ensures { OnOk result (string_bytes text.new ≡ string_bytes text.old ++ labels_at (labels jobs.now) places.now) }
-{
-    let mut rest = places;
-    while !rest.is_empty() {
-        rest = push_first(text, jobs, rest)?;
-    }
-    Ok(())
-}
-
-// Puts what is shown of the job at the first place behind a text. The places behind it are left.
-fn push_first<'p>(
-    text: &mut String,
-    jobs: &[Planned],
-    places: &'p [usize],
-) -> Result<&'p [usize], AllocError>
-    requires { 0 < length places.now }
-    ensures shown { IfOk result (λ rest. string_bytes text.new ++ labels_at (labels jobs.now) rest.now
-        ≡ string_bytes text.old ++ labels_at (labels jobs.now) places.now) }
-    ensures shorter { IfOk result (λ rest. length rest.now < length places.now) }
-{
-    let (first, rest) = places.split_at(1);
-    if let Some(job) = jobs.get(first[0]) {
-        text.push_str(job.label.as_str())?;
-    }
-    Ok(rest)
-}
-
-// What stands behind the moments of a plan, or behind none.
-fn end_text(alloc: Global, shared: &Shared<'_>, plan: &Plan<'_>) -> Result<String, AllocError>
-    ensures { IfOk result (λ text. IsPlanEnd shared.now (length plan.now.items.items == 0) plan.now.end (string_bytes text)) }
-{
-    let is_empty = plan.items.is_empty();
-    match &plan.end {
-        End::More => String::from_str(alloc, more_text(shared.listing, is_empty)),
-        End::Over => String::from_str(alloc, over_text(is_empty)),
-        End::Cut => format!(in alloc; "and more: a list ends after {MOST_RUNS} moments\n"),
-        End::Window => window_end_line(alloc, shared),
-        End::Failed(refusal) => format!(in alloc; "and more, which were not found: {refusal}\n"),
+    match entry {
+        Entry::Job(job) => job.schedule,
+        Entry::Pattern(pattern) => pattern,
+        Entry::Blank | Entry::Comment | Entry::Setting { .. } | Entry::Refused { .. } => &[],
     }
 }
 
-// Where no run is left; it may be that no job runs at all.
-fn over_text(is_empty: bool) -> &'static str
-    ensures { result.now ≡ over_text is_empty }
+fn command_of<'e>(entry: &Entry<'e>) -> &'e [u8]
+    ensures { result.now ≡ command_of (entry_seen entry.now) }
 {
-    if is_empty {
-        "no job runs: no run is left before year 5000\n"
-    } else {
-        "no more: no run is left before year 5000\n"
+    match entry {
+        Entry::Job(job) => job.command,
+        Entry::Pattern(pattern) => pattern,
+        Entry::Blank | Entry::Comment | Entry::Setting { .. } | Entry::Refused { .. } => &[],
     }
 }
 
-// Where more may come: nothing, but of a list up to a second that has no run.
-fn more_text(listing: Listing, is_empty: bool) -> &'static str
-    ensures { result.now ≡ more_text listing is_empty }
+// Bytes as they are shown, a tab as a space.
+fn spaced_text(alloc: Global, bytes: &[u8]) -> Result<String, AllocError>
+    ensures { IfOk result (λ text. string_bytes text ≡ spaced bytes.now) }
 {
-    match listing {
-        Listing::Until(_) if is_empty => "no run up to then\n",
-        Listing::Until(_) | Listing::Count(_) => "",
-    }
+    let mut text = String::new(alloc);
+    push_spaced(&mut text, bytes)?;
+    Ok(text)
 }
 
-// What is said where the clock's window ends, as a line.
-fn window_end_line(alloc: Global, shared: &Shared<'_>) -> Result<String, AllocError>
-    ensures { IfOk result (λ text. (said : List ℕ) × IsWindowEnd shared.now.stop said × (string_bytes text ≡ said ++ 10 ∷ [])) }
+fn copy_of(alloc: Global, bytes: &[u8]) -> Result<Vec<u8>, AllocError>
+    ensures { IfOk result (λ copy. copy.items ≡ bytes.now) }
 {
-    let mut line = window_end(alloc, shared)?;
-    line.push('\n')?;
-    Ok(line)
+    let mut copy = Vec::new(alloc);
+    copy.extend_from_slice(bytes)?;
+    Ok(copy)
 }

@@ -1,86 +1,101 @@
-//! Where a program reads a pattern otherwise, as findings.
-ghost use Rattle.std.specs.Prelude.{◌≡◌, length, map, IfOk, IfErr};
-ghost use Rattle.croncheck_command.specs.Findings.{finding_seen, findings_seen};
-ghost use Rattle.croncheck_command.specs.Presets.{severity_of, of_difference, AreOfPreset};
+//! Where another program reads a pattern otherwise.
+ghost use Rattle.std.specs.Prelude.{◌≡◌, map, filter, IfOk, IfErr};
+ghost use Rattle.croncheck_command.specs.Presets.{is_taken, is_told, reading, AreReadings};
 
-use crate::findings::{Extent, Finding, Severity};
 use croner::errors::CronError;
 use croner_presets::{Difference, Kind, Preset, differences};
-use std::alloc::Global;
+use std::alloc::{AllocError, Global};
 
-/// The name of all these findings.
+/// The name of the findings that say so.
 pub const PRESET: &str = "preset";
 
-/// Where the program of a preset, if there is one, reads a pattern otherwise: a finding for each difference, in order. What the program
-/// refuses or reads otherwise is a warning, and what it takes a note. The place is the whole pattern.
+/// What the program of a preset makes otherwise of a pattern.
+#[derive(Clone, Copy, Drop)]
+pub struct Reading {
+    pub preset: Preset,
+    pub difference: Difference,
+}
+
+impl Reading {
+    /// A sentence that says so. The only error is want of memory.
+    pub fn sentence(self, alloc: Global) -> Result<String, AllocError> {
+        self.preset.sentence(alloc, self.difference)
+    }
+}
+
+/// What the program of a preset, if there is one, makes otherwise of a pattern, in order: where the parser refuses it, what the program takes;
+/// else what the program refuses, or reads otherwise.
 ///
 /// The only error is `OutOfMemory`.
-pub fn findings_of_preset(
+pub fn readings_of(
     alloc: Global,
     preset: Option<Preset>,
+    is_refused: bool,
     pattern: &str,
-) -> Result<Vec<Finding>, CronError>
-    ensures ok { IfOk result (λ found. AreOfPreset preset pattern.now (findings_seen found.items)) }
+) -> Result<Vec<Reading>, CronError>
+    ensures ok { IfOk result (λ found. AreReadings preset is_refused pattern.now found.items) }
     ensures err { IfErr result (λ e. e ≡ CronError.OutOfMemory) }
 {
     match preset {
         Some(preset) => {
-            let told = differences(alloc, preset, pattern)?;
-            of_differences(alloc, preset, whole(pattern), told.as_slice())
+            let all = differences(alloc, preset, pattern)?;
+            let told = those_told(alloc, is_refused, all.as_slice())?;
+            readings(alloc, preset, told.as_slice())
         }
         None => Ok(Vec::new(alloc)),
     }
 }
 
-fn whole(pattern: &str) -> Extent
-    ensures { result ≡ record { start = 0; end = length pattern.now } }
+fn those_told(
+    alloc: Global,
+    is_refused: bool,
+    differences: &[Difference],
+) -> Result<Vec<Difference>, CronError>
+    ensures ok { IfOk result (λ told. told.items ≡ filter (is_told is_refused) differences.now) }
+    ensures err { IfErr result (λ e. e ≡ CronError.OutOfMemory) }
 {
-    Extent {
-        start: 0,
-        end: pattern.len(),
+    let mut told = Vec::new(alloc);
+    for difference in differences {
+        if is_told(is_refused, *difference) {
+            told.push(*difference)?;
+        }
+    }
+    Ok(told)
+}
+
+fn is_told(is_refused: bool, difference: Difference) -> bool
+    ensures { result ≡ is_told is_refused difference }
+{
+    if is_refused {
+        is_taken(difference)
+    } else {
+        !is_taken(difference)
     }
 }
 
-fn of_differences(
+fn is_taken(difference: Difference) -> bool
+    ensures { result ≡ is_taken difference }
+{
+    match difference.kind() {
+        Kind::Takes => true,
+        Kind::Refuses | Kind::ReadsOtherwise => false,
+    }
+}
+
+fn readings(
     alloc: Global,
     preset: Preset,
-    extent: Extent,
-    told: &[Difference],
-) -> Result<Vec<Finding>, CronError>
-    ensures ok { IfOk result (λ found. findings_seen found.items ≡ map (of_difference extent) told.now) }
+    differences: &[Difference],
+) -> Result<Vec<Reading>, CronError>
+    ensures ok { IfOk result (λ found. found.items ≡ map (reading preset) differences.now) }
     ensures err { IfErr result (λ e. e ≡ CronError.OutOfMemory) }
 {
     let mut found = Vec::new(alloc);
-    for difference in told {
-        found.push(of_difference(alloc, preset, extent, *difference)?)?;
+    for difference in differences {
+        found.push(Reading {
+            preset,
+            difference: *difference,
+        })?;
     }
     Ok(found)
-}
-
-fn of_difference(
-    alloc: Global,
-    preset: Preset,
-    extent: Extent,
-    difference: Difference,
-) -> Result<Finding, CronError>
-    ensures ok { IfOk result (λ f. finding_seen f ≡ of_difference extent difference) }
-    ensures err { IfErr result (λ e. e ≡ CronError.OutOfMemory) }
-{
-    let text = preset.sentence(alloc, difference)?;
-    Ok(Finding {
-        severity: severity_of(difference),
-        name: PRESET,
-        field: None,
-        extent,
-        text,
-    })
-}
-
-fn severity_of(difference: Difference) -> Severity
-    ensures { result ≡ severity_of difference }
-{
-    match difference.kind() {
-        Kind::Refuses | Kind::ReadsOtherwise => Severity::Warning,
-        Kind::Takes => Severity::Note,
-    }
 }

@@ -1,12 +1,12 @@
 //! What a line is told: values, and no text but the description.
-ghost use Rattle.std.specs.Prelude.{◌≡◌, ◌+◌, Ok, ℕ, List, length, min, IfOk, IfErr, None, Some, option_map, Result};
+ghost use Rattle.std.specs.Prelude.{◌≡◌, ◌+◌, ◌++◌, Ok, ℕ, List, length, map, min, IfOk, OnOk, IfErr, None, Some, option_map, Result};
 ghost use Rattle.croner.specs.parser.Grammar.{outcome as outcome_of_text};
 ghost use Rattle.croner.specs.Views.{job_of as meaning_of_job};
 ghost use Rattle.crontab.specs.Content.{IsOutcome, IsOutcomeOfTimes, IsOutcomeOfPattern};
 ghost use Rattle.crontab.specs.Entries.{entry_seen, job_seen, times_seen};
 ghost use Rattle.croncheck_command.specs.declared.settings.Settings.{Settings as Made};
 ghost use Rattle.croncheck_command.specs.Allowed.{unknown_in};
-ghost use Rattle.croncheck_command.specs.Report.{IsReportOfJob, IsReportOfPattern, blanks_of, IsReportOfLine, IsReportOfComment, TellsChanges, subject_of, IsWarned, WarnsPattern, TellsDates, file_and_line, earlier_of, place_for, HasNoPlace, setting_found, is_setting_found, has_job_warnings, has_warnings, notes_of_job, notes_of_refusal, notes_of_report, refused_user, IsReportBy, why_behind, report_behind};
+ghost use Rattle.croncheck_command.specs.Report.{IsReportOfJob, IsReportOfPattern, blanks_of, IsReportOfLine, IsReportOfComment, TellsChanges, subject_of, IsWarned, WarnsPattern, TellsDates, file_and_line, earlier_of, place_for, HasNoPlace, setting_found, is_setting_found, has_job_warnings, has_warnings, notes_of_job, notes_of_refusal, taken_of, notes_of_report, refused_user, IsReportBy, why_behind, report_behind};
 ghost use Rattle.croncheck_command.specs.Users.{users_seen, is_unknown};
 ghost use Rattle.croncheck_command.specs.Starred.{is_starred};
 ghost use Rattle.croncheck_command.specs.Told.{TellsTiming};
@@ -14,6 +14,7 @@ ghost use Rattle.croncheck_command.specs.Warnings.{fields_seen, subject_seen};
 
 use crate::allowed::comment::unknown_in;
 use crate::changes::meetings::Meetings;
+use crate::presets::{Reading, readings_of};
 use crate::runs::Runner;
 use crate::settings::Settings;
 use crate::starred::is_starred;
@@ -27,6 +28,7 @@ use croner::Cron;
 use croner::errors::CronError;
 use croner::parser::PatternFault;
 use croner::time::CronDateTime;
+use croner_presets::Preset;
 use crontab::bytes::{Kind, cut};
 use crontab::content::Outcome;
 use crontab::line::{Entry, Fault, Job, Times};
@@ -141,8 +143,8 @@ pub enum Why {
     Cron(Fault),
     /// The same, and the line before seems to go on in it: its command ends in a backslash.
     Behind(Fault),
-    /// The crate's parser refuses the pattern.
-    Pattern(PatternFault),
+    /// The crate's parser refuses the pattern; the program of the settings' preset takes this of it.
+    Pattern(PatternFault, Vec<Reading>),
     /// The crate's parser refuses the text that the line's times were made into.
     Crate(CronError),
     /// The pattern isn't UTF-8.
@@ -207,7 +209,19 @@ impl Why {
     {
         match self {
             Why::Cron(fault) | Why::Behind(fault) => notes_of(alloc, Some(*fault), line),
-            Why::Pattern(_) | Why::Crate(_) | Why::NotText | Why::NoUser => Ok(Vec::new(alloc)),
+            Why::Pattern(_, _) | Why::Crate(_) | Why::NotText | Why::NoUser => {
+                Ok(Vec::new(alloc))
+            }
+        }
+    }
+
+    // What the program of a preset takes of it.
+    pub(crate) fn taken(&self) -> &[Reading]
+        ensures { result.now ≡ taken_of self.now }
+    {
+        match self {
+            Why::Pattern(_, taken) => taken.as_slice(),
+            Why::Cron(_) | Why::Behind(_) | Why::Crate(_) | Why::NotText | Why::NoUser => &[],
         }
     }
 }
@@ -273,7 +287,7 @@ fn put_why_behind(why: &mut Why)
             let fault = *fault;
             *why = Why::Behind(fault);
         }
-        Why::Behind(_) | Why::Pattern(_) | Why::Crate(_) | Why::NotText | Why::NoUser => {}
+        Why::Behind(_) | Why::Pattern(_, _) | Why::Crate(_) | Why::NotText | Why::NoUser => {}
     }
 }
 
@@ -536,14 +550,19 @@ fn refused<'l, 't>(line: &[u8], text: &[u8], why: Why) -> Report<'l, 't>
 }
 
 // A text behind the blanks of a line is refused for a fault in it.
-fn pattern_refused<'l, 't>(line: &[u8], text: &str, fault: PatternFault) -> Report<'l, 't>
-    ensures { result ≡ Report.Refused (blanks_of line.now + min fault.start (length text.now)) (blanks_of line.now + min fault.end (length text.now)) (Why.Pattern fault) }
+fn pattern_refused<'l, 't>(
+    line: &[u8],
+    text: &str,
+    fault: PatternFault,
+    taken: Vec<Reading>,
+) -> Report<'l, 't>
+    ensures { result ≡ Report.Refused (blanks_of line.now + min fault.start (length text.now)) (blanks_of line.now + min fault.end (length text.now)) (Why.Pattern fault taken) }
 {
     let blanks = blanks(line);
     Report::Refused {
         start: blanks.len() + fault.start.min(text.len()),
         end: blanks.len() + fault.end.min(text.len()),
-        why: Why::Pattern(fault),
+        why: Why::Pattern(fault, taken),
     }
 }
 
@@ -566,7 +585,10 @@ fn report_of_pattern<'l, 't>(
     };
     match outcome {
         Outcome::Job(job) => told_of_pattern(alloc, settings, text, &job, is_fed, same),
-        Outcome::PatternRefused(fault) => Ok(pattern_refused(line, text, fault)),
+        Outcome::PatternRefused(fault) => {
+            let taken = readings_of(alloc, settings.preset, true, text)?;
+            Ok(pattern_refused(line, text, fault, taken))
+        }
         // No pattern that is UTF-8 is refused so.
         Outcome::NoText | Outcome::TimesRefused(_) | Outcome::NotUtf8 => Ok(refused(
             line,
@@ -593,7 +615,7 @@ fn told_of_pattern<'l, 't>(
     let times = told_of(alloc, settings, job)?;
     let meetings = meetings_of(settings, job, Runner::Croner, &times);
     let dates = dates_of(job, &times)?;
-    let warnings = warnings_of_pattern(alloc, text, job, &times, is_fed)?;
+    let warnings = warnings_of_pattern(alloc, settings.preset, text, job, &times, is_fed)?;
     Ok(Report::Job(JobReport {
         schedule: text.as_bytes(),
         user: None,
@@ -607,21 +629,34 @@ fn told_of_pattern<'l, 't>(
     }))
 }
 
-// The warnings of a pattern that the parser takes.
+// The warnings of a pattern that the parser takes, those of a preset last.
 fn warnings_of_pattern(
     alloc: Global,
+    preset: Option<Preset>,
     text: &str,
     job: &Cron,
     told: &Told<'_>,
     is_fed: bool,
 ) -> Result<Vec<Warning>, CronError>
-    ensures warnings { IfOk result (λ found. WarnsPattern is_fed text.now (Some (meaning_of_job job.now)) told.now found.items) }
+    ensures warnings { IfOk result (λ found. WarnsPattern preset is_fed text.now (Some (meaning_of_job job.now)) told.now found.items) }
     ensures err { IfErr result (λ e. e ≡ CronError.OutOfMemory) }
 {
     let fields = fields_of_pattern(alloc, text)?;
-    let warnings = warnings_of(
+    let mut warnings = warnings_of(
         alloc,
         &subject_of(fields, Some(job), None, None, None, false, is_fed, told),
     )?;
+    let readings = readings_of(alloc, preset, false, text)?;
+    push_readings(&mut warnings, readings.as_slice())?;
     Ok(warnings)
+}
+
+// Puts what another program makes otherwise behind some warnings.
+fn push_readings(warnings: &mut Vec<Warning>, readings: &[Reading]) -> Result<(), AllocError>
+    ensures { OnOk result (warnings.new.items ≡ warnings.old.items ++ map Warning.Preset readings.now) }
+{
+    for reading in readings {
+        warnings.push(Warning::Preset(*reading))?;
+    }
+    Ok(())
 }

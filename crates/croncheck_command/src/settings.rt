@@ -1,14 +1,16 @@
 //! What reports are made by.
 ghost use Rattle.std.specs.Prelude.{◌≡◌};
-ghost use Rattle.croncheck_command.specs.Settings.{stop_of, window_end, asked_of, in_dialect, of_kind};
+ghost use Rattle.croncheck_command.specs.Settings.{stop_of, window_end, asked_of, asked_until, in_dialect, of_kind};
 
 use crate::changes::Changes;
 use crate::clock::stop::Stop;
 use crate::look::Look;
+use crate::often::span_end;
 use crate::previous::Previous;
 use crate::runs::Listing;
 use crate::users::Users;
 use croner::parser::CronParser;
+use croner_presets::Preset;
 use crontab::line::Dialect;
 
 /// A language of descriptions.
@@ -24,6 +26,8 @@ pub struct Settings<'t> {
     pub dialect: Dialect,
     /// The parser of the lines of a file of patterns.
     pub parser: CronParser,
+    /// The program whose reading of patterns is told too, if one is asked for.
+    pub preset: Option<Preset>,
     pub language: Tongue,
     /// The clock, the start behind which runs are listed, and the changes of the clock from there on. No run is listed
     /// behind the clock's window.
@@ -33,6 +37,8 @@ pub struct Settings<'t> {
     pub is_from_now: bool,
     /// The runs up to the start that are told too, if any are.
     pub previous: Option<&'t Previous<'t>>,
+    /// How often a job starts is told too.
+    pub tells_often: bool,
     /// The status is 1 where a line has a warning, too.
     pub is_strict: bool,
     /// Each job is compared with those before it, for `same-job`.
@@ -53,6 +59,18 @@ impl<'t> Settings<'t> {
         match self.previous {
             Some(asked) => Some(*asked),
             None => None,
+        }
+    }
+
+    /// The second up to which it is counted how often a job starts, if that is told: the one up to which runs are listed, or that with which
+    /// seven days behind the start end.
+    pub fn asked_until(&self) -> Option<i64>
+        ensures { result ≡ asked_until self.now }
+    {
+        if self.tells_often {
+            Some(span_end(self.changes.start.second(), self.listing))
+        } else {
+            None
         }
     }
 

@@ -12,21 +12,21 @@ mod below;
 mod changes;
 pub mod found;
 mod hints;
+mod often;
 pub mod pattern;
 mod previous;
 mod refused_pattern;
+pub(crate) mod runs;
 
 use crate::ahead::Ahead;
 use crate::clock::stop::Stop;
 use crate::escaped::push_replaced;
 use crate::findings::findings_of;
 use crate::look::Look;
-use crate::off::Off;
 use crate::report::{JobReport, Report, Why};
-use crate::runs::{End, Listing, MOST_RUNS, Run, Runs};
+use crate::runs::Listing;
 use crate::settings::{Settings, Tongue};
-use crate::shown::changes::{push_made_up, push_next_changes};
-use crate::told::Told;
+use crate::shown::changes::push_next_changes;
 use below::below;
 use croner::parser::PatternField;
 use croner::time::table::TableTime;
@@ -36,10 +36,9 @@ use crontab::line::{Fault, WEEKDAYS, words_of};
 use crontab::notes::{is_nickname, takes};
 use crontab::setting::has;
 use hints::{push_hint, push_nickname_hint};
-use jiff::Timestamp;
 use jiff::tz::TimeZone;
-use previous::push_previous;
 use refused_pattern::push_pattern_reason;
+use runs::push_told;
 use std::alloc::{AllocError, Global};
 use std::fmt;
 use unicode_width::UnicodeWidthStr;
@@ -240,7 +239,7 @@ fn push_setting(text: &mut String, line: &[u8]) -> Result<(), AllocError> {
 // ---- bytes of a line
 
 // Puts bytes of a line behind a text, as they are shown, a tab as a space.
-fn push_spaced(text: &mut String, bytes: &[u8]) -> Result<(), AllocError>
+pub(crate) fn push_spaced(text: &mut String, bytes: &[u8]) -> Result<(), AllocError>
     ensures { OnOk result (string_bytes text.new ≡ string_bytes text.old ++ spaced bytes.now) }
 {
     push_replaced(text, bytes, b'\t', " ")
@@ -406,7 +405,7 @@ pub(crate) fn push_why(
                 "; the line before ends in a backslash, but cron has no continued lines: write the command on one line",
             )
         }
-        Why::Pattern(fault) => push_pattern_reason(text, line, fault),
+        Why::Pattern(fault, _) => push_pattern_reason(text, line, fault),
         Why::Crate(refusal) => write!(text, "{refusal}"),
         Why::NotText => text.push_str("a pattern is text in UTF-8"),
         Why::NoUser => text.push_str(
@@ -655,88 +654,6 @@ fn push_command(text: &mut String, command: &[u8]) -> Result<(), AllocError> {
     push_front(text, command, COMMAND_BYTES)
 }
 
-// What a job's times are told. That it never runs is said by its warning.
-fn push_told(
-    alloc: Global,
-    text: &mut String,
-    shared: &Shared<'_>,
-    job: &JobReport<'_, '_>,
-) -> Result<(), AllocError> {
-    match &job.times {
-        Told::Reboot => text.push_str("\n  Runs as the machine starts."),
-        Told::Nothing => Ok(()),
-        Told::Runs {
-            description,
-            runs,
-            previous,
-            ..
-        } => {
-            text.push_str("\n  ")?;
-            text.push_str(description.as_str())?;
-            for run in runs.items.iter() {
-                push_run(text, shared, run)?;
-            }
-            if !job.times.is_never() {
-                push_end(alloc, text, shared, runs)?;
-            }
-            push_previous(text, shared, previous)
-        }
-    }
-}
-
-// A run; the same on the clock of another zone, and how far off it is, where these are told; how many times the job is started then, where
-// that is more than once; and what it makes up for.
-fn push_run(text: &mut String, shared: &Shared<'_>, run: &Run<'_>) -> Result<(), AllocError> {
-    push_clocks(text, shared, run)?;
-    push_off(text, shared, run.time.second())?;
-    push_starts(text, run)
-}
-
-// A run on a line of its own, and the same on the clock of another zone, where that is told.
-fn push_clocks(text: &mut String, shared: &Shared<'_>, run: &Run<'_>) -> Result<(), AllocError> {
-    text.push_str("\n  ")?;
-    push_clock_in(shared.language, text, shared, &run.time)?;
-    push_other_clock(text, shared, run.time.second())
-}
-
-// How many times a job is started at a run, where that is more than once, and what it makes up for, if it does.
-fn push_starts(text: &mut String, run: &Run<'_>) -> Result<(), AllocError> {
-    if 1 < run.count {
-        let count = run.count;
-        write!(text, "  {count} times")?;
-    }
-    push_made_up(text, run)
-}
-
-// Puts what another zone's clock shows at a second behind a text, if it is to be shown.
-fn push_other_clock(text: &mut String, shared: &Shared<'_>, second: i64) -> Result<(), AllocError> {
-    let (Some(zone), Ok(instant)) = (&shared.other_zone, Timestamp::from_second(second)) else {
-        return Ok(());
-    };
-    let (civil, ahead) = (
-        zone.to_datetime(instant),
-        Ahead {
-            seconds: zone.to_offset(instant).seconds(),
-        },
-    );
-    let (date, time) = (civil.date(), civil.time());
-    write!(text, "  = {date} {time} {ahead}")
-}
-
-// Puts how far off a second is behind a text, if that is to be told.
-fn push_off(text: &mut String, shared: &Shared<'_>, second: i64) -> Result<(), AllocError> {
-    match shared.off_from {
-        Some(from) if from <= second => {
-            let off = Off {
-                language: shared.language,
-                seconds: second.abs_diff(from),
-            };
-            write!(text, "  {off}")
-        }
-        _ => Ok(()),
-    }
-}
-
 // Puts what the zone's clock shows at a run behind a text, and its second. The weekday is in English.
 pub(crate) fn push_clock(
     text: &mut String,
@@ -836,28 +753,6 @@ pub(crate) fn ahead_of(shared: &Shared<'_>, run: &TableTime<'_>) -> i32
     match run.timestamp() {
         Ok(instant) => shared.zone.to_offset(instant).seconds(),
         Err(_) => 0,
-    }
-}
-
-// What stands behind the runs of a job that has some, or may have some.
-fn push_end(
-    alloc: Global,
-    text: &mut String,
-    shared: &Shared<'_>,
-    runs: &Runs<'_>,
-) -> Result<(), AllocError> {
-    match &runs.end {
-        End::Over => text.push_str("\n  no more: no run is left before year 5000"),
-        End::Cut => write!(text, "\n  and more: a list ends after {MOST_RUNS} runs"),
-        End::Window => {
-            let said = window_end(alloc, shared)?;
-            write!(text, "\n  {said}")
-        }
-        End::Failed(refusal) => write!(text, "\n  and more, which were not found: {refusal}"),
-        End::More => match shared.listing {
-            Listing::Until(_) if runs.items.is_empty() => text.push_str("\n  no run up to then"),
-            _ => Ok(()),
-        },
     }
 }
 

@@ -7,6 +7,7 @@ ghost use Rattle.croner_pattern.specs.Schedule.{is_year_matching};
 ghost use Rattle.croner.specs.Views.{job_of as meaning_of_job};
 ghost use Rattle.croncheck_command.specs.Told.{IsDescription, summary_language, NamesNoneFrom, IsPastAt, TellsMeaning, is_over, is_at_end_of_window, is_at_window_end, is_never, is_told_past, is_idle};
 
+use crate::often::{Often, often_of_crontab, often_of_pattern};
 use crate::previous::{previous_runs_of, previous_starts_of};
 use crate::runs::{End, Runner, Runs, runs_of, starts_of};
 use crate::settings::{Settings, Tongue};
@@ -36,6 +37,8 @@ pub enum Told<'t> {
         runs: Runs<'t>,
         /// The same up to the start, the latest first, where they are asked for.
         previous: Option<Runs<'t>>,
+        /// How often it starts, where that is asked for.
+        often: Option<Often>,
         /// No year that it names is left at the start.
         is_past: bool,
     },
@@ -51,6 +54,7 @@ impl Drop for Told<'_> {
                 description: _,
                 runs: _,
                 previous: _,
+                often: _,
                 is_past: _,
             } => {}
         }
@@ -130,11 +134,19 @@ pub(crate) fn told_of<'t>(
         settings.listing,
     )?;
     let previous = previous_runs_of(alloc, settings.previous(), job)?;
+    let often = often_of_pattern(
+        alloc,
+        job,
+        settings.changes.start,
+        settings.last(),
+        settings.asked_until(),
+    )?;
     let is_past = is_past(job, settings.changes.start);
     Ok(Told::Runs {
         description,
         runs,
         previous,
+        often,
         is_past,
     })
 }
@@ -157,11 +169,19 @@ pub(crate) fn told_of_crontab<'t>(
         settings.listing,
     )?;
     let previous = previous_starts_of(alloc, settings.previous(), job)?;
+    let often = often_of_crontab(
+        alloc,
+        job,
+        settings.changes.start,
+        settings.last(),
+        settings.asked_until(),
+    )?;
     let is_past = is_past(&job.cron, settings.changes.start);
     Ok(Told::Runs {
         description,
         runs,
         previous,
+        often,
         is_past,
     })
 }

@@ -14,6 +14,7 @@ mod meaning;
 mod sides;
 mod texts;
 
+use crate::presets::Reading;
 use crate::users::{Users, begins_with_user};
 use croner::Cron;
 use croner::errors::CronError;
@@ -24,7 +25,7 @@ pub use hidden::has_hidden;
 pub use meaning::is_either_day as runs_on_either_day;
 pub use sides::{Dates, Month, Sides, dates_in_month_of, month_of, sides_of};
 use std::alloc::Global;
-pub use texts::push_warning_text;
+pub use texts::warning_text;
 
 /// The most lines that `crontab` takes of a user's crontab.
 const MOST_LINES: u64 = 10_000;
@@ -75,6 +76,8 @@ pub enum Warning {
     EmptyItem,
     /// A field of a pattern has the name of a month or of a weekday, and it is none of this field.
     OtherName(PatternField),
+    /// The program that patterns are read for refuses the pattern, or reads it otherwise.
+    Preset(Reading),
 }
 
 /// What is to be said of a setting, or of the number of lines. Its [`name`](OtherWarning::name) and
@@ -222,6 +225,8 @@ fn holds(alloc: Global, subject: &Subject<'_, '_>, warning: Warning) -> Result<b
         Warning::CarriageReturn => Ok(has_carriage_return(subject.command)),
         Warning::EmptyItem => Ok(!subject.is_crontab && has_empty_items(&subject.fields)),
         Warning::OtherName(field) => Ok(has_other_name(subject, field)),
+        // It isn't of the line alone.
+        Warning::Preset(_) => Ok(false),
     }
 }
 

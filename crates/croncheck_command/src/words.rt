@@ -4,18 +4,21 @@ ghost use Rattle.croncheck_command.specs.Moment.{moment_text, IsNamed};
 ghost use Rattle.croncheck_command.specs.Words.{IsInRange, AreInRange, TellsRuns};
 
 mod options;
+mod planning;
 
 use crate::allowed::{ALLOWABLE, nearest_to};
 use crate::escaped::push_shown;
 use crate::moment::{Moment, read_moment};
 use crate::names::{Asked, Places, STANDARD_INPUT, asked_at, asked_files, last_before};
+use crate::planner::PlanAsked;
 use crate::settings::Tongue;
 use clap::ArgMatches;
 use clap::error::ErrorKind;
 use croner::parser::{CronParser, Seconds, Year};
 use croner_presets::Preset;
 use jiff::civil::Date;
-use options::{program, verb_of, verbs_with};
+use options::{program, verb_of, verb_with, verbs_with};
+use planning::plan_asked;
 use std::alloc::{AllocError, Global};
 
 /// The last line of what is told where the words of a call are not of its form.
@@ -76,7 +79,7 @@ pub struct Call<'w> {
     pub verb: Verb,
     /// `local`, a POSIX rule, or the name of a zone. UTC with [`Verb::Describe`].
     pub zone: &'w str,
-    /// The same of the zone whose clock is shown too, if there is one. Only with [`Verb::Show`] and [`Verb::Next`], in texts.
+    /// The same of the zone whose clock is shown too, if there is one. Not with [`Verb::Check`] and [`Verb::Describe`], and in texts alone.
     pub show_zone: Option<&'w str>,
     /// Where runs are listed from.
     pub from: Moment,
@@ -84,9 +87,11 @@ pub struct Call<'w> {
     pub span: Span,
     /// How many runs up to there are told too, from 1 to 1000, if any are. Only with [`Verb::Show`] and [`Verb::Next`].
     pub previous: Option<u32>,
+    /// How often a job starts is told too. Only with these two.
+    pub tells_often: bool,
     /// The parser of patterns.
     pub parser: CronParser,
-    /// The program whose reading of the patterns is told too. Only with [`Verb::Next`] and [`Verb::Describe`].
+    /// The program whose reading of patterns is told too. Not with [`Verb::Plan`].
     pub preset: Option<Preset>,
     pub language: Tongue,
     /// The form in which is told. Only with [`Verb::Check`]; [`Verb::Show`] has texts and JSON alone.
@@ -108,6 +113,8 @@ pub struct Call<'w> {
     pub files: Vec<Asked<'w>>,
     /// The patterns, with these two alone.
     pub patterns: Vec<&'w str>,
+    /// What is asked of a plan, with [`Verb::Plan`].
+    pub plan: PlanAsked,
 }
 
 /// What is asked.
@@ -117,7 +124,7 @@ pub enum Verb {
     Check,
     /// What each line of files is told.
     Show,
-    /// The runs of all jobs of files in one list, in order of time.
+    /// The starts of all jobs of files in one list, in order of time.
     Plan,
     /// When patterns run, which are words of the call.
     Next,
@@ -235,18 +242,21 @@ fn told(alloc: Global, error: &clap::Error) -> Result<NoCall, AllocError> {
 // What is told of an option that a verb doesn't have, in place of what this message says: the verbs that have it.
 fn unknown(alloc: Global, message: &str) -> Result<NoCall, AllocError> {
     let option = message.split('\'').nth(1).unwrap_or("");
+    let verb = verb_with(option);
     match verbs_with(option) {
         Some(verbs) => Ok(told_misuse(format!(in alloc;
-            "error: {option} is an option of {verbs}: write such a command in front, as croncheck show {option}\n"
+            "error: {option} is an option of {verbs}: write such a command in front, as croncheck {verb} {option}\n"
         ))),
         None => Ok(NoCall::Misused(head(alloc, message)?)),
     }
 }
 
-// The paragraphs of a message up to the one on the usage, as they are shown.
+// The paragraphs of a message up to the one on the usage, as they are shown. That a word may be a value behind `--` is left out: here it
+// would be a file or a pattern.
 fn head(alloc: Global, message: &str) -> Result<String, AllocError> {
     let end = message.find("\n\nUsage:").unwrap_or(message.len());
     let end = message.find("\n\nFor more").unwrap_or(end).min(end);
+    let end = message.find("\n\n  tip: to pass").unwrap_or(end).min(end);
     let mut text = String::new(alloc);
     for line in message.get(..end).unwrap_or(message).lines() {
         push_shown(&mut text, line.as_bytes())?;
@@ -273,6 +283,7 @@ fn call_of<'w>(alloc: Global, verb: Verb, matches: &ArgMatches<'w>) -> Result<Ca
         from,
         span,
         previous,
+        tells_often: matches.get_flag("often"),
         parser: parser(matches),
         preset: preset(matches),
         language: language(matches),
@@ -286,6 +297,7 @@ fn call_of<'w>(alloc: Global, verb: Verb, matches: &ArgMatches<'w>) -> Result<Ca
         root: matches.get_str("root"),
         files,
         patterns: patterns(alloc, matches)?,
+        plan: plan_asked(matches),
     })
 }
 

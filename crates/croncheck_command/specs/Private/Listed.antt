@@ -1,5 +1,5 @@
 -- Times and starts as runs of a listing. Private contracts alone cite these definitions.
-use Rattle.std.specs.Prelude.{ℕ, None}
+use Rattle.std.specs.Prelude.{None}
 use Rattle.croner_base.specs.declared.time.table.ClockTable.{ClockTable}
 use Rattle.croner_base.specs.declared.time.table.TableTime.{TableTime}
 use Rattle.croner_base.specs.TableZone.{table_zone}

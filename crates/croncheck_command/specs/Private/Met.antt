@@ -1,5 +1,5 @@
 -- A job's scheduled seconds in a range of a change.
-use Rattle.std.specs.Prelude.{ℕ, ℤ, pos, ◌+ℤ◌, ◌≤ℤ◌}
+use Rattle.std.specs.Prelude.{ℤ, pos, ◌+ℤ◌, ◌≤ℤ◌}
 use Rattle.croner_base.specs.declared.time.table.TableTime.{TableTime}
 use Rattle.croner_base.specs.Limits.{first_searched}
 use Rattle.croner_base.specs.TableZone.{table_moment}

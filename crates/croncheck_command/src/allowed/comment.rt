@@ -49,7 +49,7 @@ pub(crate) fn unknown_in(line: &[u8]) -> Option<&[u8]>
 }
 
 // The list of a comment that allows something.
-fn list_in(line: &[u8]) -> Option<&[u8]>
+pub(crate) fn list_in(line: &[u8]) -> Option<&[u8]>
     ensures { option_map (λ list. list.now) result ≡ list_in line.now }
 {
     let (_, comment) = cut(line, Kind::Blank);

@@ -8,7 +8,7 @@ pub struct Rule {
 }
 
 /// The rules of all findings.
-pub const RULES: [Rule; 54] = [
+pub const RULES: [Rule; 55] = [
     Rule {
         name: "nul",
         text: "The line has a byte 0, at which cron ends it.",
@@ -172,6 +172,10 @@ pub const RULES: [Rule; 54] = [
     Rule {
         name: "other-name",
         text: "The name is one of another field.",
+    },
+    Rule {
+        name: "preset",
+        text: "The program that patterns are read for (--for) reads the pattern otherwise.",
     },
     Rule {
         name: "no-zone",

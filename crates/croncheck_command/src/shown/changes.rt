@@ -2,9 +2,7 @@
 
 use crate::changes::Meeting;
 use crate::changes::meetings::Met;
-use crate::changes::told::push_minute;
 use crate::report::JobReport;
-use crate::runs::Run;
 use std::alloc::AllocError;
 
 // What cron makes of a crontab's job at the next changes that meet it, the nearer one first. Where there is a warning of one, that says it.
@@ -44,18 +42,4 @@ fn push_two_changes(text: &mut String, first: Meeting, second: Meeting) -> Resul
     first.push_short(text)?;
     text.push_str("; ")?;
     second.push_short(text)
-}
-
-// What a start of a crontab's job makes up for, if it does.
-pub(crate) fn push_made_up(text: &mut String, run: &Run<'_>) -> Result<(), AllocError> {
-    let Some(second) = run.made_up else {
-        return Ok(());
-    };
-    text.push_str(if 1 < run.count {
-        ", first for "
-    } else {
-        "  for "
-    })?;
-    push_minute(text, second)?;
-    text.push_str(", which the clock skips")
 }

@@ -1,6 +1,7 @@
 //! The runs before the start, as they are shown.
 
-use super::{Shared, push_clocks, push_starts};
+use super::Shared;
+use super::runs::{push_clocks, push_starts};
 use crate::ago::Ago;
 use crate::runs::{End, Run, Runs};
 use std::alloc::AllocError;

@@ -164,6 +164,7 @@ fn is_long_step(field: PatternField, step: u64) -> bool
     }
 }
 
+// Whether a field's first part has a step that is long for it.
 fn has_long_step(field: PatternField, parts: &[Part]) -> bool
     ensures { result ≡ has_long_step field parts.now }
 {

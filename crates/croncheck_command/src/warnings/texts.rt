@@ -4,8 +4,9 @@ ghost use Rattle.croncheck_command.specs.Warnings.{field_of, warning_name, other
 
 use super::sides::{Dates, Month};
 use super::{OtherWarning, Warning};
+use crate::presets::PRESET;
 use croner::parser::PatternField;
-use std::alloc::AllocError;
+use std::alloc::{AllocError, Global};
 
 impl Warning {
     /// The name by which it is known, as `either-day`.
@@ -33,6 +34,7 @@ impl Warning {
             Warning::CarriageReturn => "carriage-return",
             Warning::EmptyItem => "empty-item",
             Warning::OtherName(_) => "other-name",
+            Warning::Preset(_) => PRESET,
         }
     }
 
@@ -60,7 +62,8 @@ impl Warning {
             | Warning::ControlByte
             | Warning::NoNewline
             | Warning::CarriageReturn
-            | Warning::EmptyItem => None,
+            | Warning::EmptyItem
+            | Warning::Preset(_) => None,
         }
     }
 
@@ -87,6 +90,7 @@ impl Warning {
             Warning::CarriageReturn => CARRIAGE_RETURN,
             Warning::EmptyItem => EMPTY_ITEM,
             Warning::OtherName(_) => OTHER_NAME,
+            Warning::Preset(_) => OTHER_READING,
         }
     }
 }
@@ -117,17 +121,20 @@ impl OtherWarning {
     }
 }
 
-/// Writes what happens, with the dates of `either-day` where there are some, and what to write instead.
-pub fn push_warning_text(
-    text: &mut String,
+/// The text of a warning, with the dates of `either-day` where there are some, and of `preset` with what the program does.
+pub fn warning_text(
+    alloc: Global,
     warning: Warning,
     dates: &Option<Dates>,
-) -> Result<(), AllocError> {
-    text.push_str(warning.text())?;
-    match (warning, dates) {
-        (Warning::EitherDay, Some(dates)) => push_dates(text, dates),
-        _ => Ok(()),
+) -> Result<String, AllocError> {
+    if let Warning::Preset(reading) = warning {
+        return reading.sentence(alloc);
     }
+    let mut text = String::from_str(alloc, warning.text())?;
+    if let (Warning::EitherDay, Some(dates)) = (warning, dates) {
+        push_dates(&mut text, dates)?;
+    }
+    Ok(text)
 }
 
 // Writes the days of a month by each day field.
@@ -227,6 +234,9 @@ const EMPTY_ITEM: &str =
 
 const OTHER_NAME: &str =
     "The name is one of another field, and its number counts here: `MON` among months is January. Write the number, or a name of this field.";
+
+const OTHER_READING: &str =
+    "The program that the patterns are read for refuses this one, or reads it otherwise.";
 
 const MANY_LINES: &str =
     "The file is longer than cron takes it, so cron ignores it. Write fewer lines.";

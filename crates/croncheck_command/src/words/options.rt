@@ -1,5 +1,6 @@
 //! The verbs of a call and their options, as they are read and shown by `--help`.
 
+use super::planning::with_planning;
 use super::{VERSION, Verb};
 use clap::{Arg, ArgAction, Command};
 use std::alloc::{AllocError, Global};
@@ -20,7 +21,7 @@ const ABOUT_CHECK: &str =
 
 const ABOUT_SHOW: &str = "Tells of each line what it means to cron, and when it runs";
 
-const ABOUT_PLAN: &str = "Tells the runs of all lines of all files in one list, in order of time";
+const ABOUT_PLAN: &str = "Tells the starts of all jobs of all files in one list, in order of time";
 
 const ABOUT_NEXT: &str = "Tells what patterns mean, and when they run";
 
@@ -30,6 +31,12 @@ const AFTER_PATTERNS: &str =
     "PATTERN is one word of the shell: write it in quotes, as '30 9 * * MON-FRI'. It has five to seven fields: seconds if there are six or seven, minutes, hours, days of the month, months, weekdays, and years if there are seven.
 
 Status: 0 all patterns were read, 1 one is refused, 2 the words are not of this form, 3 the zone or the output failed.";
+
+const PRESET_OF_PATTERNS: &str =
+    "Reads patterns as this program does, as far as there are settings for it, and tells what it still reads otherwise";
+
+const PRESET_OF_FILES: &str =
+    "With --patterns: reads them as this program does, as far as there are settings for it, and tells what it still reads otherwise";
 
 /// The verb of a name, if it is one.
 pub(super) fn verb_of(name: &str) -> Option<Verb> {
@@ -48,14 +55,23 @@ pub(super) fn verbs_with(option: &str) -> Option<&'static str> {
     match option {
         "--zone" | "--from" => Some("check, show, plan and next"),
         "--runs" | "--until" => Some("show, plan and next"),
-        "--show-zone" | "--previous" => Some("show and next"),
+        "--show-zone" => Some("show, plan and next"),
+        "--previous" | "--often" => Some("show and next"),
+        "--commands" => Some("plan"),
         "--json" | "--strict" | "--same-job" | "--allow" | "--ignore" => Some("check and show"),
         "--system" | "--user" | "--patterns" | "--stdin-name" | "--users" | "--root" => Some(
             "check, show and plan",
         ),
-        "--for" => Some("next and describe"),
-        "--language" => Some("check, show, next and describe"),
+        "--for" | "--language" => Some("check, show, next and describe"),
         _ => None,
+    }
+}
+
+/// A verb that has such an option.
+pub(super) fn verb_with(option: &str) -> &'static str {
+    match option {
+        "--commands" => "plan",
+        _ => "show",
     }
 }
 
@@ -117,6 +133,7 @@ fn with_checking<'w>(alloc: Global, command: Command<'w>) -> Result<Command<'w>,
     )?;
     let command = with_kinds(alloc, command)?;
     let command = with_language(alloc, command)?;
+    let command = add(command, preset(alloc, PRESET_OF_FILES))?;
     let command = with_settings_of_files(alloc, command)?;
     let command = with_look(alloc, command)?;
     with_files(alloc, command)
@@ -142,6 +159,7 @@ fn show<'w>(alloc: Global) -> Result<Command<'w>, AllocError> {
     let command = with_clock(alloc, command)?;
     let command = with_span(alloc, command, "How many runs of each line, 0 to 1000")?;
     let command = with_previous(alloc, command)?;
+    let command = with_often(alloc, command)?;
     let command = with_show_zone(alloc, command)?;
     let command = with_output(
         alloc,
@@ -150,6 +168,7 @@ fn show<'w>(alloc: Global) -> Result<Command<'w>, AllocError> {
     )?;
     let command = with_kinds(alloc, command)?;
     let command = with_language(alloc, command)?;
+    let command = add(command, preset(alloc, PRESET_OF_FILES))?;
     let command = with_settings_of_files(alloc, command)?;
     let command = with_look(alloc, command)?;
     with_files(alloc, command)
@@ -163,8 +182,10 @@ fn plan<'w>(alloc: Global) -> Result<Command<'w>, AllocError> {
     let command = with_span(
         alloc,
         command,
-        "How many seconds at which jobs run, 0 to 1000",
+        "How many seconds at which jobs start, 0 to 1000",
     )?;
+    let command = with_show_zone(alloc, command)?;
+    let command = with_planning(alloc, command)?;
     let command = with_kinds(alloc, command)?;
     let command = with_settings_of_files(alloc, command)?;
     let command = with_look(alloc, command)?;
@@ -178,6 +199,7 @@ fn next<'w>(alloc: Global) -> Result<Command<'w>, AllocError> {
     let command = with_clock(alloc, command)?;
     let command = with_span(alloc, command, "How many runs of each pattern, 0 to 1000")?;
     let command = with_previous(alloc, command)?;
+    let command = with_often(alloc, command)?;
     let command = with_show_zone(alloc, command)?;
     let command = with_language(alloc, command)?;
     let command = with_settings(alloc, command)?;
@@ -249,6 +271,12 @@ fn with_span<'w>(
 fn with_previous<'w>(alloc: Global, command: Command<'w>) -> Result<Command<'w>, AllocError> {
     command.arg(value(alloc, "previous", "N").help(
         "Besides, so many runs up to the start, the latest first, 1 to 1000",
+    ))
+}
+
+fn with_often<'w>(alloc: Global, command: Command<'w>) -> Result<Command<'w>, AllocError> {
+    command.arg(flag(alloc, "often").help(
+        "Besides, how often it starts: up to --until, else in 7 days",
     ))
 }
 
@@ -343,7 +371,7 @@ fn with_look<'w>(alloc: Global, command: Command<'w>) -> Result<Command<'w>, All
 
 // With the settings of patterns that are words of the call.
 fn with_settings<'w>(alloc: Global, command: Command<'w>) -> Result<Command<'w>, AllocError> {
-    let command = add(command, preset(alloc))?;
+    let command = add(command, preset(alloc, PRESET_OF_PATTERNS))?;
     command
         .arg(flag(alloc, "alternative-weekdays").help("Weekdays are 1 to 7 from Sunday"))?
         .arg(flag(alloc, "dom-and-dow").help("Both day fields must match"))?
@@ -353,12 +381,10 @@ fn with_settings<'w>(alloc: Global, command: Command<'w>) -> Result<Command<'w>,
 }
 
 // The program for which patterns are written; its settings stand in place of the others.
-fn preset<'w>(alloc: Global) -> Result<Arg<'w>, AllocError> {
+fn preset<'w>(alloc: Global, help: &'w str) -> Result<Arg<'w>, AllocError> {
     value(alloc, "for", "PROGRAM")
         .value_parser(["kubernetes", "github", "quartz", "spring"].as_slice())
-        .help(
-            "Reads patterns as this program does, as far as there are settings for it, and tells what it still reads otherwise",
-        )
+        .help(help)
         .conflicts_with("alternative-weekdays")?
         .conflicts_with("dom-and-dow")?
         .conflicts_with("sloppy-ranges")?
@@ -402,7 +428,8 @@ fn value<'w>(alloc: Global, id: &'w str, name: &'w str) -> Arg<'w> {
         .action(ArgAction::Set)
 }
 
-fn flag<'w>(alloc: Global, id: &'w str) -> Arg<'w> {
+/// An option without a value.
+pub(super) fn flag<'w>(alloc: Global, id: &'w str) -> Arg<'w> {
     Arg::new(alloc, id).long(id).action(ArgAction::SetTrue)
 }
 

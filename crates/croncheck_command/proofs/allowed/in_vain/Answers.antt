@@ -1,4 +1,3 @@
-use Rattle.std.proofs.Common.{◌≡◌}
 use Rattle.croncheck_command.proofs.AllowedNames.{names_over}
 use Rattle.croncheck_command.proofs.allowed.in_vain.Goals as goal
 

@@ -2,10 +2,8 @@ use Rattle.std.proofs.Common.{◌≡◌, ◌∙◌, List, ℕ, true, ap, subst, 
 use Rattle.crontab.specs.Bytes.{behind}
 use Rattle.crontab.specs.declared.bytes.Kind.TheVariants as kinds
 use Rattle.croncheck_command.specs.Output.{written_of}
-use Rattle.croncheck_command.specs.Patterns.{pattern_in}
+use Rattle.croncheck_command.specs.Patterns.{EndsWithFound, told_by, pattern_in}
 use Rattle.croncheck_command.specs.Report.{IsReportOfPattern, blanks_of}
-use Rattle.croncheck_command.specs.Presets.{EndsBelow}
-use Rattle.croncheck_command.specs.declared.findings.Finding.{Finding}
 use Rattle.croncheck_command.proofs.TypedPatterns.{pattern_told}
 use Rattle.croncheck_command.proofs.patterns.is_told_refused.Goals as goal
 
@@ -13,10 +11,9 @@ pub returns : goal.returns
 returns g c = λ before.
     let s = c.args.terms.now.settings.now in
     let is : c.cut.result.1.now ≡ pattern_in c.args.word.now = c.cut.ensures.behind ∙ ap (behind kinds.Blank) c.as_bytes.ensures.value in
-    pattern_told s c.args.preset (written_of g.W.Write.contents c.args.output.now) (written_of g.W.Write.contents c.write_apart.new.self) before c.args.word.now
-    c.in_ok-report.report c.in_ok-found.found.items c.as_str.result.now c.is_refused.result
+    pattern_told s c.args.answer (written_of g.W.Write.contents c.args.output.now) (written_of g.W.Write.contents c.write_apart.new.self) before c.args.word.now
+    c.in_ok-report.report c.as_str.result.now c.is_refused.result
     (subst (λ (p : List ℕ). IsReportOfPattern true s (blanks_of p) p c.in_ok-report.report) is c.in_ok-report.ensures)
-    c.in_ok-found.ensures
-    (subst (λ (found : List Finding). EndsBelow s.look found c.as_str.result.now) c.as_slice.ensures.value
-    (subst (EndsBelow s.look c.as_slice.result.now) (sym c.as_str.ensures.value) c.in_ok-text.ensures))
+    (subst (λ (p : List ℕ). EndsWithFound s.look (told_by c.args.answer p c.in_ok-report.report) c.as_str.result.now) is
+    (subst (EndsWithFound s.look (told_by c.args.answer c.cut.result.1.now c.in_ok-report.report)) (sym c.as_str.ensures.value) c.in_ok-text.ensures))
     c.in_ok-write_apart.ensures.written c.is_refused.ensures

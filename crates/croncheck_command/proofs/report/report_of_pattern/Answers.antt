@@ -1,9 +1,10 @@
-use Rattle.std.proofs.Common.{rules, ◌≡◌, ◌+◌, ℕ, List, length, Ok, sym, subst}
+use Rattle.std.proofs.Common.{rules, ◌≡◌, ◌+◌, ℕ, List, length, Ok, sym, subst, true}
 use Rattle.std.specs.Prelude.{IfOk, min}
 use Rattle.croner.specs.parser.Grammar.{outcome}
 use Rattle.croner.specs.Views.{job_of}
 use Rattle.crontab.specs.Content.{IsOutcomeOfPattern}
 use Rattle.croncheck_command.specs.declared.report.Report.{Report}
+use Rattle.croncheck_command.specs.Presets.{AreReadings}
 use Rattle.croncheck_command.specs.Report.{IsReportOfPattern, IsFaultBehind, blanks_of}
 use Rattle.croncheck_command.proofs.Outcomes.{fault_of, fault_behind}
 use Rattle.croncheck_command.proofs.report.report_of_pattern.Goals as goal
@@ -28,4 +29,5 @@ returns-in-PatternRefused-clause-report c = λ read.
       is,
       subst (λ (text : List ℕ). IsFaultBehind blanks fault (blanks + min fault.start (length text)) (blanks + min fault.end (length text))) (sym same)
           (fault_behind s.parser blanks c.args.bytes.now fault is),
+      subst (λ (text : List ℕ). AreReadings s.preset true text c.in_ok-taken-in-PatternRefused.taken.items) same c.in_ok-taken-in-PatternRefused.ensures.ok,
     )

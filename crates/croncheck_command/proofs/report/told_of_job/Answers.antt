@@ -1,4 +1,4 @@
-use Rattle.std.proofs.Common.{Bool, Ok, Option, Some, ap, refl, sym, subst}
+use Rattle.std.proofs.Common.{Bool, Ok, Option, Some, refl, sym, subst}
 use Rattle.croner.specs.Views.{job_of}
 use Rattle.croner_pattern.specs.Meaning.{Meaning}
 use Rattle.crontab.specs.Entries.{job_seen}

@@ -13,7 +13,7 @@ returns-clause-report c = λ blanks read. record {
   command_is = refl;
   tells_times = subst (λ (r : Result Meaning Refusal). TellsMeaning c.args.settings.now runners.Croner r c.in_ok-times.times) (sym read)
       c.in_ok-times.ensures.told;
-  warned = subst (λ (r : Result Meaning Refusal). WarnsPattern c.args.is_fed c.args.text.now (meaning_read r) c.in_ok-times.times
+  warned = subst (λ (r : Result Meaning Refusal). WarnsPattern c.args.settings.now.preset c.args.is_fed c.args.text.now (meaning_read r) c.in_ok-times.times
       c.in_ok-warnings.warnings.items) (sym read) c.in_ok-warnings.ensures.warnings;
   met = subst (λ (r : Result Meaning Refusal). MeetsPattern c.args.settings.now (meaning_read r) c.in_ok-times.times
       c.meetings_of-meetings.result) (sym read) c.meetings_of-meetings.ensures;
