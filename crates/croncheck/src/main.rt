@@ -559,12 +559,7 @@ fn answer(
         announce_fields(rt);
     }
     let mut output = Output::new(BufWriter::new(rt.alloc(), rt.stdout())?);
-    tell_patterns(
-        &terms,
-        call.patterns.as_slice(),
-        answer,
-        &mut output,
-    )
+    tell_patterns(&terms, call.patterns.as_slice(), answer, &mut output)
 }
 
 // Whether there are several words, and none that may be a pattern: one with a blank, or a nickname.
