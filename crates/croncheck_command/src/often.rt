@@ -14,6 +14,7 @@ use croner::Cron;
 use croner::errors::CronError;
 use croner::time::CronDateTime;
 use croner::time::table::TableTime;
+use croner_base::limits::SECONDS_PER_DAY;
 use crontab_runs::CrontabJob;
 use std::alloc::{AllocError, Global};
 use std::collections::BTreeMap;
@@ -21,9 +22,10 @@ use std::collections::BTreeMap;
 /// How many days of 86,400 seconds the span has, where its end isn't given.
 pub(crate) const SPAN_DAYS: i64 = 7;
 
-const SPAN_SECONDS: i64 = SPAN_DAYS * SECONDS_PER_DAY;
+const SPAN_SECONDS: i64 = SPAN_DAYS * DAY;
 
-const SECONDS_PER_DAY: i64 = 86_400;
+/// The seconds of a day, as wall seconds are counted.
+const DAY: i64 = SECONDS_PER_DAY as i64;
 
 /// How often a job starts in a span behind a start, which doesn't count itself.
 #[derive(Clone, Copy, Drop)]
@@ -261,7 +263,7 @@ fn date_of_run(run: &Run<'_>) -> i64
     ensures { result ≡ date_of_run run.now }
 {
     let wall = run.time.to_civil().wall_second();
-    wall.div_euclid(SECONDS_PER_DAY)
+    wall.div_euclid(DAY)
 }
 
 fn greater(a: u64, b: u64) -> u64
