@@ -5,10 +5,12 @@ mod calendar;
 mod content_line;
 mod escapes;
 mod job;
+mod view;
 mod week;
 
 pub use calendar::{Calendar, Event, MOST_EVENTS, calendar_text};
 pub use content_line::push_content_line;
 pub use escapes::{Form, escaped, push_escaped};
 pub use job::Job;
+pub use view::View;
 pub use week::{LeftOut, Signs, Week, WeekDay, week_text};
