@@ -1,3 +1,4 @@
+pub mod ClockTimes
 pub mod EscapedTexts
 pub mod Events
 pub mod FoldedLines

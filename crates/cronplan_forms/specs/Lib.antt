@@ -1,4 +1,5 @@
 pub mod Calendars
+pub mod Clocks
 pub mod ContentLines
 pub mod Escapes
 pub mod Weeks

@@ -1,0 +1,87 @@
+//! What a clock shows at a second.
+ghost use Rattle.std.specs.Prelude.{◌≡◌};
+ghost use Rattle.croner_base.specs.Civil.{weekday_index};
+ghost use Rattle.croner_base.specs.TableZone.{table_zone};
+ghost use Rattle.cronplan_forms.specs.Clocks.{IsClockAt, IsClockTime, weekday_text};
+
+use crate::ahead::Ahead;
+use croner_base::time::table::{ClockTable, TableTime};
+use croner_base::time::{CivilDate, CivilDateTime, CivilTime, CronDateTime, Weekday};
+use std::fmt;
+
+/// A second, and what a clock shows then. As a text it is `Sun 2027-03-28 03:00:00 +02:00`.
+#[derive(Debug, Clone, Copy)]
+pub struct ClockTime {
+    /// The second, counted from 1970-01-01T00:00:00 UTC.
+    pub second: i64,
+    pub weekday: Weekday,
+    pub civil: CivilDateTime,
+    pub ahead: Ahead,
+}
+
+impl ClockTime {
+    /// What the clock of a table shows at a second: of one that the table hasn't, outside the UTC years -9999 to 9999, the begin of 1970.
+    pub fn at(table: &ClockTable, second: i64) -> ClockTime
+        ensures { IsClockAt (table_zone table.now) second result }
+    {
+        match TableTime::new(table, second) {
+            Ok(time) => ClockTime::of(&time),
+            Err(_) => ClockTime {
+                second,
+                weekday: Weekday::Thursday,
+                civil: begin_of_1970(),
+                ahead: Ahead { seconds: 0 },
+            },
+        }
+    }
+
+    // What the clock of a table shows.
+    #[tactic(auto, using(crate::proofs::ClockTimes::ahead_is))]
+    fn of(time: &TableTime<'_>) -> ClockTime
+        ensures { IsClockTime (table_zone time.now.table.now) result }
+        ensures { result.second ≡ time.now.second }
+    {
+        let civil = time.to_civil();
+        let second = time.second();
+        let seconds = civil.wall_second().saturating_sub(second);
+        ClockTime {
+            second,
+            weekday: time.civil_weekday(),
+            civil,
+            ahead: Ahead { seconds },
+        }
+    }
+}
+
+fn begin_of_1970() -> CivilDateTime {
+    let date = CivilDate::from_parts_unchecked(1970, 1, 1);
+    CivilDateTime::new(date, CivilTime::from_parts_unchecked(0, 0, 0))
+}
+
+impl fmt::Display for ClockTime {
+    ghost use Rattle.std.specs.Prelude.{Some};
+    ghost use Rattle.cronplan_forms.specs.Clocks.{clock_time_text};
+
+    ghost output = { λ t. Some (clock_time_text t) };
+
+    fn fmt<W: fmt::Write>(&self, f: &mut fmt::Formatter<W>) -> fmt::Result {
+        let (date, time) = (self.civil.date(), self.civil.time());
+        let (weekday, ahead) = (weekday_text(self.weekday), self.ahead);
+        write!(f, "{weekday} {date} {time} {ahead}")
+    }
+}
+
+/// The front of a weekday's name: `Mon`.
+pub fn weekday_text(weekday: Weekday) -> &'static str
+    ensures { result.now ≡ weekday_text (weekday_index weekday) }
+{
+    match weekday {
+        Weekday::Sunday => "Sun",
+        Weekday::Monday => "Mon",
+        Weekday::Tuesday => "Tue",
+        Weekday::Wednesday => "Wed",
+        Weekday::Thursday => "Thu",
+        Weekday::Friday => "Fri",
+        Weekday::Saturday => "Sat",
+    }
+}
