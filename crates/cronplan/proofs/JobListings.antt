@@ -1,39 +1,38 @@
 -- The listings of a job's starts and of a pattern's runs as those of a plan.
-use Rattle.std.proofs.Common.{◌≡◌, ◌∙◌, ◌≢◌, ℕ, ℤ, pos, zero, suc, ◌+◌, ◌-◌, ◌<◌, ◌≤◌, ◌<ℤ◌, ◌≤ℤ◌, ◌-ℤ◌, ◌⊎◌, inl, inr, Bool, true, false, List, [], ◌∷◌, ◌++◌, length, get_or, map, refl, sym, ap, subst, lit<, arith, rules, Option, Some, None}
+use Rattle.std.proofs.Common.{◌≡◌, ℕ, ℤ, pos, zero, suc, ◌<◌, ◌<ℤ◌, ◌≤ℤ◌, ◌-ℤ◌, ◌⊎◌, inl, inr, true, false, List, [], ◌∷◌, ◌++◌, length, get_or, map, refl, sym, ap, subst, lit<, arith, Option, Some}
 use Rattle.std.specs.Prelude.{slice_get}
 use Rattle.std.proofs.lemmas.Bool.{false≢true}
-use Rattle.std.proofs.lemmas.Int.{ints, to_z-of_z, by_lt_z}
+use Rattle.std.proofs.lemmas.Int.{ints, by_lt_z}
 use Rattle.std.proofs.lemmas.List.{length-map}
-use Rattle.std.proofs.lemmas.List.Elements.{All-nil, All-cons, All-head, All-tail, All-map, All-same, All-contains, Contains-push, Contains-push_cases, Contains-append_right}
+use Rattle.std.proofs.lemmas.List.Elements.{All-map, All-contains, Contains-push, Contains-push_cases, Contains-append_right}
 use Rattle.std.specs.List.{All, AllPairs, Contains}
 use Rattle.croner_base.specs.declared.time.Direction.TheVariants.{Forward}
 use Rattle.croner_base.specs.declared.time.table.TableTime.{TableTime}
 use Rattle.croner_base.specs.Table.{is_table_second}
 use Rattle.croner_base.specs.TableZone.{table_moment, table_zone}
-use Rattle.croner_base.specs.Zone.{Zone, Moment, reading}
+use Rattle.croner_base.specs.Zone.{Zone, Moment}
 use Rattle.croner.specs.declared.job.Cron.{Cron}
 use Rattle.croner.specs.declared.laws.listing.ListingEnd.{ListingEnd}
 use Rattle.croner.specs.declared.laws.listing.ListingEnd.TheVariants as listing
-use Rattle.croner.specs.iterator.Listing.{BeginsWhere, Standing, new_standing, IsLeft as IsLeftOfRuns, instants}
-use Rattle.croner.specs.laws.Until.{ComesBy, ListsUntil}
+use Rattle.croner.specs.iterator.Listing.{Standing, new_standing, IsLeft as IsLeftOfRuns}
+use Rattle.croner.specs.laws.Until.{ListsUntil}
 use Rattle.croner.specs.search.Limit.{InSpan}
 use Rattle.croner.specs.search.PatternJob.{pattern_job}
-use Rattle.croner.specs.search.Runs.{Precedes, Run}
+use Rattle.croner.specs.search.Runs.{Run}
 use Rattle.croner.specs.Views.{job_of}
 use Rattle.crontab_runs.specs.declared.job.CrontabJob.{CrontabJob}
 use Rattle.crontab_runs.specs.declared.job.Start.{Start}
 use Rattle.crontab_runs.specs.declared.listing.StartsEnd.{StartsEnd}
 use Rattle.crontab_runs.specs.declared.listing.StartsEnd.TheVariants as ends
 use Rattle.crontab_runs.specs.Listing.{ListsStarts, IsLeft}
-use Rattle.crontab_runs.specs.Starts.{CronJob, Starts, StartsTimes}
+use Rattle.crontab_runs.specs.Starts.{Starts}
 use Rattle.crontab_runs.specs.Views.{cron_job_of}
-use Rattle.cronplan.specs.declared.listing.Schedule.{Schedule}
 use Rattle.cronplan.specs.declared.listing.Schedule.TheVariants as schedules
 use Rattle.cronplan.specs.declared.span.Span.{Span}
-use Rattle.cronplan.specs.declared.start.JobStart.{JobStart}
-use Rattle.cronplan.specs.Listed.{StartsAt, IsStartIn, ListsJob}
+use Rattle.cronplan.specs.Listed.{IsStartIn, ListsJob}
 use Rattle.cronplan.specs.Private.Placed.{placed, placed_run, IsCronEnd, IsPatternEnd}
 use Rattle.cronplan.specs.Starts.{seconds_of, most_starts}
+use Rattle.cronplan.proofs.FilteredLists.{All-from_map}
 use Rattle.cronplan.proofs.SpanSeconds.{Spans, held_in}
 
 -- what stands at a place is among them
@@ -41,11 +40,6 @@ pub among : {X : Type 0} (f : X → ℤ) (xs : List X) (k : ℕ) (x : X) → sli
 among f [] k x e = cc
 among f (y ∷ ys) zero x e = let same : y ≡ x = cc in subst (λ z. Contains (f y ∷ map f ys) (f z)) same (0, omega arith, refl)
 among f (y ∷ ys) (suc k) x e = Contains-append_right (f y ∷ []) (map f ys) (f x) (among f ys k x e)
-
--- what holds of what each is seen as
-of_map : {X : Type 0} (f : X → ℤ) (P : ℤ → Type 0) (xs : List X) → All P (map f xs) → All (λ x. P (f x)) xs
-of_map f P [] h = All-nil (λ x. P (f x))
-of_map f P (x ∷ xs) h = All-cons (λ x. P (f x)) x xs (All-head P (f x) (map f xs) h) (of_map f P xs (All-tail P (f x) (map f xs) h))
 
 module _ (job : CrontabJob) (time : Moment) (span : Span) (place : ℕ) (after : time.instant ≡ span.first -ℤ pos 1) where
   abbrev until : Option ℤ
@@ -61,7 +55,7 @@ module _ (job : CrontabJob) (time : Moment) (span : Span) (place : ℕ) (after :
   each-start : (starts : List Start) (end : StartsEnd) (limit : ℕ) → ListsStarts (cron_job_of job) time until limit starts end
       → All (IsStartIn (schedules.Crontab job) time.zone span place) (map (placed time.zone place) starts)
   each-start starts end limit h =
-      let left : All (λ (s : Start). IsLeft (cron_job_of job) time s.second) starts = of_map (λ (s : Start). s.second) (IsLeft (cron_job_of job) time) starts h.begins.counts in
+      let left : All (λ (s : Start). IsLeft (cron_job_of job) time s.second) starts = All-from_map (λ (s : Start). s.second) (IsLeft (cron_job_of job) time) starts h.begins.counts in
       All-map (IsStartIn (schedules.Crontab job) time.zone span place) (placed time.zone place) starts
       (λ k d inside.
       let by : (get_or starts k d).second ≤ℤ (span.end -ℤ pos 1) = h.by k d inside in
@@ -78,7 +72,7 @@ module _ (job : CrontabJob) (time : Moment) (span : Span) (place : ℕ) (after :
   pub starts_held : (starts : List Start) (end : StartsEnd) (limit : ℕ) → Spans span.first span.end → ListsStarts (cron_job_of job) time until limit starts end
       → All (λ (s : Start). is_table_second s.second ≡ true) starts
   starts_held starts end limit w h =
-      let left : All (λ (s : Start). IsLeft (cron_job_of job) time s.second) starts = of_map (λ (s : Start). s.second) (IsLeft (cron_job_of job) time) starts h.begins.counts in
+      let left : All (λ (s : Start). IsLeft (cron_job_of job) time s.second) starts = All-from_map (λ (s : Start). s.second) (IsLeft (cron_job_of job) time) starts h.begins.counts in
       λ k d inside.
       let by : (get_or starts k d).second ≤ℤ (span.end -ℤ pos 1) = h.by k d inside in
       let past : time.instant <ℤ (get_or starts k d).second = (left k d inside).0 in
@@ -165,8 +159,8 @@ module _ (cron : Cron) (after : TableTime) (span : Span) (place : ℕ) (at : aft
   each-run : (times : List TableTime) (end : ListingEnd) (new : Standing) (limit : ℕ) → ListsUntil begin new last limit times end
       → All (IsStartIn (schedules.Pattern cron) zone span place) (map (placed_run place) times)
   each-run times end new limit h =
-      let left : All (λ (t : TableTime). IsLeftOfRuns begin t.second) times = of_map (λ (t : TableTime). t.second) (IsLeftOfRuns begin) times h.begins.counts in
-      let by : All (λ (t : TableTime). t.second ≤ℤ (span.end -ℤ pos 1)) times = of_map (λ (t : TableTime). t.second) (λ i. i ≤ℤ (span.end -ℤ pos 1)) times h.by in
+      let left : All (λ (t : TableTime). IsLeftOfRuns begin t.second) times = All-from_map (λ (t : TableTime). t.second) (IsLeftOfRuns begin) times h.begins.counts in
+      let by : All (λ (t : TableTime). t.second ≤ℤ (span.end -ℤ pos 1)) times = All-from_map (λ (t : TableTime). t.second) (λ i. i ≤ℤ (span.end -ℤ pos 1)) times h.by in
       All-map (IsStartIn (schedules.Pattern cron) zone span place) (placed_run place) times
       (λ k d inside.
       let run : (after.second <ℤ (get_or times k d).second) × Run (pattern_job (job_of cron) zone) (get_or times k d).second = run-left (get_or times k d).second (left k d inside) in

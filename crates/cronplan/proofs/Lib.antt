@@ -1,10 +1,14 @@
+pub mod AlikeElements
 pub mod CountedStarts
 pub mod DayCells
 pub mod Examples
 pub mod ExamplesDays
+pub mod ExamplesTogether
+pub mod FilteredLists
 pub mod GapWindows
 pub mod GatheredJobs
 pub mod JobListings
+pub mod JobSets
 pub mod MomentStarts
 pub mod SpanSeconds
 pub mod StartOrder

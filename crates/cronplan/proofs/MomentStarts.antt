@@ -1,5 +1,5 @@
 -- The starts at one second, and the moments of starts one by one.
-use Rattle.std.proofs.Common.{◌≡◌, ◌∙◌, ℕ, ℤ, zero, suc, ◌+◌, ◌-◌, ◌<◌, ◌≤◌, ◌<ℤ◌, ◌≤ℤ◌, Bool, true, false, cond, int_le, int_lt, pos, List, [], ◌∷◌, ◌++◌, length, get_or, take, drop, map, filter, refl, sym, ap, subst, arith, sum_by, is_lt}
+use Rattle.std.proofs.Common.{◌≡◌, ◌∙◌, ℕ, ℤ, zero, suc, ◌+◌, ◌-◌, ◌<◌, ◌≤◌, ◌<ℤ◌, ◌≤ℤ◌, Bool, true, false, cond, int_le, int_lt, pos, List, [], ◌∷◌, ◌++◌, length, get_or, take, drop, filter, refl, sym, ap, subst, arith, is_lt}
 use Rattle.std.proofs.lemmas.Int.{ints}
 use Rattle.std.proofs.lemmas.List.{take-append-drop, append-nil, get_or-take, get_or-drop, length-take-le, length-drop, length-map, get_or-map, get_or_default, map_more, map-append, take_all}
 use Rattle.std.proofs.lemmas.List.Elements.{All-nil, All-cons, All-head, All-tail, All-weaker, All-from_get_or, All-push, All-more, All-map, All-get_or, All-contains, Contains-get_or, Contains-push, Contains-append_left, filter-append}
@@ -8,7 +8,7 @@ use Rattle.std.proofs.lemmas.List.Sums.{sum_by-cons}
 use Rattle.std.proofs.lemmas.List.Quantifiers.{all_pairs_push}
 use Rattle.std.specs.List.{All, AllPairs, Contains}
 use Rattle.std.specs.List.Sorted.{IsSorted}
-use Rattle.std.specs.Ordering.{int_eq, int_cmp}
+use Rattle.std.specs.Ordering.{int_eq}
 use Rattle.std.specs.Prelude.{IsTrue, IsFalse}
 use Rattle.cronplan.specs.declared.counts.Unit.TheVariants as units
 use Rattle.cronplan.specs.declared.moments.Moment.{Moment}
@@ -17,7 +17,8 @@ use Rattle.cronplan.specs.Counts.{count_of, starts_at, added_at}
 use Rattle.cronplan.specs.Moments.{at_second, moment_seconds, IsMoment, AreMoments}
 use Rattle.cronplan.specs.Private.MomentsUntil.{AreMomentsUntil}
 use Rattle.cronplan.specs.Starts.{start_cmp, seconds_of}
-use Rattle.cronplan.proofs.StartOrder.{start_weak, no_earlier, filter_none}
+use Rattle.cronplan.proofs.FilteredLists.{filter_all, filter_none, Contains-map}
+use Rattle.cronplan.proofs.StartOrder.{start_weak, no_earlier}
 
 -- a start that stands where there is none
 abbrev pub none_start : JobStart
@@ -43,12 +44,6 @@ not_at_late i t lt = grind (arith, ints)
 
 at_itself : (i t : ℤ) → i ≤ℤ t → t ≤ℤ i → int_eq t i ≡ true
 at_itself i t low high = grind (arith, ints)
-
-filter_all : (p : JobStart → Bool) (xs : List JobStart) → All (λ s. p s ≡ true) xs → filter p xs ≡ xs
-filter_all p [] h = refl
-filter_all p (x ∷ xs) h =
-    subst (λ (b : Bool). cond b (x ∷ filter p xs) (filter p xs) ≡ x ∷ xs) (sym (All-head (λ s. p s ≡ true) x xs h))
-    (ap (λ ys. x ∷ ys) (filter_all p xs (All-tail (λ s. p s ≡ true) x xs h)))
 
 -- those before the second leave none of theirs
 pub behind_earlier : (i : ℤ) (xs : List JobStart) (k : ℕ) → All (λ s. s.second <ℤ i) (take k xs) → at_second i (drop k xs) ≡ at_second i xs
@@ -88,9 +83,6 @@ all_before xs up (suc j) d inside later =
     let le : (get_or xs i d).second ≤ℤ (get_or xs j d).second = climbs_at xs up i j d (omega arith) (omega arith) in
     subst (λ (x : JobStart). x.second <ℤ (get_or xs (suc j) d).second) (sym (get_or-take (suc j) xs i d below)) (omega (arith, ints, le, later j refl)))
 
-Contains-map : (f : JobStart → ℤ) (xs : List JobStart) (x : JobStart) → Contains xs x → Contains (map f xs) (f x)
-Contains-map f xs x h = (h.0, omega (arith, h.1, length-map xs f), get_or-map f xs h.0 x (f x) h.1 ∙ ap f h.2)
-
 -- one that isn't has its second
 pub has_before : (xs : List JobStart) → IsSorted start_cmp xs → (j : ℕ) (d : JobStart) → suc j < length xs
     → int_lt (get_or xs j d).second (get_or xs (suc j) d).second ≡ false → Contains (seconds_of (take (suc j) xs)) (get_or xs (suc j) d).second
@@ -101,13 +93,7 @@ has_before xs up j d inside h =
     (Contains-map (λ (x : JobStart). x.second) (take (suc j) xs) (get_or (take (suc j) xs) j d)
     (Contains-get_or (take (suc j) xs) j d (omega (arith, inside, length-take-le (suc j) xs (omega arith)))))
 
--- those from a place on are in order, and none is earlier than the one at it
-pub sorted_drop : (xs : List JobStart) → IsSorted start_cmp xs → (n : ℕ) → n ≤ length xs → IsSorted start_cmp (drop n xs)
-sorted_drop xs up n le = λ k d low h.
-    let one : get_or (drop n xs) k d ≡ get_or xs (n + k) d = get_or-drop n xs k d in
-    let next : get_or (drop n xs) (k + 1) d ≡ get_or xs (n + k + 1) d = get_or-drop n xs (k + 1) d ∙ ap (λ i. get_or xs i d) (omega arith) in
-    rw (one, next) (up (n + k) d (omega arith) (omega (arith, h, length-drop n xs)))
-
+-- of those from a place on none is earlier than the one at it
 pub late_drop : (xs : List JobStart) → IsSorted start_cmp xs → (n : ℕ) (d : JobStart) → n < length xs → All (λ s. (get_or xs n d).second ≤ℤ s.second) (drop n xs)
 late_drop xs up n d inside =
     All-from_get_or (λ s. (get_or xs n d).second ≤ℤ s.second) (drop n xs) d

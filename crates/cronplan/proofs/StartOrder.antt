@@ -11,6 +11,7 @@ use Rattle.std.specs.List.{All}
 use Rattle.std.specs.List.Sorted.{IsSorted, IsPermutation}
 use Rattle.cronplan.specs.declared.start.JobStart.{JobStart}
 use Rattle.cronplan.specs.Starts.{start_cmp, seconds_of, second_at, earlier, most_starts, IsMerged}
+use Rattle.cronplan.proofs.FilteredLists.{filter_none, All-from_map}
 use Rattle.cronplan.proofs.GapWindows.{Climbs}
 
 start_total : IsTotalOrder start_cmp
@@ -37,11 +38,6 @@ climbs (x ∷ y ∷ ys) up =
     let first : x.second ≤ℤ y.second = no_earlier x y (up 0 x (omega arith) (omega arith)) in
     (All-cons (λ t. x.second ≤ℤ t) y.second (seconds_of ys) first (All-weaker (λ t. y.second ≤ℤ t) (λ t. x.second ≤ℤ t) (λ t le. omega (arith, ints, first, le)) (seconds_of ys) rest.0), rest)
 
--- what holds of each second
-of_seconds : (P : ℤ → Type 0) (xs : List JobStart) → All P (seconds_of xs) → All (λ (s : JobStart). P s.second) xs
-of_seconds P [] h = All-nil (λ (s : JobStart). P s.second)
-of_seconds P (x ∷ xs) h = All-cons (λ (s : JobStart). P s.second) x xs (All-head P x.second (seconds_of xs) h) (of_seconds P xs (All-tail P x.second (seconds_of xs) h))
-
 pub to_seconds : (P : ℤ → Type 0) (xs : List JobStart) → All (λ (s : JobStart). P s.second) xs → All P (seconds_of xs)
 to_seconds P xs h = All-map P (λ (s : JobStart). s.second) xs h
 
@@ -58,14 +54,9 @@ late [] (suc m) end up = All-nil (λ (s : JobStart). end ≤ℤ s.second)
 late (x ∷ xs) zero end up =
     let le : earlier end (Some x.second) ≤ℤ x.second = earlier-le end x.second in
     All-cons (λ (s : JobStart). earlier end (Some x.second) ≤ℤ s.second) x xs le
-    (of_seconds (λ t. earlier end (Some x.second) ≤ℤ t) xs
+    (All-from_map (λ (s : JobStart). s.second) (λ t. earlier end (Some x.second) ≤ℤ t) xs
     (All-weaker (λ t. x.second ≤ℤ t) (λ t. earlier end (Some x.second) ≤ℤ t) (λ t h. omega (arith, ints, le, h)) (seconds_of xs) up.0))
 late (x ∷ xs) (suc m) end up = late xs m end up.1
-
-pub filter_none : (p : JobStart → Bool) (xs : List JobStart) → All (λ s. p s ≡ false) xs → filter p xs ≡ []
-filter_none p [] h = refl
-filter_none p (x ∷ xs) h =
-    subst (λ (b : Bool). cond b (x ∷ filter p xs) (filter p xs) ≡ []) (sym (All-head (λ s. p s ≡ false) x xs h)) (filter_none p xs (All-tail (λ s. p s ≡ false) x xs h))
 
 not_before : (i kept : ℤ) → kept ≤ℤ i → int_lt i kept ≡ false
 not_before i kept le = grind (arith, ints)

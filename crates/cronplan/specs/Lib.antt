@@ -6,5 +6,6 @@ pub mod Listed
 pub mod Moments
 pub mod Spans
 pub mod Starts
+pub mod Together
 pub mod Windows
 pub mod Private

@@ -2,5 +2,6 @@
 pub mod CountedPlan
 pub mod Gaps
 pub mod Gathered
+pub mod Meetings
 pub mod MomentsUntil
 pub mod Placed

@@ -11,6 +11,7 @@ mod moments;
 mod plan;
 mod span;
 mod start;
+mod together;
 mod windows;
 
 pub use changes::ClockChange;
@@ -22,4 +23,5 @@ pub use moments::Moment;
 pub use plan::{MOST_STARTS, Plan};
 pub use span::Span;
 pub use start::JobStart;
+pub use together::Together;
 pub use windows::{Bound, Edge, Window};

@@ -60,12 +60,20 @@ fn push_new(
     requires { length starts_then.now ≤ 2 ^ 31 }
     ensures { OnOk result (moments.new.items ≡ moments.old.items ++ moment_of start.now starts_then.now ∷ []) }
 {
-    moments.push(Moment {
+    moments.push(moment_of(start, starts_then))?;
+    Ok(())
+}
+
+/// The moment of a start, at which these are all.
+pub(crate) fn moment_of(start: &JobStart, starts_then: &[JobStart]) -> Moment
+    requires { length starts_then.now ≤ 2 ^ 31 }
+    ensures { result ≡ moment_of start.now starts_then.now }
+{
+    Moment {
         second: start.second,
         wall: start.wall,
         starts: count_of(starts_then),
-    })?;
-    Ok(())
+    }
 }
 
 /// All starts at the second of the one at a place. `None` where one before has it too.

@@ -1,17 +1,18 @@
-use Rattle.std.proofs.Common.{◌≡◌, ◌∙◌, ◌≤ℤ◌, ap, sym, subst, arith, get_or, drop, pos, List, refl}
+use Rattle.std.proofs.Common.{◌≡◌, ◌∙◌, ◌≤ℤ◌, ap, sym, subst, arith, get_or, drop, is_lt}
 use Rattle.std.specs.List.{All}
 use Rattle.std.specs.List.Sorted.{IsSorted}
-use Rattle.std.specs.Prelude.{IsTrue}
 use Rattle.std.proofs.lemmas.List.{get_or_default}
 use Rattle.cronplan.specs.declared.start.JobStart.{JobStart}
 use Rattle.cronplan.specs.Moments.{at_second}
 use Rattle.cronplan.specs.Starts.{start_cmp}
-use Rattle.cronplan.proofs.MomentStarts.{none_start, sorted_drop, late_drop, behind_earlier}
+use Rattle.cronplan.proofs.AlikeElements.{sorted_from}
+use Rattle.cronplan.proofs.MomentStarts.{none_start, late_drop, behind_earlier}
+use Rattle.cronplan.proofs.StartOrder.{start_weak}
 use Rattle.cronplan.proofs.moments.starts_from.Goals as goal
 
 pub starts_like-requires-clause-order : goal.starts_like-requires-clause-order
 starts_like-requires-clause-order c =
-    subst (IsSorted start_cmp) (sym c.split_at.ensures.back) (sorted_drop c.args.starts.now c.requires.order c.args.place (omega arith))
+    subst (IsSorted start_cmp) (sym c.split_at.ensures.back) (sorted_from (λ (x y : JobStart). is_lt (start_cmp x y)) start_weak c.args.starts.now c.requires.order c.args.place (omega arith))
 
 pub starts_like-requires-clause-late : goal.starts_like-requires-clause-late
 starts_like-requires-clause-late c =
