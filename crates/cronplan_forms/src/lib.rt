@@ -8,6 +8,7 @@ mod content_line;
 mod escapes;
 mod job;
 mod lasting;
+mod month;
 mod view;
 mod week;
 
@@ -18,5 +19,6 @@ pub use content_line::push_content_line;
 pub use escapes::{Form, escaped, push_escaped};
 pub use job::Job;
 pub use lasting::Lasting;
+pub use month::{Daily, Month, MonthDay, month_text};
 pub use view::View;
 pub use week::{LeftOut, Signs, Week, WeekDay, week_text};
