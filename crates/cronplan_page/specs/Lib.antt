@@ -1,7 +1,13 @@
 pub mod Pieces
 pub mod Markup
+pub mod Words
+pub mod Timed
+pub mod Quiet
+pub mod Fullest
 pub mod Weeks
+pub mod ClockChanges
 pub mod TimeLines
 pub mod PlanJobs
 pub mod PlanDays
 pub mod Pages
+pub mod PlanPages

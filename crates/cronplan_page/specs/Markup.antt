@@ -1,5 +1,5 @@
 -- Texts in elements of a page, and lists of them. Sources: the HTML standard, section 13.1.2 (elements), and this crate's documentation.
-use Rattle.std.specs.Prelude.{ℕ, List, [], ◌∷◌, ◌++◌}
+use Rattle.std.specs.Prelude.{ℕ, Bool, List, [], ◌∷◌, ◌++◌, if◌then◌else◌}
 use Rattle.std.specs.Fmt.{decimal}
 use Rattle.std.specs.List.{flat_map}
 use Rattle.cronplan_forms.specs.declared.escapes.Form.TheVariants as forms
@@ -33,6 +33,17 @@ lines_text lines = flat_map line_text lines
 unfoldable pub list_text : List Line → Piece → List ℕ
 list_text [] none = piece_text none
 list_text (line ∷ lines) none = piece_text pieces.List ++ (lines_text (line ∷ lines) ++ piece_text pieces.ListEnd)
+
+-- the begin of a list, or what is said where it is empty; and its end
+abbrev pub list_begin : Bool → Piece → List ℕ
+list_begin is_empty none = if is_empty then piece_text none else piece_text pieces.List
+
+abbrev pub list_end : Bool → List ℕ
+list_end is_empty = if is_empty then [] else piece_text pieces.ListEnd
+
+-- both around lines
+unfoldable pub list_of : Bool → Piece → List ℕ → List ℕ
+list_of is_empty none lines = list_begin is_empty none ++ (lines ++ list_end is_empty)
 
 -- a section: its heading and its list
 unfoldable pub section_text : Piece → List Line → Piece → List ℕ

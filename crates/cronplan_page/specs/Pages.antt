@@ -1,44 +1,64 @@
 -- The page of a plan, in the order of its questions. Source: this crate's documentation.
-use Rattle.std.specs.Prelude.{ℕ, List, [], ◌∷◌, ◌++◌}
+use Rattle.std.specs.Prelude.{ℕ, Bool, List, [], ◌∷◌, length, ◌++◌, codes, if◌then◌else◌}
+use Rattle.cronplan.specs.Counts.{count_of}
 use Rattle.cronplan_page.specs.declared.markup.Line.{Line}
 use Rattle.cronplan_page.specs.declared.page.Page.{Page}
-use Rattle.cronplan_page.specs.declared.pieces.Piece.{Piece}
 use Rattle.cronplan_page.specs.declared.pieces.Piece.TheVariants as pieces
-use Rattle.cronplan_page.specs.Markup.{element, list_text, section_text}
+use Rattle.cronplan_page.specs.ClockChanges.{changes_text}
+use Rattle.cronplan_page.specs.Fullest.{fullest_text}
+use Rattle.cronplan_page.specs.Markup.{html, element, section_text}
 use Rattle.cronplan_page.specs.Pieces.{piece_text}
 use Rattle.cronplan_page.specs.PlanDays.{days_text}
-use Rattle.cronplan_page.specs.PlanJobs.{lines_section, table_text}
+use Rattle.cronplan_page.specs.PlanJobs.{frequent_text, lines_section, table_text}
+use Rattle.cronplan_page.specs.Quiet.{quiet_text}
 use Rattle.cronplan_page.specs.Weeks.{week_text}
+use Rattle.cronplan_page.specs.Words.{many_text, between_text}
 
 -- the head of a page with this title
 unfoldable pub head_text : List ℕ → List ℕ
 head_text title =
     piece_text pieces.Head ++ (element pieces.Title title pieces.TitleEnd ++ (piece_text pieces.Style ++ piece_text pieces.HeadEnd))
 
--- a section of its own, and nothing where it has no line
-unfoldable pub box_text : Piece → Piece → List Line → List ℕ
-box_text front above [] = []
-box_text front above (line ∷ lines) = piece_text front ++ (section_text above (line ∷ lines) pieces.SectionEnd ++ piece_text pieces.SectionEnd)
+-- what cron ignores, and nothing where that is nothing
+unfoldable pub ignored_text : List Line → List ℕ
+ignored_text [] = []
+ignored_text (line ∷ lines) =
+    piece_text pieces.Bad ++ (section_text pieces.IgnoredHeading (line ∷ lines) pieces.SectionEnd ++ piece_text pieces.SectionEnd)
+
+-- the span, and whose clock that is
+unfoldable pub span_text : Page → List ℕ
+span_text p = between_text p.first p.end ++ (piece_text pieces.OnClock ++ html p.view.zone.now)
+
+-- how many jobs there are, and how many starts of them are shown
+unfoldable pub counts_text : Page → List ℕ
+counts_text p =
+    codes ": " ++ (many_text (length p.view.jobs.now) (codes "job") ++ (codes ", with "
+    ++ (many_text (count_of p.view.plan.now.starts.items) (codes "start") ++ codes " shown.")))
+
+-- what is said where the plan ends before what was asked for
+abbrev pub cut_text : Bool → List ℕ
+cut_text is_cut = if is_cut then piece_text pieces.Cut else []
+
+-- what the page is of
+unfoldable pub about_text : Page → List ℕ
+about_text p = piece_text pieces.Paragraph ++ (span_text p ++ (counts_text p ++ (piece_text pieces.ParagraphEnd ++ cut_text p.view.is_cut)))
 
 -- its first lines: what it is of, what cron ignores, and what isn't shown
 unfoldable pub top_text : Page → List ℕ
 top_text p =
-    element pieces.Name p.title.now pieces.NameEnd
-    ++ (element pieces.Paragraph p.about.now pieces.ParagraphEnd
-    ++ (box_text pieces.Bad pieces.IgnoredHeading p.ignored.now ++ box_text pieces.Section pieces.FrequentHeading p.frequent.now))
+    element pieces.Name p.about.title.now pieces.NameEnd
+    ++ (about_text p ++ (ignored_text p.about.ignored.now ++ frequent_text p.view.jobs.now p.view.frequent.now))
 
 -- what a plan answers: when nothing starts, when most does, how much in each hour, and what the clock does
 unfoldable pub answers_text : Page → List ℕ
 answers_text p =
-    top_text p
-    ++ (section_text pieces.QuietHeading p.quiet.now pieces.NoWindow
-    ++ (section_text pieces.FullestHeading p.fullest.now pieces.NoStart
-    ++ (week_text p.week.now ++ list_text p.changes.now pieces.NoChange)))
+    quiet_text p.quiet.now
+    ++ (fullest_text p.view.jobs.now p.view.plan.now.starts.items p.fullest.now ++ (week_text p.days.now ++ changes_text p.changes.now))
 
 -- its jobs and its days
 unfoldable pub plan_text : Page → List ℕ
-plan_text p = lines_section p.skipped.now p.jobs.now ++ (days_text p.days.now ++ table_text p.jobs.now)
+plan_text p = lines_section p ++ (days_text p.view.jobs.now p.starts.now p.days.now ++ table_text p)
 
 -- a page
 unfoldable pub page_text : Page → List ℕ
-page_text p = head_text p.title.now ++ (answers_text p ++ (plan_text p ++ piece_text pieces.PageEnd))
+page_text p = head_text p.about.title.now ++ (top_text p ++ (answers_text p ++ (plan_text p ++ piece_text pieces.PageEnd)))

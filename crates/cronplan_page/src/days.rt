@@ -1,43 +1,120 @@
-//! The moments of a plan, day by day.
+//! The starts of a plan, day by day.
 ghost use Rattle.std.specs.Prelude.{◌≡◌, ◌++◌, OnOk, string_bytes};
-ghost use Rattle.cronplan_page.specs.PlanDays.{day_text, day_texts, days_text};
+ghost use Rattle.cronplan.specs.Counts.{date_of};
+ghost use Rattle.cronplan_page.specs.PlanDays.{start_line, start_on, starts_on, day_head, day_text, day_texts, days_text};
 
-use crate::markup::{Line, push_element, push_list};
+use crate::markup::{push_list_begin, push_list_end};
 use crate::pieces::{Piece, push_piece};
+use crate::timed::{NamedDay, TimedStart};
+use crate::words::{push_date_name, push_many, push_started, push_time};
+use cronplan_forms::Job;
 use std::alloc::AllocError;
 
-/// A day.
-#[derive(Clone, Copy)]
-pub struct Day<'p> {
-    /// Its name, with how many starts it has.
-    pub day: &'p str,
-    pub moments: &'p [Line<'p>],
-}
+const SECONDS_PER_DAY: i64 = 86_400;
 
-/// Puts some days behind a text of a page. The only error is want of memory; what then stands behind the text is not said.
+/// Puts some days with their starts behind a text of a page. The only error is want of memory; what then stands behind the text is not
+/// said.
 #[tactic(auto, unfolding(crate::specs::PlanDays::days_text))]
-pub(crate) fn push_days(out: &mut String, days: &[Day<'_>]) -> Result<(), AllocError>
-    ensures { OnOk result (string_bytes out.new ≡ string_bytes out.old ++ days_text days.now) }
+pub(crate) fn push_days(
+    out: &mut String,
+    jobs: &[Job<'_>],
+    starts: &[TimedStart],
+    days: &[NamedDay<'_>],
+) -> Result<(), AllocError>
+    ensures { OnOk result (string_bytes out.new ≡ string_bytes out.old ++ days_text jobs.now starts.now days.now) }
 {
     push_piece(out, Piece::DaysHeading)?;
-    push_each(out, days)
+    push_each(out, jobs, starts, days)
 }
 
 #[tactic(auto, using(crate::proofs::Steps::days_step), unfolding(crate::specs::PlanDays::day_texts))]
-fn push_each(out: &mut String, days: &[Day<'_>]) -> Result<(), AllocError>
-    ensures { OnOk result (string_bytes out.new ≡ string_bytes out.old ++ day_texts days.now) }
+fn push_each(
+    out: &mut String,
+    jobs: &[Job<'_>],
+    starts: &[TimedStart],
+    days: &[NamedDay<'_>],
+) -> Result<(), AllocError>
+    ensures { OnOk result (string_bytes out.new ≡ string_bytes out.old ++ day_texts jobs.now starts.now days.now) }
 {
     for day in days {
-        push_day(out, *day)?;
+        push_day(out, jobs, starts, *day)?;
     }
     Ok(())
 }
 
-#[tactic(auto, unfolding(crate::specs::PlanDays::day_text))]
-fn push_day(out: &mut String, day: Day<'_>) -> Result<(), AllocError>
-    ensures { OnOk result (string_bytes out.new ≡ string_bytes out.old ++ day_text day.entry) }
+#[tactic(auto, unfolding(crate::specs::PlanDays::day_text, crate::specs::Markup::list_of))]
+fn push_day(
+    out: &mut String,
+    jobs: &[Job<'_>],
+    starts: &[TimedStart],
+    day: NamedDay<'_>,
+) -> Result<(), AllocError>
+    ensures { OnOk result (string_bytes out.new ≡ string_bytes out.old ++ day_text jobs.now starts.now day.entry) }
 {
-    push_element(out, Piece::Day, day.day, Piece::DayName)?;
-    push_list(out, day.moments, Piece::NoStart)?;
+    let is_empty = day.day.starts == 0;
+    push_day_head(out, day)?;
+    push_list_begin(out, is_empty, Piece::NoStart)?;
+    push_starts_on(out, jobs, day.day.date, starts)?;
+    push_list_end(out, is_empty)?;
     push_piece(out, Piece::DayEnd)
+}
+
+// Puts the name of a day behind a text, and how many starts it has.
+#[tactic(auto, unfolding(crate::specs::PlanDays::day_head))]
+fn push_day_head(out: &mut String, day: NamedDay<'_>) -> Result<(), AllocError>
+    ensures { OnOk result (string_bytes out.new ≡ string_bytes out.old ++ day_head day.entry) }
+{
+    push_piece(out, Piece::Day)?;
+    push_date_name(out, day)?;
+    out.push_str(", ")?;
+    push_many(out, day.day.starts, "start")?;
+    push_piece(out, Piece::DayName)
+}
+
+#[tactic(auto, using(crate::proofs::Steps::starts_on_step), unfolding(crate::specs::PlanDays::starts_on))]
+fn push_starts_on(
+    out: &mut String,
+    jobs: &[Job<'_>],
+    date: i64,
+    starts: &[TimedStart],
+) -> Result<(), AllocError>
+    ensures { OnOk result (string_bytes out.new ≡ string_bytes out.old ++ starts_on jobs.now date starts.now) }
+{
+    for start in starts {
+        push_start_on(out, jobs, date, *start)?;
+    }
+    Ok(())
+}
+
+// Puts a start behind a text, if the clock shows a date then.
+fn push_start_on(
+    out: &mut String,
+    jobs: &[Job<'_>],
+    date: i64,
+    start: TimedStart,
+) -> Result<(), AllocError>
+    ensures { OnOk result (string_bytes out.new ≡ string_bytes out.old ++ start_on jobs.now date start) }
+{
+    if date_of(start.start.wall) != date {
+        return Ok(());
+    }
+    push_start(out, jobs, start)
+}
+
+// The date of a wall second.
+fn date_of(wall: i64) -> i64
+    ensures { result ≡ date_of wall }
+{
+    wall.div_euclid(SECONDS_PER_DAY)
+}
+
+#[tactic(auto, unfolding(crate::specs::PlanDays::start_line))]
+fn push_start(out: &mut String, jobs: &[Job<'_>], start: TimedStart) -> Result<(), AllocError>
+    ensures { OnOk result (string_bytes out.new ≡ string_bytes out.old ++ start_line jobs.now start) }
+{
+    push_piece(out, Piece::Item)?;
+    push_time(out, start.time)?;
+    push_piece(out, Piece::ItemRest)?;
+    push_started(out, jobs, start.start.job, start.start.count)?;
+    push_piece(out, Piece::ItemEnd)
 }

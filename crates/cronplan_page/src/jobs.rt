@@ -1,88 +1,166 @@
-//! The jobs of a plan: their lines of time, and a table of what is told of them.
-ghost use Rattle.std.specs.Prelude.{◌≡◌, ◌++◌, OnOk, string_bytes};
-ghost use Rattle.cronplan_page.specs.TimeLines.{time_line_text};
-ghost use Rattle.cronplan_page.specs.PlanJobs.{time_lines_text, lines_section, job_words, list_cell, job_row, job_rows, table_text};
+//! The jobs of a plan: those that start too often to be shown, the lines of time of the others, and a table of what is told of them all.
+ghost use Rattle.std.specs.Prelude.{◌≡◌, ◌==◌, ◌++◌, IfOk, OnOk, string_bytes, filter, take};
+ghost use Rattle.cronplan_page.specs.Markup.{number_text};
+ghost use Rattle.cronplan_page.specs.Pieces.{piece_text};
+ghost use Rattle.cronplan_page.specs.TimeLines.{count_at};
+ghost use Rattle.cronplan_page.specs.PlanJobs.{frequent_count, frequent_line, frequent_lines, frequent_text, line_at, lines_section, most_next, next_starts, next_line, next_lines, next_cell, starts_cells, warnings_at, list_cell, place_cell, job_words, job_row, table_text, time_lines_from, job_rows_from};
+ghost use Rattle.cronplan_page.specs.declared.timed.TimedStart.{TimedStart};
 
-use crate::markup::{Line, push_element, push_list, push_number};
+use crate::about::Warnings;
+use crate::markup::{
+    Line, push_element, push_html, push_list, push_list_begin, push_list_end, push_number,
+};
+use crate::page::Page;
 use crate::pieces::{Piece, push_piece};
-use crate::time_lines::{Mark, Stretch, push_time_line};
-use std::alloc::AllocError;
+use crate::time_lines::{count_at, push_time_line};
+use crate::timed::TimedStart;
+use crate::words::{push_many, push_time, push_title};
+use cronplan::Frequent;
+use cronplan_forms::Job;
+use std::alloc::{AllocError, Global};
 
-/// A job of a plan.
-#[derive(Clone, Copy)]
-pub struct Job<'p> {
-    pub title: &'p str,
-    /// Its times in words.
-    pub words: &'p str,
-    /// Its file and line.
-    pub place: &'p str,
-    /// How many starts it has in the span.
-    pub starts: u64,
-    /// Its starts along the span. A job of more than 200 needs none: it is shown as a band with their count.
-    pub marks: &'p [Mark<'p>],
-    /// Its next starts.
-    pub next: &'p [Line<'p>],
-    /// What to beware of.
-    pub warnings: &'p [Line<'p>],
-}
+/// So many of the starts of a job are told at most.
+const MOST_NEXT: usize = 3;
 
-/// Puts the lines of time of some jobs behind a text of a page. The only error is want of memory; what then stands behind the text is not
-/// said.
-#[tactic(auto, unfolding(crate::specs::PlanJobs::lines_section))]
-pub(crate) fn push_lines_section(
+// ---- jobs that start too often to be shown
+
+/// Puts the section of these behind a text of a page, and nothing where there are none. The only error is want of memory; what then stands
+/// behind the text is not said.
+#[tactic(auto, unfolding(crate::specs::PlanJobs::frequent_text))]
+pub(crate) fn push_frequent(
     out: &mut String,
     jobs: &[Job<'_>],
-    skipped: &[Stretch<'_>],
+    frequent: &[Frequent],
 ) -> Result<(), AllocError>
-    ensures { OnOk result (string_bytes out.new ≡ string_bytes out.old ++ lines_section skipped.now jobs.now) }
+    ensures { OnOk result (string_bytes out.new ≡ string_bytes out.old ++ frequent_text jobs.now frequent.now) }
 {
-    push_piece(out, Piece::LinesHeading)?;
-    push_time_lines(out, jobs, skipped)
+    if frequent.is_empty() {
+        return Ok(());
+    }
+    push_piece(out, Piece::Section)?;
+    push_piece(out, Piece::FrequentHeading)?;
+    push_piece(out, Piece::List)?;
+    push_frequent_lines(out, jobs, frequent)?;
+    push_piece(out, Piece::ListEnd)?;
+    push_piece(out, Piece::SectionEnd)
 }
 
-#[tactic(auto, using(crate::proofs::Steps::time_lines_step), unfolding(crate::specs::PlanJobs::time_lines_text))]
-fn push_time_lines(
+#[tactic(auto, using(crate::proofs::Steps::frequent_step), unfolding(crate::specs::PlanJobs::frequent_lines))]
+fn push_frequent_lines(
     out: &mut String,
     jobs: &[Job<'_>],
-    skipped: &[Stretch<'_>],
+    frequent: &[Frequent],
 ) -> Result<(), AllocError>
-    ensures { OnOk result (string_bytes out.new ≡ string_bytes out.old ++ time_lines_text skipped.now jobs.now) }
+    ensures { OnOk result (string_bytes out.new ≡ string_bytes out.old ++ frequent_lines jobs.now frequent.now) }
 {
-    for job in jobs {
-        push_time_line(out, *job, skipped)?;
+    for job in frequent {
+        push_frequent_line(out, jobs, *job)?;
     }
     Ok(())
 }
 
-/// Puts the table of some jobs behind a text of a page. The only error is want of memory; what then stands behind the text is not said.
+#[tactic(auto, unfolding(crate::specs::PlanJobs::frequent_line))]
+fn push_frequent_line(out: &mut String, jobs: &[Job<'_>], job: Frequent) -> Result<(), AllocError>
+    ensures { OnOk result (string_bytes out.new ≡ string_bytes out.old ++ frequent_line jobs.now job) }
+{
+    push_piece(out, Piece::Item)?;
+    push_title(out, jobs, job.job)?;
+    push_piece(out, Piece::ItemRest)?;
+    push_many(out, job.starts, "start")?;
+    push_piece(out, Piece::ItemEnd)
+}
+
+// How many starts the job at a place has, if it is one of these.
+#[tactic(auto, using(crate::proofs::Places::frequent_count_step))]
+fn frequent_count(frequent: &[Frequent], place: usize) -> Option<u64>
+    ensures { result ≡ frequent_count frequent.now place }
+{
+    for job in frequent {
+        if job.job == place {
+            return Some(job.starts);
+        }
+    }
+    None
+}
+
+// ---- lines of time
+
+/// Puts the lines of time of the jobs that are shown behind a text of a page. The only error is want of memory; what then stands behind the
+/// text is not said.
+#[tactic(auto, unfolding(crate::specs::PlanJobs::lines_section))]
+pub(crate) fn push_lines_section(out: &mut String, page: Page<'_>) -> Result<(), AllocError>
+    ensures { OnOk result (string_bytes out.new ≡ string_bytes out.old ++ lines_section page.entry) }
+{
+    push_piece(out, Piece::LinesHeading)?;
+    push_time_lines(out, page, page.view.jobs)
+}
+
+#[tactic(auto, using(crate::proofs::Places::time_lines_step))]
+fn push_time_lines(out: &mut String, page: Page<'_>, jobs: &[Job<'_>]) -> Result<(), AllocError>
+    ensures { OnOk result (string_bytes out.new ≡ string_bytes out.old ++ time_lines_from page.entry 0 jobs.now) }
+{
+    for place in 0..jobs.len() {
+        push_line_at(out, page, place, jobs[place])?;
+    }
+    Ok(())
+}
+
+// Puts the line of time of the job at a place behind a text, if it is shown.
+fn push_line_at(
+    out: &mut String,
+    page: Page<'_>,
+    place: usize,
+    job: Job<'_>,
+) -> Result<(), AllocError>
+    ensures { OnOk result (string_bytes out.new ≡ string_bytes out.old ++ line_at page.entry place job.entry) }
+{
+    match frequent_count(page.view.frequent, place) {
+        Some(_) => Ok(()),
+        None => push_time_line(out, page, place, job),
+    }
+}
+
+// ---- the table
+
+/// Puts the table of the jobs behind a text of a page. The only error is want of memory; what then stands behind the text is not said.
 #[tactic(auto, unfolding(crate::specs::PlanJobs::table_text))]
-pub(crate) fn push_table(out: &mut String, jobs: &[Job<'_>]) -> Result<(), AllocError>
-    ensures { OnOk result (string_bytes out.new ≡ string_bytes out.old ++ table_text jobs.now) }
+pub(crate) fn push_table(alloc: Global, out: &mut String, page: Page<'_>) -> Result<(), AllocError>
+    ensures { OnOk result (string_bytes out.new ≡ string_bytes out.old ++ table_text page.entry) }
 {
     push_piece(out, Piece::JobsHeading)?;
     push_piece(out, Piece::JobsTable)?;
-    push_rows(out, jobs)?;
+    push_rows(alloc, out, page, page.view.jobs)?;
     push_piece(out, Piece::TableEnd)
 }
 
-#[tactic(auto, using(crate::proofs::Steps::jobs_step), unfolding(crate::specs::PlanJobs::job_rows))]
-fn push_rows(out: &mut String, jobs: &[Job<'_>]) -> Result<(), AllocError>
-    ensures { OnOk result (string_bytes out.new ≡ string_bytes out.old ++ job_rows jobs.now) }
+#[tactic(auto, using(crate::proofs::Places::job_rows_step))]
+fn push_rows(
+    alloc: Global,
+    out: &mut String,
+    page: Page<'_>,
+    jobs: &[Job<'_>],
+) -> Result<(), AllocError>
+    ensures { OnOk result (string_bytes out.new ≡ string_bytes out.old ++ job_rows_from page.entry 0 jobs.now) }
 {
-    for job in jobs {
-        push_row(out, *job)?;
+    for place in 0..jobs.len() {
+        push_row(alloc, out, page, place, jobs[place])?;
     }
     Ok(())
 }
 
 #[tactic(auto, unfolding(crate::specs::PlanJobs::job_row))]
-fn push_row(out: &mut String, job: Job<'_>) -> Result<(), AllocError>
-    ensures { OnOk result (string_bytes out.new ≡ string_bytes out.old ++ job_row job.entry) }
+fn push_row(
+    alloc: Global,
+    out: &mut String,
+    page: Page<'_>,
+    place: usize,
+    job: Job<'_>,
+) -> Result<(), AllocError>
+    ensures { OnOk result (string_bytes out.new ≡ string_bytes out.old ++ job_row page.entry place job.entry) }
 {
     push_words(out, job)?;
-    push_number(out, job.starts)?;
-    push_cell(out, job.next, Piece::NoStart)?;
-    push_cell(out, job.warnings, Piece::NoWarning)?;
+    push_starts_cells(alloc, out, page, place)?;
+    push_warnings(out, page.about.warnings, place)?;
     push_piece(out, Piece::RowEnd)
 }
 
@@ -93,7 +171,138 @@ fn push_words(out: &mut String, job: Job<'_>) -> Result<(), AllocError>
 {
     push_element(out, Piece::Row, job.title, Piece::RowName)?;
     push_element(out, Piece::Cell, job.words, Piece::CellEnd)?;
-    push_element(out, Piece::Cell, job.place, Piece::CellEnd)
+    push_place(out, job)
+}
+
+// Puts where a job stands behind a text.
+#[tactic(auto, unfolding(crate::specs::PlanJobs::place_cell))]
+fn push_place(out: &mut String, job: Job<'_>) -> Result<(), AllocError>
+    ensures { OnOk result (string_bytes out.new ≡ string_bytes out.old ++ place_cell job.entry) }
+{
+    let line = job.line;
+    push_piece(out, Piece::Cell)?;
+    push_html(out, job.file)?;
+    write!(out, ":{line}")?;
+    push_piece(out, Piece::CellEnd)
+}
+
+// Puts what is told of the starts of the job at a place behind a text.
+fn push_starts_cells(
+    alloc: Global,
+    out: &mut String,
+    page: Page<'_>,
+    place: usize,
+) -> Result<(), AllocError>
+    ensures { OnOk result (string_bytes out.new ≡ string_bytes out.old ++ starts_cells page.entry place (frequent_count page.entry.view.frequent.now place)) }
+{
+    match frequent_count(page.view.frequent, place) {
+        Some(starts) => push_too_frequent(out, starts),
+        None => push_shown_starts(alloc, out, page, place),
+    }
+}
+
+fn push_too_frequent(out: &mut String, starts: u64) -> Result<(), AllocError>
+    ensures { OnOk result (string_bytes out.new ≡ string_bytes out.old ++ (number_text starts ++ piece_text Piece.TooFrequent)) }
+{
+    push_number(out, starts)?;
+    push_piece(out, Piece::TooFrequent)
+}
+
+fn push_shown_starts(
+    alloc: Global,
+    out: &mut String,
+    page: Page<'_>,
+    place: usize,
+) -> Result<(), AllocError>
+    ensures { OnOk result (string_bytes out.new ≡ string_bytes out.old
+        ++ (number_text (count_at place page.entry.view.plan.now.starts.items) ++ next_cell (next_starts place page.entry.starts.now))) }
+{
+    push_number(out, count_at(page.view.plan, place))?;
+    push_next(alloc, out, page.starts, place)
+}
+
+// Puts a cell with the first of these starts that are of the job at a place behind a text.
+fn push_next(
+    alloc: Global,
+    out: &mut String,
+    starts: &[TimedStart],
+    place: usize,
+) -> Result<(), AllocError>
+    ensures { OnOk result (string_bytes out.new ≡ string_bytes out.old ++ next_cell (next_starts place starts.now)) }
+{
+    let own = own_starts(alloc, starts, place)?;
+    push_next_cell(out, first_starts(own.as_slice()))
+}
+
+// Of these starts those of the job at a place.
+fn own_starts(
+    alloc: Global,
+    starts: &[TimedStart],
+    place: usize,
+) -> Result<Vec<TimedStart>, AllocError>
+    ensures { IfOk result (λ own. own.items ≡ filter (λ (s : TimedStart). s.start.job == place) starts.now) }
+{
+    let mut own = Vec::new(alloc);
+    for start in starts {
+        if start.start.job == place {
+            own.push(*start)?;
+        }
+    }
+    Ok(own)
+}
+
+// The first of these starts, as many as are told.
+fn first_starts(starts: &[TimedStart]) -> &[TimedStart]
+    ensures { result.now ≡ take most_next starts.now }
+{
+    if starts.len() > MOST_NEXT {
+        return starts.split_at(MOST_NEXT).0;
+    }
+    starts
+}
+
+#[tactic(auto, unfolding(crate::specs::PlanJobs::next_cell, crate::specs::Markup::list_of))]
+fn push_next_cell(out: &mut String, starts: &[TimedStart]) -> Result<(), AllocError>
+    ensures { OnOk result (string_bytes out.new ≡ string_bytes out.old ++ next_cell starts.now) }
+{
+    push_piece(out, Piece::Cell)?;
+    push_list_begin(out, starts.is_empty(), Piece::NoStart)?;
+    push_next_lines(out, starts)?;
+    push_list_end(out, starts.is_empty())?;
+    push_piece(out, Piece::CellEnd)
+}
+
+#[tactic(auto, using(crate::proofs::Steps::next_step), unfolding(crate::specs::PlanJobs::next_lines))]
+fn push_next_lines(out: &mut String, starts: &[TimedStart]) -> Result<(), AllocError>
+    ensures { OnOk result (string_bytes out.new ≡ string_bytes out.old ++ next_lines starts.now) }
+{
+    for start in starts {
+        push_next_line(out, *start)?;
+    }
+    Ok(())
+}
+
+#[tactic(auto, unfolding(crate::specs::PlanJobs::next_line))]
+fn push_next_line(out: &mut String, start: TimedStart) -> Result<(), AllocError>
+    ensures { OnOk result (string_bytes out.new ≡ string_bytes out.old ++ next_line start) }
+{
+    push_piece(out, Piece::PlainItem)?;
+    push_time(out, start.time)?;
+    push_piece(out, Piece::ItemEnd)
+}
+
+// Puts a cell with what to beware of in the job at a place behind a text.
+fn push_warnings(
+    out: &mut String,
+    warnings: &[Warnings<'_>],
+    place: usize,
+) -> Result<(), AllocError>
+    ensures { OnOk result (string_bytes out.new ≡ string_bytes out.old ++ list_cell (warnings_at warnings.now place) Piece.NoWarning) }
+{
+    match warnings.get(place) {
+        Some(warnings) => push_cell(out, warnings.lines, Piece::NoWarning),
+        None => push_cell(out, &[], Piece::NoWarning),
+    }
 }
 
 // Puts a cell with a list behind a text.

@@ -2,17 +2,23 @@
 //! reads a clock or a file.
 #![tactic(auto)]
 
+mod about;
+mod changes;
 mod days;
+mod fullest;
 mod jobs;
 mod markup;
 mod page;
 mod pieces;
+mod plan_page;
+mod quiet;
 mod time_lines;
+mod timed;
 mod week;
+mod words;
 
-pub use days::Day;
-pub use jobs::Job;
+pub use about::{About, Warnings};
 pub use markup::Line;
 pub use page::{Page, page_text};
-pub use time_lines::{Mark, Stretch};
-pub use week::{Cell, Row};
+pub use plan_page::page_of;
+pub use timed::{NamedDay, TimedChange, TimedMoment, TimedStart, TimedWindow};

@@ -1,7 +1,7 @@
 //! Texts in elements, and lists of them.
 ghost use Rattle.std.specs.Prelude.{◌≡◌, ◌++◌, OnOk, string_bytes};
 ghost use Rattle.std.specs.Fmt.{decimal};
-ghost use Rattle.cronplan_page.specs.Markup.{html, element, line_text, lines_text, list_text, section_text, number_text};
+ghost use Rattle.cronplan_page.specs.Markup.{html, element, line_text, lines_text, list_text, list_begin, list_end, section_text, number_text};
 
 use crate::pieces::{Piece, push_piece};
 use cronplan_forms::{Form, push_escaped};
@@ -79,6 +79,30 @@ pub(crate) fn push_list(out: &mut String, lines: &[Line<'_>], none: Piece) -> Re
     }
     push_piece(out, Piece::List)?;
     push_lines(out, lines)?;
+    push_piece(out, Piece::ListEnd)
+}
+
+/// Puts the begin of a list behind a text of a page, or what is said where it is empty. The only error is want of memory.
+pub(crate) fn push_list_begin(
+    out: &mut String,
+    is_empty: bool,
+    none: Piece,
+) -> Result<(), AllocError>
+    ensures { OnOk result (string_bytes out.new ≡ string_bytes out.old ++ list_begin is_empty none) }
+{
+    if is_empty {
+        return push_piece(out, none);
+    }
+    push_piece(out, Piece::List)
+}
+
+/// Puts the end of a list behind a text of a page, if it isn't empty. The only error is want of memory.
+pub(crate) fn push_list_end(out: &mut String, is_empty: bool) -> Result<(), AllocError>
+    ensures { OnOk result (string_bytes out.new ≡ string_bytes out.old ++ list_end is_empty) }
+{
+    if is_empty {
+        return Ok(());
+    }
     push_piece(out, Piece::ListEnd)
 }
 

@@ -1,36 +1,40 @@
-//! The page of a plan.
-ghost use Rattle.std.specs.Prelude.{◌≡◌, ◌++◌, IfOk, OnOk, string_bytes};
-ghost use Rattle.cronplan_page.specs.Pages.{head_text, box_text, top_text, answers_text, plan_text, page_text};
+//! The text of a page.
+ghost use Rattle.std.specs.Prelude.{◌≡◌, ◌≤◌, ◌++◌, IfOk, OnOk, length, string_bytes};
+ghost use Rattle.cronplan.specs.Counts.{count_of};
+ghost use Rattle.cronplan_page.specs.Pages.{head_text, ignored_text, span_text, counts_text, cut_text, about_text, top_text, answers_text, plan_text, page_text};
 
-use crate::days::{Day, push_days};
-use crate::jobs::{Job, push_lines_section, push_table};
-use crate::markup::{Line, push_element, push_list, push_section};
+use crate::about::About;
+use crate::changes::push_changes;
+use crate::days::push_days;
+use crate::fullest::push_fullest;
+use crate::jobs::{push_frequent, push_lines_section, push_table};
+use crate::markup::{Line, push_element, push_html, push_section};
 use crate::pieces::{Piece, push_piece};
-use crate::time_lines::Stretch;
-use crate::week::{Row, push_week};
+use crate::quiet::push_quiet;
+use crate::timed::{NamedDay, TimedChange, TimedMoment, TimedStart, TimedWindow};
+use crate::week::push_week;
+use crate::words::{push_between, push_many};
+use cronplan::{JobStart, Plan};
+use cronplan_forms::{ClockTime, View};
 use std::alloc::{AllocError, Global};
 
 /// What a page tells of a plan, in the order of its questions. Texts are shown as they are, but for the escapes of a page.
 #[derive(Clone, Copy)]
 pub struct Page<'p> {
-    pub title: &'p str,
-    /// The span, the zone, and how many jobs and starts there are.
-    pub about: &'p str,
-    /// What cron ignores.
-    pub ignored: &'p [Line<'p>],
-    /// The jobs that start too often to be shown.
-    pub frequent: &'p [Line<'p>],
+    pub view: View<'p>,
+    pub about: About<'p>,
+    /// The first second of the plan's span, and its end.
+    pub first: ClockTime,
+    pub end: ClockTime,
     /// The longest windows in which nothing starts.
-    pub quiet: &'p [Line<'p>],
+    pub quiet: &'p [TimedWindow],
     /// The fullest moments.
-    pub fullest: &'p [Line<'p>],
-    pub week: &'p [Row<'p>],
-    /// What the clock does in these days.
-    pub changes: &'p [Line<'p>],
-    /// What of the span the clock skips.
-    pub skipped: &'p [Stretch<'p>],
-    pub jobs: &'p [Job<'p>],
-    pub days: &'p [Day<'p>],
+    pub fullest: &'p [TimedMoment],
+    /// All starts of the plan.
+    pub starts: &'p [TimedStart],
+    /// The dates of the plan, and the changes of the clock there.
+    pub days: &'p [NamedDay<'p>],
+    pub changes: &'p [TimedChange],
 }
 
 /// The text of a page: HTML in UTF-8, without a script, which loads nothing.
@@ -41,9 +45,10 @@ pub fn page_text(alloc: Global, page: Page<'_>) -> Result<String, AllocError>
     ensures { IfOk result (λ t. string_bytes t ≡ page_text page.entry) }
 {
     let mut text = String::new(alloc);
-    push_head(&mut text, page.title)?;
+    push_head(&mut text, page.about.title)?;
+    push_top(&mut text, page)?;
     push_answers(&mut text, page)?;
-    push_plan(&mut text, page)?;
+    push_plan(alloc, &mut text, page)?;
     push_piece(&mut text, Piece::PageEnd)?;
     Ok(text)
 }
@@ -58,53 +63,110 @@ fn push_head(out: &mut String, title: &str) -> Result<(), AllocError>
     push_piece(out, Piece::HeadEnd)
 }
 
-// Puts what a plan answers behind the head of its page.
-#[tactic(auto, unfolding(crate::specs::Pages::answers_text))]
-fn push_answers(out: &mut String, page: Page<'_>) -> Result<(), AllocError>
-    ensures { OnOk result (string_bytes out.new ≡ string_bytes out.old ++ answers_text page.entry) }
-{
-    push_top(out, page)?;
-    push_section(out, Piece::QuietHeading, page.quiet, Piece::NoWindow)?;
-    push_section(out, Piece::FullestHeading, page.fullest, Piece::NoStart)?;
-    push_week(out, page.week)?;
-    push_list(out, page.changes, Piece::NoChange)
-}
-
 // Puts the first lines of a page behind its head: what it is of, what cron ignores, and what isn't shown.
 #[tactic(auto, unfolding(crate::specs::Pages::top_text))]
 fn push_top(out: &mut String, page: Page<'_>) -> Result<(), AllocError>
     ensures { OnOk result (string_bytes out.new ≡ string_bytes out.old ++ top_text page.entry) }
 {
-    push_element(out, Piece::Name, page.title, Piece::NameEnd)?;
-    push_element(out, Piece::Paragraph, page.about, Piece::ParagraphEnd)?;
-    push_box(out, Piece::Bad, Piece::IgnoredHeading, page.ignored)?;
-    push_box(out, Piece::Section, Piece::FrequentHeading, page.frequent)
+    push_element(out, Piece::Name, page.about.title, Piece::NameEnd)?;
+    push_about(out, page)?;
+    push_ignored(out, page.about.ignored)?;
+    push_frequent(out, page.view.jobs, page.view.frequent)
 }
 
-// Puts a section of its own behind a text, and nothing where it has no line.
-#[tactic(auto, unfolding(crate::specs::Pages::box_text))]
-fn push_box(
-    out: &mut String,
-    front: Piece,
-    heading: Piece,
-    lines: &[Line<'_>],
-) -> Result<(), AllocError>
-    ensures { OnOk result (string_bytes out.new ≡ string_bytes out.old ++ box_text front heading lines.now) }
+// Puts what a page is of behind its name.
+#[tactic(auto, unfolding(crate::specs::Pages::about_text))]
+fn push_about(out: &mut String, page: Page<'_>) -> Result<(), AllocError>
+    ensures { OnOk result (string_bytes out.new ≡ string_bytes out.old ++ about_text page.entry) }
+{
+    push_piece(out, Piece::Paragraph)?;
+    push_span(out, page)?;
+    push_counts(out, page)?;
+    push_piece(out, Piece::ParagraphEnd)?;
+    push_cut(out, page.view.is_cut)
+}
+
+// Puts the span behind a text, and whose clock that is.
+#[tactic(auto, unfolding(crate::specs::Pages::span_text))]
+fn push_span(out: &mut String, page: Page<'_>) -> Result<(), AllocError>
+    ensures { OnOk result (string_bytes out.new ≡ string_bytes out.old ++ span_text page.entry) }
+{
+    push_between(out, page.first, page.end)?;
+    push_piece(out, Piece::OnClock)?;
+    push_html(out, page.view.zone)
+}
+
+// Puts behind a text how many jobs there are, and how many starts of them are shown.
+#[tactic(auto, unfolding(crate::specs::Pages::counts_text))]
+fn push_counts(out: &mut String, page: Page<'_>) -> Result<(), AllocError>
+    ensures { OnOk result (string_bytes out.new ≡ string_bytes out.old ++ counts_text page.entry) }
+{
+    out.push_str(": ")?;
+    push_many(out, page.view.jobs.len() as u64, "job")?;
+    out.push_str(", with ")?;
+    push_many(out, count_of(page.view.plan), "start")?;
+    out.push_str(" shown.")
+}
+
+/// How many starts a plan has.
+fn count_of(plan: &Plan) -> u64
+    ensures { result ≡ count_of plan.now.starts.items }
+{
+    count_in(plan.starts.as_slice())
+}
+
+fn count_in(starts: &[JobStart]) -> u64
+    requires { length starts.now ≤ 100_000 }
+    ensures { result ≡ count_of starts.now }
+{
+    let mut count = 0;
+    for start in starts {
+        count += u64::from(start.count);
+    }
+    count
+}
+
+// Puts behind a text what is said where the plan ends before what was asked for.
+fn push_cut(out: &mut String, is_cut: bool) -> Result<(), AllocError>
+    ensures { OnOk result (string_bytes out.new ≡ string_bytes out.old ++ cut_text is_cut) }
+{
+    if is_cut {
+        return push_piece(out, Piece::Cut);
+    }
+    Ok(())
+}
+
+// Puts what cron ignores behind a text, and nothing where that is nothing.
+#[tactic(auto, unfolding(crate::specs::Pages::ignored_text))]
+fn push_ignored(out: &mut String, lines: &[Line<'_>]) -> Result<(), AllocError>
+    ensures { OnOk result (string_bytes out.new ≡ string_bytes out.old ++ ignored_text lines.now) }
 {
     if lines.is_empty() {
         return Ok(());
     }
-    push_piece(out, front)?;
-    push_section(out, heading, lines, Piece::SectionEnd)?;
+    push_piece(out, Piece::Bad)?;
+    push_section(out, Piece::IgnoredHeading, lines, Piece::SectionEnd)?;
     push_piece(out, Piece::SectionEnd)
+}
+
+// Puts what a plan answers behind the first lines of its page.
+#[tactic(auto, unfolding(crate::specs::Pages::answers_text))]
+fn push_answers(out: &mut String, page: Page<'_>) -> Result<(), AllocError>
+    ensures { OnOk result (string_bytes out.new ≡ string_bytes out.old ++ answers_text page.entry) }
+{
+    let starts = page.view.plan.starts.as_slice();
+    push_quiet(out, page.quiet)?;
+    push_fullest(out, page.view.jobs, starts, page.fullest)?;
+    push_week(out, page.days)?;
+    push_changes(out, page.changes)
 }
 
 // Puts the jobs and the days of a plan behind what it answers.
 #[tactic(auto, unfolding(crate::specs::Pages::plan_text))]
-fn push_plan(out: &mut String, page: Page<'_>) -> Result<(), AllocError>
+fn push_plan(alloc: Global, out: &mut String, page: Page<'_>) -> Result<(), AllocError>
     ensures { OnOk result (string_bytes out.new ≡ string_bytes out.old ++ plan_text page.entry) }
 {
-    push_lines_section(out, page.jobs, page.skipped)?;
-    push_days(out, page.days)?;
-    push_table(out, page.jobs)
+    push_lines_section(out, page)?;
+    push_days(out, page.view.jobs, page.starts, page.days)?;
+    push_table(alloc, out, page)
 }

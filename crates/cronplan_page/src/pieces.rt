@@ -21,14 +21,19 @@ pub(crate) enum Piece {
     NameEnd,
     Paragraph,
     ParagraphEnd,
+    // Between a span and a zone.
+    OnClock,
+    // What is said where a plan ends before what was asked for.
+    Cut,
     // A section that is marked.
     Bad,
     Section,
     SectionEnd,
     List,
     ListEnd,
-    // A line of a list, its rest, and its end.
+    // A line of a list, its rest, and its end; a line without a front of its own.
     Item,
+    PlainItem,
     ItemRest,
     ItemEnd,
     // Headings.
@@ -45,8 +50,9 @@ pub(crate) enum Piece {
     NoStart,
     NoChange,
     NoWarning,
-    // The table of days, with the hours of its head.
+    // The table of days, with the hours of its head, and what its signs mean.
     WeekTable,
+    WeekKey,
     // The table of jobs, with its head.
     JobsTable,
     TableEnd,
@@ -58,6 +64,8 @@ pub(crate) enum Piece {
     CellEnd,
     // A cell with a number.
     Number,
+    // In place of the starts of a job that isn't shown.
+    TooFrequent,
     // An hour that the clock skips.
     SkippedCell,
     // A picture with its caption.
@@ -65,7 +73,7 @@ pub(crate) enum Piece {
     Caption,
     Picture,
     Description,
-    // The end of a picture's description, and its axis.
+    // The end of a picture's description, and its axis; the end of a mark with a title.
     Axis,
     MarkEnd,
     FigureEnd,
@@ -99,12 +107,16 @@ fn text_of(piece: Piece) -> &'static str
         Piece::NameEnd => "</h1>\n",
         Piece::Paragraph => "<p>",
         Piece::ParagraphEnd => "</p>\n",
+        Piece::OnClock => ", on the clock of ",
+        Piece::Cut =>
+            "<p><b>It ends there, since a plan keeps no more starts: more was asked for.</b></p>\n",
         Piece::Bad => "<section class=\"bad\">\n",
         Piece::Section => "<section>\n",
         Piece::SectionEnd => "</section>\n",
         Piece::List => "<ul>\n",
         Piece::ListEnd => "</ul>\n",
         Piece::Item => "<li><b>",
+        Piece::PlainItem => "<li class=\"w\">",
         Piece::ItemRest => "</b> ",
         Piece::ItemEnd => "</li>\n",
         Piece::IgnoredHeading => "<h2>Cron ignores</h2>\n",
@@ -112,7 +124,8 @@ fn text_of(piece: Piece) -> &'static str
         Piece::QuietHeading => "<h2>Longest quiet windows</h2>\n",
         Piece::FullestHeading => "<h2>Fullest moments</h2>\n",
         Piece::WeekHeading => "<h2>Starts by hour</h2>\n",
-        Piece::LinesHeading => "<h2>Each job along the days</h2>\n",
+        Piece::LinesHeading =>
+            "<h2>Each job along the days</h2>\n<p>From the first second of the span to its last: a mark is a start, and a line across a change of the clock.</p>\n",
         Piece::DaysHeading => "<h2>Day by day</h2>\n",
         Piece::JobsHeading => "<h2>Jobs</h2>\n",
         Piece::NoWindow => "<p>There is none.</p>\n",
@@ -120,6 +133,8 @@ fn text_of(piece: Piece) -> &'static str
         Piece::NoChange => "<p>The clock goes on evenly in these days.</p>\n",
         Piece::NoWarning => "<p>Nothing.</p>\n",
         Piece::WeekTable => week_table(),
+        Piece::WeekKey =>
+            "<p>Each hour has a number, how many starts it has. An x stands where the clock skips the hour, and a broken line around an hour that it shows twice.</p>\n",
         Piece::JobsTable =>
             "<div class=\"wide\">\n<table>\n<tr><th scope=\"col\">Job</th><th scope=\"col\">When</th><th scope=\"col\">Line</th><th scope=\"col\">Starts</th><th scope=\"col\">Next</th><th scope=\"col\">Beware</th></tr>\n",
         Piece::TableEnd => "</table>\n</div>\n",
@@ -129,6 +144,7 @@ fn text_of(piece: Piece) -> &'static str
         Piece::Cell => "<td>",
         Piece::CellEnd => "</td>",
         Piece::Number => "<td class=\"n\">",
+        Piece::TooFrequent => "<td><p>It starts too often.</p></td>",
         Piece::SkippedCell => "<td class=\"x\">x</td>",
         Piece::Figure => "<figure><figcaption><b>",
         Piece::Caption => "</b> ",
@@ -136,7 +152,7 @@ fn text_of(piece: Piece) -> &'static str
             "</figcaption><svg viewBox=\"0 0 1000 20\" preserveAspectRatio=\"none\" role=\"img\">",
         Piece::Description => "<desc>",
         Piece::Axis => "</desc><rect class=\"a\" x=\"0\" width=\"1000\"/>",
-        Piece::MarkEnd => "</rect>",
+        Piece::MarkEnd => "</title></rect>",
         Piece::FigureEnd => "</svg></figure>\n",
         Piece::Day => "<details><summary>",
         Piece::DayName => "</summary>\n",
@@ -148,7 +164,7 @@ fn text_of(piece: Piece) -> &'static str
 fn style() -> &'static str
     ensures { result.now ≡ style_text }
 {
-    "<style>\n:root { color-scheme: light dark; --ink: #1b1f24; --soft: #57606a; --paper: #ffffff; --line: #d0d7de; --bad: #a40e26; --mark: #0550ae; }\n@media (prefers-color-scheme: dark) { :root { --ink: #e6edf3; --soft: #9da7b3; --paper: #0d1117; --line: #3d444d; --bad: #ff9492; --mark: #79c0ff; } }\nbody { margin: 0; background: var(--paper); color: var(--ink); font: 16px/1.5 system-ui, sans-serif; }\nmain { max-width: 70rem; margin: 0 auto; padding: 1rem; }\nh1 { font-size: 1.6rem; line-height: 1.2; } h2 { font-size: 1.2rem; margin: 1.6rem 0 .4rem; }\np { margin: .3rem 0; } ul { margin: .3rem 0; padding-left: 1.2rem; } li { overflow-wrap: anywhere; }\n.bad { border-left: .3rem solid var(--bad); padding-left: 1rem; } .bad h2 { color: var(--bad); }\n.wide { overflow-x: auto; } table { border-collapse: collapse; font-size: .875rem; }\nth, td { padding: .2rem .4rem; text-align: left; vertical-align: top; border-bottom: 1px solid var(--line); }\ntd ul { padding-left: 1rem; margin: 0; } td p { margin: 0; } td.n { text-align: right; }\n.week td[class], .week th[scope=col] { text-align: center; min-width: 1.4rem; padding: .2rem; font-variant-numeric: tabular-nums; }\n.week th[scope=row], .week td { white-space: nowrap; } .week td.n { text-align: right; }\n.s1, .s2 { background: #0969da26; } .s3, .s4 { background: #0969da4d; } .s5, .s6 { background: #bf870073; } .s7, .s8 { background: #bf3989; color: #ffffff; }\n.t { outline: 1px dashed var(--soft); outline-offset: -2px; } .x { color: var(--soft); }\nfigure { margin: .6rem 0; } figcaption { font-size: .875rem; overflow-wrap: anywhere; }\nsvg { display: block; width: 100%; height: 20px; } rect { height: 12px; y: 4px; }\n.a { fill: var(--line); height: 2px; y: 9px; } .m { fill: var(--mark); width: 3px; } .b { fill: var(--mark); opacity: .4; } .h { fill: var(--soft); opacity: .5; }\nsummary { cursor: pointer; }\n@page { size: A4; margin: 12mm; }\n@media print { main { max-width: none; padding: 0; } body { font-size: 11px; } tr, figure, li { break-inside: avoid; } .wide { overflow: visible; } table { font-size: 9px; } .week td[class], .week th[scope=col] { min-width: 0; padding: 1px; } }\n</style>\n"
+    "<style>\n:root { color-scheme: light dark; --ink: #1b1f24; --soft: #57606a; --paper: #ffffff; --line: #d0d7de; --bad: #a40e26; --mark: #0550ae; }\n@media (prefers-color-scheme: dark) { :root { --ink: #e6edf3; --soft: #9da7b3; --paper: #0d1117; --line: #3d444d; --bad: #ff9492; --mark: #79c0ff; } }\nbody { margin: 0; background: var(--paper); color: var(--ink); font: 16px/1.5 system-ui, sans-serif; }\nmain { max-width: 70rem; margin: 0 auto; padding: 1rem; }\nh1 { font-size: 1.6rem; line-height: 1.2; } h2 { font-size: 1.2rem; margin: 1.6rem 0 .4rem; }\np { margin: .3rem 0; } ul { margin: .3rem 0; padding-left: 1.2rem; } li { overflow-wrap: anywhere; }\n.bad { border-left: .3rem solid var(--bad); padding-left: 1rem; } .bad h2 { color: var(--bad); }\n.wide { overflow-x: auto; } table { border-collapse: collapse; font-size: .875rem; }\nth, td { padding: .2rem .4rem; text-align: left; vertical-align: top; border-bottom: 1px solid var(--line); }\ntd ul { padding-left: 1rem; margin: 0; } td p { margin: 0; } td.n { text-align: right; } .w { white-space: nowrap; }\n.week td[class], .week th[scope=col] { text-align: center; min-width: 1.4rem; padding: .2rem; font-variant-numeric: tabular-nums; }\n.week th[scope=row], .week td { white-space: nowrap; } .week td.n { text-align: right; }\n.s1, .s2 { background: #0969da26; } .s3, .s4 { background: #0969da4d; } .s5, .s6 { background: #bf870073; } .s7, .s8 { background: #bf3989; color: #ffffff; }\n.t { outline: 1px dashed var(--soft); outline-offset: -2px; } .x { color: var(--soft); }\nfigure { margin: .6rem 0; } figcaption { font-size: .875rem; overflow-wrap: anywhere; }\nsvg { display: block; width: 100%; height: 20px; } rect { height: 12px; y: 4px; }\n.a { fill: var(--line); height: 2px; y: 9px; } .m { fill: var(--mark); width: 3px; } .b { fill: var(--mark); opacity: .4; } .h { fill: var(--bad); width: 2px; height: 20px; y: 0; }\nsummary { cursor: pointer; }\n@page { size: A4; margin: 12mm; }\n@media print { main { max-width: none; padding: 0; } body { font-size: 11px; } tr, figure, li { break-inside: avoid; } .wide { overflow: visible; } table { font-size: 9px; } .week td[class], .week th[scope=col] { min-width: 0; padding: 1px; } }\n</style>\n"
 }
 
 #[tactic(auto, unfolding(crate::specs::Pieces::week_table_text))]

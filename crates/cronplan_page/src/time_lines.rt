@@ -1,46 +1,38 @@
 //! The starts of a job along a line of time, as a picture (SVG).
-ghost use Rattle.std.specs.Prelude.{◌≡◌, ◌++◌, OnOk, string_bytes};
-ghost use Rattle.cronplan_page.specs.TimeLines.{mark_text, marks_text, stretch_text, stretches_text, band_text, starts_text, picture_names, line_head, time_line_text};
+ghost use Rattle.std.specs.Prelude.{◌≡◌, ◌<◌, ◌≤◌, ◌^◌, ◌-ℤ◌, ◌++◌, OnOk, length, string_bytes, unsigned_abs};
+ghost use Rattle.cronplan_page.specs.TimeLines.{part_of, thousandths, counted_at, count_at, rect_text, mark_text, mark_of, marks_text, change_title, change_mark, change_marks, band_text, starts_text, picture_names, line_head, time_line};
 
-use crate::jobs::Job;
+use crate::changes::push_change_words;
 use crate::markup::{push_element, push_html};
+use crate::page::Page;
 use crate::pieces::{Piece, push_piece};
+use crate::timed::{TimedChange, TimedStart};
+use crate::words::{push_many, push_time};
+use cronplan::{ClockChange, JobStart, Plan, Span};
+use cronplan_forms::Job;
 use std::alloc::AllocError;
 
 /// A job of more starts than these is shown as a band.
 const MOST_MARKS: u64 = 200;
 
-/// A start on a line of time.
-#[derive(Clone, Copy)]
-pub struct Mark<'p> {
-    /// Where it lies on the line, in thousandths of the span.
-    pub at: u32,
-    /// When that is.
-    pub text: &'p str,
-}
+/// The parts of a line of time.
+const PARTS: u64 = 1_000;
 
-/// A part of a line of time that the clock skips.
-#[derive(Clone, Copy)]
-pub struct Stretch<'p> {
-    /// Where it begins, and how long it is, in thousandths of the span.
-    pub at: u32,
-    pub width: u32,
-    /// Which part of the clock that is.
-    pub text: &'p str,
-}
-
-/// Puts the line of time of a job behind a text of a page. The only error is want of memory; what then stands behind the text is not said.
-#[tactic(auto, unfolding(crate::specs::TimeLines::time_line_text))]
+/// Puts the line of time of the job at a place behind a text of a page. The only error is want of memory; what then stands behind the text
+/// is not said.
+#[tactic(auto, unfolding(crate::specs::TimeLines::time_line))]
 pub(crate) fn push_time_line(
     out: &mut String,
+    page: Page<'_>,
+    place: usize,
     job: Job<'_>,
-    skipped: &[Stretch<'_>],
 ) -> Result<(), AllocError>
-    ensures { OnOk result (string_bytes out.new ≡ string_bytes out.old ++ time_line_text skipped.now job.entry) }
+    ensures { OnOk result (string_bytes out.new ≡ string_bytes out.old ++ time_line page.entry place job.entry) }
 {
+    let plan = page.view.plan;
     push_head(out, job)?;
-    push_stretches(out, skipped)?;
-    push_starts(out, job)?;
+    push_change_marks(out, plan.span, page.changes)?;
+    push_starts(out, plan.span, place, count_at(plan, place), page.starts)?;
     push_piece(out, Piece::FigureEnd)
 }
 
@@ -63,62 +55,180 @@ fn push_names(out: &mut String, job: Job<'_>) -> Result<(), AllocError>
     push_element(out, Piece::Description, job.words, Piece::Axis)
 }
 
-// Puts the starts of a job behind a text: as marks, or as a band.
-fn push_starts(out: &mut String, job: Job<'_>) -> Result<(), AllocError>
-    ensures { OnOk result (string_bytes out.new ≡ string_bytes out.old ++ starts_text job.entry) }
+// Puts the starts of a job behind a text, which are so many: as marks, or as a band.
+fn push_starts(
+    out: &mut String,
+    span: Span,
+    place: usize,
+    count: u64,
+    starts: &[TimedStart],
+) -> Result<(), AllocError>
+    ensures { OnOk result (string_bytes out.new ≡ string_bytes out.old ++ starts_text span place count starts.now) }
 {
-    if job.starts > MOST_MARKS {
-        return push_band(out, job.starts);
+    if count > MOST_MARKS {
+        return push_band(out, count);
     }
-    push_marks(out, job.marks)
+    push_marks(out, span, place, starts)
 }
 
 #[tactic(auto, unfolding(crate::specs::TimeLines::band_text))]
-fn push_band(out: &mut String, starts: u64) -> Result<(), AllocError>
-    ensures { OnOk result (string_bytes out.new ≡ string_bytes out.old ++ band_text starts) }
+fn push_band(out: &mut String, count: u64) -> Result<(), AllocError>
+    ensures { OnOk result (string_bytes out.new ≡ string_bytes out.old ++ band_text count) }
 {
-    write!(
-        out,
-        "<rect class=\"b\" x=\"0\" width=\"1000\"><title>{starts} starts</title></rect>"
-    )
+    out.push_str("<rect class=\"b\" x=\"0\" width=\"1000\"><title>")?;
+    push_many(out, count, "start")?;
+    out.push_str("</title></rect>")
 }
 
 #[tactic(auto, using(crate::proofs::Steps::marks_step), unfolding(crate::specs::TimeLines::marks_text))]
-fn push_marks(out: &mut String, marks: &[Mark<'_>]) -> Result<(), AllocError>
-    ensures { OnOk result (string_bytes out.new ≡ string_bytes out.old ++ marks_text marks.now) }
+fn push_marks(
+    out: &mut String,
+    span: Span,
+    place: usize,
+    starts: &[TimedStart],
+) -> Result<(), AllocError>
+    ensures { OnOk result (string_bytes out.new ≡ string_bytes out.old ++ marks_text span place starts.now) }
 {
-    for mark in marks {
-        push_mark(out, *mark)?;
+    for start in starts {
+        push_mark_of(out, span, place, *start)?;
+    }
+    Ok(())
+}
+
+// Puts a start behind a text, if it is of the job at a place.
+fn push_mark_of(
+    out: &mut String,
+    span: Span,
+    place: usize,
+    start: TimedStart,
+) -> Result<(), AllocError>
+    ensures { OnOk result (string_bytes out.new ≡ string_bytes out.old ++ mark_of span place start) }
+{
+    if start.start.job == place {
+        return push_mark(out, span, start);
     }
     Ok(())
 }
 
 #[tactic(auto, unfolding(crate::specs::TimeLines::mark_text))]
-fn push_mark(out: &mut String, mark: Mark<'_>) -> Result<(), AllocError>
-    ensures { OnOk result (string_bytes out.new ≡ string_bytes out.old ++ mark_text mark.entry) }
+fn push_mark(out: &mut String, span: Span, start: TimedStart) -> Result<(), AllocError>
+    ensures { OnOk result (string_bytes out.new ≡ string_bytes out.old ++ mark_text span start) }
 {
-    let at = mark.at;
-    write!(out, "<rect class=\"m\" x=\"{at}\">")?;
-    push_element(out, Piece::Title, mark.text, Piece::TitleEnd)?;
+    push_rect(out, "m", start_place(span, start.start))?;
+    push_piece(out, Piece::Title)?;
+    push_time(out, start.time)?;
     push_piece(out, Piece::MarkEnd)
 }
 
-#[tactic(auto, using(crate::proofs::Steps::stretches_step), unfolding(crate::specs::TimeLines::stretches_text))]
-fn push_stretches(out: &mut String, skipped: &[Stretch<'_>]) -> Result<(), AllocError>
-    ensures { OnOk result (string_bytes out.new ≡ string_bytes out.old ++ stretches_text skipped.now) }
+// Puts the begin of a mark at a place behind a text.
+#[tactic(auto, unfolding(crate::specs::TimeLines::rect_text))]
+fn push_rect(out: &mut String, class: &str, at: u64) -> Result<(), AllocError>
+    ensures { OnOk result (string_bytes out.new ≡ string_bytes out.old ++ rect_text class.now at) }
 {
-    for stretch in skipped {
-        push_stretch(out, *stretch)?;
+    write!(out, "<rect class=\"{class}\" x=\"{at}\">")
+}
+
+#[tactic(auto, using(crate::proofs::Steps::change_marks_step), unfolding(crate::specs::TimeLines::change_marks))]
+fn push_change_marks(
+    out: &mut String,
+    span: Span,
+    changes: &[TimedChange],
+) -> Result<(), AllocError>
+    ensures { OnOk result (string_bytes out.new ≡ string_bytes out.old ++ change_marks span changes.now) }
+{
+    for change in changes {
+        push_change_mark(out, span, *change)?;
     }
     Ok(())
 }
 
-#[tactic(auto, unfolding(crate::specs::TimeLines::stretch_text))]
-fn push_stretch(out: &mut String, stretch: Stretch<'_>) -> Result<(), AllocError>
-    ensures { OnOk result (string_bytes out.new ≡ string_bytes out.old ++ stretch_text stretch.entry) }
+#[tactic(auto, unfolding(crate::specs::TimeLines::change_mark))]
+fn push_change_mark(out: &mut String, span: Span, change: TimedChange) -> Result<(), AllocError>
+    ensures { OnOk result (string_bytes out.new ≡ string_bytes out.old ++ change_mark span change) }
 {
-    let (at, width) = (stretch.at, stretch.width);
-    write!(out, "<rect class=\"h\" x=\"{at}\" width=\"{width}\">")?;
-    push_element(out, Piece::Title, stretch.text, Piece::TitleEnd)?;
+    push_rect(out, "h", change_place(span, change.change))?;
+    push_piece(out, Piece::Title)?;
+    push_change_title(out, change)?;
     push_piece(out, Piece::MarkEnd)
+}
+
+#[tactic(auto, unfolding(crate::specs::TimeLines::change_title))]
+fn push_change_title(out: &mut String, change: TimedChange) -> Result<(), AllocError>
+    ensures { OnOk result (string_bytes out.new ≡ string_bytes out.old ++ change_title change) }
+{
+    push_time(out, change.shown)?;
+    out.push_str(" ")?;
+    push_change_words(out, change)
+}
+
+// Where a start lies in a span.
+fn start_place(span: Span, start: JobStart) -> u64
+    ensures { result ≡ thousandths span start.second }
+{
+    thousandths(span, start.second)
+}
+
+// Where a change of the clock lies in a span.
+fn change_place(span: Span, change: ClockChange) -> u64
+    ensures { result ≡ thousandths span change.second }
+{
+    thousandths(span, change.second)
+}
+
+// Where a second lies in a span, in thousandths of that; one that isn't in it lies at its end.
+#[tactic(auto, unfolding(crate::specs::TimeLines::thousandths))]
+fn thousandths(span: Span, second: i64) -> u64
+    ensures { result ≡ thousandths span second }
+{
+    part_of(span.first.abs_diff(second), length_of(span))
+}
+
+fn part_of(gone: u64, whole: u64) -> u64
+    requires { whole < 2 ^ 50 }
+    ensures { result ≡ part_of gone whole }
+{
+    if gone < whole {
+        gone * PARTS / whole
+    } else {
+        PARTS
+    }
+}
+
+// How many seconds a span has.
+#[tactic(auto, using(crate::proofs::SpanLengths::span_length))]
+fn length_of(span: Span) -> u64
+    ensures value { result ≡ unsigned_abs (span.first -ℤ span.end) }
+    ensures bound { result < 2 ^ 50 }
+{
+    span.first.abs_diff(span.end)
+}
+
+/// How many starts the job at a place has in a plan.
+pub(crate) fn count_at(plan: &Plan, place: usize) -> u64
+    ensures { result ≡ count_at place plan.now.starts.items }
+{
+    count_in(plan.starts.as_slice(), place)
+}
+
+fn count_in(starts: &[JobStart], place: usize) -> u64
+    requires { length starts.now ≤ 100_000 }
+    ensures { result ≡ count_at place starts.now }
+{
+    let mut count = 0;
+    for start in starts {
+        count += counted_at(*start, place);
+    }
+    count
+}
+
+// How many starts a start counts of the job at a place.
+fn counted_at(start: JobStart, place: usize) -> u64
+    ensures value { result ≡ counted_at place start }
+    ensures bound { result < 2 ^ 32 }
+{
+    if start.job == place {
+        u64::from(start.count)
+    } else {
+        0
+    }
 }

@@ -1,74 +1,63 @@
 //! The days of a plan as a table: a row a day, a cell an hour.
 ghost use Rattle.std.specs.Prelude.{◌≡◌, ◌++◌, OnOk, string_bytes};
-ghost use Rattle.cronplan_page.specs.Weeks.{step_of, count_text, cell_text, cells_text, row_end, row_text, rows_text, week_text};
+ghost use Rattle.cronplan_forms.specs.Weeks.{second_of_day, clock_text};
+ghost use Rattle.cronplan_page.specs.Weeks.{step_of, count_text, class_of, cell_text, cells_text, fullest_of, fullest_cell, day_cells, row_text, rows_text, week_text};
 
-use crate::markup::{push_element, push_number};
+use crate::markup::push_number;
 use crate::pieces::{Piece, push_piece};
+use crate::timed::NamedDay;
+use crate::words::push_date_name;
+use cronplan::{Day, HourCell, Moment};
 use std::alloc::AllocError;
 
-/// An hour of a day, with how many starts come in it.
-#[derive(Clone, Copy)]
-pub enum Cell {
-    /// The clock shows it once.
-    Once(u64),
-    /// The clock shows it twice: the starts of both.
-    Twice(u64),
-    /// The clock skips it.
-    Skipped,
-}
+const SECONDS_PER_DAY: i64 = 86_400;
 
-/// A day.
-#[derive(Clone, Copy)]
-pub struct Row<'p> {
-    pub day: &'p str,
-    /// Its hours, from 0 to 23.
-    pub cells: &'p [Cell],
-    pub starts: u64,
-    /// Its fullest moment.
-    pub fullest: &'p str,
-}
-
-/// Puts the table of some days behind a text of a page. The only error is want of memory; what then stands behind the text is not said.
+/// Puts the table of some days behind a text of a page, and what its signs mean. The only error is want of memory; what then stands behind
+/// the text is not said.
 #[tactic(auto, unfolding(crate::specs::Weeks::week_text))]
-pub(crate) fn push_week(out: &mut String, rows: &[Row<'_>]) -> Result<(), AllocError>
-    ensures { OnOk result (string_bytes out.new ≡ string_bytes out.old ++ week_text rows.now) }
+pub(crate) fn push_week(out: &mut String, days: &[NamedDay<'_>]) -> Result<(), AllocError>
+    ensures { OnOk result (string_bytes out.new ≡ string_bytes out.old ++ week_text days.now) }
 {
     push_piece(out, Piece::WeekHeading)?;
     push_piece(out, Piece::WeekTable)?;
-    push_rows(out, rows)?;
-    push_piece(out, Piece::TableEnd)
+    push_rows(out, days)?;
+    push_piece(out, Piece::TableEnd)?;
+    push_piece(out, Piece::WeekKey)
 }
 
 #[tactic(auto, using(crate::proofs::Steps::rows_step), unfolding(crate::specs::Weeks::rows_text))]
-fn push_rows(out: &mut String, rows: &[Row<'_>]) -> Result<(), AllocError>
-    ensures { OnOk result (string_bytes out.new ≡ string_bytes out.old ++ rows_text rows.now) }
+fn push_rows(out: &mut String, days: &[NamedDay<'_>]) -> Result<(), AllocError>
+    ensures { OnOk result (string_bytes out.new ≡ string_bytes out.old ++ rows_text days.now) }
 {
-    for row in rows {
-        push_row(out, *row)?;
+    for day in days {
+        push_row(out, *day)?;
     }
     Ok(())
 }
 
 #[tactic(auto, unfolding(crate::specs::Weeks::row_text))]
-fn push_row(out: &mut String, row: Row<'_>) -> Result<(), AllocError>
-    ensures { OnOk result (string_bytes out.new ≡ string_bytes out.old ++ row_text row.entry) }
+fn push_row(out: &mut String, day: NamedDay<'_>) -> Result<(), AllocError>
+    ensures { OnOk result (string_bytes out.new ≡ string_bytes out.old ++ row_text day.entry) }
 {
-    push_element(out, Piece::Row, row.day, Piece::RowName)?;
-    push_cells(out, row.cells)?;
-    push_row_end(out, row)
+    push_piece(out, Piece::Row)?;
+    push_date_name(out, day)?;
+    push_piece(out, Piece::RowName)?;
+    push_day_cells(out, day.day)
 }
 
-#[tactic(auto, unfolding(crate::specs::Weeks::row_end))]
-fn push_row_end(out: &mut String, row: Row<'_>) -> Result<(), AllocError>
-    ensures { OnOk result (string_bytes out.new ≡ string_bytes out.old ++ row_end row.entry) }
+// Puts the cells of a day behind its name.
+#[tactic(auto, unfolding(crate::specs::Weeks::day_cells))]
+fn push_day_cells(out: &mut String, day: &Day) -> Result<(), AllocError>
+    ensures { OnOk result (string_bytes out.new ≡ string_bytes out.old ++ day_cells day.now) }
 {
-    push_number(out, row.starts)?;
-    push_element(out, Piece::Cell, row.fullest, Piece::CellEnd)?;
+    push_cells(out, day.hours.as_slice())?;
+    push_number(out, day.starts)?;
+    push_fullest_cell(out, day.fullest)?;
     push_piece(out, Piece::RowEnd)
 }
 
 #[tactic(auto, using(crate::proofs::Steps::cells_step), unfolding(crate::specs::Weeks::cells_text))]
-fn push_cells(out: &mut String, cells: &[Cell]) -> Result<(), AllocError>
+fn push_cells(out: &mut String, cells: &[HourCell]) -> Result<(), AllocError>
     ensures { OnOk result (string_bytes out.new ≡ string_bytes out.old ++ cells_text cells.now) }
 {
     for cell in cells {
@@ -77,14 +66,20 @@ fn push_cells(out: &mut String, cells: &[Cell]) -> Result<(), AllocError>
     Ok(())
 }
 
-fn push_cell(out: &mut String, cell: Cell) -> Result<(), AllocError>
+fn push_cell(out: &mut String, cell: HourCell) -> Result<(), AllocError>
     ensures { OnOk result (string_bytes out.new ≡ string_bytes out.old ++ cell_text cell) }
 {
-    match cell {
-        Cell::Once(starts) => push_count(out, "", starts),
-        Cell::Twice(starts) => push_count(out, "t ", starts),
-        Cell::Skipped => push_piece(out, Piece::SkippedCell),
+    if cell.skipped {
+        return push_piece(out, Piece::SkippedCell);
     }
+    push_count(out, class_of(cell.repeated), cell.starts)
+}
+
+// The class of an hour that the clock shows twice, and of others.
+fn class_of(repeated: bool) -> &'static str
+    ensures { result.now ≡ class_of repeated }
+{
+    if repeated { "t " } else { "" }
 }
 
 // Puts the count of an hour behind a text: nothing where it is 0.
@@ -106,12 +101,50 @@ fn step_of(starts: u64) -> u8
     match starts {
         0 => 0,
         1 => 1,
-        2 => 2,
-        3..=4 => 3,
-        5..=8 => 4,
-        9..=16 => 5,
-        17..=32 => 6,
-        33..=64 => 7,
+        2..=3 => 2,
+        4..=7 => 3,
+        8..=15 => 4,
+        16..=31 => 5,
+        32..=63 => 6,
+        64..=127 => 7,
         _ => 8,
     }
+}
+
+#[tactic(auto, unfolding(crate::specs::Weeks::fullest_cell))]
+fn push_fullest_cell(out: &mut String, fullest: Option<Moment>) -> Result<(), AllocError>
+    ensures { OnOk result (string_bytes out.new ≡ string_bytes out.old ++ fullest_cell fullest) }
+{
+    push_piece(out, Piece::Cell)?;
+    push_fullest(out, fullest)?;
+    push_piece(out, Piece::CellEnd)
+}
+
+// Puts the fullest moment of a day behind a text, if it has one.
+fn push_fullest(out: &mut String, fullest: Option<Moment>) -> Result<(), AllocError>
+    ensures { OnOk result (string_bytes out.new ≡ string_bytes out.old ++ fullest_of fullest) }
+{
+    match fullest {
+        Some(moment) => {
+            let starts = moment.starts;
+            write!(out, "{starts} at ")?;
+            push_clock(out, second_of_day(moment.wall))
+        }
+        None => Ok(()),
+    }
+}
+
+// Puts the hour and the minute of a second of the day behind a text, as `02:30`.
+fn push_clock(out: &mut String, second: u64) -> Result<(), AllocError>
+    ensures { OnOk result (string_bytes out.new ≡ string_bytes out.old ++ clock_text second) }
+{
+    let (hour, minute) = (second / 3_600, second / 60 % 60);
+    write!(out, "{hour:02}:{minute:02}")
+}
+
+// The second of its day that a wall second is, from 0 to 86,399.
+fn second_of_day(wall: i64) -> u64
+    ensures { result ≡ second_of_day wall }
+{
+    wall.rem_euclid(SECONDS_PER_DAY) as u64
 }

@@ -4,4 +4,4 @@ use Rattle.cronplan_page.specs.PlanDays.{day_text}
 use Rattle.cronplan_page.proofs.days.push_each.Given as goal
 
 abbrev pub invariant-loop-day : goal.invariant-loop-day
-invariant-loop-day l = string_bytes l.out ++ flat_map day_text (drop l.day-index l.days) ≡ string_bytes l.initial.out ++ flat_map day_text l.days
+invariant-loop-day l = string_bytes l.out ++ flat_map (day_text l.jobs l.starts) (drop l.day-index l.days) ≡ string_bytes l.initial.out ++ flat_map (day_text l.jobs l.starts) l.days

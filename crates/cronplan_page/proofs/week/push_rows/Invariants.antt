@@ -3,5 +3,5 @@ use Rattle.std.specs.List.{flat_map}
 use Rattle.cronplan_page.specs.Weeks.{row_text}
 use Rattle.cronplan_page.proofs.week.push_rows.Given as goal
 
-abbrev pub invariant-loop-row : goal.invariant-loop-row
-invariant-loop-row l = string_bytes l.out ++ flat_map row_text (drop l.row-index l.rows) ≡ string_bytes l.initial.out ++ flat_map row_text l.rows
+abbrev pub invariant-loop-day : goal.invariant-loop-day
+invariant-loop-day l = string_bytes l.out ++ flat_map row_text (drop l.day-index l.days) ≡ string_bytes l.initial.out ++ flat_map row_text l.days

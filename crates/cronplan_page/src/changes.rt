@@ -1,0 +1,74 @@
+//! The changes of a clock in words.
+ghost use Rattle.std.specs.Prelude.{◌≡◌, ◌++◌, OnOk, string_bytes};
+ghost use Rattle.cronplan_page.specs.ClockChanges.{moved, fate_text, change_words, change_line, change_lines, changes_text};
+
+use crate::markup::{push_list_begin, push_list_end};
+use crate::pieces::{Piece, push_piece};
+use crate::timed::TimedChange;
+use crate::words::{push_duration, push_time};
+use std::alloc::AllocError;
+
+/// Puts the list of some changes behind a text of a page. The only error is want of memory; what then stands behind the text is not said.
+#[tactic(auto, unfolding(crate::specs::ClockChanges::changes_text, crate::specs::Markup::list_of))]
+pub(crate) fn push_changes(out: &mut String, changes: &[TimedChange]) -> Result<(), AllocError>
+    ensures { OnOk result (string_bytes out.new ≡ string_bytes out.old ++ changes_text changes.now) }
+{
+    push_list_begin(out, changes.is_empty(), Piece::NoChange)?;
+    push_each(out, changes)?;
+    push_list_end(out, changes.is_empty())
+}
+
+#[tactic(auto, using(crate::proofs::Steps::changes_step), unfolding(crate::specs::ClockChanges::change_lines))]
+fn push_each(out: &mut String, changes: &[TimedChange]) -> Result<(), AllocError>
+    ensures { OnOk result (string_bytes out.new ≡ string_bytes out.old ++ change_lines changes.now) }
+{
+    for change in changes {
+        push_change(out, *change)?;
+    }
+    Ok(())
+}
+
+#[tactic(auto, unfolding(crate::specs::ClockChanges::change_line))]
+fn push_change(out: &mut String, change: TimedChange) -> Result<(), AllocError>
+    ensures { OnOk result (string_bytes out.new ≡ string_bytes out.old ++ change_line change) }
+{
+    push_piece(out, Piece::Item)?;
+    push_time(out, change.shown)?;
+    push_piece(out, Piece::ItemRest)?;
+    push_change_words(out, change)?;
+    push_piece(out, Piece::ItemEnd)
+}
+
+/// Puts a change in words behind a text of a page. The only error is want of memory.
+#[tactic(auto, unfolding(crate::specs::ClockChanges::change_words))]
+pub(crate) fn push_change_words(out: &mut String, change: TimedChange) -> Result<(), AllocError>
+    ensures { OnOk result (string_bytes out.new ≡ string_bytes out.old ++ change_words change) }
+{
+    out.push_str("follows ")?;
+    push_time(out, change.before)?;
+    out.push_str(": ")?;
+    push_duration(out, moved(change))?;
+    out.push_str(fate_text(change))
+}
+
+// By how many seconds the clock is put forward or back.
+fn moved(change: TimedChange) -> u64
+    ensures { result ≡ moved change }
+{
+    change
+        .before
+        .ahead
+        .seconds
+        .abs_diff(change.shown.ahead.seconds)
+}
+
+// What becomes of so much of the clock.
+fn fate_text(change: TimedChange) -> &'static str
+    ensures { result.now ≡ fate_text change }
+{
+    if change.before.ahead.seconds < change.shown.ahead.seconds {
+        " is skipped"
+    } else {
+        " is shown twice"
+    }
+}

@@ -1,0 +1,116 @@
+//! The page of a plan.
+ghost use Rattle.std.specs.Prelude.{◌≡◌, IfOk, string_bytes, take};
+ghost use Rattle.croner_base.specs.TableZone.{table_zone};
+ghost use Rattle.cronplan.specs.Days.{AreDays};
+ghost use Rattle.cronplan_page.specs.PlanPages.{most_quiet, AreLongest, AreFullestOf, IsPageText};
+ghost use Rattle.cronplan_page.specs.Timed.{AreTimedStarts, AreTimedChanges};
+
+use crate::about::About;
+use crate::page::{Page, page_text};
+use crate::timed::{
+    TimedChange, TimedMoment, TimedStart, TimedWindow, named_days, timed_changes, timed_moments,
+    timed_starts, timed_windows,
+};
+use croner_base::time::table::ClockTable;
+use cronplan::{Days, Plan, Window};
+use cronplan_forms::{ClockTime, View};
+use std::alloc::{AllocError, Global};
+
+/// So many windows are shown at most, the longest ones.
+const MOST_QUIET: usize = 5;
+
+/// So many moments are shown at most, the fullest ones.
+const MOST_FULLEST: usize = 5;
+
+// What a page tells of a plan.
+#[derive(Drop)]
+struct Told {
+    quiet: Vec<TimedWindow>,
+    fullest: Vec<TimedMoment>,
+    starts: Vec<TimedStart>,
+    days: Days,
+    changes: Vec<TimedChange>,
+}
+
+/// The page of a plan: HTML in UTF-8, without a script, which loads nothing.
+///
+/// It tells the longest windows in which nothing starts, the fullest moments, how many starts each hour of each date has, the changes of the
+/// clock, the starts of each job and of each date, and of each job what is told of it. No text of a job ends the element that it stands in.
+/// The only error is want of memory.
+///
+/// The time that it takes grows with the jobs and the dates times the starts.
+pub fn page_of(alloc: Global, view: View<'_>, about: About<'_>) -> Result<String, AllocError>
+    ensures { IfOk result (λ t. IsPageText view.entry about.entry (string_bytes t)) }
+{
+    let told = told_of(alloc, view)?;
+    let days = named_days(alloc, told.days.days.as_slice())?;
+    let page = Page {
+        view,
+        about,
+        first: ClockTime::at(view.table, view.plan.span.first),
+        end: ClockTime::at(view.table, view.plan.span.end),
+        quiet: told.quiet.as_slice(),
+        fullest: told.fullest.as_slice(),
+        starts: told.starts.as_slice(),
+        days: days.as_slice(),
+        changes: told.changes.as_slice(),
+    };
+    let text = page_text(alloc, page)?;
+    Ok(text)
+}
+
+// What a page tells of the plan of a view.
+fn told_of(alloc: Global, view: View<'_>) -> Result<Told, AllocError>
+    ensures quiet { IfOk result (λ told. AreLongest (table_zone view.entry.table.now) view.entry.plan.now told.quiet.items) }
+    ensures fullest { IfOk result (λ told. AreFullestOf (table_zone view.entry.table.now) view.entry.plan.now told.fullest.items) }
+    ensures starts { IfOk result (λ told. AreTimedStarts (table_zone view.entry.table.now) view.entry.plan.now.starts.items told.starts.items) }
+    ensures days { IfOk result (λ told. AreDays (table_zone view.entry.table.now) view.entry.table.now.changes.items view.entry.plan.now.span
+        view.entry.plan.now.starts.items told.days.days.items told.days.changes.items) }
+    ensures changes { IfOk result (λ told. AreTimedChanges (table_zone view.entry.table.now) told.days.changes.items told.changes.items) }
+{
+    let (plan, table) = (view.plan, view.table);
+    let quiet = longest(alloc, plan, table)?;
+    let fullest = fullest_of(alloc, plan, table)?;
+    let starts = timed_starts(alloc, table, plan.starts.as_slice())?;
+    let days = plan.days(alloc, table)?;
+    let changes = timed_changes(alloc, table, days.changes.as_slice())?;
+    Ok(Told {
+        quiet,
+        fullest,
+        starts,
+        days,
+        changes,
+    })
+}
+
+// The longest windows of a plan, as many as are shown.
+fn longest(alloc: Global, plan: &Plan, table: &ClockTable) -> Result<Vec<TimedWindow>, AllocError>
+    ensures { IfOk result (λ quiet. AreLongest (table_zone table.now) plan.now quiet.items) }
+{
+    let windows = plan.quiet(alloc, 1)?;
+    let quiet = timed_windows(alloc, table, first_windows(windows.as_slice()))?;
+    Ok(quiet)
+}
+
+// The first of these windows, as many as are shown.
+fn first_windows(windows: &[Window]) -> &[Window]
+    ensures { result.now ≡ take most_quiet windows.now }
+{
+    if windows.len() > MOST_QUIET {
+        return windows.split_at(MOST_QUIET).0;
+    }
+    windows
+}
+
+// The fullest moments of a plan, as many as are shown.
+fn fullest_of(
+    alloc: Global,
+    plan: &Plan,
+    table: &ClockTable,
+) -> Result<Vec<TimedMoment>, AllocError>
+    ensures { IfOk result (λ fullest. AreFullestOf (table_zone table.now) plan.now fullest.items) }
+{
+    let moments = plan.fullest(alloc, MOST_FULLEST)?;
+    let fullest = timed_moments(alloc, table, moments.as_slice())?;
+    Ok(fullest)
+}

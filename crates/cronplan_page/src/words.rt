@@ -1,0 +1,129 @@
+//! Counts, titles and dates in words.
+ghost use Rattle.std.specs.Prelude.{◌≡◌, ◌++◌, OnOk, string_bytes, codes};
+ghost use Rattle.croner_base.specs.Civil.{weekday_index};
+ghost use Rattle.croner_base.specs.CivilText.{date_text};
+ghost use Rattle.cronplan_forms.specs.Calendars.{times_text};
+ghost use Rattle.cronplan_forms.specs.Clocks.{weekday_text};
+ghost use Rattle.cronplan_page.specs.Words.{plural_of, many_text, time_text, between_text, duration_text, title_text, started_text, weekday_on, name_of_date, date_name};
+
+use crate::markup::push_html;
+use crate::timed::NamedDay;
+use croner_base::time::{CivilDate, CivilDateTime, Weekday};
+use cronplan_forms::{ClockTime, Job, Lasting, weekday_text};
+use std::alloc::AllocError;
+
+const DAYS_PER_WEEK: i64 = 7;
+
+/// How many days 1970-01-01 comes behind a Sunday.
+const FIRST_WEEKDAY: u32 = 4;
+
+/// Puts so many of a thing behind a text of a page. The only error is want of memory; what then stands behind the text is not said.
+#[tactic(auto, unfolding(crate::specs::Words::many_text))]
+pub(crate) fn push_many(out: &mut String, count: u64, name: &str) -> Result<(), AllocError>
+    ensures { OnOk result (string_bytes out.new ≡ string_bytes out.old ++ many_text count name.now) }
+{
+    let plural = plural_of(count);
+    write!(out, "{count} {name}{plural}")
+}
+
+fn plural_of(count: u64) -> &'static str
+    ensures { result.now ≡ plural_of count }
+{
+    if count == 1 { "" } else { "s" }
+}
+
+/// Puts what a clock shows behind a text of a page, as `Sun 2027-03-28 03:00:00 +02:00`. The only error is want of memory.
+#[tactic(auto, unfolding(crate::specs::Words::time_text))]
+pub(crate) fn push_time(out: &mut String, time: ClockTime) -> Result<(), AllocError>
+    ensures { OnOk result (string_bytes out.new ≡ string_bytes out.old ++ time_text time) }
+{
+    write!(out, "{time}")
+}
+
+/// Puts one and another behind a text of a page. The only error is want of memory.
+#[tactic(auto, unfolding(crate::specs::Words::between_text))]
+pub(crate) fn push_between(
+    out: &mut String,
+    from: ClockTime,
+    until: ClockTime,
+) -> Result<(), AllocError>
+    ensures { OnOk result (string_bytes out.new ≡ string_bytes out.old ++ between_text from until) }
+{
+    push_time(out, from)?;
+    out.push_str(" to ")?;
+    push_time(out, until)
+}
+
+/// Puts how long something lasts behind a text of a page, as `9h 30m`. The only error is want of memory.
+#[tactic(auto, unfolding(crate::specs::Words::duration_text))]
+pub(crate) fn push_duration(out: &mut String, seconds: u64) -> Result<(), AllocError>
+    ensures { OnOk result (string_bytes out.new ≡ string_bytes out.old ++ duration_text seconds) }
+{
+    let lasting = Lasting { seconds };
+    write!(out, "{lasting}")
+}
+
+/// Puts the title of the job at a place behind a text of a page, if there is one. The only error is want of memory.
+pub(crate) fn push_title(out: &mut String, jobs: &[Job<'_>], place: usize) -> Result<(), AllocError>
+    ensures { OnOk result (string_bytes out.new ≡ string_bytes out.old ++ title_text jobs.now place) }
+{
+    match jobs.get(place) {
+        Some(job) => push_html(out, job.title),
+        None => Ok(()),
+    }
+}
+
+/// Puts the title of the job at a place behind a text of a page, and how many times it is started, where that isn't once. The only error is
+/// want of memory.
+#[tactic(auto, unfolding(crate::specs::Words::started_text))]
+pub(crate) fn push_started(
+    out: &mut String,
+    jobs: &[Job<'_>],
+    place: usize,
+    count: u32,
+) -> Result<(), AllocError>
+    ensures { OnOk result (string_bytes out.new ≡ string_bytes out.old ++ started_text jobs.now place count) }
+{
+    push_title(out, jobs, place)?;
+    push_times(out, count)
+}
+
+fn push_times(out: &mut String, count: u32) -> Result<(), AllocError>
+    ensures { OnOk result (string_bytes out.new ≡ string_bytes out.old ++ times_text count) }
+{
+    if count == 1 {
+        return Ok(());
+    }
+    write!(out, " ({count} times)")
+}
+
+/// Puts the name of a date behind a text of a page, as `Sun 2027-03-28`. The only error is want of memory.
+#[tactic(auto, unfolding(crate::specs::Words::date_name))]
+pub(crate) fn push_date_name(out: &mut String, day: NamedDay<'_>) -> Result<(), AllocError>
+    ensures { OnOk result (string_bytes out.new ≡ string_bytes out.old ++ date_name day.entry) }
+{
+    push_name(out, day.day.date, day.civil)
+}
+
+fn push_name(out: &mut String, date: i64, civil: Option<CivilDateTime>) -> Result<(), AllocError>
+    ensures { OnOk result (string_bytes out.new ≡ string_bytes out.old ++ name_of_date date civil) }
+{
+    match civil {
+        Some(civil) => push_date(out, weekday_on(date), civil.date()),
+        None => write!(out, "day {date}"),
+    }
+}
+
+fn push_date(out: &mut String, weekday: Weekday, date: CivilDate) -> Result<(), AllocError>
+    ensures { OnOk result (string_bytes out.new ≡ string_bytes out.old ++ (weekday_text (weekday_index weekday) ++ (codes " " ++ date_text date.year date.month date.day))) }
+{
+    let weekday = weekday_text(weekday);
+    write!(out, "{weekday} {date}")
+}
+
+// The weekday of a date.
+fn weekday_on(date: i64) -> Weekday
+    ensures { weekday_index result ≡ weekday_on date }
+{
+    Weekday::from_days_from_sunday(date.rem_euclid(DAYS_PER_WEEK) as u32 + FIRST_WEEKDAY)
+}
