@@ -4,6 +4,7 @@ use Rattle.std.specs.Fmt.{decimal}
 use Rattle.std.specs.List.{flat_map}
 use Rattle.cronplan.specs.declared.jobs.Frequent.{Frequent}
 use Rattle.cronplan_forms.specs.declared.job.Job.{Job}
+use Rattle.cronplan_forms.specs.Calendars.{times_text}
 use Rattle.cronplan_page.specs.declared.about.Warnings.{Warnings}
 use Rattle.cronplan_page.specs.declared.markup.Line.{Line}
 use Rattle.cronplan_page.specs.declared.page.Page.{Page}
@@ -68,9 +69,9 @@ most_next = 3
 abbrev pub next_starts : ℕ → List TimedStart → List TimedStart
 next_starts place starts = take most_next (filter (λ (s : TimedStart). s.start.job == place) starts)
 
--- one of them
+-- one of them, and how many times the job is started, where that isn't once
 unfoldable pub next_line : TimedStart → List ℕ
-next_line s = piece_text pieces.PlainItem ++ (time_text s.time ++ piece_text pieces.ItemEnd)
+next_line s = piece_text pieces.PlainItem ++ (time_text s.time ++ (times_text s.start.count ++ piece_text pieces.ItemEnd))
 
 unfoldable pub next_lines : List TimedStart → List ℕ
 next_lines starts = flat_map next_line starts

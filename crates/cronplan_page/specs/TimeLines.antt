@@ -5,6 +5,7 @@ use Rattle.std.specs.List.{flat_map}
 use Rattle.cronplan.specs.declared.span.Span.{Span}
 use Rattle.cronplan.specs.declared.start.JobStart.{JobStart}
 use Rattle.cronplan_forms.specs.declared.job.Job.{Job}
+use Rattle.cronplan_forms.specs.Calendars.{times_text}
 use Rattle.cronplan_page.specs.declared.page.Page.{Page}
 use Rattle.cronplan_page.specs.declared.pieces.Piece.TheVariants as pieces
 use Rattle.cronplan_page.specs.declared.timed.TimedChange.{TimedChange}
@@ -36,10 +37,11 @@ count_at place starts = sum_by (counted_at place) starts
 unfoldable pub rect_text : List ℕ → ℕ → List ℕ
 rect_text class at = codes "<rect class=\"" ++ (class ++ (codes "\" x=\"" ++ (decimal at ++ codes "\">")))
 
--- a start: a mark with its time
+-- a start: a mark with its time, and how many times the job is started, where that isn't once
 unfoldable pub mark_text : Span → TimedStart → List ℕ
 mark_text span s =
-    rect_text (codes "m") (thousandths span s.start.second) ++ (piece_text pieces.Title ++ (time_text s.time ++ piece_text pieces.MarkEnd))
+    rect_text (codes "m") (thousandths span s.start.second)
+    ++ (piece_text pieces.Title ++ (time_text s.time ++ (times_text s.start.count ++ piece_text pieces.MarkEnd)))
 
 -- the same, and nothing where it is of another job
 abbrev pub mark_of : Span → ℕ → TimedStart → List ℕ

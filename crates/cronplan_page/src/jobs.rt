@@ -14,7 +14,7 @@ use crate::page::Page;
 use crate::pieces::{Piece, push_piece};
 use crate::time_lines::{count_at, push_time_line};
 use crate::timed::TimedStart;
-use crate::words::{push_many, push_time, push_title};
+use crate::words::{push_many, push_time, push_times, push_title};
 use cronplan::Frequent;
 use cronplan_forms::Job;
 use std::alloc::{AllocError, Global};
@@ -288,6 +288,7 @@ fn push_next_line(out: &mut String, start: TimedStart) -> Result<(), AllocError>
 {
     push_piece(out, Piece::PlainItem)?;
     push_time(out, start.time)?;
+    push_times(out, start.start.count)?;
     push_piece(out, Piece::ItemEnd)
 }
 

@@ -7,7 +7,7 @@ use crate::markup::{push_element, push_html};
 use crate::page::Page;
 use crate::pieces::{Piece, push_piece};
 use crate::timed::{TimedChange, TimedStart};
-use crate::words::{push_many, push_time};
+use crate::words::{push_many, push_time, push_times};
 use cronplan::{ClockChange, JobStart, Plan, Span};
 use cronplan_forms::Job;
 use std::alloc::AllocError;
@@ -117,6 +117,7 @@ fn push_mark(out: &mut String, span: Span, start: TimedStart) -> Result<(), Allo
     push_rect(out, "m", start_place(span, start.start))?;
     push_piece(out, Piece::Title)?;
     push_time(out, start.time)?;
+    push_times(out, start.start.count)?;
     push_piece(out, Piece::MarkEnd)
 }
 

@@ -88,7 +88,8 @@ pub(crate) fn push_started(
     push_times(out, count)
 }
 
-fn push_times(out: &mut String, count: u32) -> Result<(), AllocError>
+/// Puts how many times a job is started at one second behind a text of a page, where that isn't once. The only error is want of memory.
+pub(crate) fn push_times(out: &mut String, count: u32) -> Result<(), AllocError>
     ensures { OnOk result (string_bytes out.new ≡ string_bytes out.old ++ times_text count) }
 {
     if count == 1 {
