@@ -1,11 +1,12 @@
 -- The days of a plan as a table. Source: this crate's documentation.
-use Rattle.std.specs.Prelude.{ℕ, nat_lt, ◌==◌, Bool, List, [], ◌++◌, codes, Option, Some, None, if◌then◌else◌}
+use Rattle.std.specs.Prelude.{ℕ, ◌/◌, ◌%◌, nat_lt, ◌==◌, Bool, List, [], ◌++◌, codes, Option, Some, None, if◌then◌else◌}
 use Rattle.std.specs.Fmt.{decimal}
 use Rattle.std.specs.List.{flat_map}
+use Rattle.croner_base.specs.CivilText.{two_places}
 use Rattle.cronplan.specs.declared.days.Day.{Day}
 use Rattle.cronplan.specs.declared.days.HourCell.{HourCell}
 use Rattle.cronplan.specs.declared.moments.Moment.{Moment}
-use Rattle.cronplan_forms.specs.Weeks.{second_of_day, clock_text}
+use Rattle.cronplan_forms.specs.Weeks.{second_of_day}
 use Rattle.cronplan_page.specs.declared.pieces.Piece.TheVariants as pieces
 use Rattle.cronplan_page.specs.declared.timed.NamedDay.{NamedDay}
 use Rattle.cronplan_page.specs.Markup.{number_text}
@@ -42,10 +43,14 @@ cell_text cell = if cell.skipped then piece_text pieces.SkippedCell else count_t
 unfoldable pub cells_text : List HourCell → List ℕ
 cells_text cells = flat_map cell_text cells
 
+-- the hour and the minute of a second of the day, as `02:30`
+abbrev pub hour_text : ℕ → List ℕ
+hour_text second = two_places (second / 3_600) ++ (codes ":" ++ two_places (second / 60 % 60))
+
 -- the fullest moment of a day, if there is one: how many starts, and when
 abbrev pub fullest_of : Option Moment → List ℕ
 fullest_of None = []
-fullest_of (Some m) = decimal m.starts ++ (codes " at " ++ clock_text (second_of_day m.wall))
+fullest_of (Some m) = decimal m.starts ++ (codes " at " ++ hour_text (second_of_day m.wall))
 
 unfoldable pub fullest_cell : Option Moment → List ℕ
 fullest_cell fullest = piece_text pieces.Cell ++ (fullest_of fullest ++ piece_text pieces.CellEnd)

@@ -1,7 +1,7 @@
 //! The days of a plan as a table: a row a day, a cell an hour.
 ghost use Rattle.std.specs.Prelude.{◌≡◌, ◌++◌, OnOk, string_bytes};
-ghost use Rattle.cronplan_forms.specs.Weeks.{second_of_day, clock_text};
-ghost use Rattle.cronplan_page.specs.Weeks.{step_of, count_text, class_of, cell_text, cells_text, fullest_of, fullest_cell, day_cells, row_text, rows_text, week_text};
+ghost use Rattle.cronplan_forms.specs.Weeks.{second_of_day};
+ghost use Rattle.cronplan_page.specs.Weeks.{step_of, count_text, class_of, cell_text, cells_text, hour_text, fullest_of, fullest_cell, day_cells, row_text, rows_text, week_text};
 
 use crate::markup::push_number;
 use crate::pieces::{Piece, push_piece};
@@ -128,15 +128,15 @@ fn push_fullest(out: &mut String, fullest: Option<Moment>) -> Result<(), AllocEr
         Some(moment) => {
             let starts = moment.starts;
             write!(out, "{starts} at ")?;
-            push_clock(out, second_of_day(moment.wall))
+            push_hour(out, second_of_day(moment.wall))
         }
         None => Ok(()),
     }
 }
 
 // Puts the hour and the minute of a second of the day behind a text, as `02:30`.
-fn push_clock(out: &mut String, second: u64) -> Result<(), AllocError>
-    ensures { OnOk result (string_bytes out.new ≡ string_bytes out.old ++ clock_text second) }
+fn push_hour(out: &mut String, second: u64) -> Result<(), AllocError>
+    ensures { OnOk result (string_bytes out.new ≡ string_bytes out.old ++ hour_text second) }
 {
     let (hour, minute) = (second / 3_600, second / 60 % 60);
     write!(out, "{hour:02}:{minute:02}")

@@ -1,7 +1,7 @@
 use Rattle.std.proofs.Common.{◌∙◌, ◌/◌, ◌%◌}
 use Rattle.std.proofs.lemmas.Result.{on_ok_weaker}
 use Rattle.croner_base.proofs.texts.PaddedNumbers.{two_places_written}
-use Rattle.cronplan_page.proofs.week.push_clock.Goals as goal
+use Rattle.cronplan_page.proofs.week.push_hour.Goals as goal
 
 pub returns : goal.returns
 returns c =
