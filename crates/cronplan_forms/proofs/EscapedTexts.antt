@@ -1,6 +1,6 @@
 -- No byte of an escaped text ends what it stands in.
-use Rattle.std.proofs.Common.{◌≡◌, ℕ, zero, suc, ◌+◌, ◌/◌, ◌%◌, ◌<◌, ◌≤◌, ◌==◌, ◌&&◌, ◌||◌, Bool, true, false, cond, List, [], ◌∷◌, ◌++◌, Option, Some, None, length, append_assoc, ap, sym, ◌∙◌, refl, arith}
-use Rattle.std.specs.Prelude.{codes, nat_lt, not}
+use Rattle.std.proofs.Common.{◌≡◌, ℕ, zero, suc, ◌+◌, ◌/◌, ◌%◌, ◌<◌, ◌≤◌, ◌==◌, ◌&&◌, Bool, true, false, cond, List, [], ◌∷◌, ◌++◌, Option, Some, length, append_assoc, ap, sym, ◌∙◌, refl, arith}
+use Rattle.std.specs.Prelude.{codes, nat_lt}
 use Rattle.std.specs.Char.{encode_utf8}
 use Rattle.std.specs.Fmt.{digits, digits_onto, digit_glyph}
 use Rattle.std.specs.List.{list_all, flat_map}
@@ -11,7 +11,7 @@ use Rattle.std.proofs.lemmas.Str.{encodes_same}
 use Rattle.std.proofs.lemmas.List.Folds.{list_all-append}
 use Rattle.cronplan_forms.specs.declared.escapes.Form.{Form}
 use Rattle.cronplan_forms.specs.declared.escapes.Form.TheVariants as forms
-use Rattle.cronplan_forms.specs.Escapes.{escape_of, backslash, is_control, number_text, plain_text, or_plain, escaped_character, escaped, ends_no_property, ends_no_element, ends_nothing}
+use Rattle.cronplan_forms.specs.Escapes.{backslash, is_control, number_text, plain_text, or_plain, escaped_character, escaped, ends_no_property, ends_no_element, ends_nothing}
 
 -- none of these bytes ends anything
 record AreClosed (form : Form) (bs : List ℕ) : Type 0 where

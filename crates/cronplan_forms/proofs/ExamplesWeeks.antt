@@ -1,5 +1,5 @@
 -- Worked rows of pictures of text, computed from the definitions.
-use Rattle.std.proofs.Common.{◌≡◌, pos, true, false, List, [], ◌∷◌, refl}
+use Rattle.std.proofs.Common.{◌≡◌, pos, true, false, [], ◌∷◌, refl}
 use Rattle.std.specs.Prelude.{codes}
 use Rattle.cronplan_forms.specs.declared.week.Signs.TheVariants as signs
 use Rattle.cronplan_forms.specs.Weeks.{block_of, digit_of, sign_of, second_of_day}

@@ -1,5 +1,5 @@
 -- Folded lines: how long each is, and what they are without their folds.
-use Rattle.std.proofs.Common.{◌≡◌, ℕ, zero, suc, ◌+◌, ◌<◌, ◌≤◌, ◌==◌, ◌&&◌, Bool, true, false, cond, List, [], ◌∷◌, ◌++◌, length, IsUtf8, append_assoc, ap, sym, ◌∙◌, refl, arith}
+use Rattle.std.proofs.Common.{◌≡◌, ℕ, suc, ◌+◌, ◌≤◌, ◌==◌, ◌&&◌, Bool, true, false, cond, List, [], ◌∷◌, ◌++◌, length, IsUtf8, append_assoc, ap, sym, ◌∙◌, refl, arith}
 use Rattle.std.specs.Prelude.{nat_lt, not}
 use Rattle.std.specs.Char.{encode_utf8, len_utf8}
 use Rattle.std.specs.List.{list_all}
@@ -9,7 +9,7 @@ use Rattle.std.proofs.lemmas.Bool.Decides.{nat_tests}
 use Rattle.std.proofs.lemmas.List.{append-nil}
 use Rattle.std.proofs.lemmas.List.Folds.{list_all-append}
 use Rattle.std.proofs.lemmas.Str.{encodes-chars, length-encode, len_utf8_bounds}
-use Rattle.cronplan_forms.specs.ContentLines.{line_end, fold_text, is_full, placed, used_with, folded, content_line, is_fold, unfolded_behind, unfolded, are_short, is_no_return}
+use Rattle.cronplan_forms.specs.ContentLines.{line_end, fold_text, is_full, placed, used_with, folded, content_line, unfolded, are_short, is_no_return}
 
 -- ---- lengths
 

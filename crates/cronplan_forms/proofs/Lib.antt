@@ -1,8 +1,10 @@
-pub mod ClockTimes
+pub mod DateSteps
 pub mod EscapedTexts
 pub mod Events
 pub mod FoldedLines
+pub mod Gathered
 pub mod MonthParts
+pub mod UtcClock
 pub mod WeekParts
 mod ExamplesEscapes
 mod ExamplesMonths

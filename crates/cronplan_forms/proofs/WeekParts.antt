@@ -1,13 +1,18 @@
 -- The parts of a picture of text, one after the other.
-use Rattle.std.proofs.Common.{◌≡◌, ◌∙◌, ◌+◌, ◌<◌, ℕ, List, ◌++◌, length, get_or, drop, ap, sym}
+use Rattle.std.proofs.Common.{◌≡◌, ◌∙◌, ◌+◌, ◌<◌, ℕ, suc, List, ◌++◌, length, get_or, drop, ap, sym, arith}
 use Rattle.std.specs.List.{flat_map}
 use Rattle.std.specs.Prelude.{codes}
 use Rattle.std.proofs.lemmas.List.{at_drop_more}
 use Rattle.cronplan.specs.declared.days.HourCell.{HourCell}
-use Rattle.cronplan_forms.specs.declared.week.LeftOut.{LeftOut}
+use Rattle.cronplan.specs.declared.jobs.Frequent.{Frequent}
+use Rattle.cronplan_forms.specs.declared.answers.busy.ShownMoment.{ShownMoment}
+use Rattle.cronplan_forms.specs.declared.answers.quiet.ShownWindow.{ShownWindow}
+use Rattle.cronplan_forms.specs.declared.week.changes.ShownChange.{ShownChange}
 use Rattle.cronplan_forms.specs.declared.week.Signs.{Signs}
 use Rattle.cronplan_forms.specs.declared.week.WeekDay.{WeekDay}
-use Rattle.cronplan_forms.specs.Weeks.{sign_of, row_text, step_text, left_out_text}
+use Rattle.cronplan_forms.specs.declared.answers.together.ShownSet.{ShownSet}
+use Rattle.cronplan_forms.specs.Answers.{window_line, moment_line, hour_line, hour_lines, left_out_line, added_label, set_line}
+use Rattle.cronplan_forms.specs.Weeks.{sign_of, row_text, step_text, change_line}
 
 -- one element more
 step : {X : Type 0} (f : X → List ℕ) (xs : List X) (i : ℕ) (x : X) → i < length xs → x ≡ get_or xs i x
@@ -26,6 +31,35 @@ pub steps_step : (s : Signs) (xs : List ℕ) (i : ℕ) (x : ℕ) → i < length 
     → flat_map (step_text s) (drop i xs) ≡ step_text s x ++ flat_map (step_text s) (drop (i + 1) xs)
 steps_step s xs i x h is = step (step_text s) xs i x h is
 
-pub left_outs_step : (xs : List LeftOut) (i : ℕ) (x : LeftOut) → i < length xs → x ≡ get_or xs i x
-    → flat_map left_out_text (drop i xs) ≡ left_out_text x ++ flat_map left_out_text (drop (i + 1) xs)
-left_outs_step xs i x h is = step left_out_text xs i x h is
+pub changes_step : (xs : List ShownChange) (i : ℕ) (x : ShownChange) → i < length xs → x ≡ get_or xs i x
+    → flat_map change_line (drop i xs) ≡ change_line x ++ flat_map change_line (drop (i + 1) xs)
+changes_step xs i x h is = step change_line xs i x h is
+
+-- windows, moments, hours and jobs that are left out, as lines
+pub windows_step : (xs : List ShownWindow) (i : ℕ) (x : ShownWindow) → i < length xs → x ≡ get_or xs i x
+    → flat_map window_line (drop i xs) ≡ window_line x ++ flat_map window_line (drop (i + 1) xs)
+windows_step xs i x h is = step window_line xs i x h is
+
+pub moments_step : (xs : List ShownMoment) (i : ℕ) (x : ShownMoment) → i < length xs → x ≡ get_or xs i x
+    → flat_map moment_line (drop i xs) ≡ moment_line x ++ flat_map moment_line (drop (i + 1) xs)
+moments_step xs i x h is = step moment_line xs i x h is
+
+pub frequent_step : (titles : List (List ℕ)) (xs : List Frequent) (i : ℕ) (x : Frequent) → i < length xs → x ≡ get_or xs i x
+    → flat_map (left_out_line titles) (drop i xs) ≡ left_out_line titles x ++ flat_map (left_out_line titles) (drop (i + 1) xs)
+frequent_step titles xs i x h is = step (left_out_line titles) xs i x h is
+
+pub hours_step : (xs : List ℕ) (i x : ℕ) → i < length xs → x ≡ get_or xs i x
+    → hour_lines i (drop i xs) ≡ hour_line i x ++ hour_lines (i + 1) (drop (i + 1) xs)
+hours_step xs i x h is =
+    let next : suc i ≡ i + 1 = omega arith in
+    at_drop_more (hour_lines i) xs i x h
+    ∙ ap (λ (y : ℕ). hour_line i y ++ hour_lines (suc i) (drop (i + 1) xs)) (sym is)
+    ∙ ap (λ (n : ℕ). hour_line i x ++ hour_lines n (drop (i + 1) xs)) next
+
+pub sets_step : (labels : List (List ℕ)) (xs : List ShownSet) (i : ℕ) (x : ShownSet) → i < length xs → x ≡ get_or xs i x
+    → flat_map (set_line labels) (drop i xs) ≡ set_line labels x ++ flat_map (set_line labels) (drop (i + 1) xs)
+sets_step labels xs i x h is = step (set_line labels) xs i x h is
+
+pub labels_step : (labels : List (List ℕ)) (xs : List ℕ) (i x : ℕ) → i < length xs → x ≡ get_or xs i x
+    → flat_map (added_label labels) (drop i xs) ≡ added_label labels x ++ flat_map (added_label labels) (drop (i + 1) xs)
+labels_step labels xs i x h is = step (added_label labels) xs i x h is

@@ -1,6 +1,6 @@
 -- The starts of jobs as a calendar. Sources: RFC 5545, sections 3.4, 3.6.1, 3.7 and 3.8; RFC 7986, section 5.1 (NAME); RFC 9562, section 5.5
 -- (UUIDs of version 5); and this crate's documentation.
-use Rattle.std.specs.Prelude.{ℕ, ℤ, nat_le, ◌==◌, List, [], ◌∷◌, ◌++◌, length, take, codes, Option, Some, None, if◌then◌else◌}
+use Rattle.std.specs.Prelude.{ℕ, ℤ, nat_le, ◌==◌, List, [], ◌∷◌, ◌++◌, take, codes, Option, Some, None, if◌then◌else◌}
 use Rattle.std.specs.Fmt.{decimal, signed_decimal}
 use Rattle.std.specs.List.{flat_map}
 use Rattle.sha1.specs.Sha1.{sha1}
@@ -62,7 +62,7 @@ times_text count = if count == 1 then [] else codes " (" ++ (decimal count ++ co
 
 -- the title of a job, and how often it is started
 unfoldable pub summary_text : Event → List ℕ
-summary_text e = e.job.title.now ++ times_text e.count
+summary_text e = e.job.title.now ++ times_text e.start.count
 
 -- the words for a job's times, and behind a line feed its file and line
 unfoldable pub words_text : Job → List ℕ
@@ -75,7 +75,7 @@ duration_line (Some seconds) = property_line (codes "DURATION") (codes "PT" ++ (
 
 -- the begin of an event, and what it is told apart by
 unfoldable pub event_begin : Event → List ℕ
-event_begin e = property_line (codes "BEGIN") (codes "VEVENT") ++ property_line (codes "UID") (uid_text e.job e.second)
+event_begin e = property_line (codes "BEGIN") (codes "VEVENT") ++ property_line (codes "UID") (uid_text e.job e.start.second)
 
 -- when it was made, when it is, and how long it lasts
 unfoldable pub event_times : Calendar → CivilDateTime → List ℕ
@@ -92,7 +92,7 @@ event_end = property_line (codes "TRANSP") (codes "TRANSPARENT") ++ property_lin
 
 -- an event as it stands in the file
 unfoldable pub event_text : Calendar → Event → List ℕ
-event_text c e = event_begin e ++ (event_times c e.start ++ (event_words e ++ event_end))
+event_text c e = event_begin e ++ (event_times c e.utc ++ (event_words e ++ event_end))
 
 -- ---- a calendar
 
@@ -105,8 +105,8 @@ abbrev pub cut_text : ℕ → List ℕ
 cut_text count = if nat_le count most_events then [] else codes " These are the first 2000 of " ++ (decimal count ++ codes " starts.")
 
 -- what is told of a calendar: what is left out
-unfoldable pub left_out_text : Calendar → ℕ → List ℕ
-left_out_text c count = c.left_out.now ++ cut_text count
+unfoldable pub left_out_text : Calendar → List ℕ
+left_out_text c = c.left_out.now ++ cut_text c.starts
 
 -- the begin of a calendar: the version of the format, and who wrote it
 unfoldable pub calendar_begin : List ℕ
@@ -118,9 +118,9 @@ calendar_begin =
 unfoldable pub calendar_names : List ℕ → List ℕ
 calendar_names name = text_line (codes "NAME") name ++ text_line (codes "X-WR-CALNAME") name
 
--- the head of a calendar of so many starts
-unfoldable pub calendar_head : Calendar → ℕ → List ℕ
-calendar_head c count = calendar_begin ++ (calendar_names c.name.now ++ text_line (codes "DESCRIPTION") (left_out_text c count))
+-- the head of a calendar
+unfoldable pub calendar_head : Calendar → List ℕ
+calendar_head c = calendar_begin ++ (calendar_names c.name.now ++ text_line (codes "DESCRIPTION") (left_out_text c))
 
 -- some events
 unfoldable pub events_text : Calendar → List Event → List ℕ
@@ -129,4 +129,4 @@ events_text c events = flat_map (event_text c) events
 -- the file of a calendar
 unfoldable pub calendar_text : Calendar → List Event → List ℕ
 calendar_text c events =
-    calendar_head c (length events) ++ (events_text c (take most_events events) ++ property_line (codes "END") (codes "VCALENDAR"))
+    calendar_head c ++ (events_text c (take most_events events) ++ property_line (codes "END") (codes "VCALENDAR"))

@@ -1,5 +1,7 @@
 -- What a clock shows at a second, and how long something lasts. Source: this crate's documentation.
-use Rattle.std.specs.Prelude.{◌≡◌, ℕ, ◌*◌, ◌/◌, ◌%◌, ◌==◌, ℤ, pos, ◌-ℤ◌, int_lt, unsigned_abs, Bool, true, false, List, [], ◌∷◌, ◌++◌, codes, if◌then◌else◌}
+use Rattle.std.specs.Prelude.{◌≡◌, ℕ, ◌*◌, ◌/◌, ◌%◌, ◌==◌, ℤ, pos, ◌-ℤ◌, int_lt, unsigned_abs, true, false, List, [], ◌∷◌, ◌++◌, codes, if◌then◌else◌}
+use Rattle.std.specs.Int.{saturate_signed}
+use mir.Syntax.{w64}
 use Rattle.jiff_fmt.specs.FriendlyText.{default_printer, total_text}
 use Rattle.croner_base.specs.Civil.{wall_second, weekday_index, weekday_of_second}
 use Rattle.croner_base.specs.CivilText.{two_places, date_text, time_text}
@@ -38,11 +40,11 @@ weekday_text n =
     else if n == 5 then codes "Fri"
     else codes "Sat"
 
--- it says what the clock of a zone shows at its second
+-- it says what the clock of a zone shows at its second, and how far that is ahead of it: a day at most, on the clock of a table
 pub record IsClockTime (z : Zone) (t : ClockTime) : Type 0 where
   pub civil : wall_second t.civil ≡ z.reads t.second
   pub weekday : weekday_index t.weekday ≡ weekday_of_second (z.reads t.second)
-  pub ahead : t.ahead.seconds ≡ z.reads t.second -ℤ t.second
+  pub ahead : t.ahead.seconds ≡ saturate_signed w64 (z.reads t.second -ℤ t.second)
 
 -- it says that of this second, if a table has it
 pub record IsClockAt (z : Zone) (second : ℤ) (t : ClockTime) : Type 0 where
@@ -54,6 +56,10 @@ abbrev pub clock_time_text : ClockTime → List ℕ
 clock_time_text t =
     weekday_text (weekday_index t.weekday) ++ (32 ∷ (date_text t.civil.date.year t.civil.date.month t.civil.date.day ++ (32
     ∷ (time_text t.civil.time.hour t.civil.time.minute t.civil.time.second ++ (32 ∷ ahead_text t.ahead.seconds)))))
+
+-- the hour and the minute, as `02:30`
+abbrev pub clock_text : ℕ → List ℕ
+clock_text second = two_places (second / 3_600) ++ (codes ":" ++ two_places (second / 60 % 60))
 
 -- ---- lengths
 

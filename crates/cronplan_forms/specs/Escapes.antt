@@ -1,6 +1,6 @@
 -- The characters of a text as they stand in a form. Sources: RFC 5545, section 3.3.11 (TEXT), the HTML standard, section 13.1 (character
 -- references), and this crate's documentation.
-use Rattle.std.specs.Prelude.{ℕ, ◌&&◌, ◌||◌, ◌==◌, nat_lt, nat_le, Bool, false, not, List, [], ◌∷◌, ◌++◌, codes, Option, Some, None, encode_utf8, if◌then◌else◌}
+use Rattle.std.specs.Prelude.{ℕ, ◌&&◌, ◌||◌, ◌==◌, nat_lt, Bool, false, not, List, ◌++◌, codes, Option, Some, None, encode_utf8, if◌then◌else◌}
 use Rattle.std.specs.Fmt.{digits}
 use Rattle.std.specs.List.{flat_map}
 use Rattle.std.specs.Str.{chars}

@@ -1,6 +1,10 @@
+pub mod Answers
 pub mod Calendars
 pub mod Clocks
 pub mod ContentLines
+pub mod DateNames
 pub mod Escapes
 pub mod Months
+pub mod PlanCalendars
+pub mod Questions
 pub mod Weeks

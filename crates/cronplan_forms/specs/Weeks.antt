@@ -1,17 +1,27 @@
 -- The dates of a plan as a picture of text. Source: this crate's documentation.
-use Rattle.std.specs.Prelude.{ℕ, ℤ, pos, ◌+◌, ◌/◌, ◌%◌, ◌==◌, nat_lt, unsigned_abs, List, [], ◌∷◌, ◌++◌, codes, Option, Some, None, if◌then◌else◌}
+use Rattle.std.specs.Prelude.{◌≡◌, ℕ, ℤ, pos, ◌+◌, ◌==◌, ◌+ℤ◌, int_lt, nat_lt, unsigned_abs, Bool, List, [], ◌∷◌, ◌++◌, codes, map, Option, Some, None, if◌then◌else◌}
 use Rattle.std.specs.Fmt.{decimal}
-use Rattle.std.specs.Int.{int_rem_euclid}
-use Rattle.std.specs.List.{flat_map}
-use Rattle.croner_base.specs.CivilText.{two_places}
-use Rattle.croner_base.specs.Excerpt.{excerpt, excerpt_characters}
+use Rattle.std.specs.Int.{int_div_euclid, int_rem_euclid, saturate_signed}
+use Rattle.std.specs.List.{All, flat_map}
+use mir.Syntax.{w64}
+use Rattle.croner_base.specs.declared.time.table.ClockTable.{ClockTable}
+use Rattle.croner_base.specs.TableZone.{table_zone}
+use Rattle.cronplan.specs.declared.changes.ClockChange.{ClockChange}
+use Rattle.cronplan.specs.declared.counts.Unit.TheVariants as units
 use Rattle.cronplan.specs.declared.days.HourCell.{HourCell}
 use Rattle.cronplan.specs.declared.moments.Moment.{Moment}
-use Rattle.cronplan_forms.specs.declared.week.LeftOut.{LeftOut}
+use Rattle.cronplan.specs.declared.plan.Plan.{Plan}
+use Rattle.cronplan.specs.declared.start.JobStart.{JobStart}
+use Rattle.cronplan.specs.Counts.{starts_at}
+use Rattle.cronplan.specs.Days.{AreDays}
 use Rattle.cronplan_forms.specs.declared.week.Signs.{Signs}
 use Rattle.cronplan_forms.specs.declared.week.Signs.TheVariants as signs
-use Rattle.cronplan_forms.specs.declared.week.Week.{Week}
 use Rattle.cronplan_forms.specs.declared.week.WeekDay.{WeekDay}
+use Rattle.cronplan_forms.specs.declared.week.changes.NamedWall.{NamedWall}
+use Rattle.cronplan_forms.specs.declared.week.changes.ShownChange.{ShownChange}
+use Rattle.cronplan_forms.specs.Answers.{starts_text}
+use Rattle.cronplan_forms.specs.Clocks.{clock_text}
+use Rattle.cronplan_forms.specs.DateNames.{IsDateName, date_name_text}
 
 -- ---- signs
 
@@ -59,10 +69,6 @@ sign_of s cell = if cell.skipped then codes "x" else step_sign s cell.starts
 abbrev pub second_of_day : ℤ → ℕ
 second_of_day wall = unsigned_abs (int_rem_euclid wall (pos 86_400))
 
--- the hour and the minute, as `02:30`
-abbrev pub clock_text : ℕ → List ℕ
-clock_text second = two_places (second / 3_600) ++ (codes ":" ++ two_places (second / 60 % 60))
-
 -- ---- rows
 
 -- the signs of hours, a space behind each
@@ -84,7 +90,7 @@ total_text starts fullest = decimal starts ++ (fullest_text fullest ++ codes "\n
 
 -- a date: its name, its hours, how many starts it has, and its fullest moment
 unfoldable pub row_text : Signs → WeekDay → List ℕ
-row_text s d = d.name.now ++ (codes "  " ++ (cells_text s d.day.now.hours.items ++ total_text d.day.now.starts d.day.now.fullest))
+row_text s d = date_name_text d.name ++ (codes "  " ++ (cells_text s d.day.now.hours.items ++ total_text d.day.now.starts d.day.now.fullest))
 
 unfoldable pub rows_text : Signs → List WeekDay → List ℕ
 rows_text s days = flat_map (row_text s) days
@@ -107,14 +113,73 @@ unfoldable pub legend_text : Signs → List ℕ
 legend_text s =
     steps_text s (0 ∷ 1 ∷ 2 ∷ 4 ∷ 8 ∷ 16 ∷ 32 ∷ 64 ∷ 128 ∷ []) ++ codes "starts in an hour, or more\nx: the clock skips the hour\n"
 
--- a job that is left out, with how many starts it has
-unfoldable pub left_out_text : LeftOut → List ℕ
-left_out_text job =
-    codes "Left out, since it starts too often: " ++ (excerpt excerpt_characters job.title.now ++ (codes ", " ++ (decimal job.starts ++ codes " starts\n")))
+-- the rows of a picture, and what the signs mean
+unfoldable pub picture_text : Signs → List WeekDay → List ℕ
+picture_text s days = head_text ++ (rows_text s days ++ legend_text s)
 
-unfoldable pub left_outs_text : List LeftOut → List ℕ
-left_outs_text jobs = flat_map left_out_text jobs
+-- ---- changes of the clock
 
--- the picture
-unfoldable pub week_text : Signs → Week → List ℕ
-week_text s w = left_outs_text w.left_out.now ++ (head_text ++ (rows_text s w.days.now ++ legend_text s))
+-- the wall second that would follow what the clock showed last
+abbrev pub behind : ClockChange → ℤ
+behind c = saturate_signed w64 (c.before +ℤ pos 1)
+
+-- the date of a wall second
+abbrev pub date_of_wall : ℤ → ℤ
+date_of_wall wall = int_div_euclid wall (pos 86_400)
+
+-- the clock is put forward, as if it were no other time than later; else it is put back
+abbrev pub is_put_forward : ClockChange → Bool
+is_put_forward c = int_lt c.before c.shown
+
+-- a wall second is shown with its date
+pub record IsNamedWall (wall : ℤ) (w : NamedWall) : Type 0 where
+  pub wall_is : w.wall ≡ wall
+  pub date_is : IsDateName (date_of_wall wall) w.date
+
+-- a change is shown with what lies around it, and with how many of the starts come at its second
+pub record IsShownChange (starts : List JobStart) (s : ShownChange) : Type 0 where
+  pub behind_is : IsNamedWall (behind s.change) s.behind
+  pub shown_is : IsNamedWall s.change.shown s.shown
+  pub starts_are : s.starts ≡ starts_at units.Second s.change.second starts
+
+-- a wall second: the date, the hour and the minute
+abbrev pub wall_text : NamedWall → List ℕ
+wall_text w = date_name_text w.date ++ (32 ∷ clock_text (second_of_day w.wall))
+
+-- what it skips, and what it shows twice
+unfoldable pub forward_text : NamedWall → NamedWall → List ℕ
+forward_text behind shown = codes "the clock skips " ++ (wall_text behind ++ (codes " to " ++ wall_text shown))
+
+unfoldable pub back_text : NamedWall → NamedWall → List ℕ
+back_text behind shown = codes "the clock shows " ++ (wall_text shown ++ (codes " to " ++ (wall_text behind ++ codes " twice")))
+
+abbrev pub kind_text : ShownChange → List ℕ
+kind_text s = if is_put_forward s.change then forward_text s.behind s.shown else back_text s.behind s.shown
+
+-- a change as a line
+unfoldable pub change_line : ShownChange → List ℕ
+change_line s = kind_text s ++ (codes "; " ++ (starts_text s.starts ++ codes " then\n"))
+
+unfoldable pub change_lines : List ShownChange → List ℕ
+change_lines changes = flat_map change_line changes
+
+-- ---- the picture of a plan
+
+-- a date with its name
+abbrev pub IsNamedDay : WeekDay → Type 0
+IsNamedDay d = IsDateName d.day.now.date d.name
+
+-- the dates of a plan as rows, and the changes of the clock
+pub record PlanWeek : Type 0 where
+  pub rows : List WeekDay
+  pub changes : List ShownChange
+
+-- they are those of a plan on the clock of a table: each date of it, with the counts of its starts
+pub record IsPlanWeek (table : ClockTable) (p : Plan) (week : PlanWeek) : Type 0 where
+  pub days : AreDays (table_zone table) table.changes.items p.span p.starts.items (map (λ r. r.day.now) week.rows) (map (λ s. s.change) week.changes)
+  pub names : All IsNamedDay week.rows
+  pub shown : All (IsShownChange p.starts.items) week.changes
+
+-- the picture, and below it the changes
+abbrev pub week_text : Signs → PlanWeek → List ℕ
+week_text s week = picture_text s week.rows ++ change_lines week.changes

@@ -4,6 +4,7 @@ ghost use Rattle.cronplan_forms.specs.Calendars.{property_line, text_line, most_
 
 mod event;
 mod moment;
+mod of_plan;
 mod uid;
 
 use crate::content_line::push_content_line;
@@ -11,6 +12,7 @@ use crate::escapes::{Form, escaped};
 use croner_base::time::CivilDateTime;
 pub use event::Event;
 use event::push_event;
+pub use of_plan::{Naming, plan_calendar};
 use std::alloc::{AllocError, Global};
 
 /// The most events of a calendar.
@@ -26,9 +28,11 @@ pub struct Calendar<'c> {
     pub stamp: CivilDateTime,
     /// How long each event lasts, in seconds, where that is told.
     pub lasts: Option<u64>,
+    /// How many starts the plan has.
+    pub starts: usize,
 }
 
-/// The file of a calendar: an event for each start, at most `MOST_EVENTS`. Where there are more, its description says how many.
+/// The file of a calendar: its first events, at most `MOST_EVENTS`. Where the plan has more starts than these, its description says how many.
 ///
 /// Each line ends with a carriage return and a line feed, and is folded. No text of a job ends its property. The only error is want of memory.
 pub fn calendar_text(
@@ -53,7 +57,7 @@ fn push_calendar(
 ) -> Result<(), AllocError>
     ensures { OnOk result (string_bytes text.new ≡ string_bytes text.old ++ calendar_text calendar.entry events.now) }
 {
-    push_head(alloc, text, calendar, events.len())?;
+    push_head(alloc, text, calendar)?;
     push_events(alloc, text, calendar, first_events(events))?;
     push_property(alloc, text, "END", "VCALENDAR")
 }
@@ -84,30 +88,19 @@ fn first_events<'s, 'e>(events: &'s [Event<'e>]) -> &'s [Event<'e>]
     events
 }
 
-// Puts the head of a calendar of so many starts behind a text.
 #[tactic(auto, unfolding(crate::specs::Calendars::calendar_head))]
-fn push_head(
-    alloc: Global,
-    text: &mut String,
-    calendar: Calendar<'_>,
-    count: usize,
-) -> Result<(), AllocError>
-    ensures { OnOk result (string_bytes text.new ≡ string_bytes text.old ++ calendar_head calendar.entry count) }
+fn push_head(alloc: Global, text: &mut String, calendar: Calendar<'_>) -> Result<(), AllocError>
+    ensures { OnOk result (string_bytes text.new ≡ string_bytes text.old ++ calendar_head calendar.entry) }
 {
     push_begin(alloc, text)?;
     push_names(alloc, text, calendar.name)?;
-    push_left_out(alloc, text, calendar, count)
+    push_left_out(alloc, text, calendar)
 }
 
-fn push_left_out(
-    alloc: Global,
-    text: &mut String,
-    calendar: Calendar<'_>,
-    count: usize,
-) -> Result<(), AllocError>
-    ensures { OnOk result (string_bytes text.new ≡ string_bytes text.old ++ text_line (codes "DESCRIPTION") (left_out_text calendar.entry count)) }
+fn push_left_out(alloc: Global, text: &mut String, calendar: Calendar<'_>) -> Result<(), AllocError>
+    ensures { OnOk result (string_bytes text.new ≡ string_bytes text.old ++ text_line (codes "DESCRIPTION") (left_out_text calendar.entry)) }
 {
-    let left_out = left_out_text(alloc, calendar, count)?;
+    let left_out = left_out_text(alloc, calendar)?;
     push_text(alloc, text, "DESCRIPTION", left_out.as_str())
 }
 
@@ -128,13 +121,13 @@ fn push_names(alloc: Global, text: &mut String, name: &str) -> Result<(), AllocE
     push_text(alloc, text, "X-WR-CALNAME", name)
 }
 
-// What a calendar of so many starts leaves out.
+// What a calendar leaves out.
 #[tactic(auto, unfolding(crate::specs::Calendars::left_out_text))]
-fn left_out_text(alloc: Global, calendar: Calendar<'_>, count: usize) -> Result<String, AllocError>
-    ensures { IfOk result (λ t. string_bytes t ≡ left_out_text calendar.entry count) }
+fn left_out_text(alloc: Global, calendar: Calendar<'_>) -> Result<String, AllocError>
+    ensures { IfOk result (λ t. string_bytes t ≡ left_out_text calendar.entry) }
 {
     let mut text = String::from_str(alloc, calendar.left_out)?;
-    push_cut(&mut text, count)?;
+    push_cut(&mut text, calendar.starts)?;
     Ok(text)
 }
 

@@ -36,10 +36,9 @@ impl ClockTime {
     }
 
     // What the clock of a table shows.
-    #[tactic(auto, using(crate::proofs::ClockTimes::ahead_is))]
     fn of(time: &TableTime<'_>) -> ClockTime
-        ensures { IsClockTime (table_zone time.now.table.now) result }
-        ensures { result.second ≡ time.now.second }
+        ensures shown { IsClockTime (table_zone time.now.table.now) result }
+        ensures second { result.second ≡ time.now.second }
     {
         let civil = time.to_civil();
         let second = time.second();
@@ -83,5 +82,23 @@ pub fn weekday_text(weekday: Weekday) -> &'static str
         Weekday::Thursday => "Thu",
         Weekday::Friday => "Fri",
         Weekday::Saturday => "Sat",
+    }
+}
+
+/// The hour and the minute of a second of the day, as `02:30`.
+#[derive(Debug, Clone, Copy)]
+pub(crate) struct TimeOfDay {
+    pub second: u64,
+}
+
+impl fmt::Display for TimeOfDay {
+    ghost use Rattle.std.specs.Prelude.{Some};
+    ghost use Rattle.cronplan_forms.specs.Clocks.{clock_text};
+
+    ghost output = { λ t. Some (clock_text t.second) };
+
+    fn fmt<W: fmt::Write>(&self, f: &mut fmt::Formatter<W>) -> fmt::Result {
+        let (hour, minute) = (self.second / 3_600, self.second / 60 % 60);
+        write!(f, "{hour:02}:{minute:02}")
     }
 }

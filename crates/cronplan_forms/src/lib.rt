@@ -2,9 +2,11 @@
 #![tactic(auto)]
 
 mod ahead;
+mod answers;
 mod calendar;
 mod clock;
 mod content_line;
+mod date_name;
 mod escapes;
 mod job;
 mod lasting;
@@ -13,12 +15,17 @@ mod view;
 mod week;
 
 pub use ahead::Ahead;
-pub use calendar::{Calendar, Event, MOST_EVENTS, calendar_text};
+pub use answers::{
+    Questions, ShownMoment, ShownSet, ShownWindow, answers_text, busy_text, left_out_text,
+    quiet_text, together_text,
+};
+pub use calendar::{Calendar, Event, MOST_EVENTS, Naming, calendar_text, plan_calendar};
 pub use clock::{ClockTime, weekday_text};
 pub use content_line::push_content_line;
+pub use date_name::DateName;
 pub use escapes::{Form, escaped, push_escaped};
 pub use job::Job;
 pub use lasting::Lasting;
 pub use month::{Daily, Month, MonthDay, month_text};
 pub use view::View;
-pub use week::{LeftOut, Signs, Week, WeekDay, week_text};
+pub use week::{Signs, WeekDay, week_text};

@@ -1,8 +1,14 @@
 //! The dates of a plan as a picture of text, 80 columns wide: a row a day, a cell an hour.
-ghost use Rattle.std.specs.Prelude.{◌≡◌, ◌++◌, ◌<◌, IfOk, OnOk, string_bytes, codes};
-ghost use Rattle.cronplan_forms.specs.Weeks.{block_of, digit_of, step_sign, sign_of, cells_text, clock_text, moment_text, fullest_text, total_text, row_text, rows_text, head_text, legend_text, steps_text, step_text, left_out_text, left_outs_text, week_text, second_of_day};
+ghost use Rattle.std.specs.Prelude.{◌≡◌, ◌++◌, ◌<◌, IfOk, OnOk, string_bytes, codes, map};
+ghost use Rattle.std.specs.List.{All};
+ghost use Rattle.cronplan_forms.specs.Weeks.{block_of, digit_of, step_sign, sign_of, cells_text, moment_text, fullest_text, total_text, row_text, rows_text, head_text, legend_text, steps_text, step_text, picture_text, week_text, second_of_day, IsNamedDay, IsPlanWeek, PlanWeek};
 
-use croner_base::excerpt::Excerpt;
+mod changes;
+
+use crate::clock::TimeOfDay;
+use crate::date_name::DateName;
+use crate::view::View;
+use changes::{push_changes, shown_changes};
 use cronplan::{Day, HourCell, Moment};
 use std::alloc::{AllocError, Global};
 
@@ -15,26 +21,11 @@ pub enum Signs {
     Digits,
 }
 
-/// A date and how it is called, in ten columns, as `Mon 22 Mar`.
+/// A date of a plan, and what it is called.
 #[derive(Clone, Copy)]
 pub struct WeekDay<'w> {
-    pub name: &'w str,
+    pub name: DateName,
     pub day: &'w Day,
-}
-
-/// A job that is left out.
-#[derive(Clone, Copy)]
-pub struct LeftOut<'w> {
-    pub title: &'w str,
-    /// How many starts it has in the span.
-    pub starts: u64,
-}
-
-/// What a picture shows.
-#[derive(Clone, Copy)]
-pub struct Week<'w> {
-    pub left_out: &'w [LeftOut<'w>],
-    pub days: &'w [WeekDay<'w>],
 }
 
 /// The least starts in an hour of each of the steps.
@@ -42,48 +33,51 @@ const STEPS: [u64; 9] = [0, 1, 2, 4, 8, 16, 32, 64, 128];
 
 const SECONDS_PER_DAY: i64 = 86_400;
 
-/// The picture: the jobs that are left out with their counts, the rows, and what the signs mean.
+/// The picture of a plan: a row a date, and what the signs mean; and below a line for each change of the clock.
 ///
 /// A sign stands for the starts in an hour, in steps that double; an hour that the clock skips is an `x`. The only error is want of memory.
-pub fn week_text(alloc: Global, week: Week<'_>, signs: Signs) -> Result<String, AllocError>
-    ensures { IfOk result (λ t. string_bytes t ≡ week_text signs week.entry) }
+pub fn week_text(alloc: Global, view: View<'_>, signs: Signs) -> Result<String, AllocError>
+    ensures { IfOk result (λ t. (week : PlanWeek) × IsPlanWeek view.entry.table.now view.entry.plan.now week × (string_bytes t ≡ week_text signs week)) }
 {
+    let days = view.plan.days(alloc, view.table)?;
+    let rows = rows_of(alloc, days.days.as_slice())?;
+    let changes = shown_changes(alloc, view.plan, days.changes.as_slice())?;
     let mut text = String::new(alloc);
-    push_week(&mut text, week, signs)?;
+    push_picture(&mut text, rows.as_slice(), signs)?;
+    push_changes(&mut text, changes.as_slice())?;
     Ok(text)
 }
 
-// Puts a picture behind a text.
-#[tactic(auto, unfolding(crate::specs::Weeks::week_text))]
-fn push_week(text: &mut String, week: Week<'_>, signs: Signs) -> Result<(), AllocError>
-    ensures { OnOk result (string_bytes text.new ≡ string_bytes text.old ++ week_text signs week.entry) }
+// Dates, with what they are called.
+fn rows_of<'w>(alloc: Global, days: &'w [Day]) -> Result<Vec<WeekDay<'w>>, AllocError>
+    ensures days { IfOk result (λ rows. map (λ r. r.day.now) rows.items ≡ days.now) }
+    ensures names { IfOk result (λ rows. All IsNamedDay rows.items) }
 {
-    push_left_outs(text, week.left_out)?;
-    push_head(text)?;
-    push_rows(text, week.days, signs)?;
-    push_legend(text, signs)
-}
-
-#[tactic(auto, using(crate::proofs::WeekParts::left_outs_step), unfolding(crate::specs::Weeks::left_outs_text))]
-fn push_left_outs(text: &mut String, left_out: &[LeftOut<'_>]) -> Result<(), AllocError>
-    ensures { OnOk result (string_bytes text.new ≡ string_bytes text.old ++ left_outs_text left_out.now) }
-{
-    for job in left_out {
-        push_left_out(text, *job)?;
+    let mut rows = Vec::new(alloc);
+    for day in days {
+        rows.push(row_of(day))?;
     }
-    Ok(())
+    Ok(rows)
 }
 
-#[tactic(auto, unfolding(crate::specs::Weeks::left_out_text))]
-fn push_left_out(text: &mut String, job: LeftOut<'_>) -> Result<(), AllocError>
-    ensures { OnOk result (string_bytes text.new ≡ string_bytes text.old ++ left_out_text job.entry) }
+fn row_of(day: &Day) -> WeekDay<'_>
+    ensures day { result.day.now ≡ day.now }
+    ensures name { IsNamedDay result }
 {
-    let title = Excerpt::of(job.title);
-    let starts = job.starts;
-    write!(
-        text,
-        "Left out, since it starts too often: {title}, {starts} starts\n"
-    )
+    WeekDay {
+        name: DateName::of(day.date),
+        day,
+    }
+}
+
+// Puts the rows of a picture behind a text, and what the signs mean.
+#[tactic(auto, unfolding(crate::specs::Weeks::picture_text))]
+fn push_picture(text: &mut String, days: &[WeekDay<'_>], signs: Signs) -> Result<(), AllocError>
+    ensures { OnOk result (string_bytes text.new ≡ string_bytes text.old ++ picture_text signs days.now) }
+{
+    push_head(text)?;
+    push_rows(text, days, signs)?;
+    push_legend(text, signs)
 }
 
 #[tactic(auto, unfolding(crate::specs::Weeks::head_text))]
@@ -218,16 +212,10 @@ fn push_moment(text: &mut String, moment: Moment) -> Result<(), AllocError>
     ensures { OnOk result (string_bytes text.new ≡ string_bytes text.old ++ moment_text moment) }
 {
     let starts = moment.starts;
-    write!(text, ", {starts} at ")?;
-    push_clock(text, time_of(moment))
-}
-
-// Puts the hour and the minute of a second of the day behind a text, as `02:30`.
-fn push_clock(text: &mut String, second: u64) -> Result<(), AllocError>
-    ensures { OnOk result (string_bytes text.new ≡ string_bytes text.old ++ clock_text second) }
-{
-    let (hour, minute) = (second / 3_600, second / 60 % 60);
-    write!(text, "{hour:02}:{minute:02}")
+    let time = TimeOfDay {
+        second: time_of(moment),
+    };
+    write!(text, ", {starts} at {time}")
 }
 
 // The second of the day of a moment.
@@ -237,8 +225,8 @@ fn time_of(moment: Moment) -> u64
     second_of_day(moment.wall)
 }
 
-// The second of its day that a wall second is, from 0 to 86,399.
-fn second_of_day(wall: i64) -> u64
+/// The second of its day that a wall second is, from 0 to 86,399.
+pub(crate) fn second_of_day(wall: i64) -> u64
     ensures { result ≡ second_of_day wall }
 {
     wall.rem_euclid(SECONDS_PER_DAY) as u64

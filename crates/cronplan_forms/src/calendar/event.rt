@@ -1,24 +1,22 @@
 //! The events of a calendar.
 ghost use Rattle.std.specs.Prelude.{◌≡◌, ◌++◌, codes, IfOk, OnOk, string_bytes};
-ghost use Rattle.cronplan_forms.specs.Calendars.{property_line, text_line, moment_text, times_text, summary_text, words_text, duration_line, event_begin, event_times, event_words, event_end, event_text};
+ghost use Rattle.cronplan_forms.specs.Calendars.{property_line, text_line, moment_text, uid_text, times_text, summary_text, words_text, duration_line, event_begin, event_times, event_words, event_end, event_text};
 
 use super::moment::moment_text;
 use super::uid::uid_text;
 use super::{Calendar, push_property, push_text};
 use crate::job::Job;
 use croner_base::time::CivilDateTime;
+use cronplan::JobStart;
 use std::alloc::{AllocError, Global};
 
 /// A start of a job.
 #[derive(Clone, Copy)]
 pub struct Event<'e> {
     pub job: Job<'e>,
-    /// The second, counted from 1970-01-01T00:00:00 UTC.
-    pub second: i64,
-    /// The same, as a date and a time in UTC, in the years 0 to 9999.
-    pub start: CivilDateTime,
-    /// How many times the job is started there.
-    pub count: u32,
+    pub start: JobStart,
+    /// Its second as a date and a time in UTC, in the years 0 to 9999.
+    pub utc: CivilDateTime,
 }
 
 /// Puts an event behind the text of a calendar. The only error is want of memory; what then stands behind the text is not said.
@@ -32,7 +30,7 @@ pub(crate) fn push_event(
     ensures { OnOk result (string_bytes text.new ≡ string_bytes text.old ++ event_text calendar.entry event.entry) }
 {
     push_begin(alloc, text, event)?;
-    push_times(alloc, text, calendar, event.start)?;
+    push_times(alloc, text, calendar, event.utc)?;
     push_words(alloc, text, event)?;
     push_end(alloc, text)
 }
@@ -42,7 +40,18 @@ fn push_begin(alloc: Global, text: &mut String, event: Event<'_>) -> Result<(), 
     ensures { OnOk result (string_bytes text.new ≡ string_bytes text.old ++ event_begin event.entry) }
 {
     push_property(alloc, text, "BEGIN", "VEVENT")?;
-    let uid = uid_text(alloc, event.job, event.second)?;
+    push_uid(alloc, text, event.job, event.start)
+}
+
+fn push_uid(
+    alloc: Global,
+    text: &mut String,
+    job: Job<'_>,
+    start: JobStart,
+) -> Result<(), AllocError>
+    ensures { OnOk result (string_bytes text.new ≡ string_bytes text.old ++ property_line (codes "UID") (uid_text job.entry start.second)) }
+{
+    let uid = uid_text(alloc, job, start.second)?;
     push_property(alloc, text, "UID", uid.as_str())
 }
 
@@ -51,12 +60,12 @@ fn push_times(
     alloc: Global,
     text: &mut String,
     calendar: Calendar<'_>,
-    start: CivilDateTime,
+    utc: CivilDateTime,
 ) -> Result<(), AllocError>
-    ensures { OnOk result (string_bytes text.new ≡ string_bytes text.old ++ event_times calendar.entry start) }
+    ensures { OnOk result (string_bytes text.new ≡ string_bytes text.old ++ event_times calendar.entry utc) }
 {
     push_moment(alloc, text, "DTSTAMP", calendar.stamp)?;
-    push_moment(alloc, text, "DTSTART", start)?;
+    push_moment(alloc, text, "DTSTART", utc)?;
     push_duration(alloc, text, calendar.lasts)
 }
 
@@ -121,7 +130,7 @@ fn summary_text(alloc: Global, event: Event<'_>) -> Result<String, AllocError>
     ensures { IfOk result (λ t. string_bytes t ≡ summary_text event.entry) }
 {
     let mut text = String::from_str(alloc, event.job.title)?;
-    push_count(&mut text, event.count)?;
+    push_count(&mut text, event.start.count)?;
     Ok(text)
 }
 

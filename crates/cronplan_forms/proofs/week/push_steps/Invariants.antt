@@ -1,6 +1,5 @@
 use Rattle.std.proofs.Common.{◌≡◌, ◌++◌, drop, string_bytes}
 use Rattle.std.specs.List.{flat_map}
-use Rattle.std.specs.Prelude.{codes}
 use Rattle.cronplan_forms.specs.Weeks.{step_text}
 use Rattle.cronplan_forms.proofs.week.push_steps.Given as goal
 

@@ -1,0 +1,14 @@
+//! What a plan answers, as lines of text.
+
+mod busy;
+mod left_out;
+mod questions;
+mod quiet;
+mod together;
+
+pub(crate) use busy::Starts;
+pub use busy::{ShownMoment, busy_text};
+pub use left_out::left_out_text;
+pub use questions::{Questions, answers_text};
+pub use quiet::{ShownWindow, quiet_text};
+pub use together::{ShownSet, together_text};

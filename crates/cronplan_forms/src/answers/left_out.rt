@@ -1,0 +1,89 @@
+//! What a plan leaves out.
+ghost use Rattle.std.specs.Prelude.{◌≡◌, ◌++◌, IfOk, OnOk, string_bytes};
+ghost use Rattle.cronplan_forms.specs.Answers.{titles_of, title_at, left_out_line, left_out_lines, left_out_of, left_out_title, starts_line, cut_line, left_out_text};
+
+use crate::answers::busy::Starts;
+use crate::job::Job;
+use crate::view::View;
+use croner_base::excerpt::Excerpt;
+use cronplan::{Frequent, MOST_STARTS};
+use std::alloc::{AllocError, Global};
+
+/// What a plan leaves out: a line for each job that starts too often, with how many starts it has, and one where the plan ends before what was
+/// asked for. Nothing where it leaves nothing out.
+///
+/// The only error is want of memory.
+pub fn left_out_text(alloc: Global, view: View<'_>) -> Result<String, AllocError>
+    ensures { IfOk result (λ t. string_bytes t ≡ left_out_text view.entry.is_cut (titles_of view.entry.jobs.now) view.entry.frequent.now) }
+{
+    let mut text = String::new(alloc);
+    push_frequent(&mut text, view.jobs, view.frequent)?;
+    push_cut(&mut text, view.is_cut)?;
+    Ok(text)
+}
+
+#[tactic(auto, using(crate::proofs::WeekParts::frequent_step), unfolding(crate::specs::Answers::left_out_lines))]
+fn push_frequent(
+    text: &mut String,
+    jobs: &[Job<'_>],
+    frequent: &[Frequent],
+) -> Result<(), AllocError>
+    ensures { OnOk result (string_bytes text.new ≡ string_bytes text.old ++ left_out_lines (titles_of jobs.now) frequent.now) }
+{
+    for job in frequent {
+        push_line(text, jobs, *job)?;
+    }
+    Ok(())
+}
+
+fn push_line(text: &mut String, jobs: &[Job<'_>], job: Frequent) -> Result<(), AllocError>
+    ensures { OnOk result (string_bytes text.new ≡ string_bytes text.old ++ left_out_line (titles_of jobs.now) job) }
+{
+    push_left_out(text, title_at(jobs, job.job), job.starts)
+}
+
+#[tactic(auto, unfolding(crate::specs::Answers::left_out_of))]
+fn push_left_out(text: &mut String, title: &str, count: u64) -> Result<(), AllocError>
+    ensures { OnOk result (string_bytes text.new ≡ string_bytes text.old ++ left_out_of title.now count) }
+{
+    push_title(text, title)?;
+    push_starts(text, count)
+}
+
+#[tactic(auto, unfolding(crate::specs::Answers::left_out_title))]
+fn push_title(text: &mut String, title: &str) -> Result<(), AllocError>
+    ensures { OnOk result (string_bytes text.new ≡ string_bytes text.old ++ left_out_title title.now) }
+{
+    let title = Excerpt::of(title);
+    write!(text, "left out, since it starts too often: {title}, ")
+}
+
+#[tactic(auto, unfolding(crate::specs::Answers::starts_line))]
+fn push_starts(text: &mut String, count: u64) -> Result<(), AllocError>
+    ensures { OnOk result (string_bytes text.new ≡ string_bytes text.old ++ starts_line count) }
+{
+    let starts = Starts { count };
+    write!(text, "{starts}\n")
+}
+
+/// The title of the job at a place; nothing where there is none.
+pub(crate) fn title_at<'j>(jobs: &[Job<'j>], place: usize) -> &'j str
+    ensures { result.now ≡ title_at (titles_of jobs.now) place }
+{
+    match jobs.get(place) {
+        Some(job) => job.title,
+        None => "",
+    }
+}
+
+fn push_cut(text: &mut String, is_cut: bool) -> Result<(), AllocError>
+    ensures { OnOk result (string_bytes text.new ≡ string_bytes text.old ++ cut_line is_cut) }
+{
+    if !is_cut {
+        return Ok(());
+    }
+    write!(
+        text,
+        "the plan ends after {MOST_STARTS} starts, before what was asked for\n"
+    )
+}

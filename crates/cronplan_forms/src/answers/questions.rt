@@ -1,0 +1,100 @@
+//! What is asked of a plan.
+ghost use Rattle.std.specs.Prelude.{◌≡◌, ◌++◌, IfOk, OnOk, string_bytes};
+ghost use Rattle.cronplan_forms.specs.Questions.{IsWeekAnswer, IsQuietAnswer, IsBusyAnswer, IsTogetherAnswer, IsAnswers, asks_none, set_apart};
+
+use crate::answers::busy::busy_text;
+use crate::answers::left_out::left_out_text;
+use crate::answers::quiet::quiet_text;
+use crate::answers::together::together_text;
+use crate::view::View;
+use crate::week::{Signs, week_text};
+use std::alloc::{AllocError, Global};
+
+/// What is asked of a plan.
+#[derive(Debug, Clone, Copy)]
+pub struct Questions {
+    /// The picture of its dates, in these signs.
+    pub week: Option<Signs>,
+    /// The windows of so many seconds in which nothing starts.
+    pub quiet: Option<u64>,
+    /// So many of its fullest moments.
+    pub busy: Option<usize>,
+    /// The sets of jobs that start together.
+    pub together: bool,
+}
+
+impl Questions {
+    /// Whether nothing is asked.
+    pub fn is_none(&self) -> bool
+        ensures { result ≡ asks_none self.now }
+    {
+        match (self.week, self.quiet, self.busy, self.together) {
+            (None, None, None, false) => true,
+            _ => false,
+        }
+    }
+}
+
+/// What a plan answers to these, each answer set apart by an empty line, and in front of them what it leaves out.
+///
+/// The only error is want of memory.
+pub fn answers_text(alloc: Global, view: View<'_>, asked: Questions) -> Result<String, AllocError>
+    ensures { IfOk result (λ t. IsAnswers view.entry asked (string_bytes t)) }
+{
+    let mut text = left_out_text(alloc, view)?;
+    let week = week_answer(alloc, view, asked.week)?;
+    let quiet = quiet_answer(alloc, view, asked.quiet)?;
+    let busy = busy_answer(alloc, view, asked.busy)?;
+    let together = together_answer(alloc, view, asked.together)?;
+    push_apart(&mut text, week.as_str())?;
+    push_apart(&mut text, quiet.as_str())?;
+    push_apart(&mut text, busy.as_str())?;
+    push_apart(&mut text, together.as_str())?;
+    Ok(text)
+}
+
+fn week_answer(alloc: Global, view: View<'_>, signs: Option<Signs>) -> Result<String, AllocError>
+    ensures { IfOk result (λ t. IsWeekAnswer view.entry signs (string_bytes t)) }
+{
+    match signs {
+        Some(signs) => week_text(alloc, view, signs),
+        None => Ok(String::new(alloc)),
+    }
+}
+
+fn quiet_answer(alloc: Global, view: View<'_>, least: Option<u64>) -> Result<String, AllocError>
+    ensures { IfOk result (λ t. IsQuietAnswer view.entry least (string_bytes t)) }
+{
+    match least {
+        Some(least) => quiet_text(alloc, view, least),
+        None => Ok(String::new(alloc)),
+    }
+}
+
+fn busy_answer(alloc: Global, view: View<'_>, most: Option<usize>) -> Result<String, AllocError>
+    ensures { IfOk result (λ t. IsBusyAnswer view.entry most (string_bytes t)) }
+{
+    match most {
+        Some(most) => busy_text(alloc, view, most),
+        None => Ok(String::new(alloc)),
+    }
+}
+
+fn together_answer(alloc: Global, view: View<'_>, is_asked: bool) -> Result<String, AllocError>
+    ensures { IfOk result (λ t. IsTogetherAnswer view.entry is_asked (string_bytes t)) }
+{
+    if is_asked {
+        return together_text(alloc, view);
+    }
+    Ok(String::new(alloc))
+}
+
+// Puts a text behind another one, with an empty line between where there is anything of both.
+fn push_apart(text: &mut String, part: &str) -> Result<(), AllocError>
+    ensures { OnOk result (string_bytes text.new ≡ set_apart (string_bytes text.old) part.now) }
+{
+    if !text.is_empty() && !part.is_empty() {
+        text.push('\n')?;
+    }
+    text.push_str(part)
+}

@@ -1,0 +1,152 @@
+//! When nothing starts.
+ghost use Rattle.std.specs.Prelude.{◌≡◌, ◌++◌, IfOk, List, OnOk, map, string_bytes};
+ghost use Rattle.std.specs.List.{All};
+ghost use Rattle.croner_base.specs.TableZone.{table_zone};
+ghost use Rattle.cronplan_forms.specs.Answers.{IsShownWindow, IsQuiet, is_at_edge, is_edge, window_line, window_lines, no_window, some_windows, quiet_head, quiet_text};
+
+use crate::clock::ClockTime;
+use crate::lasting::Lasting;
+use crate::view::View;
+use croner_base::time::table::ClockTable;
+use cronplan::{Bound, Window};
+use std::alloc::{AllocError, Global};
+use std::fmt;
+
+/// A window of a plan, and what the clock shows at its two sides.
+#[derive(Debug, Clone, Copy)]
+pub struct ShownWindow {
+    pub window: Window,
+    pub from: ClockTime,
+    pub until: ClockTime,
+}
+
+/// The windows of a plan that have so many seconds at least and in which nothing starts, the longest first, and of equal ones the earlier. A
+/// line tells from when to when it is, and how long: that is `or longer` where the plan begins or ends with it.
+///
+/// The only error is want of memory.
+pub fn quiet_text(alloc: Global, view: View<'_>, least: u64) -> Result<String, AllocError>
+    ensures { IfOk result (λ t. (shown : List ShownWindow) × IsQuiet (table_zone view.entry.table.now) view.entry.plan.now least shown × (string_bytes t ≡ quiet_text least shown)) }
+{
+    let windows = view.plan.quiet(alloc, least)?;
+    let shown = shown_windows(alloc, view.table, windows.as_slice())?;
+    text_of(alloc, shown.as_slice(), least)
+}
+
+// What the clock of a table shows at the sides of windows.
+fn shown_windows(
+    alloc: Global,
+    table: &ClockTable,
+    windows: &[Window],
+) -> Result<Vec<ShownWindow>, AllocError>
+    ensures windows { IfOk result (λ shown. map (λ s. s.window) shown.items ≡ windows.now) }
+    ensures shown { IfOk result (λ shown. All (IsShownWindow (table_zone table.now)) shown.items) }
+{
+    let mut shown = Vec::new(alloc);
+    for window in windows {
+        shown.push(shown_window(table, *window))?;
+    }
+    Ok(shown)
+}
+
+fn shown_window(table: &ClockTable, window: Window) -> ShownWindow
+    ensures window { result.window ≡ window }
+    ensures shown { IsShownWindow (table_zone table.now) result }
+{
+    ShownWindow {
+        window,
+        from: ClockTime::at(table, window.from.second),
+        until: ClockTime::at(table, window.until.second),
+    }
+}
+
+fn text_of(alloc: Global, windows: &[ShownWindow], least: u64) -> Result<String, AllocError>
+    ensures { IfOk result (λ t. string_bytes t ≡ quiet_text least windows.now) }
+{
+    let mut text = String::new(alloc);
+    push_head(&mut text, windows.is_empty(), least)?;
+    push_windows(&mut text, windows)?;
+    Ok(text)
+}
+
+// What stands in front of the windows, or where there is none.
+fn push_head(text: &mut String, is_empty: bool, least: u64) -> Result<(), AllocError>
+    ensures { OnOk result (string_bytes text.new ≡ string_bytes text.old ++ quiet_head is_empty least) }
+{
+    if is_empty {
+        return push_none(text, least);
+    }
+    push_some(text, least)
+}
+
+#[tactic(auto, unfolding(crate::specs::Answers::no_window))]
+fn push_none(text: &mut String, least: u64) -> Result<(), AllocError>
+    ensures { OnOk result (string_bytes text.new ≡ string_bytes text.old ++ no_window least) }
+{
+    let length = Lasting { seconds: least };
+    write!(
+        text,
+        "no window of {length} or longer in which nothing starts\n"
+    )
+}
+
+#[tactic(auto, unfolding(crate::specs::Answers::some_windows))]
+fn push_some(text: &mut String, least: u64) -> Result<(), AllocError>
+    ensures { OnOk result (string_bytes text.new ≡ string_bytes text.old ++ some_windows least) }
+{
+    let length = Lasting { seconds: least };
+    write!(
+        text,
+        "windows of {length} or longer in which nothing starts:\n"
+    )
+}
+
+#[tactic(auto, using(crate::proofs::WeekParts::windows_step), unfolding(crate::specs::Answers::window_lines))]
+fn push_windows(text: &mut String, windows: &[ShownWindow]) -> Result<(), AllocError>
+    ensures { OnOk result (string_bytes text.new ≡ string_bytes text.old ++ window_lines windows.now) }
+{
+    for window in windows {
+        push_window(text, *window)?;
+    }
+    Ok(())
+}
+
+#[tactic(auto, unfolding(crate::specs::Answers::window_line))]
+fn push_window(text: &mut String, window: ShownWindow) -> Result<(), AllocError>
+    ensures { OnOk result (string_bytes text.new ≡ string_bytes text.old ++ window_line window) }
+{
+    write!(text, "  {window}\n")
+}
+
+impl fmt::Display for ShownWindow {
+    ghost use Rattle.std.specs.Prelude.{Some};
+    ghost use Rattle.cronplan_forms.specs.Answers.{window_text};
+
+    ghost output = { λ w. Some (window_text w) };
+
+    fn fmt<W: fmt::Write>(&self, f: &mut fmt::Formatter<W>) -> fmt::Result {
+        let (from, until) = (self.from, self.until);
+        let length = Lasting {
+            seconds: self.window.seconds(),
+        };
+        if is_at_edge(&self.window) {
+            return write!(f, "{from} to {until}  {length} or longer");
+        }
+        write!(f, "{from} to {until}  {length}")
+    }
+}
+
+// Whether a window may be longer than the plan has it.
+fn is_at_edge(window: &Window) -> bool
+    ensures { result ≡ is_at_edge window.now }
+{
+    is_edge(window.from.bound) || is_edge(window.until.bound)
+}
+
+fn is_edge(bound: Bound) -> bool
+    ensures { result ≡ is_edge bound }
+{
+    match bound {
+        Bound::Start => false,
+        Bound::Span => true,
+    }
+}

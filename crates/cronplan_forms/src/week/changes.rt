@@ -1,0 +1,159 @@
+//! The changes of a clock below a picture.
+ghost use Rattle.std.specs.Prelude.{◌≡◌, ◌++◌, IfOk, OnOk, map, string_bytes};
+ghost use Rattle.std.specs.List.{All};
+ghost use Rattle.cronplan_forms.specs.Weeks.{kind_text, IsShownChange, IsNamedWall, behind, date_of_wall, is_put_forward, change_line, change_lines, forward_text, back_text};
+
+use super::second_of_day;
+use crate::answers::Starts;
+use crate::clock::TimeOfDay;
+use crate::date_name::DateName;
+use cronplan::{ClockChange, Plan, Unit};
+use std::alloc::{AllocError, Global};
+use std::fmt;
+
+const SECONDS_PER_DAY: i64 = 86_400;
+
+/// A date and time that a clock shows, or would show: `Sun 28 Mar 02:00`.
+#[derive(Debug, Clone, Copy)]
+pub struct NamedWall {
+    /// As seconds from 1970-01-01T00:00:00.
+    pub wall: i64,
+    pub date: DateName,
+}
+
+impl NamedWall {
+    // That of a wall second.
+    fn of(wall: i64) -> NamedWall
+        ensures { IsNamedWall wall result }
+    {
+        NamedWall {
+            wall,
+            date: DateName::of(date_of_wall(wall)),
+        }
+    }
+}
+
+impl fmt::Display for NamedWall {
+    ghost use Rattle.std.specs.Prelude.{Some};
+    ghost use Rattle.cronplan_forms.specs.Weeks.{wall_text};
+
+    ghost output = { λ w. Some (wall_text w) };
+
+    fn fmt<W: fmt::Write>(&self, f: &mut fmt::Formatter<W>) -> fmt::Result {
+        let date = self.date;
+        let time = TimeOfDay {
+            second: second_of_day(self.wall),
+        };
+        write!(f, "{date} {time}")
+    }
+}
+
+/// A change of the clock, and what lies around it.
+#[derive(Debug, Clone, Copy)]
+pub struct ShownChange {
+    pub change: ClockChange,
+    /// What would follow what the clock showed last.
+    pub behind: NamedWall,
+    /// What it shows then.
+    pub shown: NamedWall,
+    /// How many starts come with the change.
+    pub starts: u64,
+}
+
+/// The changes of a clock in a plan, with the dates around them. The only error is want of memory.
+pub(crate) fn shown_changes(
+    alloc: Global,
+    plan: &Plan,
+    changes: &[ClockChange],
+) -> Result<Vec<ShownChange>, AllocError>
+    ensures changes { IfOk result (λ shown. map (λ s. s.change) shown.items ≡ changes.now) }
+    ensures shown { IfOk result (λ shown. All (IsShownChange plan.now.starts.items) shown.items) }
+{
+    let counts = plan.counts(alloc, Unit::Second)?;
+    let mut shown = Vec::new(alloc);
+    for change in changes {
+        let starts = counts.get(&change.second).copied().unwrap_or(0);
+        shown.push(shown_change(*change, starts))?;
+    }
+    Ok(shown)
+}
+
+fn shown_change(change: ClockChange, starts: u64) -> ShownChange
+    ensures change { result.change ≡ change }
+    ensures starts { result.starts ≡ starts }
+    ensures behind { IsNamedWall (behind result.change) result.behind }
+    ensures shown { IsNamedWall result.change.shown result.shown }
+{
+    ShownChange {
+        change,
+        behind: NamedWall::of(behind(change)),
+        shown: NamedWall::of(change.shown),
+        starts,
+    }
+}
+
+// The wall second that would follow what the clock showed last.
+fn behind(change: ClockChange) -> i64
+    ensures { result ≡ behind change }
+{
+    change.before.saturating_add(1)
+}
+
+fn date_of_wall(wall: i64) -> i64
+    ensures { result ≡ date_of_wall wall }
+{
+    wall.div_euclid(SECONDS_PER_DAY)
+}
+
+/// Puts a line for each of these behind a text. The only error is want of memory; what then stands behind the text is not said.
+#[tactic(auto, using(crate::proofs::WeekParts::changes_step), unfolding(crate::specs::Weeks::change_lines))]
+pub(crate) fn push_changes(text: &mut String, changes: &[ShownChange]) -> Result<(), AllocError>
+    ensures { OnOk result (string_bytes text.new ≡ string_bytes text.old ++ change_lines changes.now) }
+{
+    for change in changes {
+        push_change(text, *change)?;
+    }
+    Ok(())
+}
+
+#[tactic(auto, unfolding(crate::specs::Weeks::change_line))]
+fn push_change(text: &mut String, change: ShownChange) -> Result<(), AllocError>
+    ensures { OnOk result (string_bytes text.new ≡ string_bytes text.old ++ change_line change) }
+{
+    push_kind(text, change)?;
+    let starts = Starts {
+        count: change.starts,
+    };
+    write!(text, "; {starts} then\n")
+}
+
+fn push_kind(text: &mut String, change: ShownChange) -> Result<(), AllocError>
+    ensures { OnOk result (string_bytes text.new ≡ string_bytes text.old ++ kind_text change) }
+{
+    let (behind, shown) = (change.behind, change.shown);
+    if is_put_forward(change.change) {
+        push_forward(text, behind, shown)
+    } else {
+        push_back(text, behind, shown)
+    }
+}
+
+fn is_put_forward(change: ClockChange) -> bool
+    ensures { result ≡ is_put_forward change }
+{
+    change.before < change.shown
+}
+
+#[tactic(auto, unfolding(crate::specs::Weeks::forward_text))]
+fn push_forward(text: &mut String, behind: NamedWall, shown: NamedWall) -> Result<(), AllocError>
+    ensures { OnOk result (string_bytes text.new ≡ string_bytes text.old ++ forward_text behind shown) }
+{
+    write!(text, "the clock skips {behind} to {shown}")
+}
+
+#[tactic(auto, unfolding(crate::specs::Weeks::back_text))]
+fn push_back(text: &mut String, behind: NamedWall, shown: NamedWall) -> Result<(), AllocError>
+    ensures { OnOk result (string_bytes text.new ≡ string_bytes text.old ++ back_text behind shown) }
+{
+    write!(text, "the clock shows {shown} to {behind} twice")
+}
