@@ -18,7 +18,7 @@ use croncheck_command::names::Asked;
 use croncheck_command::output::Output;
 use croncheck_command::past::PastClock;
 use croncheck_command::patterns::{Answer, tell_patterns};
-use croncheck_command::planner::Planner;
+use croncheck_command::planner::{FileAsked, PlanAsked, Planner};
 use croncheck_command::previous::Previous;
 use croncheck_command::problem::Problem;
 use croncheck_command::progress::{Terms, TermsByKind};
@@ -35,14 +35,17 @@ use croncheck_command::words::{
     Call, Color, Format, LEAST_WIDTH, MOST_WIDTH, NoCall, Span, USAGE, Verb, read_call, version,
 };
 use croncheck_command::zone::{note_of, refusal_of};
+use croner_base::time::CivilDateTime;
+use cronplan_forms::{Naming, Signs};
+use cronplan_page::{About, Line};
 use crontab::line::Dialect;
 use jiff::Timestamp;
 use jiff::tz::{SystemTimeZone, TimeZone, TimeZoneDatabase, Tzif};
 use machine::{Machine, announce, announce_missing};
 use std::alloc::AllocError;
-use std::io::{BufWriter, ErrorKind, IsTerminal};
+use std::io::{BufWriter, ErrorKind, IsTerminal, Write};
 use std::process::ExitCode;
-use std::{env, fs, io};
+use std::{env, fs, io, str};
 
 const MISUSED: u8 = 2;
 
@@ -51,6 +54,9 @@ const THIS_MACHINE: &str = "/";
 
 /// What stands in front of the name of a zone in the path of its file.
 const ZONES: &str = "zoneinfo/";
+
+/// What the calendar of a plan is called, and its page.
+const TITLE: &str = "What cron starts";
 
 /// How wide lines are on a terminal of which nothing is said.
 const USUAL_WIDTH: usize = 80;
@@ -274,7 +280,7 @@ fn check_in<'z>(
         return Err(Problem::SkippedFrom);
     };
     let listing = match call.span {
-        Span::Count(count) => Listing::Count(count),
+        Span::Count(count) => listing_of(call, count, &zone, first),
         Span::Until(moment) => match last_up_to(moment, &zone, now) {
             Some(last) if last < first => return Err(Problem::UntilBeforeFrom),
             Some(last) => Listing::Until(last),
@@ -312,6 +318,53 @@ fn check_in<'z>(
     };
     let kinds = TermsByKind::new(rt.alloc(), &settings, &shared);
     tell_of_machine(rt, call, &kinds, &root, &users)
+}
+
+// Up to where is listed where the words don't say it: so many runs, and where a plan is asked something, seven days of the zone's clock,
+// today's rest among them.
+fn listing_of(call: &Call<'_>, count: u32, zone: &TimeZone<'_>, first: i64) -> Listing {
+    if call.plan.questions.is_none() && call.plan.file.is_none() {
+        return Listing::Count(count);
+    }
+    match end_of_week(zone, first) {
+        Some(last) => Listing::Until(last),
+        None => Listing::Count(count),
+    }
+}
+
+// The last second of the sixth date behind that of a second.
+fn end_of_week(zone: &TimeZone<'_>, first: i64) -> Option<i64> {
+    let mut date = zone.to_datetime(Timestamp::from_second(first).ok()?).date();
+    for _ in 0..6 {
+        date = date.tomorrow().ok()?;
+    }
+    last_up_to(Moment::Date(date), zone, first)
+}
+
+// What is asked of a plan: its picture has blocks where the machine's words are UTF-8.
+fn plan_asked(rt: &HostRuntime, call: &Call<'_>) -> PlanAsked {
+    let mut asked = call.plan;
+    if asked.questions.week.is_some() && has_utf8(rt) {
+        asked.questions.week = Some(Signs::Blocks);
+    }
+    asked
+}
+
+// Whether the machine's words are UTF-8, as the first of these variables says that isn't empty.
+fn has_utf8(rt: &HostRuntime) -> bool {
+    for name in ["LC_ALL", "LC_CTYPE", "LANG"] {
+        if let Ok(word) = env::var(rt, name) {
+            if !word.is_empty() {
+                return names_utf8(word.as_str());
+            }
+        }
+    }
+    false
+}
+
+fn names_utf8(locale: &str) -> bool {
+    let code = locale.rsplit('.').next().unwrap_or(locale);
+    code.eq_ignore_ascii_case("UTF-8") || code.eq_ignore_ascii_case("utf8")
 }
 
 // The clock of the runs before the start, where the call asks for them.
@@ -488,10 +541,103 @@ fn tell(
     match call.verb {
         Verb::Check => check_in_format(rt, call, kinds, sources),
         Verb::Show => show_in_format(rt, call, kinds, sources),
-        Verb::Plan => tell_in(rt, kinds, sources, Planner::new(rt.alloc(), call.plan)),
+        Verb::Plan => plan(rt, call, kinds, sources),
         Verb::Next => answer(rt, call, kinds.of(Dialect::Patterns), Answer::Runs),
         Verb::Describe => answer(rt, call, kinds.of(Dialect::Patterns), Answer::Description),
     }
+}
+
+// Plans the jobs of the files: as texts, unless a file is asked for.
+fn plan(
+    rt: &HostRuntime,
+    call: &Call<'_>,
+    kinds: &TermsByKind<'_, '_>,
+    sources: Named<'_>,
+) -> io::Result<u8> {
+    let planner = Planner::new(rt.alloc(), plan_asked(rt, call));
+    match call.plan.file {
+        Some(file) => write_file(rt, kinds, sources, planner, file),
+        None => tell_in(rt, kinds, sources, planner),
+    }
+}
+
+// Writes a plan as a file. What has no place in it is told on standard error, and on a page, too; the status is 1 where a calendar hasn't
+// all starts.
+fn write_file(
+    rt: &HostRuntime,
+    kinds: &TermsByKind<'_, '_>,
+    sources: Named<'_>,
+    planner: Planner,
+    file: FileAsked,
+) -> io::Result<u8> {
+    let terms = kinds.of(Dialect::User);
+    let mut notes = rt.stderr();
+    let mut sink = Sink::new(terms, planner, Vec::new(rt.alloc()));
+    let status = tell_files(sources.machine, kinds, sources.files, &mut sink, &mut notes)?;
+    let ignored = sink.out().as_slice();
+    notes.write_all(ignored)?;
+    match file {
+        FileAsked::Calendar(lasts) => write_calendar(rt, &terms, sink.form(), lasts, status),
+        FileAsked::Page => {
+            write_page(rt, &terms, sink.form(), ignored)?;
+            Ok(status)
+        }
+    }
+}
+
+// Writes the calendar of a planner's jobs.
+fn write_calendar(
+    rt: &HostRuntime,
+    terms: &Terms<'_, '_>,
+    planner: &Planner,
+    lasts: Option<u64>,
+    status: u8,
+) -> io::Result<u8> {
+    let Ok(now) = Timestamp::now(rt) else {
+        return Err(io::Error::from(ErrorKind::InvalidData));
+    };
+    let Some(stamp) = CivilDateTime::of_wall_second(now.as_second()) else {
+        return Err(io::Error::from(ErrorKind::InvalidData));
+    };
+    let naming = Naming {
+        name: TITLE,
+        stamp,
+        lasts,
+    };
+    let Ok(file) = planner.calendar(terms, naming) else {
+        return Err(io::Error::from(ErrorKind::OutOfMemory));
+    };
+    let text = file.text.as_str();
+    print!(rt; "{text}")?;
+    Ok(if file.is_cut { status.max(1) } else { status })
+}
+
+// Writes the page of a planner's jobs, with what has no place in the plan, as it was told.
+fn write_page(
+    rt: &HostRuntime,
+    terms: &Terms<'_, '_>,
+    planner: &Planner,
+    ignored: &[u8],
+) -> io::Result<()> {
+    let Ok(told) = str::from_utf8(ignored) else {
+        return Err(io::Error::from(ErrorKind::InvalidData));
+    };
+    let mut lines = Vec::new(rt.alloc());
+    for rest in told.lines() {
+        if !rest.is_empty() {
+            lines.push(Line { head: "", rest })?;
+        }
+    }
+    let about = About {
+        title: TITLE,
+        ignored: lines.as_slice(),
+        warnings: &[],
+    };
+    let Ok(text) = planner.page(terms, about) else {
+        return Err(io::Error::from(ErrorKind::OutOfMemory));
+    };
+    let text = text.as_str();
+    print!(rt; "{text}")
 }
 
 // Tells what is found in the files.

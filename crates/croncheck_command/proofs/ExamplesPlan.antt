@@ -1,9 +1,10 @@
 -- Worked rows of plans: what jobs are called, how much of what was found a list has, and how it ends.
-use Rattle.std.proofs.Common.{◌≡◌, ℕ, ℤ, pos, List, [], ◌∷◌, true, false, None, Some, refl}
+use Rattle.std.proofs.Common.{◌≡◌, ℕ, ℤ, pos, Bool, List, [], ◌∷◌, true, false, None, Some, refl}
 use Rattle.std.specs.Fmt.{digits}
 use Rattle.std.specs.Prelude.{codes}
 use Rattle.crontab.specs.Line.{Line, never, blank, comment, job, pattern}
 use Rattle.cronplan.specs.declared.start.JobStart.{JobStart}
+use Rattle.croncheck_command.specs.declared.planner.PlanAsked.{PlanAsked}
 use Rattle.croncheck_command.specs.declared.runs.Listing.TheVariants as listings
 use Rattle.croncheck_command.specs.Plan.{first_behind, end_behind, whole_end, end_up_to, starts_within}
 use Rattle.croncheck_command.specs.PlanList.{over_text, more_text, whose, line_text}
@@ -54,15 +55,19 @@ by_no_variable = refl
 a_pattern : title_of [] (pattern (codes "0 9 * * MON")) ≡ codes "0 9 * * MON"
 a_pattern = refl
 
-without_its_command : label_text (record { has_commands = false }) (codes "a") 5 (codes "nightly") (of (codes "b c")) ≡ codes "  a:5  nightly"
+-- a list, with commands or without
+abbrev a_list : Bool → PlanAsked
+a_list has_commands = record { has_commands = has_commands; questions = record { week = None; quiet = None; busy = None; together = false }; most_a_day = Some 12; file = None }
+
+without_its_command : label_text (a_list false) (codes "a") 5 (codes "nightly") (of (codes "b c")) ≡ codes "  a:5  nightly"
 unfolding digits shown_from lib.Utf8.encode
 without_its_command = refl
 
-with_its_command : label_text (record { has_commands = true }) (codes "a") 5 (codes "nightly") (of (codes "b c")) ≡ codes "  a:5  nightly  b c"
+with_its_command : label_text (a_list true) (codes "a") 5 (codes "nightly") (of (codes "b c")) ≡ codes "  a:5  nightly  b c"
 unfolding digits shown_from lib.Utf8.encode
 with_its_command = refl
 
-a_command_alone : label_text (record { has_commands = true }) (codes "a") 5 (codes "b") (of (codes "b")) ≡ codes "  a:5  b"
+a_command_alone : label_text (a_list true) (codes "a") 5 (codes "b") (of (codes "b")) ≡ codes "  a:5  b"
 unfolding digits shown_from lib.Utf8.encode
 a_command_alone = refl
 

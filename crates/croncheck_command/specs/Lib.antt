@@ -21,6 +21,8 @@ pub mod Output
 pub mod Past
 pub mod Patterns
 pub mod Plan
+pub mod PlanAnswers
+pub mod PlanFiles
 pub mod PlanList
 pub mod Planner
 pub mod Presets

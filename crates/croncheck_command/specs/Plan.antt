@@ -8,7 +8,6 @@ use Rattle.croner.specs.declared.job.Cron.{Cron}
 use Rattle.croner.specs.Views.{job_of}
 use Rattle.crontab.specs.declared.content.Outcome.{Outcome}
 use Rattle.crontab.specs.declared.content.Outcome.TheVariants as outcomes
-use Rattle.cronplan.specs.declared.jobs.Frequent.{Frequent}
 use Rattle.cronplan.specs.declared.listing.Schedule.{Schedule}
 use Rattle.cronplan.specs.declared.span.Span.{Span}
 use Rattle.cronplan.specs.declared.start.JobStart.{JobStart}
@@ -19,6 +18,7 @@ use Rattle.croncheck_command.specs.declared.plan.Found.{Found}
 use Rattle.croncheck_command.specs.declared.runs.Listing.{Listing}
 use Rattle.croncheck_command.specs.declared.runs.Listing.TheVariants as listings
 use Rattle.croncheck_command.specs.Clock.{last_second}
+use Rattle.croncheck_command.specs.Often.{span_end}
 
 -- ---- the span
 
@@ -36,11 +36,11 @@ pub record IsSpanBehind (start end : ℤ) (span : Span) : Type 0 where
   pub first : span.first ≡ first_behind start
   pub end_is : span.end ≡ end_behind start end
 
--- what starts of jobs behind a start up to an end: no job is left out of it
-pub record IsFound (z : Zone) (start end : ℤ) (jobs : List Schedule) (found : Found) : Type 0 where
-  pub left_out : List Frequent
+-- what starts of jobs behind a start up to an end, and the jobs that are left out of it: those that start more often than so many times a day,
+-- where there is such a number
+pub record IsFound (z : Zone) (start end : ℤ) (most : Option ℕ) (jobs : List Schedule) (found : Found) : Type 0 where
   pub span : IsSpanBehind start end found.span
-  pub planned : IsPlanOf z found.span None jobs found.plan.starts.items found.plan.span left_out
+  pub planned : IsPlanOf z found.span most jobs found.plan.starts.items found.plan.span found.frequent.items
 
 -- ---- how much of it a list has
 
@@ -85,13 +85,17 @@ end_up_to until whole = if int_lt until whole then until +ℤ pos 1 else whole
 pub record IsFirst (z : Zone) (start whole : ℤ) (count : ℕ) (jobs : List Schedule) (found : Found) : Type 0 where
   pub end : ℤ
   pub within : int_lt whole end ≡ false
-  pub found_is : IsFound z start end jobs found
+  pub found_is : IsFound z start end None jobs found
   pub enough : (end ≡ whole) ⊎ (is_enough count found ≡ true)
 
 -- what starts behind a start, of which a list is made: so many moments, or all up to a second, as far as the clock's window goes
 abbrev pub IsListed : Zone → ℤ → Option ℤ → Listing → List Schedule → Found → Type 0
 IsListed z start last (listings.Count count) jobs found = IsFirst z start (whole_end last) count jobs found
-IsListed z start last (listings.Until until) jobs found = IsFound z start (end_up_to until (whole_end last)) jobs found
+IsListed z start last (listings.Until until) jobs found = IsFound z start (end_up_to until (whole_end last)) None jobs found
+
+-- the end of what is looked at where a plan is asked something: as far as starts are listed up to a second, else seven days
+abbrev pub answered_until : ℤ → Option ℤ → Listing → ℤ
+answered_until start last listing = end_up_to (span_end start listing) (whole_end last)
 
 -- the starts that the list has
 abbrev pub starts_listed : Listing → Found → List JobStart

@@ -14,6 +14,7 @@ use Rattle.crontab.specs.Line.{Line, blank, comment, setting, job, pattern, refu
 use Rattle.cronplan.specs.declared.listing.Schedule.{Schedule}
 use Rattle.cronplan.specs.declared.listing.Schedule.TheVariants as schedules
 use Rattle.croncheck_command.specs.declared.plan.Found.{Found}
+use Rattle.croncheck_command.specs.declared.planner.FileAsked.{FileAsked}
 use Rattle.croncheck_command.specs.declared.planner.PlanAsked.{PlanAsked}
 use Rattle.croncheck_command.specs.declared.planner.Planned.{Planned}
 use Rattle.croncheck_command.specs.declared.planner.Planner.{Planner}
@@ -23,7 +24,9 @@ use Rattle.croncheck_command.specs.declared.shown.Shared.{Shared}
 use Rattle.croncheck_command.specs.declared.tally.Tally.{Tally}
 use Rattle.croncheck_command.specs.FileSeen.{with_report}
 use Rattle.croncheck_command.specs.Output.{Written}
-use Rattle.croncheck_command.specs.Plan.{job_found, IsListed}
+use Rattle.cronplan_forms.specs.Questions.{asks_none}
+use Rattle.croncheck_command.specs.Plan.{job_found, answered_until, IsFound, IsListed}
+use Rattle.croncheck_command.specs.PlanAnswers.{WritesAnswers}
 use Rattle.croncheck_command.specs.PlanList.{labels, whose_text, WritesList}
 use Rattle.croncheck_command.specs.Report.{IsReportOfLine}
 use Rattle.croncheck_command.specs.Reported.{WritesReport}
@@ -199,8 +202,29 @@ pub record Plans (s : Settings) (old : State Planner) (y : LineRead) (new : Stat
 
 -- ---- the plan
 
--- the plan of a planner's jobs was written, as a list: each of them is in what was found, and it says whose starts these are
-pub record WritesPlan (s : Settings) (shared : Shared) (p : Planner) (old new : Written) : Type 0 where
+-- the list of a planner's jobs was written: each of them is in what was found, and it says whose starts these are
+pub record WritesListed (s : Settings) (shared : Shared) (p : Planner) (old new : Written) : Type 0 where
   pub found : Found
   pub listed : IsListed (table_zone (start_of s).table.now) (start_of s).second (window_end s) s.listing p.schedules.items found
   pub written : WritesList s shared (whose_text p.schedules.items) (labels p.jobs.items) found old new
+
+-- what a planner's jobs answer was written: each of them is in what was found, or named as left out
+pub record WritesAnswered (s : Settings) (shared : Shared) (p : Planner) (old new : Written) : Type 0 where
+  pub found : Found
+  pub found_is : IsFound (table_zone (start_of s).table.now) (start_of s).second (answered_until (start_of s).second (window_end s) s.listing) p.asked.most_a_day
+      p.schedules.items found
+  pub written : WritesAnswers s shared (whose_text p.schedules.items) p.jobs.items found p.asked.questions old new
+
+-- the plan of a planner's jobs was written: as a list where nothing is asked
+abbrev pub WritesPlanAs : Bool → Settings → Shared → Planner → Written → Written → Type 0
+WritesPlanAs true s shared p old new = WritesListed s shared p old new
+WritesPlanAs false s shared p old new = WritesAnswered s shared p old new
+
+-- where a file is asked for, nothing was
+abbrev pub WritesUnlessFile : Option FileAsked → Settings → Shared → Planner → Written → Written → Type 0
+WritesUnlessFile (Some file) s shared p old new = new ≡ old
+WritesUnlessFile None s shared p old new = WritesPlanAs (asks_none p.asked.questions) s shared p old new
+
+-- what is written behind all files
+abbrev pub WritesPlan : Settings → Shared → Planner → Written → Written → Type 0
+WritesPlan s shared p old new = WritesUnlessFile p.asked.file s shared p old new

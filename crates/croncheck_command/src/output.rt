@@ -28,6 +28,13 @@ impl<W: Write> Output<W> {
         }
     }
 
+    /// What it writes to.
+    pub fn out(&self) -> &W
+        ensures { result.now ≡ self.now.out }
+    {
+        &self.out
+    }
+
     /// Whether a call of the writer gave an error: nothing more can be written then.
     pub fn is_refused(&self) -> bool
         ensures { result ≡ self.now.is_refused }

@@ -2,16 +2,18 @@
 ghost use Rattle.std.specs.Prelude.{◌≡◌, ◌≤◌, length, None, true, false, int_lt, IfOk};
 ghost use Rattle.croner_base.specs.Table.{is_table_second};
 ghost use Rattle.croner_base.specs.TableZone.{table_zone};
-ghost use Rattle.croncheck_command.specs.Plan.{first_behind, end_behind, IsSpanBehind, IsFound, IsFirst, IsListed, whole_end, end_up_to, is_cut, is_new, left_behind, starts_within, is_more, is_enough, starts_listed, ending_of};
+ghost use Rattle.croncheck_command.specs.Plan.{first_behind, end_behind, IsSpanBehind, IsFound, IsFirst, IsListed, whole_end, end_up_to, is_cut, is_new, left_behind, starts_within, is_more, is_enough, starts_listed, ending_of, answered_until};
 
+pub(crate) mod answers;
 pub(crate) mod list;
 pub(crate) mod title;
 
 use crate::clock::LAST_SECOND as LAST_OF_CLOCK;
+use crate::often::span_end;
 use crate::runs::Listing;
 use croner::errors::CronError;
 use croner::time::table::TableTime;
-use cronplan::{JobStart, Plan, Schedule, Span, plan_of};
+use cronplan::{Frequent, JobStart, Plan, Schedule, Span, plan_of};
 use std::alloc::Global;
 
 /// The last second that a span may end with, which isn't in it: 9999-12-31T23:59:59 UTC.
@@ -27,6 +29,8 @@ pub struct Found {
     pub plan: Plan,
     /// The span in which starts were looked for. That of the plan ends before it where a plan keeps no more.
     pub span: Span,
+    /// The jobs that are left out of the plan, since they start too often.
+    pub frequent: Vec<Frequent>,
 }
 
 impl Found {
@@ -100,7 +104,8 @@ pub enum Ending {
     Whole,
 }
 
-/// What starts of jobs behind a start, which isn't in it, and before an end. No job is left out.
+/// What starts of jobs behind a start, which isn't in it, and before an end, without those that start more often than so many times on some
+/// day of the clock. Where no number is given, no job is left out.
 ///
 /// The only error is `OutOfMemory`, as that of `cronplan::plan_of`.
 pub fn found_before(
@@ -108,12 +113,44 @@ pub fn found_before(
     jobs: &[Schedule],
     start: TableTime<'_>,
     end: i64,
+    most_a_day: Option<u64>,
 ) -> Result<Found, CronError>
-    ensures { IfOk result (IsFound (table_zone start.entry.table.now) start.entry.second end jobs.now) }
+    ensures { IfOk result (IsFound (table_zone start.entry.table.now) start.entry.second end most_a_day jobs.now) }
 {
     let span = span_behind(start.second(), end);
-    let (plan, _) = plan_of(alloc, jobs, start.table(), span, None)?;
-    Ok(Found { plan, span })
+    let (plan, frequent) = plan_of(alloc, jobs, start.table(), span, most_a_day)?;
+    Ok(Found {
+        plan,
+        span,
+        frequent,
+    })
+}
+
+/// What starts of jobs behind a start, on a clock whose window ends with a second or not before the years that are searched, up to the second
+/// up to which starts are listed, or else in seven days; without those that start more often than so many times a day.
+///
+/// The error is as that of `found_before`.
+pub fn answered_plan(
+    alloc: Global,
+    jobs: &[Schedule],
+    start: TableTime<'_>,
+    last: Option<i64>,
+    listing: Listing,
+    most_a_day: Option<u64>,
+) -> Result<Found, CronError>
+    ensures { IfOk result (IsFound (table_zone start.entry.table.now) start.entry.second (answered_until start.entry.second last listing) most_a_day jobs.now) }
+{
+    let end = answered_until(start.second(), last, listing);
+    found_before(alloc, jobs, start, end, most_a_day)
+}
+
+// The end of what is looked at behind a start where a plan is asked something.
+fn answered_until(start: i64, last: Option<i64>, listing: Listing) -> i64
+    requires { is_table_second start ≡ true }
+    ensures { result ≡ answered_until start last listing }
+{
+    let until = span_end(start, listing);
+    end_up_to(until, whole_end(last))
 }
 
 /// What starts of jobs behind a start, on a clock whose window ends with a second or not before the years that are searched: all up to a
@@ -133,7 +170,7 @@ pub fn listed_plan(
         Listing::Count(count) => first_plan(alloc, jobs, start, whole_end(last), count),
         Listing::Until(until) => {
             let end = end_up_to(until, whole_end(last));
-            found_before(alloc, jobs, start, end)
+            found_before(alloc, jobs, start, end, None)
         }
     }
 }
@@ -150,12 +187,12 @@ fn first_plan(
 {
     for length in LENGTHS.as_slice() {
         let end = end_from(start.second(), *length, whole);
-        let found = found_before(alloc, jobs, start, end)?;
+        let found = found_before(alloc, jobs, start, end, None)?;
         if found.is_enough(count) {
             return Ok(found);
         }
     }
-    found_before(alloc, jobs, start, whole)
+    found_before(alloc, jobs, start, whole, None)
 }
 
 // The end of a span of so many seconds from a start on, which isn't later than that of the whole.

@@ -4,16 +4,20 @@ ghost use Rattle.croner.specs.declared.job.Cron.{Cron as Made};
 ghost use Rattle.crontab.specs.Content.{IsOutcome};
 ghost use Rattle.crontab.specs.Entries.{entry_seen};
 ghost use Rattle.croncheck_command.specs.Output.{Written, written_of};
-ghost use Rattle.croncheck_command.specs.Planner.{seen, planned_seen, job_shown, schedule_of, label_text, command_behind, user_text, command_of, times_of, above_at, is_refused_by_user, with_job, Adds, Passes, PlansOutcome, WritesPlan};
+ghost use Rattle.croncheck_command.specs.Planner.{seen, planned_seen, job_shown, schedule_of, label_text, command_behind, user_text, command_of, times_of, above_at, is_refused_by_user, with_job, Adds, Passes, PlansOutcome, WritesListed, WritesAnswered, WritesPlan};
 ghost use Rattle.croncheck_command.specs.Shown.{spaced};
 ghost use Rattle.croncheck_command.specs.Stand.{stand_of};
+
+mod calendar;
+mod page;
 
 use crate::escaped::shown;
 use crate::form::Form;
 use crate::output::Output;
+use crate::plan::answers::write_answers;
 use crate::plan::list::{whose_text, write_list};
-use crate::plan::listed_plan;
 use crate::plan::title::{heading_of, title_of};
+use crate::plan::{answered_plan, listed_plan};
 use crate::progress::{Line, Progress, Terms};
 use crate::report::report_of_line;
 use crate::reporter::{write_ending, write_report};
@@ -22,8 +26,10 @@ use crate::shown::{COMMAND_BYTES, Place, push_front, push_spaced};
 use crate::starred::is_starred;
 use crate::tally::{Tally, one_more};
 use crate::users::is_unknown;
+pub use calendar::PlanFile;
 use croner::Cron;
 use cronplan::Schedule;
+use cronplan_forms::Questions;
 use crontab::content::{Outcome, outcome_of};
 use crontab::line::Entry;
 use crontab_runs::CrontabJob;
@@ -36,6 +42,21 @@ use std::io::{ErrorKind, Write};
 pub struct PlanAsked {
     /// Commands are shown beside the titles of their jobs.
     pub has_commands: bool,
+    /// What it answers in place of its list, if anything is asked.
+    pub questions: Questions,
+    /// The most starts on a day of a job that the answers are about, if there is such a number.
+    pub most_a_day: Option<u64>,
+    /// The file that it is asked for, if any: then nothing is written behind the files.
+    pub file: Option<FileAsked>,
+}
+
+/// A file that a plan is asked for.
+#[derive(Debug, Clone, Copy)]
+pub enum FileAsked {
+    /// A calendar, and how many seconds each of its events lasts, where that is told.
+    Calendar(Option<u64>),
+    /// A page (HTML).
+    Page,
 }
 
 /// What is shown of a job of a plan.
@@ -194,9 +215,22 @@ impl Planner {
 }
 
 impl Planner {
+    // Writes the plan, unless a file is asked for: its list, or what it answers.
+    fn end_plan<W: Write>(&self, terms: &Terms<'_, '_>, output: &mut Output<W>) -> io::Result<()>
+        ensures { OnOk result (WritesPlan terms.now.settings.now terms.now.shared.now self.now (written_of W.contents output.old) (written_of W.contents output.new)) }
+    {
+        if self.asked.file.is_some() {
+            return Ok(());
+        }
+        if self.asked.questions.is_none() {
+            return self.end_list(terms, output);
+        }
+        self.end_answers(terms, output)
+    }
+
     // Writes the list of all starts.
     fn end_list<W: Write>(&self, terms: &Terms<'_, '_>, output: &mut Output<W>) -> io::Result<()>
-        ensures { OnOk result (WritesPlan terms.now.settings.now terms.now.shared.now self.now (written_of W.contents output.old) (written_of W.contents output.new)) }
+        ensures { OnOk result (WritesListed terms.now.settings.now terms.now.shared.now self.now (written_of W.contents output.old) (written_of W.contents output.new)) }
     {
         let Ok(found) = listed_plan(
             terms.alloc,
@@ -209,6 +243,31 @@ impl Planner {
         };
         let whose = whose_text(self.schedules.as_slice());
         write_list(terms, whose, self.jobs.as_slice(), &found, output)
+    }
+
+    // Writes what the plan answers.
+    fn end_answers<W: Write>(&self, terms: &Terms<'_, '_>, output: &mut Output<W>) -> io::Result<()>
+        ensures { OnOk result (WritesAnswered terms.now.settings.now terms.now.shared.now self.now (written_of W.contents output.old) (written_of W.contents output.new)) }
+    {
+        let Ok(found) = answered_plan(
+            terms.alloc,
+            self.schedules.as_slice(),
+            terms.settings.changes.start,
+            terms.settings.last(),
+            terms.settings.listing,
+            self.asked.most_a_day,
+        ) else {
+            return Err(io::Error::from(ErrorKind::OutOfMemory));
+        };
+        let whose = whose_text(self.schedules.as_slice());
+        write_answers(
+            terms,
+            whose,
+            self.jobs.as_slice(),
+            &found,
+            self.asked.questions,
+            output,
+        )
     }
 }
 
@@ -253,7 +312,7 @@ impl Form for Planner {
     }
 
     fn end<W: Write>(&self, terms: &Terms<'_, '_>, output: &mut Output<W>) -> io::Result<()> {
-        self.end_list(terms, output)
+        self.end_plan(terms, output)
     }
 }
 

@@ -54,6 +54,20 @@ impl<'s, 't, F: Form, W: Write> Sink<'s, 't, F, W> {
         }
     }
 
+    /// The form, with what it took of the lines.
+    pub fn form(&self) -> &F
+        ensures { result.now ≡ self.now.form }
+    {
+        &self.form
+    }
+
+    /// What it writes to.
+    pub fn out(&self) -> &W
+        ensures { result.now ≡ self.now.output.out }
+    {
+        self.output.out()
+    }
+
     /// Whether a call of the writer gave an error: nothing more can be written then.
     pub fn is_refused(&self) -> bool
         ensures { result ≡ self.now.output.is_refused }

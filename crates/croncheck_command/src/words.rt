@@ -297,7 +297,7 @@ fn call_of<'w>(alloc: Global, verb: Verb, matches: &ArgMatches<'w>) -> Result<Ca
         root: matches.get_str("root"),
         files,
         patterns: patterns(alloc, matches)?,
-        plan: plan_asked(matches),
+        plan: plan_asked(alloc, matches)?,
     })
 }
 

@@ -88,8 +88,8 @@ fn is_pattern(job: &Schedule) -> bool
     }
 }
 
-// What stands in front of the starts of a list: whose they are, where there are any.
-fn head_text(front: &str, is_empty: bool) -> &str
+/// What stands in front of the starts of a plan: whose they are, where there are any.
+pub(crate) fn head_text(front: &str, is_empty: bool) -> &str
     ensures { result.now ≡ head_text front.now is_empty }
 {
     if is_empty { "" } else { front }

@@ -57,7 +57,14 @@ pub(super) fn verbs_with(option: &str) -> Option<&'static str> {
         "--runs" | "--until" => Some("show, plan and next"),
         "--show-zone" => Some("show, plan and next"),
         "--previous" | "--often" => Some("show and next"),
-        "--commands" => Some("plan"),
+        "--commands"
+        | "--week"
+        | "--quiet"
+        | "--busy"
+        | "--together"
+        | "--ics"
+        | "--lasts"
+        | "--most-a-day" => Some("plan"),
         "--json" | "--strict" | "--same-job" | "--allow" | "--ignore" => Some("check and show"),
         "--system" | "--user" | "--patterns" | "--stdin-name" | "--users" | "--root" => Some(
             "check, show and plan",
@@ -70,7 +77,14 @@ pub(super) fn verbs_with(option: &str) -> Option<&'static str> {
 /// A verb that has such an option.
 pub(super) fn verb_with(option: &str) -> &'static str {
     match option {
-        "--commands" => "plan",
+        "--commands"
+        | "--week"
+        | "--quiet"
+        | "--busy"
+        | "--together"
+        | "--ics"
+        | "--lasts"
+        | "--most-a-day" => "plan",
         _ => "show",
     }
 }
@@ -102,8 +116,8 @@ fn with<'w>(
     }
 }
 
-// With one more argument. No other function lets a command go.
-fn add<'w>(
+/// With one more argument. No other function lets a command go.
+pub(super) fn add<'w>(
     command: Command<'w>,
     arg: Result<Arg<'w>, AllocError>,
 ) -> Result<Command<'w>, AllocError> {
@@ -421,7 +435,8 @@ fn with_settings_of_files<'w>(
     add(command, setting(year))
 }
 
-fn value<'w>(alloc: Global, id: &'w str, name: &'w str) -> Arg<'w> {
+/// An option with a value.
+pub(super) fn value<'w>(alloc: Global, id: &'w str, name: &'w str) -> Arg<'w> {
     Arg::new(alloc, id)
         .long(id)
         .value_name(name)

@@ -1,14 +1,96 @@
 //! What the words of a call ask of a plan, and the options for it.
 
-use super::options::flag;
-use crate::planner::PlanAsked;
-use clap::{ArgMatches, Command};
+use super::options::{add, flag, value};
+use super::{NoCall, misused};
+use crate::planner::{FileAsked, PlanAsked};
+use clap::{Arg, ArgMatches, Command};
+use cronplan_forms::{Questions, Signs};
+use jiff_fmt::friendly::parse_unsigned_duration;
 use std::alloc::{AllocError, Global};
 
-/// What is asked of a plan.
-pub(super) fn plan_asked(matches: &ArgMatches<'_>) -> PlanAsked {
-    PlanAsked {
+/// How many starts on a day a job has at most that answers are about, where no word says it.
+const MOST_A_DAY: u64 = 12;
+
+/// The word for jobs that start however often.
+const ALL: &str = "all";
+
+/// The most moments that are asked for.
+const MOST_MOMENTS: usize = 1_000;
+
+/// What is asked of a plan. The signs of a picture are digits.
+pub(super) fn plan_asked(alloc: Global, matches: &ArgMatches<'_>) -> Result<PlanAsked, NoCall> {
+    let week = if matches.get_flag("week") {
+        Some(Signs::Digits)
+    } else {
+        None
+    };
+    let questions = Questions {
+        week,
+        quiet: length(alloc, matches, "quiet", "--quiet <LENGTH>")?,
+        busy: busy(alloc, matches)?,
+        together: matches.get_flag("together"),
+    };
+    Ok(PlanAsked {
         has_commands: matches.get_flag("commands"),
+        questions,
+        most_a_day: most_a_day(alloc, matches)?,
+        file: file_asked(alloc, matches)?,
+    })
+}
+
+// The file that is asked for.
+fn file_asked(alloc: Global, matches: &ArgMatches<'_>) -> Result<Option<FileAsked>, NoCall> {
+    if matches.get_flag("html") {
+        return Ok(Some(FileAsked::Page));
+    }
+    if !matches.get_flag("ics") {
+        return Ok(None);
+    }
+    let lasts = length(alloc, matches, "lasts", "--lasts <LENGTH>")?;
+    Ok(Some(FileAsked::Calendar(lasts)))
+}
+
+// The seconds of a length that the word of an option says.
+fn length(
+    alloc: Global,
+    matches: &ArgMatches<'_>,
+    id: &str,
+    option: &str,
+) -> Result<Option<u64>, NoCall> {
+    match matches.get_str(id) {
+        Some(word) => match parse_unsigned_duration(word.as_bytes()) {
+            Ok(length) => Ok(Some(length.as_secs())),
+            Err(_) => Err(misused(alloc, option, word, "write a length as 45m, 8h or 1h 30m")),
+        },
+        None => Ok(None),
+    }
+}
+
+// How many of the fullest moments are asked for.
+fn busy(alloc: Global, matches: &ArgMatches<'_>) -> Result<Option<usize>, NoCall> {
+    match matches.get_str("busy") {
+        Some(word) => match word.parse::<usize>() {
+            Ok(count) if 1 <= count && count <= MOST_MOMENTS => Ok(Some(count)),
+            _ => Err(misused(alloc, "--busy <N>", word, "write a number from 1 to 1000")),
+        },
+        None => Ok(None),
+    }
+}
+
+// How many starts on a day a job has at most that the answers are about.
+fn most_a_day(alloc: Global, matches: &ArgMatches<'_>) -> Result<Option<u64>, NoCall> {
+    match matches.get_str("most-a-day") {
+        Some(ALL) => Ok(None),
+        Some(word) => match word.parse::<u64>() {
+            Ok(most) => Ok(Some(most)),
+            Err(_) => Err(misused(
+                alloc,
+                "--most-a-day <N|all>",
+                word,
+                "write a number, or all",
+            )),
+        },
+        None => Ok(Some(MOST_A_DAY)),
     }
 }
 
@@ -17,7 +99,83 @@ pub(super) fn with_planning<'w>(
     alloc: Global,
     command: Command<'w>,
 ) -> Result<Command<'w>, AllocError> {
-    command.arg(flag(alloc, "commands").help(
+    let command = command.arg(flag(alloc, "commands").help(
         "Shows the front of each command behind the title of its job; commands may hold passwords",
-    ))
+    ))?;
+    with_questions(alloc, command)
+}
+
+// With what is asked in place of the list.
+fn with_questions<'w>(alloc: Global, command: Command<'w>) -> Result<Command<'w>, AllocError> {
+    let command = add(
+        command,
+        flag(alloc, "week")
+            .help(
+                "In place of the list: a picture, a row a day and a sign an hour; up to --until, else seven days",
+            )
+            .conflicts_with("runs"),
+    )?;
+    let command = add(
+        command,
+        value(alloc, "quiet", "LENGTH")
+            .help(
+                "In place of the list: when nothing starts for so long, as 45m or 8h, the longest first",
+            )
+            .conflicts_with("runs"),
+    )?;
+    let command = add(
+        command,
+        value(alloc, "busy", "N")
+            .help(
+                "In place of the list: the moments with most starts, 1 to 1000, and the starts by hour",
+            )
+            .conflicts_with("runs"),
+    )?;
+    let command = add(
+        command,
+        flag(alloc, "together")
+            .help("In place of the list: which jobs start at one moment, how often, and when first")
+            .conflicts_with("runs"),
+    )?;
+    let command = with_files(alloc, command)?;
+    command.arg(
+        value(alloc, "most-a-day", "N|all").default_value("12").help(
+            "Leaves jobs with more starts on a day out of these answers, and names them",
+        ),
+    )
+}
+
+// With what is asked of a plan as a file.
+fn with_files<'w>(alloc: Global, command: Command<'w>) -> Result<Command<'w>, AllocError> {
+    let command = add(command, calendar(alloc))?;
+    let command = add(command, page(alloc))?;
+    add(
+        command,
+        value(alloc, "lasts", "LENGTH")
+            .help("With --ics: how long each event lasts, as 30m; else they tell no end")
+            .requires_arg("ics"),
+    )
+}
+
+fn calendar<'w>(alloc: Global) -> Result<Arg<'w>, AllocError> {
+    let arg = flag(alloc, "ics").help(
+        "In place of the list: a calendar (RFC 5545), an event for each start, 2000 at most",
+    );
+    alone(arg)
+}
+
+fn page<'w>(alloc: Global) -> Result<Arg<'w>, AllocError> {
+    let arg = flag(alloc, "html").help(
+        "In place of the list: a page that shows all of this, one file without a script",
+    );
+    alone(arg)?.conflicts_with("ics")
+}
+
+// An option that stands with none of the answers that are texts.
+fn alone<'w>(arg: Arg<'w>) -> Result<Arg<'w>, AllocError> {
+    arg.conflicts_with("runs")?
+        .conflicts_with("week")?
+        .conflicts_with("quiet")?
+        .conflicts_with("busy")?
+        .conflicts_with("together")
 }
