@@ -131,7 +131,7 @@ fn text_of(piece: Piece) -> &'static str
         Piece::NoWindow => "<p>There is none.</p>\n",
         Piece::NoStart => "<p>Nothing starts.</p>\n",
         Piece::NoChange => "<p>The clock goes on evenly in these days.</p>\n",
-        Piece::NoWarning => "<p>Nothing.</p>\n",
+        Piece::NoWarning => "<p>Not told here.</p>\n",
         Piece::WeekTable => week_table(),
         Piece::WeekKey =>
             "<p>Each hour has a number, how many starts it has. An x stands where the clock skips the hour, and a broken line around an hour that it shows twice.</p>\n",
