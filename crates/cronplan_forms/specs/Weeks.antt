@@ -127,7 +127,7 @@ behind c = saturate_signed w64 (c.before +ℤ pos 1)
 abbrev pub date_of_wall : ℤ → ℤ
 date_of_wall wall = int_div_euclid wall (pos 86_400)
 
--- the clock is put forward, as if it were no other time than later; else it is put back
+-- the clock is put forward: it shows a later time than the second before
 abbrev pub is_put_forward : ClockChange → Bool
 is_put_forward c = int_lt c.before c.shown
 
