@@ -6,6 +6,7 @@ pub mod Gathered
 pub mod MonthParts
 pub mod UtcClock
 pub mod WeekParts
+mod ExamplesAnswers
 mod ExamplesEscapes
 mod ExamplesMonths
 mod ExamplesWeeks
